@@ -1,0 +1,6 @@
+pub mod Fault
+pub mod List
+pub mod Operation
+pub mod Wire
+pub mod Request
+pub mod Response

@@ -1,0 +1,38 @@
+-- A request on channel A as every contract sees it, the rule that it keeps, and the faults of one that does not.
+use Rattle.std.specs.Prelude.{◌≡◌, ℕ, ◌≢◌, ◌≤◌, ◌<◌, false, List, length, Option, IsSome, IsNone, All, Any}
+use Rattle.tl_types.specs.Fault.{IsFirstOf}
+use Rattle.tl_types.specs.Operation.{byte_count, may_leave_unset}
+use Rattle.tl_types.specs.declared.operation.AskOp.{AskOp}
+use Rattle.tl_types.specs.declared.limits.TheConstants.{LARGEST_SIZE}
+use Rattle.tl_types.specs.declared.request.AskFault.{AskFault}
+use Rattle.tl_types.specs.declared.request.AskFault.TheVariants.{TooLarge, WrongCount, HoleInFull}
+
+-- a request: its operation, its size as the base-2 logarithm of a number of bytes, its source, its address and its bytes
+pub record Request : Type 0 where
+  pub op : AskOp
+  pub size : ℕ
+  pub source : ℕ
+  pub address : ℕ
+  pub bytes : List (Option ℕ)
+
+-- the rule of requests
+pub record IsLawfulRequest (op : AskOp) (size : ℕ) (bytes : List (Option ℕ)) : Type 0 where
+  pub in_limit : size ≤ LARGEST_SIZE
+  pub counted : length bytes ≡ byte_count op size
+  pub whole : may_leave_unset op ≡ false → All (λ b. IsSome b) bytes
+
+-- the fault is one of a request with these parts
+abbrev pub HasAskFault : AskOp → ℕ → List (Option ℕ) → AskFault → Type 0
+HasAskFault op size bytes TooLarge = LARGEST_SIZE < size
+HasAskFault op size bytes WrongCount = length bytes ≢ byte_count op size
+HasAskFault op size bytes HoleInFull = (may_leave_unset op ≡ false) × Any (λ b. IsNone b) bytes
+
+-- the place of a fault in the order in which faults are tried
+abbrev pub ask_fault_rank : AskFault → ℕ
+ask_fault_rank TooLarge = 1
+ask_fault_rank WrongCount = 2
+ask_fault_rank HoleInFull = 3
+
+-- the fault is the first one, in that order, of a request with these parts
+abbrev pub IsFirstAskFault : AskOp → ℕ → List (Option ℕ) → AskFault → Type 0
+IsFirstAskFault op size bytes = IsFirstOf (HasAskFault op size bytes) ask_fault_rank

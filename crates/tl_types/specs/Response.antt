@@ -1,0 +1,38 @@
+-- A reply on channel D as every contract sees it, the rule that it keeps, and the faults of one that does not.
+use Rattle.std.specs.Prelude.{◌≡◌, ℕ, ◌≢◌, ◌≤◌, ◌<◌, Bool, List, length, All, Any, IsTrue}
+use Rattle.tl_types.specs.declared.operation.ReplyOp.{ReplyOp}
+use Rattle.tl_types.specs.Fault.{IsFirstOf}
+use Rattle.tl_types.specs.Operation.{reply_byte_count}
+use Rattle.tl_types.specs.declared.limits.TheConstants.{LARGEST_SIZE}
+use Rattle.tl_types.specs.declared.reply.ReplyFault.{ReplyFault}
+use Rattle.tl_types.specs.declared.reply.ReplyFault.TheVariants.{TooLarge, WrongCount, DirtyDenied}
+
+-- a reply: its opcode, the size and the source of its request, whether it was denied, and its bytes
+pub record Response : Type 0 where
+  pub op : ReplyOp
+  pub size : ℕ
+  pub source : ℕ
+  pub denied : Bool
+  pub bytes : List ℕ
+
+-- the rule of replies
+pub record IsLawfulResponse (op : ReplyOp) (size : ℕ) (denied : Bool) (bytes : List ℕ) : Type 0 where
+  pub in_limit : size ≤ LARGEST_SIZE
+  pub counted : length bytes ≡ reply_byte_count op size
+  pub clean : IsTrue denied → All (λ b. b ≡ 0) bytes
+
+-- the fault is one of a reply with these parts
+abbrev pub HasReplyFault : ReplyOp → ℕ → Bool → List ℕ → ReplyFault → Type 0
+HasReplyFault op size denied bytes TooLarge = LARGEST_SIZE < size
+HasReplyFault op size denied bytes WrongCount = length bytes ≢ reply_byte_count op size
+HasReplyFault op size denied bytes DirtyDenied = IsTrue denied × Any (λ b. b ≢ 0) bytes
+
+-- the place of a fault in the order in which faults are tried
+abbrev pub reply_fault_rank : ReplyFault → ℕ
+reply_fault_rank TooLarge = 1
+reply_fault_rank WrongCount = 2
+reply_fault_rank DirtyDenied = 3
+
+-- the fault is the first one, in that order, of a reply with these parts
+abbrev pub IsFirstReplyFault : ReplyOp → ℕ → Bool → List ℕ → ReplyFault → Type 0
+IsFirstReplyFault op size denied bytes = IsFirstOf (HasReplyFault op size denied bytes) reply_fault_rank

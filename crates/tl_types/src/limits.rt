@@ -1,0 +1,16 @@
+//! The limits of the crossbar that several crates share, each written here alone.
+
+/// The largest size of a message, as the base-2 logarithm of its bytes.
+pub const LARGEST_SIZE: u8 = 6;
+
+/// The most bytes that a message carries.
+pub const MAX_BYTES: usize = 1 << LARGEST_SIZE;
+
+/// The most masters of a crossbar.
+pub const MAX_MASTERS: usize = 16;
+
+/// The most slave ports of a crossbar, the error port among them.
+pub const MAX_PORTS: usize = 16;
+
+/// The most slots of a transaction arena.
+pub const MAX_SLOTS: usize = 256;

@@ -1,0 +1,129 @@
+//! Replies on channel D.
+ghost use Rattle.std.specs.Prelude.{◌≡◌, ◌↔◌, ◌≤◌, length, IsOk, IfOk, IfErr};
+ghost use Rattle.tl_types.specs.Response.{IsLawfulResponse, IsFirstReplyFault};
+
+use crate::limits::{LARGEST_SIZE, MAX_BYTES};
+use crate::operation::ReplyOp;
+use arrayvec::ArrayVec;
+use std::marker::Model;
+use thiserror::Error;
+
+/// A reply, of lawful size and byte count, whose bytes are zero where it is denied.
+#[derive(Debug, Drop)]
+pub struct Reply {
+    op: ReplyOp,
+    size: u8,
+    source: u16,
+    denied: bool,
+    bytes: ArrayVec<u8, MAX_BYTES>,
+}
+
+/// Why parts make no reply.
+#[derive(Debug, Clone, Copy, PartialEq, Eq, Error)]
+pub enum ReplyFault {
+    #[error("the size is over the limit")]
+    TooLarge,
+    #[error("the number of bytes is not the message's")]
+    WrongCount,
+    #[error("a denied reply has a byte that is not zero")]
+    DirtyDenied,
+}
+
+impl Model for Reply {
+    ghost use Rattle.tl_types.specs.Response.{Response, IsLawfulResponse};
+
+    ghost Value = { Response };
+
+    ghost view = { λ r. record { op = r.op; size = r.size; source = r.source; denied = r.denied; bytes = r.bytes.items } };
+
+    ghost invariant = { λ r. IsLawfulResponse r.op r.size r.denied r.bytes.items };
+}
+
+impl Reply {
+    /// The reply of these parts, or the first fault that they have.
+    pub fn new(
+        op: ReplyOp,
+        size: u8,
+        source: u16,
+        denied: bool,
+        bytes: &[u8],
+    ) -> Result<Reply, ReplyFault>
+        ensures ok { IsOk result ↔ IsLawfulResponse op size denied bytes.now }
+        ensures parts { IfOk result (λ r. r ≡ record { op = op; size = size; source = source; denied = denied; bytes = bytes.now }) }
+        ensures fault { IfErr result (IsFirstReplyFault op size denied bytes.now) }
+    {
+        if size > LARGEST_SIZE {
+            return Err(ReplyFault::TooLarge);
+        }
+        if bytes.len() != op.byte_count(size) {
+            return Err(ReplyFault::WrongCount);
+        }
+        if denied && bytes.iter().any(|b| *b != 0) {
+            return Err(ReplyFault::DirtyDenied);
+        }
+        Ok(Reply {
+            op,
+            size,
+            source,
+            denied,
+            bytes: ArrayVec::try_from(bytes).unwrap(),
+        })
+    }
+
+    /// The opcode.
+    pub fn op(&self) -> ReplyOp
+        ensures { result ≡ self.now.op }
+    {
+        self.op
+    }
+
+    /// The size, as the base-2 logarithm of a number of bytes.
+    pub fn size(&self) -> u8
+        ensures value { result ≡ self.now.size }
+        ensures in_limit { result ≤ LARGEST_SIZE }
+    {
+        self.size
+    }
+
+    /// The source of the request.
+    pub fn source(&self) -> u16
+        ensures { result ≡ self.now.source }
+    {
+        self.source
+    }
+
+    /// Whether the request was denied.
+    pub fn denied(&self) -> bool
+        ensures { result ≡ self.now.denied }
+    {
+        self.denied
+    }
+
+    /// The bytes that the reply carries.
+    pub fn bytes(&self) -> &[u8]
+        ensures value { result.now ≡ self.now.bytes }
+        ensures lawful { IsLawfulResponse self.now.op self.now.size self.now.denied self.now.bytes }
+    {
+        self.bytes.as_slice()
+    }
+
+    /// The same reply.
+    pub fn copy(&self) -> Reply
+        ensures { result ≡ self.now }
+    {
+        self.with_source(self.source)
+    }
+
+    /// The same reply to another source.
+    pub fn with_source(&self, source: u16) -> Reply
+        ensures { result ≡ record self.now { source = source } }
+    {
+        Reply {
+            op: self.op,
+            size: self.size,
+            source,
+            denied: self.denied,
+            bytes: ArrayVec::try_from(self.bytes.as_slice()).unwrap(),
+        }
+    }
+}

@@ -1,0 +1,139 @@
+//! Requests on channel A.
+ghost use Rattle.std.specs.Prelude.{◌≡◌, ◌↔◌, ◌<◌, ◌≤◌, ◌^◌, length, IsOk, IfOk, IfErr};
+ghost use Rattle.tl_types.specs.Operation.{byte_count};
+ghost use Rattle.tl_types.specs.Request.{IsLawfulRequest, IsFirstAskFault};
+
+use crate::limits::{LARGEST_SIZE, MAX_BYTES};
+use crate::operation::{AskOp, width};
+use arrayvec::ArrayVec;
+use std::marker::Model;
+use thiserror::Error;
+
+/// A request, of lawful size and byte count.
+#[derive(Debug, Drop)]
+pub struct Ask {
+    op: AskOp,
+    size: u8,
+    source: u16,
+    address: u64,
+    bytes: ArrayVec<Option<u8>, MAX_BYTES>,
+}
+
+/// Why parts make no request.
+#[derive(Debug, Clone, Copy, PartialEq, Eq, Error)]
+pub enum AskFault {
+    #[error("the size is over the limit")]
+    TooLarge,
+    #[error("the number of bytes is not the message's")]
+    WrongCount,
+    #[error("a byte is left unset")]
+    HoleInFull,
+}
+
+impl Model for Ask {
+    ghost use Rattle.tl_types.specs.Request.{Request, IsLawfulRequest};
+
+    ghost Value = { Request };
+
+    ghost view = { λ a. record { op = a.op; size = a.size; source = a.source; address = a.address; bytes = a.bytes.items } };
+
+    ghost invariant = { λ a. IsLawfulRequest a.op a.size a.bytes.items };
+}
+
+impl Ask {
+    /// The request of these parts, or the first fault that they have.
+    pub fn new(
+        op: AskOp,
+        size: u8,
+        source: u16,
+        address: u64,
+        bytes: &[Option<u8>],
+    ) -> Result<Ask, AskFault>
+        ensures ok { IsOk result ↔ IsLawfulRequest op size bytes.now }
+        ensures parts { IfOk result (λ ask. ask ≡ record { op = op; size = size; source = source; address = address; bytes = bytes.now }) }
+        ensures fault { IfErr result (IsFirstAskFault op size bytes.now) }
+    {
+        if size > LARGEST_SIZE {
+            return Err(AskFault::TooLarge);
+        }
+        if bytes.len() != op.byte_count(size) {
+            return Err(AskFault::WrongCount);
+        }
+        if !op.may_leave_unset() && bytes.iter().any(|b| b.is_none()) {
+            return Err(AskFault::HoleInFull);
+        }
+        Ok(Ask {
+            op,
+            size,
+            source,
+            address,
+            bytes: ArrayVec::try_from(bytes).unwrap(),
+        })
+    }
+
+    /// The operation.
+    pub fn op(&self) -> AskOp
+        ensures { result ≡ self.now.op }
+    {
+        self.op
+    }
+
+    /// The size, as the base-2 logarithm of a number of bytes.
+    pub fn size(&self) -> u8
+        ensures value { result ≡ self.now.size }
+        ensures in_limit { result ≤ LARGEST_SIZE }
+    {
+        self.size
+    }
+
+    /// The number of bytes that the request names, from its address on.
+    pub fn width(&self) -> usize
+        ensures value { result ≡ 2 ^ self.now.size }
+        ensures some { 0 < result }
+        ensures in_limit { result ≤ MAX_BYTES }
+    {
+        width(self.size)
+    }
+
+    /// The source.
+    pub fn source(&self) -> u16
+        ensures { result ≡ self.now.source }
+    {
+        self.source
+    }
+
+    /// The address of the first byte.
+    pub fn address(&self) -> u64
+        ensures { result ≡ self.now.address }
+    {
+        self.address
+    }
+
+    /// The bytes that the request carries.
+    pub fn bytes(&self) -> &[Option<u8>]
+        ensures value { result.now ≡ self.now.bytes }
+        ensures lawful { IsLawfulRequest self.now.op self.now.size self.now.bytes }
+    {
+        self.bytes.as_slice()
+    }
+
+    /// The same request.
+    pub fn copy(&self) -> Ask
+        ensures { result ≡ self.now }
+    {
+        self.with_source(self.source)
+    }
+
+    /// The same request from another source.
+    pub fn with_source(&self, source: u16) -> Ask
+        ensures { result ≡ record self.now { source = source } }
+    {
+        Ask {
+            op: self.op,
+            size: self.size,
+            source,
+            address: self.address,
+            bytes: ArrayVec::try_from(self.bytes.as_slice()).unwrap(),
+        }
+    }
+}
