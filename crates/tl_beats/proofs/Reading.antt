@@ -8,15 +8,16 @@ use Rattle.std.proofs.lemmas.Option.{slice_get_within, slice_get-get_or, get_or_
 use Rattle.std.proofs.lemmas.Nat.Bits.{bit_at_mask_inside}
 use Rattle.tl_types.specs.Request.{Request, IsLawfulRequest}
 use Rattle.tl_types.specs.Operation.{carries_bytes, byte_count, may_leave_unset}
-use Rattle.tl_types.specs.Wire.{IsCodeOf, HasOpFault, opcode_of, param_of}
+use Rattle.tl_types.specs.Wire.{IsCodeOf, IsFirstOpFault, opcode_of, param_of}
 use Rattle.tl_types.specs.declared.operation.AskOp.{AskOp}
 use Rattle.tl_types.specs.declared.limits.TheConstants.{LARGEST_SIZE}
 use Rattle.tl_types.proofs.Operations.{no_fault_of_code}
 use Rattle.tl_beats.specs.Beats.{low, lane_of, beat_count, active_mask, IsLawfulMask, StandsAt, HasFieldsOf, IsBeatOf, SpellsAsk}
-use Rattle.tl_beats.specs.Faults.{SameFields, HoldsBelow, FailsFirstAt, HasFault, fault_rank, IsFirstFault}
+use Rattle.tl_beats.specs.Faults.{SameFields, HasBeatFault, beat_fault_rank, IsFirstBeatFault}
+use Rattle.tl_types.specs.List.{HoldsBelow, FailsFirstAt}
 use Rattle.tl_beats.specs.declared.beat.ABeat.{ABeat}
 use Rattle.tl_beats.specs.declared.beat.BeatFault.{BeatFault}
-use Rattle.tl_beats.specs.declared.beat.BeatFault.TheVariants.{NoBeat, Op, Size, Count, Changed, Mask}
+use Rattle.tl_beats.specs.declared.beat.BeatFault.TheVariants.{NoBeat, Op, Size, Count, Changed, Mask, CorruptFlag}
 use Rattle.tl_beats.proofs.Places.{place_beat, place_is_active, beat_in_message, bytes_in_beats}
 
 -- what is said of an element, at the element
@@ -78,12 +79,12 @@ pub record IsUniform (beats : List ABeat) (first : ABeat) (op : AskOp) : Type 0 
   pub same : HoldsBelow (SameFields first) beats (length beats)
 
 module _ (beats : List ABeat) (first : ABeat) (op : AskOp) (uniform : IsUniform beats first op) where
-  no_earlier : (b : ℕ) (other : BeatFault) → fault_rank other < 6 → HasFault beats other → ⊥
+  no_earlier : (b : ℕ) (other : BeatFault) → beat_fault_rank other < 6 → HasBeatFault beats other → ⊥
   no_earlier b NoBeat rank h = let none : slice_get beats 0 ≡ None = ap (λ xs. slice_get xs 0) h in cc
   no_earlier b (Op fault) rank h =
-      let found = at_element (λ x. HasOpFault x.opcode x.param fault) (slice_get beats 0) h in
+      let found = at_element (λ x. IsFirstOpFault x.opcode x.param fault) (slice_get beats 0) h in
       let is_first : found.0 ≡ first = cc in
-      no_fault_of_code op first.opcode first.param fault uniform.code (rw is_first at found.2)
+      no_fault_of_code op first.opcode first.param fault uniform.code (rw is_first at found.2.applies)
   no_earlier b Size rank h =
       let found = at_element (λ x. LARGEST_SIZE < x.size) (slice_get beats 0) h in
       let is_first : found.0 ≡ first = cc in
@@ -100,8 +101,9 @@ module _ (beats : List ABeat) (first : ABeat) (op : AskOp) (uniform : IsUniform 
       let bad = at_element (λ beat. SameFields first beat → ⊥) (slice_get beats k) fails.here in
       bad.2 (uniform.same k bad.0 (slice_get_within beats k bad.0 bad.1) bad.1)
   no_earlier b (Mask k) rank h = absurd (omega (arith, rank))
+  no_earlier b (CorruptFlag k) rank h = absurd h
 
-  pub first_is_mask : (b : ℕ) → FailsFirstAt (λ beat. IsLawfulMask op first.size first.address beat.mask) beats b → IsFirstFault beats (Mask b)
+  pub first_is_mask : (b : ℕ) → FailsFirstAt (λ beat. IsLawfulMask op first.size first.address beat.mask) beats b → IsFirstBeatFault beats (Mask b)
   first_is_mask b fails = record { applies = rw uniform.head (op, uniform.code, fails); first = no_earlier b }
 
 -- ---- the bytes that are read from beats without a fault

@@ -1,15 +1,20 @@
--- Why a list of beats spells no request.
-use Rattle.std.specs.Prelude.{◌≡◌, ◌≢◌, ℕ, ◌<◌, List, [], length, Option, Some, slice_get, IsSomeAnd}
-use Rattle.tl_types.specs.Operation.{carries_bytes}
-use Rattle.tl_types.specs.Wire.{IsCodeOf, HasOpFault}
+-- Why a list of beats spells no message. Which fault is named where several apply is this project's own.
+use Rattle.std.specs.Prelude.{◌≡◌, ◌≢◌, ℕ, ◌<◌, List, [], length, slice_get, IsSomeAnd, IsTrue}
+use Rattle.tl_types.specs.Fault.{IsFirstOf}
+use Rattle.tl_types.specs.List.{FailsFirstAt}
+use Rattle.tl_types.specs.Operation.{carries_bytes, reply_carries_bytes}
+use Rattle.tl_types.specs.Wire.{IsCodeOf, IsFirstOpFault, reply_opcode_of, IsFirstReplyOpFault}
 use Rattle.tl_types.specs.declared.operation.AskOp.{AskOp}
+use Rattle.tl_types.specs.declared.operation.ReplyOp.{ReplyOp}
 use Rattle.tl_types.specs.declared.limits.TheConstants.{LARGEST_SIZE}
 use Rattle.tl_beats.specs.Beats.{beat_count, IsLawfulMask}
+use Rattle.tl_beats.specs.Replies.{MayBeCorrupt}
 use Rattle.tl_beats.specs.declared.beat.ABeat.{ABeat}
+use Rattle.tl_beats.specs.declared.beat.DBeat.{DBeat}
 use Rattle.tl_beats.specs.declared.beat.BeatFault.{BeatFault}
-use Rattle.tl_beats.specs.declared.beat.BeatFault.TheVariants.{NoBeat, Op, Size, Count, Changed, Mask}
+use Rattle.tl_beats.specs.declared.beat.BeatFault.TheVariants.{NoBeat, Op, Size, Count, Changed, Mask, CorruptFlag}
 
--- two beats have the same shared fields
+-- two beats of requests have the same shared fields
 pub record SameFields (first beat : ABeat) : Type 0 where
   pub opcode : beat.opcode ≡ first.opcode
   pub param : beat.param ≡ first.param
@@ -17,43 +22,62 @@ pub record SameFields (first beat : ABeat) : Type 0 where
   pub source : beat.source ≡ first.source
   pub address : beat.address ≡ first.address
 
--- each of the first n beats has the property
-abbrev pub HoldsBelow : (ABeat → Type 0) → List ABeat → ℕ → Type 0
-HoldsBelow P beats n = (k : ℕ) (beat : ABeat) → k < n → slice_get beats k ≡ Some beat → P beat
-
--- beat b is the lowest without the property
-pub record FailsFirstAt (P : ABeat → Type 0) (beats : List ABeat) (b : ℕ) : Type 0 where
-  pub here : IsSomeAnd (slice_get beats b) (λ beat. P beat → ⊥)
-  pub before : HoldsBelow P beats b
+-- two beats of replies have the same shared fields
+pub record SameReplyFields (first beat : DBeat) : Type 0 where
+  pub opcode : beat.opcode ≡ first.opcode
+  pub size : beat.size ≡ first.size
+  pub source : beat.source ≡ first.source
+  pub denied : beat.denied ≡ first.denied
 
 -- what is said of the first beat, where there is one
-abbrev pub OfFirst : List ABeat → (ABeat → Type 0) → Type 0
+abbrev pub OfFirst : {B : Type 0} → List B → (B → Type 0) → Type 0
 OfFirst beats P = IsSomeAnd (slice_get beats 0) P
 
 -- what is said of the first beat and the operation that it names, where it names one
 abbrev pub OfFirstOp : List ABeat → (ABeat → AskOp → Type 0) → Type 0
 OfFirstOp beats P = OfFirst beats (λ first. (op : AskOp) × IsCodeOf op first.opcode first.param × P first op)
 
--- the beats have the fault
-abbrev pub HasFault : List ABeat → BeatFault → Type 0
-HasFault beats NoBeat = beats ≡ []
-HasFault beats (Op fault) = OfFirst beats (λ first. HasOpFault first.opcode first.param fault)
-HasFault beats Size = OfFirst beats (λ first. LARGEST_SIZE < first.size)
-HasFault beats Count = OfFirstOp beats (λ first op. length beats ≢ beat_count (carries_bytes op) first.size)
-HasFault beats (Changed b) = OfFirst beats (λ first. FailsFirstAt (SameFields first) beats b)
-HasFault beats (Mask b) =
+-- what is said of the first beat and the reply's opcode that it names, where it names one
+abbrev pub OfFirstReplyOp : List DBeat → (DBeat → ReplyOp → Type 0) → Type 0
+OfFirstReplyOp beats P = OfFirst beats (λ first. (op : ReplyOp) × (reply_opcode_of op ≡ first.opcode) × P first op)
+
+-- the beats have this fault as a request
+abbrev pub HasBeatFault : List ABeat → BeatFault → Type 0
+HasBeatFault beats NoBeat = beats ≡ []
+HasBeatFault beats (Op fault) = OfFirst beats (λ first. IsFirstOpFault first.opcode first.param fault)
+HasBeatFault beats Size = OfFirst beats (λ first. LARGEST_SIZE < first.size)
+HasBeatFault beats Count = OfFirstOp beats (λ first op. length beats ≢ beat_count (carries_bytes op) first.size)
+HasBeatFault beats (Changed b) = OfFirst beats (λ first. FailsFirstAt (SameFields first) beats b)
+HasBeatFault beats (Mask b) =
     OfFirstOp beats (λ first op. FailsFirstAt (λ beat. IsLawfulMask op first.size first.address beat.mask) beats b)
+HasBeatFault beats (CorruptFlag b) = ⊥
+
+-- the beats have this fault as a reply
+abbrev pub HasReplyBeatFault : List DBeat → BeatFault → Type 0
+HasReplyBeatFault beats NoBeat = beats ≡ []
+HasReplyBeatFault beats (Op fault) = OfFirst beats (λ first. IsFirstReplyOpFault first.opcode fault)
+HasReplyBeatFault beats Size = OfFirst beats (λ first. LARGEST_SIZE < first.size)
+HasReplyBeatFault beats Count =
+    OfFirstReplyOp beats (λ first op. length beats ≢ beat_count (reply_carries_bytes op) first.size)
+HasReplyBeatFault beats (Changed b) = OfFirst beats (λ first. FailsFirstAt (SameReplyFields first) beats b)
+HasReplyBeatFault beats (Mask b) = ⊥
+HasReplyBeatFault beats (CorruptFlag b) =
+    OfFirstReplyOp beats (λ first op. FailsFirstAt (λ beat. IsTrue beat.corrupt → MayBeCorrupt op first.denied) beats b)
 
 -- the place of a fault in the order in which faults are tried
-abbrev pub fault_rank : BeatFault → ℕ
-fault_rank NoBeat = 1
-fault_rank (Op _) = 2
-fault_rank Size = 3
-fault_rank Count = 4
-fault_rank (Changed _) = 5
-fault_rank (Mask _) = 6
+abbrev pub beat_fault_rank : BeatFault → ℕ
+beat_fault_rank NoBeat = 1
+beat_fault_rank (Op _) = 2
+beat_fault_rank Size = 3
+beat_fault_rank Count = 4
+beat_fault_rank (Changed _) = 5
+beat_fault_rank (Mask _) = 6
+beat_fault_rank (CorruptFlag _) = 7
 
--- the fault is the first one, in that order, that the beats have
-pub record IsFirstFault (beats : List ABeat) (fault : BeatFault) : Type 0 where
-  pub applies : HasFault beats fault
-  pub first : (other : BeatFault) → fault_rank other < fault_rank fault → HasFault beats other → ⊥
+-- the fault is the first one, in that order, that the beats have as a request
+abbrev pub IsFirstBeatFault : List ABeat → BeatFault → Type 0
+IsFirstBeatFault beats = IsFirstOf (HasBeatFault beats) beat_fault_rank
+
+-- the fault is the first one, in that order, that the beats have as a reply
+abbrev pub IsFirstReplyBeatFault : List DBeat → BeatFault → Type 0
+IsFirstReplyBeatFault beats = IsFirstOf (HasReplyBeatFault beats) beat_fault_rank

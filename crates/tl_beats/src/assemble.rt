@@ -3,7 +3,8 @@ ghost use Rattle.std.specs.Prelude.{◌≡◌, ℕ, ◌+◌, ◌*◌, ◌/◌, �
 ghost use Rattle.tl_types.specs.Request.{Request, IsLawfulRequest};
 ghost use Rattle.tl_types.specs.declared.operation.AskOp.{AskOp};
 ghost use Rattle.tl_beats.specs.Beats.{IsLawfulMask, StandsAt, SpellsAsk};
-ghost use Rattle.tl_beats.specs.Faults.{SameFields, HoldsBelow, FailsFirstAt, IsFirstFault};
+ghost use Rattle.tl_types.specs.List.{HoldsBelow, FailsFirstAt};
+ghost use Rattle.tl_beats.specs.Faults.{SameFields, IsFirstBeatFault};
 ghost use Rattle.tl_beats.specs.declared.beat.ABeat.{ABeat};
 
 use crate::beat::{ABeat, BeatFault, MAX_BEATS};
@@ -96,7 +97,7 @@ pub fn assemble_ask(beats: &[ABeat]) -> Result<Ask, BeatFault>
     ensures ok { IfOk result (λ ask. SpellsAsk ask beats.now) }
     ensures all { (ask : Request) → IsLawfulRequest ask.op ask.size ask.bytes
         → SpellsAsk ask beats.now → result ≡ Ok ask }
-    ensures fault { IfErr result (IsFirstFault beats.now) }
+    ensures fault { IfErr result (IsFirstBeatFault beats.now) }
 {
     let Some(first) = beats.first() else {
         return Err(BeatFault::NoBeat);
