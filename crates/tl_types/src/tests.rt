@@ -1,2 +1,126 @@
 use super::*;
 use std::test::Fail;
+
+#[test]
+fn requests_are_refused_by_their_first_fault(rt: HostRuntime) -> Result<(), Fail> {
+    let hole = [None; 2];
+    let rows = [
+        (
+            LARGEST_SIZE + 1,
+            hole.as_slice(),
+            AskFault::TooLarge,
+            "the size is over the limit",
+        ),
+        (
+            0,
+            hole.as_slice(),
+            AskFault::WrongCount,
+            "the number of bytes is not the message's",
+        ),
+        (
+            1,
+            hole.as_slice(),
+            AskFault::HoleInFull,
+            "a byte is left unset",
+        ),
+    ];
+    for (size, bytes, fault, text) in rows {
+        let made = Ask::new(AskOp::PutFull, size, 0, 0, bytes);
+        assert_eq!(rt; made.err(), Some(fault));
+        assert_eq!(rt; format!(in rt.alloc(); "{fault}")?.as_str(), text);
+    }
+    assert!(rt; Ask::new(AskOp::PutPartial, 1, 0, 0, &hole).is_ok());
+    Ok(())
+}
+
+#[test]
+fn replies_are_refused_by_their_first_fault(rt: HostRuntime) -> Result<(), Fail> {
+    let dirty = [0, 1];
+    let rows = [
+        (
+            LARGEST_SIZE + 1,
+            ReplyFault::TooLarge,
+            "the size is over the limit",
+        ),
+        (
+            0,
+            ReplyFault::WrongCount,
+            "the number of bytes is not the message's",
+        ),
+        (
+            1,
+            ReplyFault::DirtyDenied,
+            "a denied reply has a byte that is not zero",
+        ),
+    ];
+    for (size, fault, text) in rows {
+        let made = Reply::new(ReplyOp::AccessAckData, size, 0, true, &dirty);
+        assert_eq!(rt; made.err(), Some(fault));
+        assert_eq!(rt; format!(in rt.alloc(); "{fault}")?.as_str(), text);
+    }
+    assert!(rt; Reply::new(ReplyOp::AccessAckData, 1, 0, false, &dirty).is_ok());
+    Ok(())
+}
+
+#[test]
+fn copies_differ_in_the_source_alone(rt: HostRuntime) -> Result<(), Fail> {
+    let ask = Ask::new(AskOp::PutPartial, 1, 3, 0x1000, &[Some(7), None])?.with_source(12);
+    assert_eq!(rt;
+        (ask.op(), ask.size(), ask.source(), ask.address()),
+        (AskOp::PutPartial, 1, 12, 0x1000)
+    );
+    assert_eq!(rt; ask.copy().bytes(), [Some(7), None].as_slice());
+    let reply = Reply::new(ReplyOp::AccessAckData, 0, 12, false, &[7])?.with_source(3);
+    assert_eq!(rt;
+        (reply.op(), reply.size(), reply.source(), reply.denied()),
+        (ReplyOp::AccessAckData, 0, 3, false)
+    );
+    assert_eq!(rt; reply.copy().bytes(), [7].as_slice());
+    Ok(())
+}
+
+/// The table of channel A: each operation with its opcode and parameter.
+const OPERATIONS: [(AskOp, u8, u8); 14] = [
+    (AskOp::PutFull, 0, 0),
+    (AskOp::PutPartial, 1, 0),
+    (AskOp::Arithmetic(Arith::Min), 2, 0),
+    (AskOp::Arithmetic(Arith::Max), 2, 1),
+    (AskOp::Arithmetic(Arith::MinU), 2, 2),
+    (AskOp::Arithmetic(Arith::MaxU), 2, 3),
+    (AskOp::Arithmetic(Arith::Add), 2, 4),
+    (AskOp::Logical(Logic::Xor), 3, 0),
+    (AskOp::Logical(Logic::Or), 3, 1),
+    (AskOp::Logical(Logic::And), 3, 2),
+    (AskOp::Logical(Logic::Swap), 3, 3),
+    (AskOp::Get, 4, 0),
+    (AskOp::Intent(Hint::PrefetchRead), 5, 0),
+    (AskOp::Intent(Hint::PrefetchWrite), 5, 1),
+];
+
+#[test]
+fn opcodes_are_those_of_the_standard(rt: HostRuntime) -> Result<(), Fail> {
+    for (op, number, parameter) in OPERATIONS {
+        assert_eq!(rt; (opcode(&op), param(&op)), (number, parameter));
+        assert_eq!(rt; read_op(number, parameter), Ok(op));
+    }
+    let refused = [
+        (6, 0, OpFault::Cached, "a cached operation"),
+        (7, 9, OpFault::Cached, "a cached operation"),
+        (9, 0, OpFault::UnknownOpcode, "no such opcode"),
+        (4, 1, OpFault::UnknownParam, "no such parameter"),
+    ];
+    for (number, parameter, fault, text) in refused {
+        assert_eq!(rt; read_op(number, parameter), Err(fault));
+        assert_eq!(rt; format!(in rt.alloc(); "{fault}")?.as_str(), text);
+    }
+    for (op, number) in [
+        (ReplyOp::AccessAck, 0),
+        (ReplyOp::AccessAckData, 1),
+        (ReplyOp::HintAck, 2),
+    ] {
+        assert_eq!(rt; reply_opcode(op), number);
+        assert_eq!(rt; read_reply_op(number), Ok(op));
+    }
+    assert_eq!(rt; read_reply_op(3), Err(OpFault::UnknownOpcode));
+    Ok(())
+}

@@ -1,0 +1,18 @@
+//! Laws about the definitions, for the crates above that keep histories.
+ghost use Rattle.std.specs.Prelude.{◌≡◌, ◌++◌, ◌∷◌, [], List};
+ghost use Rattle.tl_types.specs.Request.{Request};
+ghost use Rattle.tl_types.specs.Response.{Response};
+ghost use Rattle.tl_ops.specs.Store.{Store, after, reply};
+ghost use Rattle.tl_ops.specs.History.{replay, asks_of, IsLawfulHistory};
+
+/// A request more is served last.
+pub fn replay_ends_with_last()
+    ensures { (store : Store) (asks : List Request) (ask : Request) → replay store (asks ++ ask ∷ []) ≡ after (replay store asks) ask }
+{}
+
+/// A lawful history stays lawful with one request more and the memory's reply to it.
+pub fn history_grows()
+    ensures { (reset store : Store) (history : List (Request × Response)) (ask : Request)
+        → IsLawfulHistory reset history → store ≡ replay reset (asks_of history)
+        → IsLawfulHistory reset (history ++ (ask, reply store ask) ∷ []) }
+{}

@@ -1,0 +1,6 @@
+pub mod Data
+pub mod Name
+pub mod Number
+pub mod Word
+pub mod Operation
+pub mod Trace

@@ -1,0 +1,113 @@
+//! The lines of traces.
+ghost use Rattle.std.specs.Prelude.{◌≡◌, ◌++◌, IfOk, OnOk, map, string_bytes, Some};
+ghost use Rattle.tl_script.specs.Data.{byte_text};
+ghost use Rattle.tl_script.specs.Trace.{ask_text, bytes_part, denied_text, lines_of, message_text, reply_text, trace_line, trace_text};
+
+use crate::name::{reply_word, word};
+use std::alloc::{AllocError, Global};
+use tl_types::{Ask, Entry, Memory, Reply, Trace};
+
+#[tactic(auto, using(std::proofs::lemmas::Fmt::hex_byte))]
+fn push_byte(text: &mut String, byte: Option<u8>) -> Result<(), AllocError>
+    ensures { OnOk result (string_bytes text.new ≡ string_bytes text.old ++ byte_text byte) }
+{
+    match byte {
+        Some(byte) => write!(text, "{byte:02x}"),
+        None => text.push_str("--"),
+    }
+}
+
+/// A space and the bytes of a request, where it carries any.
+fn push_data(text: &mut String, bytes: &[Option<u8>]) -> Result<(), AllocError>
+    ensures { OnOk result (string_bytes text.new ≡ string_bytes text.old ++ bytes_part bytes.now) }
+{
+    if !bytes.is_empty() {
+        text.push_str(" ")?;
+    }
+    for byte in bytes {
+        push_byte(text, *byte)?;
+    }
+    Ok(())
+}
+
+/// A space and the bytes of a reply, where it carries any.
+fn push_plain(text: &mut String, bytes: &[u8]) -> Result<(), AllocError>
+    ensures { OnOk result (string_bytes text.new ≡ string_bytes text.old ++ bytes_part (map (λ byte. Some byte) bytes.now)) }
+{
+    if !bytes.is_empty() {
+        text.push_str(" ")?;
+    }
+    for byte in bytes {
+        push_byte(text, Some(*byte))?;
+    }
+    Ok(())
+}
+
+fn push_ask(text: &mut String, ask: &Ask) -> Result<(), AllocError>
+    ensures { OnOk result (string_bytes text.new ≡ string_bytes text.old ++ ask_text ask.now) }
+{
+    write!(
+        text,
+        "{} 0x{:x} {}",
+        word(ask.op()),
+        ask.address(),
+        ask.size()
+    )?;
+    push_data(text, ask.bytes())?;
+    Ok(())
+}
+
+fn denied_word(denied: bool) -> &'static str
+    ensures { result.now ≡ denied_text denied }
+{
+    if denied { " denied" } else { "" }
+}
+
+fn push_reply(text: &mut String, reply: &Reply) -> Result<(), AllocError>
+    ensures { OnOk result (string_bytes text.new ≡ string_bytes text.old ++ reply_text reply.now) }
+{
+    text.push_str(reply_word(reply.op()))?;
+    text.push_str(denied_word(reply.denied()))?;
+    push_plain(text, reply.bytes())?;
+    Ok(())
+}
+
+#[tactic(auto, unfolding(crate::specs::Trace::message_text))]
+fn push_message(text: &mut String, ask: &Ask, reply: &Reply) -> Result<(), AllocError>
+    ensures { OnOk result (string_bytes text.new ≡ string_bytes text.old ++ message_text ask.now reply.now) }
+{
+    push_ask(text, ask)?;
+    text.push_str(" -> ")?;
+    push_reply(text, reply)?;
+    Ok(())
+}
+
+#[tactic(auto, unfolding(crate::specs::Trace::trace_line))]
+fn push_line(text: &mut String, master: usize, entry: &Entry) -> Result<(), AllocError>
+    ensures { OnOk result (string_bytes text.new ≡ string_bytes text.old ++ trace_line master entry.now) }
+{
+    write!(text, "m{master} s{} ", entry.ask.source())?;
+    push_message(text, &entry.ask, &entry.reply)?;
+    write!(text, " p{} #{}\n", entry.port, entry.index)?;
+    Ok(())
+}
+
+fn push_lines(text: &mut String, master: usize, entries: &[Entry]) -> Result<(), AllocError>
+    ensures { OnOk result (string_bytes text.new ≡ string_bytes text.old ++ lines_of master entries.now) }
+{
+    for entry in entries {
+        push_line(text, master, entry)?;
+    }
+    Ok(())
+}
+
+/// The text of the traces, that of master 0 first: a line for each entry.
+pub fn write_trace(alloc: Global, traces: &[Trace]) -> Result<Vec<u8>, Memory>
+    ensures { IfOk result (λ text. text.items ≡ trace_text (map (λ trace. trace.items) traces.now)) }
+{
+    let mut text = String::new(alloc);
+    for (master, entries) in traces.iter().enumerate() {
+        push_lines(&mut text, master, entries)?;
+    }
+    Ok(text.into_bytes())
+}
