@@ -1,0 +1,5 @@
+use Rattle.tl_map.proofs.Blocks.{one_wide}
+use Rattle.tl_map.proofs.laws.wide_source_is_one.Goals as goal
+
+pub returns : goal.returns
+returns c = one_wide
