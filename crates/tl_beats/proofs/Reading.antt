@@ -18,7 +18,8 @@ use Rattle.tl_types.specs.List.{HoldsBelow, FailsFirstAt}
 use Rattle.tl_beats.specs.declared.beat.ABeat.{ABeat}
 use Rattle.tl_beats.specs.declared.beat.BeatFault.{BeatFault}
 use Rattle.tl_beats.specs.declared.beat.BeatFault.TheVariants.{NoBeat, Op, Size, Count, Changed, Mask, CorruptFlag}
-use Rattle.tl_beats.proofs.Places.{place_beat, place_is_active, beat_in_message, bytes_in_beats}
+use Rattle.tl_beats.proofs.Places.{beat_in_message, bytes_in_beats}
+use Rattle.tl_beats.proofs.Spelling.{active_lane}
 
 -- what is said of an element, at the element
 pub at_element : {A : Type 0} (P : A → Type 0) (o : Option A) → IsSomeAnd o P → (x : A) × (o ≡ Some x) × P x
@@ -128,15 +129,6 @@ StandsAt-same mask lanes lane None None p q = refl
 StandsAt-same mask lanes lane None (Some y) p q = let no : 0 ≡ 1 = sym p ∙ q.0 in absurd (omega (arith, no))
 StandsAt-same mask lanes lane (Some x) None p q = let no : 0 ≡ 1 = sym q ∙ p.0 in absurd (omega (arith, no))
 StandsAt-same mask lanes lane (Some x) (Some y) p q = ap Some (sym p.1 ∙ q.1)
-
--- the lane of a byte is active
-active_lane : (address size j : ℕ) → j < 2 ^ size → bit_at (active_mask address size) (lane_of address size j) ≡ 1
-active_lane address size j h =
-    let first = low address size % 8 in
-    let lane = lane_of address size j in
-    let place : 8 * (j / 8) + lane ≡ first + j = omega (arith, place_beat address size j h) in
-    let active = place_is_active address size (j / 8) lane (omega arith) (beat_in_message size j h) (omega arith) (omega arith) in
-    bit_at_mask_inside first (first + min 8 (2 ^ size)) lane active.0 active.1
 
 counted_within : (op : AskOp) (size j : ℕ) → j < byte_count op size → (carries_bytes op ≡ true) × (j < 2 ^ size)
 counted_within op size j h = go (carries_bytes op) h

@@ -8,7 +8,7 @@ ghost use Rattle.tl_beats.specs.Faults.{SameFields, IsFirstBeatFault};
 ghost use Rattle.tl_beats.specs.declared.beat.ABeat.{ABeat};
 
 use crate::beat::{ABeat, BeatFault, MAX_BEATS};
-use crate::pack::{active_mask, beat_count, first_lane};
+use crate::bus::{active_mask, beat_count, first_lane};
 use arrayvec::ArrayVec;
 use tl_types::{Ask, AskOp, LARGEST_SIZE, MAX_BYTES, read_op};
 

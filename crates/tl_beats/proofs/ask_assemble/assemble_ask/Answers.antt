@@ -5,7 +5,7 @@ use Rattle.tl_types.specs.declared.operation.AskOp.{AskOp}
 use Rattle.tl_beats.specs.Beats.{SpellsAsk, StandsAt, beat_count, low, lane_of}
 use Rattle.tl_beats.specs.declared.beat.ABeat.{ABeat}
 use Rattle.tl_beats.proofs.Reading.{code_of_spelled, no_change, no_bad_mask, IsUniform, first_is_mask, IsRead, read_request, read_lawful, read_spells, read_only, bytes_fit, lane_from_first}
-use Rattle.tl_beats.proofs.assemble.assemble_ask.Goals as goal
+use Rattle.tl_beats.proofs.ask_assemble.assemble_ask.Goals as goal
 
 pub returns-in-Err-clause-all : goal.returns-in-Err-clause-all
 returns-in-Err-clause-all c ask lawful spells =

@@ -1,0 +1,35 @@
+//! Where the bytes of a message stand on the bus.
+ghost use Rattle.std.specs.Prelude.{◌≡◌, ◌%◌, ◌<◌, ◌≤◌};
+ghost use Rattle.tl_beats.specs.Beats.{low, beat_count, active_mask};
+
+use crate::beat::{BUS_BYTES, MAX_BEATS};
+use tl_types::{LARGEST_SIZE, width};
+
+/// How many beats a message has.
+pub fn beat_count(carries: bool, size: u8) -> usize
+    requires { size ≤ LARGEST_SIZE }
+    ensures value { result ≡ beat_count carries size }
+    ensures in_limit { result ≤ MAX_BEATS }
+{
+    if carries { (width(size) / BUS_BYTES).max(1) } else { 1 }
+}
+
+/// The lane at which a message begins.
+pub fn first_lane(address: u64, size: u8) -> usize
+    requires { size ≤ LARGEST_SIZE }
+    ensures value { result ≡ low address size % BUS_BYTES }
+    ensures in_bus { result < BUS_BYTES }
+{
+    let width = width(size) as u64;
+    ((address - address % width) % BUS_BYTES as u64) as usize
+}
+
+/// The mask of the active lanes.
+pub fn active_mask(address: u64, size: u8) -> u8
+    requires { size ≤ LARGEST_SIZE }
+    ensures { result ≡ active_mask address size }
+{
+    let first = first_lane(address, size);
+    let end = first + width(size).min(BUS_BYTES);
+    ((1u16 << end) - (1u16 << first)) as u8
+}
