@@ -1,14 +1,11 @@
 -- Behind the last range no fault is left but want of memory, and ranges without a fault make a map.
-use Rattle.std.proofs.Common.{◌≡◌, ℕ, zero, suc, ◌+◌, ◌*◌, ◌^◌, ◌<◌, ◌≤◌, ◌⊎◌, inl, inr, ⊎_elim, List, length, get_or, Option, Some, None, IsSomeAnd, slice_get, All, refl, sym, ap, ◌∙◌, arith}
-use Rattle.std.proofs.lemmas.Bool.{cases_lt}
+use Rattle.std.proofs.Common.{◌≡◌, ℕ, zero, suc, ◌+◌, ◌*◌, ◌<◌, ◌≤◌, List, length, get_or, Option, Some, None, IsSomeAnd, slice_get, refl, arith}
 use Rattle.std.proofs.lemmas.Option.{slice_get-get_or, slice_get_within, get_or_from_slice_get}
-use Rattle.tl_types.specs.Fault.{IsFirstOf}
 use Rattle.tl_map.specs.declared.map.Range.{Range}
-use Rattle.tl_map.specs.declared.map.MapFault.{MapFault}
 use Rattle.tl_map.specs.declared.map.MapFault.TheVariants.{TooMany, EmptyRange, PastEnd, Overlap, Memory}
 use Rattle.tl_map.specs.declared.map.TheConstants.{MAX_RANGES}
-use Rattle.tl_map.specs.Range.{Overlaps, IsEmpty, IsPastEnd}
-use Rattle.tl_map.specs.Map.{RangesOverlap, IsLawfulMap, OverlapsFirst, HasMapFault, map_fault_rank, IsFirstMapFault, NoneBefore}
+use Rattle.tl_map.specs.Range.{IsEmpty, IsPastEnd}
+use Rattle.tl_map.specs.Map.{RangesOverlap, IsLawfulMap, NoneBefore}
 
 -- a value that is there, of which the fact holds
 pub some_that : {A : Type 0} (P : A → Type 0) (o : Option A) → IsSomeAnd o P → (x : A) × (o ≡ Some x) × P x
