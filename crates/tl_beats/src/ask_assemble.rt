@@ -1,14 +1,13 @@
-//! Beats to messages.
-ghost use Rattle.std.specs.Prelude.{◌≡◌, ℕ, ◌+◌, ◌*◌, ◌/◌, ◌%◌, ◌<◌, ◌≤◌, ◌^◌, ◌↔◌, length, slice_get, Some, IsTrue, IfOk, IfErr, IfSome, IfNone, Option};
+//! Beats to requests.
+ghost use Rattle.std.specs.Prelude.{◌≡◌, ◌+◌, ◌<◌, ◌≤◌, ◌↔◌, length, Ok, IsTrue, IfOk, IfErr};
+ghost use Rattle.tl_types.specs.Operation.{carries_bytes};
 ghost use Rattle.tl_types.specs.Request.{Request, IsLawfulRequest};
-ghost use Rattle.tl_types.specs.declared.operation.AskOp.{AskOp};
-ghost use Rattle.tl_beats.specs.Beats.{IsLawfulMask, StandsAt, SpellsAsk};
-ghost use Rattle.tl_types.specs.List.{HoldsBelow, FailsFirstAt};
+ghost use Rattle.tl_beats.specs.Beats.{beat_count, IsLawfulMask, StandsAt, SpellsAsk};
 ghost use Rattle.tl_beats.specs.Faults.{SameFields, IsFirstBeatFault};
-ghost use Rattle.tl_beats.specs.declared.beat.ABeat.{ABeat};
+ghost use Rattle.tl_beats.specs.Reading.{GainsLanes, IsReadFrom, IsFaultOfBeats};
 
-use crate::beat::{ABeat, BeatFault, MAX_BEATS};
-use crate::bus::{active_mask, beat_count, first_lane};
+use crate::beat::{ABeat, BUS_BYTES, BeatFault};
+use crate::bus::{active_mask, beat_count, first_failing, first_lane};
 use arrayvec::ArrayVec;
 use tl_types::{Ask, AskOp, LARGEST_SIZE, MAX_BYTES, read_op};
 
@@ -23,49 +22,22 @@ fn same_fields(first: &ABeat, beat: &ABeat) -> bool
         && beat.address == first.address
 }
 
-/// The lowest beat whose shared fields are not the first's.
-fn first_changed(beats: &[ABeat], first: &ABeat) -> Option<usize>
-    ensures some { IfSome result (FailsFirstAt (SameFields first.now) beats.now) }
-    ensures none { IfNone result (HoldsBelow (SameFields first.now) beats.now (length beats.now)) }
-{
-    for (b, beat) in beats.iter().enumerate() {
-        if !same_fields(first, beat) {
-            return Some(b);
-        }
-    }
-    None
-}
-
-/// Whether the mask of a beat is lawful.
-fn has_lawful_mask(beat: &ABeat, op: AskOp, size: u8, address: u64) -> bool
+/// Whether a mask is lawful.
+fn is_lawful_mask(mask: u8, op: AskOp, size: u8, address: u64) -> bool
     requires { size ≤ LARGEST_SIZE }
-    ensures { IsTrue result ↔ IsLawfulMask op size address beat.now.mask }
+    ensures { IsTrue result ↔ IsLawfulMask op size address mask }
 {
     let active = active_mask(address, size);
     if op.may_leave_unset() {
-        beat.mask & active == beat.mask
+        mask & active == mask
     } else {
-        beat.mask == active
+        mask == active
     }
-}
-
-/// The lowest beat whose mask is not lawful.
-fn first_bad_mask(beats: &[ABeat], op: AskOp, size: u8, address: u64) -> Option<usize>
-    requires { size ≤ LARGEST_SIZE }
-    ensures some { IfSome result (FailsFirstAt (λ beat. IsLawfulMask op size address beat.mask) beats.now) }
-    ensures none { IfNone result (HoldsBelow (λ beat. IsLawfulMask op size address beat.mask) beats.now (length beats.now)) }
-{
-    for (b, beat) in beats.iter().enumerate() {
-        if !has_lawful_mask(beat, op, size, address) {
-            return Some(b);
-        }
-    }
-    None
 }
 
 /// What stands at a lane of a beat.
 fn byte_at(beat: &ABeat, lane: usize) -> Option<u8>
-    requires { lane < 8 }
+    requires { lane < BUS_BYTES }
     ensures { StandsAt beat.now.mask beat.now.lanes lane result }
 {
     if beat.mask >> lane & 1 == 1 {
@@ -75,21 +47,65 @@ fn byte_at(beat: &ABeat, lane: usize) -> Option<u8>
     }
 }
 
-/// The bytes that stand in the beats, from the lane `first` on.
-fn read_bytes(beats: &[ABeat], first: usize, count: usize) -> ArrayVec<Option<u8>, MAX_BYTES>
-    requires fits { count ≤ MAX_BYTES }
-    requires beats { count ≤ 8 * length beats.now }
-    requires first { first < 8 }
-    ensures len { length result.items ≡ count }
-    ensures each { (j : ℕ) (given : Option ℕ) (beat : ABeat) → slice_get result.items j ≡ Some given
-        → slice_get beats.now (j / 8) ≡ Some beat
-        → StandsAt beat.mask beat.lanes ((first + j) % 8) given }
+/// Appends all lanes of a beat whose mask sets every lane.
+fn push_word(bytes: &mut ArrayVec<Option<u8>, MAX_BYTES>, beat: &ABeat)
+    requires full { beat.now.mask ≡ 255 }
+    requires room { length bytes.old.items + BUS_BYTES ≤ MAX_BYTES }
+    ensures { GainsLanes beat.now 0 BUS_BYTES bytes.old.items bytes.new.items }
 {
-    let mut bytes = ArrayVec::new();
-    for j in 0..count {
-        bytes.push(byte_at(&beats[j / 8], (first + j) % 8));
+    for lane in 0..BUS_BYTES {
+        bytes.push(Some(beat.lanes[lane]));
     }
-    bytes
+}
+
+/// Appends what stands at some lanes of a beat.
+fn push_lanes(
+    bytes: &mut ArrayVec<Option<u8>, MAX_BYTES>,
+    beat: &ABeat,
+    first: usize,
+    count: usize,
+)
+    requires in_bus { first + count ≤ BUS_BYTES }
+    requires room { length bytes.old.items + count ≤ MAX_BYTES }
+    ensures { GainsLanes beat.now first count bytes.old.items bytes.new.items }
+{
+    if count == BUS_BYTES && beat.mask == u8::MAX {
+        push_word(bytes, beat);
+        return;
+    }
+    for k in 0..count {
+        bytes.push(byte_at(beat, first + k));
+    }
+}
+
+/// The bytes that stand in the beats of a request, or the first fault that shows from beat to beat.
+fn read_beats(
+    beats: &[ABeat],
+    first: &ABeat,
+    op: AskOp,
+) -> Result<ArrayVec<Option<u8>, MAX_BYTES>, BeatFault>
+    requires in_limit { first.now.size ≤ LARGEST_SIZE }
+    requires count { length beats.now ≡ beat_count (carries_bytes op) first.now.size }
+    ensures ok { IfOk result (λ bytes. IsReadFrom beats.now first.now op bytes.items) }
+    ensures fault { IfErr result (IsFaultOfBeats beats.now first.now op) }
+{
+    let wanted = op.byte_count(first.size);
+    let lane = first_lane(first.address, first.size);
+    let mut bytes = ArrayVec::new();
+    let mut bad_mask = None;
+    for (b, beat) in beats.iter().enumerate() {
+        if !same_fields(first, beat) {
+            return Err(BeatFault::Changed(b));
+        }
+        let lawful = is_lawful_mask(beat.mask, op, first.size, first.address);
+        bad_mask = first_failing(bad_mask, lawful, b);
+        let count = (wanted - bytes.len()).min(BUS_BYTES);
+        push_lanes(&mut bytes, beat, lane, count);
+    }
+    match bad_mask {
+        Some(b) => Err(BeatFault::Mask(b)),
+        None => Ok(bytes),
+    }
 }
 
 /// The request that beats spell, or the first fault that they have.
@@ -106,19 +122,15 @@ pub fn assemble_ask(beats: &[ABeat]) -> Result<Ask, BeatFault>
         Ok(op) => op,
         Err(fault) => return Err(BeatFault::Op(fault)),
     };
-    let size = first.size;
-    if size > LARGEST_SIZE {
+    if first.size > LARGEST_SIZE {
         return Err(BeatFault::Size);
     }
-    if beats.len() != beat_count(op.carries_bytes(), size) {
+    if beats.len() != beat_count(op.carries_bytes(), first.size) {
         return Err(BeatFault::Count);
     }
-    if let Some(b) = first_changed(beats, first) {
-        return Err(BeatFault::Changed(b));
-    }
-    if let Some(b) = first_bad_mask(beats, op, size, first.address) {
-        return Err(BeatFault::Mask(b));
-    }
-    let bytes = read_bytes(beats, first_lane(first.address, size), op.byte_count(size));
-    Ok(Ask::new(op, size, first.source, first.address, &bytes).unwrap())
+    let bytes = match read_beats(beats, first, op) {
+        Ok(bytes) => bytes,
+        Err(fault) => return Err(fault),
+    };
+    Ok(Ask::new(op, first.size, first.source, first.address, &bytes).unwrap())
 }

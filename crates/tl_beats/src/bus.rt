@@ -1,6 +1,7 @@
 //! Where the bytes of a message stand on the bus.
 ghost use Rattle.std.specs.Prelude.{◌≡◌, ◌%◌, ◌<◌, ◌≤◌};
 ghost use Rattle.tl_beats.specs.Beats.{low, beat_count, active_mask};
+ghost use Rattle.tl_beats.specs.Reading.{first_failing};
 
 use crate::beat::{BUS_BYTES, MAX_BEATS};
 use tl_types::{LARGEST_SIZE, width};
@@ -32,4 +33,15 @@ pub fn active_mask(address: u64, size: u8) -> u8
     let first = first_lane(address, size);
     let end = first + width(size).min(BUS_BYTES);
     ((1u16 << end) - (1u16 << first)) as u8
+}
+
+/// The lowest beat that fails, where `failed` is that of the beats before `b`.
+pub fn first_failing(failed: Option<usize>, passes: bool, b: usize) -> Option<usize>
+    ensures { result ≡ first_failing failed passes b }
+{
+    if failed.is_none() && !passes {
+        Some(b)
+    } else {
+        failed
+    }
 }

@@ -1,0 +1,50 @@
+-- What the steps of assembling know: this project's own words.
+use Rattle.std.specs.Prelude.{◌≡◌, ℕ, ◌+◌, ◌/◌, ◌<◌, ◌⊎◌, Bool, true, false, List, length, Option, Some, None, slice_get}
+use Rattle.tl_types.specs.List.{HoldsBelow, FailsFirstAt}
+use Rattle.tl_types.specs.Operation.{byte_count}
+use Rattle.tl_types.specs.declared.operation.AskOp.{AskOp}
+use Rattle.tl_beats.specs.Beats.{lane_of, IsLawfulMask, StandsAt}
+use Rattle.tl_beats.specs.Faults.{SameFields}
+use Rattle.tl_beats.specs.declared.beat.ABeat.{ABeat}
+use Rattle.tl_beats.specs.declared.beat.BeatFault.{BeatFault}
+use Rattle.tl_beats.specs.declared.beat.BeatFault.TheVariants.{NoBeat, Op, Size, Count, Changed, Mask, CorruptFlag}
+use Rattle.tl_beats.specs.declared.beat.TheConstants.{BUS_BYTES}
+
+-- the lowest beat that fails, after beat b is tried: the one that failed before, or b
+abbrev pub first_failing : Option ℕ → Bool → ℕ → Option ℕ
+first_failing (Some earlier) passes b = Some earlier
+first_failing None true b = None
+first_failing None false b = Some b
+
+-- a list has gained this many elements at its end, of which the k-th has the property `P k`, and kept the others
+pub record Gains {X : Type 0} (P : ℕ → X → Type 0) (count : ℕ) (old new : List X) : Type 0 where
+  pub counted : length new ≡ length old + count
+  pub each : (j : ℕ) (x : X) → slice_get new j ≡ Some x
+      → (slice_get old j ≡ Some x) ⊎ ((k : ℕ) × (j ≡ length old + k) × (k < count) × P k x)
+
+-- what a list of bytes has gained stands at the lanes of the beat from `first` on
+abbrev pub GainsLanes : ABeat → ℕ → ℕ → List (Option ℕ) → List (Option ℕ) → Type 0
+GainsLanes beat first = Gains (λ k given. StandsAt beat.mask beat.lanes (first + k) given)
+
+-- the mask of the beat is lawful in a request that begins with `first`
+abbrev pub HasLawfulMask : AskOp → ABeat → ABeat → Type 0
+HasLawfulMask op first beat = IsLawfulMask op first.size first.address beat.mask
+
+-- the beats all agree with the first, each mask is lawful, and the bytes are those that stand in the beats
+pub record IsReadFrom (beats : List ABeat) (first : ABeat) (op : AskOp) (bytes : List (Option ℕ)) : Type 0 where
+  pub same : HoldsBelow (SameFields first) beats (length beats)
+  pub masks : HoldsBelow (HasLawfulMask op first) beats (length beats)
+  pub counted : length bytes ≡ byte_count op first.size
+  pub each : (j : ℕ) (given : Option ℕ) (beat : ABeat) → slice_get bytes j ≡ Some given → slice_get beats (j / BUS_BYTES) ≡ Some beat
+      → StandsAt beat.mask beat.lanes (lane_of first.address first.size j) given
+
+-- the fault is the first one that shows in the beats, one by one, of a request whose count and operation are known
+abbrev pub IsFaultOfBeats : List ABeat → ABeat → AskOp → BeatFault → Type 0
+IsFaultOfBeats beats first op NoBeat = ⊥
+IsFaultOfBeats beats first op (Op _) = ⊥
+IsFaultOfBeats beats first op Size = ⊥
+IsFaultOfBeats beats first op Count = ⊥
+IsFaultOfBeats beats first op (Changed b) = FailsFirstAt (SameFields first) beats b
+IsFaultOfBeats beats first op (Mask b) =
+    HoldsBelow (SameFields first) beats (length beats) × FailsFirstAt (HasLawfulMask op first) beats b
+IsFaultOfBeats beats first op (CorruptFlag b) = ⊥
