@@ -4,3 +4,4 @@ pub mod Number
 pub mod Word
 pub mod Operation
 pub mod Trace
+pub mod System

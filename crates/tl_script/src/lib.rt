@@ -13,9 +13,11 @@ mod name;
 mod number;
 mod operation;
 mod print;
+mod system;
 #[cfg(test)]
 mod tests;
 mod words;
 
 pub use operation::{Job, read_operation};
 pub use print::write_trace;
+pub use system::{Device, MAX_JOBS, System};

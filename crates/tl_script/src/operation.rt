@@ -4,6 +4,7 @@ ghost use Rattle.std.specs.List.{list_all};
 ghost use Rattle.tl_types.specs.Operation.{may_leave_unset};
 ghost use Rattle.tl_types.specs.Request.{IsLawfulRequest};
 ghost use Rattle.tl_script.specs.Operation.{address_of, bytes_of, operation_of, request_of, size_of, source_of};
+ghost use Rattle.tl_script.specs.System.{IsFrom};
 
 use crate::data::{Bytes, read_data};
 use crate::name::read_name;
@@ -28,7 +29,8 @@ pub fn read_operation(
     line: &[u8],
     sources: u16,
 ) -> Result<Option<Job>, AllocError>
-    ensures { IfOk result (λ job. job ≡ operation_of sources line.now) }
+    ensures value { IfOk result (λ job. job ≡ operation_of sources line.now) }
+    ensures source { IfOk result (λ job. IfSome job (IsFrom sources)) }
 {
     let words = split_words(alloc, line)?;
     if let [word] = words.as_slice() {
@@ -41,7 +43,8 @@ pub fn read_operation(
 
 #[tactic(auto, unfolding(crate::specs::Operation::request_of))]
 fn read_request(words: &[&[u8]], sources: u16) -> Option<Ask>
-    ensures { result ≡ request_of sources (map (λ word. word.now) words.now) }
+    ensures value { result ≡ request_of sources (map (λ word. word.now) words.now) }
+    ensures source { IfSome result (λ ask. ask.source < sources) }
 {
     let [source, name, address, size, more @ ..] = words else {
         return None;
@@ -56,7 +59,8 @@ fn read_request(words: &[&[u8]], sources: u16) -> Option<Ask>
 
 #[tactic(auto, unfolding(crate::specs::Operation::source_of))]
 fn read_source(word: &[u8], sources: u16) -> Option<u16>
-    ensures { result ≡ source_of sources word.now }
+    ensures value { result ≡ source_of sources word.now }
+    ensures below { IfSome result (λ source. source < sources) }
 {
     let source = read_number(word, 10, 3)?;
     if source < u64::from(sources) {

@@ -1,0 +1,69 @@
+-- What a script describes.
+use Rattle.std.specs.Prelude.{◌≡◌, ℕ, ◌<◌, ◌≤◌, List, map, length, All, Option, Some, None, Vec, slice_get}
+use Rattle.std.specs.List.{filter_map}
+use Rattle.std.specs.Global.{Global}
+use Rattle.tl_types.specs.Request.{Request}
+use Rattle.tl_types.specs.declared.limits.TheConstants.{MAX_SLOTS}
+use Rattle.tl_ops.specs.Store.{Store}
+use Rattle.tl_ops.specs.declared.bank.TheConstants.{MAX_LENGTH}
+use Rattle.tl_map.specs.declared.map.Range.{Range}
+use Rattle.tl_script.specs.declared.operation.Job.{Job}
+use Rattle.tl_script.specs.declared.operation.Job.TheVariants.{Wait, Send}
+use Rattle.tl_script.specs.declared.system.Device.{Device}
+use Rattle.tl_script.specs.declared.system.TheConstants.{MAX_JOBS}
+
+-- how many slots the arena has, the slave of each range at reset, how many sources each master has, the ranges, and
+-- the operations of each master
+pub record System : Type 0 where
+  pub slots : ℕ
+  pub stores : List Store
+  pub counts : List ℕ
+  pub ranges : List Range
+  pub jobs : List (List Job)
+
+-- the slave that a device is at reset
+abbrev pub store_of : Device → Store
+store_of device = record { kind = device.kind; base = device.base; bytes = device.reset.items }
+
+-- the lists in vectors
+abbrev pub lists_of : {A : Type 0} → List (Vec A Global) → List (List A)
+lists_of vectors = map (λ vector. vector.items) vectors
+
+-- the system of these parts
+abbrev pub described : ℕ → List Device → List ℕ → List Range → List (Vec Job Global) → System
+described slots devices counts ranges jobs =
+    record { slots = slots; stores = map store_of devices; counts = counts; ranges = ranges; jobs = lists_of jobs }
+
+-- the addresses of a slave's bytes
+abbrev pub range_of : Store → Range
+range_of store = record { base = store.base; length = length store.bytes }
+
+-- what the operation sends, if anything, is from a source below this count
+abbrev pub IsFrom : ℕ → Job → Type 0
+IsFrom count Wait = Unit {0}
+IsFrom count (Send ask) = ask.source < count
+
+-- the request that an operation sends, if it sends one
+abbrev pub sent_by : Job → Option Request
+sent_by Wait = None
+sent_by (Send ask) = Some ask
+
+-- the requests that operations send, in order
+abbrev pub sends : List Job → List Request
+sends jobs = filter_map sent_by jobs
+
+-- one master's operations: not too many, and all from sources that the master has
+pub record AreLawfulJobs (count : ℕ) (jobs : List Job) : Type 0 where
+  pub in_limit : length jobs ≤ MAX_JOBS
+  pub sources : All (λ ask. ask.source < count) (sends jobs)
+
+-- the rule of systems: slots within their limits, at least one master, a slave for each range, of its base and
+-- length, and lawful operations for each master
+pub record IsLawfulSystem (s : System) : Type 0 where
+  pub some_slots : 0 < s.slots
+  pub slots : s.slots ≤ MAX_SLOTS
+  pub masters : 0 < length s.counts
+  pub ranges : map range_of s.stores ≡ s.ranges
+  pub lengths : All (λ store. length store.bytes ≤ MAX_LENGTH) s.stores
+  pub lists : length s.jobs ≡ length s.counts
+  pub jobs : (m : ℕ) (count : ℕ) (jobs : List Job) → slice_get s.counts m ≡ Some count → slice_get s.jobs m ≡ Some jobs → AreLawfulJobs count jobs

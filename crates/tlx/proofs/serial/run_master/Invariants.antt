@@ -1,0 +1,13 @@
+-- The requests so far are served.
+use Rattle.std.proofs.Common.{◌≡◌, ◌++◌, ℕ, List, length, take}
+use Rattle.tl_types.specs.declared.trace.Entry.{Entry}
+use Rattle.tl_script.specs.System.{sends}
+use Rattle.tlx.specs.Serial.{asks_in, numbered}
+use Rattle.tlx.specs.Slave.{Stand}
+use Rattle.tlx.proofs.serial.run_master.Given as goal
+
+abbrev pub invariant-loop-job : goal.invariant-loop-job
+invariant-loop-job l = record {
+  asked : asks_in l.trace.items ≡ sends (take l.job-index l.jobs);
+  stands : (log : List (ℕ × Entry)) → Stand l.system log l.initial.slaves → Stand l.system (log ++ numbered l.master l.trace.items) l.slaves;
+}
