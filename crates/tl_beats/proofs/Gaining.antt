@@ -1,6 +1,7 @@
 -- Lists that grow beat by beat.
 use Rattle.std.proofs.Common.{◌≡◌, ◌∙◌, ℕ, suc, zero, ◌+◌, ◌-◌, ◌*◌, ◌/◌, ◌%◌, ◌^◌, ◌<◌, ◌≤◌, ◌⊎◌, inl, inr, min, max, Bool, true, false, if◌then◌else◌, List, [], ◌∷◌, ◌++◌, length, Option, Some, slice_get, ap, sym, refl, subst, arith, length-append, ⊎_elim}
 use Rattle.std.proofs.Math.Nat.{pow-suc}
+use Rattle.std.proofs.lemmas.Option.{slice_get_within}
 use Rattle.tl_types.proofs.Lists.{slice_get-push}
 use Rattle.tl_beats.specs.Beats.{low, lane_of, beat_count}
 use Rattle.tl_beats.specs.Reading.{Gains}
@@ -18,6 +19,19 @@ gains_push P count old new x gains holds = record {
       (λ before. ⊎_elim (λ kept. inl kept) (λ gained. inr (gained.0, gained.1, omega (arith, gained.2), gained.3)) (gains.each j y before))
       (λ last. inr (count, last.0 ∙ gains.counted, omega arith, subst (λ w. P count w) last.1 holds))
       (slice_get-push new x y j at);
+}
+
+-- what is read after an append was read before, or from what is appended
+slice_get-append : {X : Type 0} (xs ys : List X) (j : ℕ) (x : X) → slice_get (xs ++ ys) j ≡ Some x → (slice_get xs j ≡ Some x) ⊎ ((k : ℕ) × (j ≡ length xs + k) × (slice_get ys k ≡ Some x))
+slice_get-append [] ys j x at = inr (j, omega arith, at)
+slice_get-append (y ∷ xs) ys zero x at = inl at
+slice_get-append (y ∷ xs) ys (suc j) x at = ⊎_elim (λ kept. inl kept) (λ gained. inr (gained.0, omega (arith, gained.1), gained.2)) (slice_get-append xs ys j x at)
+
+-- a whole list is gained
+pub gains_append : {X : Type 0} (old ys : List X) → Gains (λ k x. slice_get ys k ≡ Some x) (length ys) old (old ++ ys)
+gains_append old ys = record {
+  counted = length-append old ys;
+  each = λ j x at. ⊎_elim (λ kept. inl kept) (λ gained. inr (gained.0, gained.1, slice_get_within ys gained.0 x gained.2, gained.2)) (slice_get-append old ys j x at);
 }
 
 -- what follows from the property is gained too

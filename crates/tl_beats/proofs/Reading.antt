@@ -61,7 +61,7 @@ bytes_of_size true size = omega arith
 bytes_of_size false size = omega arith
 
 -- the beats have room for the bytes
-bytes_fit : (carries : Bool) (size : ℕ) → (if carries then 2 ^ size else 0) ≤ 8 * beat_count carries size
+pub bytes_fit : (carries : Bool) (size : ℕ) → (if carries then 2 ^ size else 0) ≤ 8 * beat_count carries size
 bytes_fit true size = bytes_in_beats size
 bytes_fit false size = omega arith
 

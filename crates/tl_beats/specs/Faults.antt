@@ -1,5 +1,5 @@
 -- Why a list of beats spells no message. Which fault is named where several apply is this project's own.
-use Rattle.std.specs.Prelude.{◌≡◌, ◌≢◌, ℕ, ◌<◌, List, [], length, slice_get, IsSomeAnd, IsTrue}
+use Rattle.std.specs.Prelude.{◌≡◌, ◌≢◌, ℕ, ◌<◌, List, [], length, slice_get, IsSomeAnd}
 use Rattle.tl_types.specs.Fault.{IsFirstOf}
 use Rattle.tl_types.specs.List.{FailsFirstAt}
 use Rattle.tl_types.specs.Operation.{carries_bytes, reply_carries_bytes}
@@ -8,7 +8,7 @@ use Rattle.tl_types.specs.declared.operation.AskOp.{AskOp}
 use Rattle.tl_types.specs.declared.operation.ReplyOp.{ReplyOp}
 use Rattle.tl_types.specs.declared.limits.TheConstants.{LARGEST_SIZE}
 use Rattle.tl_beats.specs.Beats.{beat_count, IsLawfulMask}
-use Rattle.tl_beats.specs.Replies.{MayBeCorrupt}
+use Rattle.tl_beats.specs.Replies.{IsLawfulFlag}
 use Rattle.tl_beats.specs.declared.beat.ABeat.{ABeat}
 use Rattle.tl_beats.specs.declared.beat.DBeat.{DBeat}
 use Rattle.tl_beats.specs.declared.beat.BeatFault.{BeatFault}
@@ -62,7 +62,7 @@ HasReplyBeatFault beats Count =
 HasReplyBeatFault beats (Changed b) = OfFirst beats (λ first. FailsFirstAt (SameReplyFields first) beats b)
 HasReplyBeatFault beats (Mask b) = ⊥
 HasReplyBeatFault beats (CorruptFlag b) =
-    OfFirstReplyOp beats (λ first op. FailsFirstAt (λ beat. IsTrue beat.corrupt → MayBeCorrupt op first.denied) beats b)
+    OfFirstReplyOp beats (λ first op. FailsFirstAt (λ beat. IsLawfulFlag op first.denied beat.corrupt) beats b)
 
 -- the place of a fault in the order in which faults are tried
 abbrev pub beat_fault_rank : BeatFault → ℕ

@@ -1,11 +1,14 @@
 -- What the steps of assembling know: this project's own words.
-use Rattle.std.specs.Prelude.{◌≡◌, ℕ, ◌+◌, ◌/◌, ◌<◌, ◌⊎◌, Bool, true, false, List, length, Option, Some, None, slice_get}
+use Rattle.std.specs.Prelude.{◌≡◌, ℕ, ◌+◌, ◌/◌, ◌<◌, ◌⊎◌, Bool, true, false, List, length, Option, Some, None, slice_get, slice_index, IsTrue}
 use Rattle.tl_types.specs.List.{HoldsBelow, FailsFirstAt}
-use Rattle.tl_types.specs.Operation.{byte_count}
+use Rattle.tl_types.specs.Operation.{byte_count, reply_byte_count}
 use Rattle.tl_types.specs.declared.operation.AskOp.{AskOp}
 use Rattle.tl_beats.specs.Beats.{lane_of, IsLawfulMask, StandsAt}
-use Rattle.tl_beats.specs.Faults.{SameFields}
+use Rattle.tl_beats.specs.Replies.{IsLawfulFlag}
+use Rattle.tl_beats.specs.Faults.{SameFields, SameReplyFields}
+use Rattle.tl_types.specs.declared.operation.ReplyOp.{ReplyOp}
 use Rattle.tl_beats.specs.declared.beat.ABeat.{ABeat}
+use Rattle.tl_beats.specs.declared.beat.DBeat.{DBeat}
 use Rattle.tl_beats.specs.declared.beat.BeatFault.{BeatFault}
 use Rattle.tl_beats.specs.declared.beat.BeatFault.TheVariants.{NoBeat, Op, Size, Count, Changed, Mask, CorruptFlag}
 use Rattle.tl_beats.specs.declared.beat.TheConstants.{BUS_BYTES}
@@ -48,3 +51,31 @@ IsFaultOfBeats beats first op (Changed b) = FailsFirstAt (SameFields first) beat
 IsFaultOfBeats beats first op (Mask b) =
     HoldsBelow (SameFields first) beats (length beats) × FailsFirstAt (HasLawfulMask op first) beats b
 IsFaultOfBeats beats first op (CorruptFlag b) = ⊥
+
+-- a byte of a reply stands at a lane, or is zero where the reply is denied
+pub record StandsInReply (denied : Bool) (lanes : List ℕ) (lane byte : ℕ) : Type 0 where
+  pub given : denied ≡ false → slice_index lanes lane ≡ byte
+  pub zero_of_denied : IsTrue denied → byte ≡ 0
+
+-- `corrupt` of the beat is lawful in a reply that begins with `first`
+abbrev pub HasLawfulFlag : ReplyOp → DBeat → DBeat → Type 0
+HasLawfulFlag op first beat = IsLawfulFlag op first.denied beat.corrupt
+
+-- the beats all agree with the first, each `corrupt` is lawful, and the bytes are those that stand in the beats
+pub record IsReplyReadFrom (beats : List DBeat) (first : DBeat) (op : ReplyOp) (address : ℕ) (bytes : List ℕ) : Type 0 where
+  pub same : HoldsBelow (SameReplyFields first) beats (length beats)
+  pub flags : HoldsBelow (HasLawfulFlag op first) beats (length beats)
+  pub counted : length bytes ≡ reply_byte_count op first.size
+  pub each : (j byte : ℕ) (beat : DBeat) → slice_get bytes j ≡ Some byte → slice_get beats (j / BUS_BYTES) ≡ Some beat
+      → StandsInReply first.denied beat.lanes (lane_of address first.size j) byte
+
+-- the fault is the first one that shows in the beats, one by one, of a reply whose count and opcode are known
+abbrev pub IsFaultOfReplyBeats : List DBeat → DBeat → ReplyOp → BeatFault → Type 0
+IsFaultOfReplyBeats beats first op NoBeat = ⊥
+IsFaultOfReplyBeats beats first op (Op _) = ⊥
+IsFaultOfReplyBeats beats first op Size = ⊥
+IsFaultOfReplyBeats beats first op Count = ⊥
+IsFaultOfReplyBeats beats first op (Changed b) = FailsFirstAt (SameReplyFields first) beats b
+IsFaultOfReplyBeats beats first op (Mask b) = ⊥
+IsFaultOfReplyBeats beats first op (CorruptFlag b) =
+    HoldsBelow (SameReplyFields first) beats (length beats) × FailsFirstAt (HasLawfulFlag op first) beats b

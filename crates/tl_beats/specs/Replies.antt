@@ -10,10 +10,10 @@ use Rattle.tl_beats.specs.Beats.{lane_of, beat_count, IsActive}
 use Rattle.tl_beats.specs.declared.beat.DBeat.{DBeat}
 use Rattle.tl_beats.specs.declared.beat.TheConstants.{BUS_BYTES}
 
--- a beat may be marked corrupt only where its bytes are those of a denied reply
-pub record MayBeCorrupt (op : ReplyOp) (denied : Bool) : Type 0 where
-  pub carries : IsTrue (reply_carries_bytes op)
-  pub is_denied : IsTrue denied
+-- `corrupt` is lawful where it is set only in a beat that carries bytes of a denied reply
+pub record IsLawfulFlag (op : ReplyOp) (denied corrupt : Bool) : Type 0 where
+  pub carries : IsTrue corrupt → IsTrue (reply_carries_bytes op)
+  pub of_denied : IsTrue corrupt → IsTrue denied
 
 -- the fields that each beat of a reply shares are the reply's
 pub record HasReplyFieldsOf (reply : Response) (beat : DBeat) : Type 0 where
@@ -25,7 +25,7 @@ pub record HasReplyFieldsOf (reply : Response) (beat : DBeat) : Type 0 where
 -- a beat is number b of a reply to a request at the address; the bytes of a denied reply stand nowhere
 pub record IsReplyBeatOf (reply : Response) (address b : ℕ) (beat : DBeat) : Type 0 where
   pub fields : HasReplyFieldsOf reply beat
-  pub corrupt : IsTrue beat.corrupt → MayBeCorrupt reply.op reply.denied
+  pub corrupt : IsLawfulFlag reply.op reply.denied beat.corrupt
   pub bytes : reply.denied ≡ false → (j byte : ℕ) → slice_get reply.bytes j ≡ Some byte → j / BUS_BYTES ≡ b → slice_index beat.lanes (lane_of address reply.size j) ≡ byte
 
 -- the beats spell the reply to a request at the address

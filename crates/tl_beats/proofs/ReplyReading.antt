@@ -1,0 +1,190 @@
+-- What is known of the beats of a reply that are read one by one.
+use Rattle.std.proofs.Common.{◌≡◌, ◌≢◌, ◌∙◌, ℕ, ◌+◌, ◌-◌, ◌*◌, ◌/◌, ◌%◌, ◌^◌, ◌<◌, ◌≤◌, min, max, Bool, true, false, List, [], length, Option, Some, None, slice_get, slice_index, get_or, ap, sym, refl, subst, arith}
+use Rattle.std.specs.Prelude.{All, IsSomeAnd, IsTrue, MatchOption, ◌↔◌}
+use Rattle.std.proofs.lemmas.Option.{slice_get_within, slice_get-get_or}
+use Rattle.tl_types.specs.List.{HoldsBelow, FailsFirstAt}
+use Rattle.tl_types.specs.Response.{Response, IsLawfulResponse}
+use Rattle.tl_types.specs.Operation.{reply_carries_bytes, reply_byte_count}
+use Rattle.tl_types.specs.Wire.{reply_opcode_of, IsFirstReplyOpFault}
+use Rattle.tl_types.specs.declared.operation.ReplyOp.{ReplyOp}
+use Rattle.tl_types.specs.declared.wire.OpFault.{OpFault}
+use Rattle.tl_types.specs.declared.wire.OpFault.TheVariants.{Cached, UnknownOpcode, UnknownParam}
+use Rattle.tl_types.specs.declared.limits.TheConstants.{LARGEST_SIZE}
+use Rattle.tl_beats.specs.Beats.{low, lane_of, beat_count}
+use Rattle.tl_beats.specs.Replies.{IsLawfulFlag, SpellsReply}
+use Rattle.tl_beats.specs.Faults.{SameReplyFields, HasReplyBeatFault, beat_fault_rank, IsFirstReplyBeatFault}
+use Rattle.tl_beats.specs.Reading.{first_failing, Gains, StandsInReply, HasLawfulFlag, IsReplyReadFrom, IsFaultOfReplyBeats}
+use Rattle.tl_beats.specs.declared.beat.DBeat.{DBeat}
+use Rattle.tl_beats.specs.declared.beat.BeatFault.{BeatFault}
+use Rattle.tl_beats.specs.declared.beat.BeatFault.TheVariants.{NoBeat, Op, Size, Count, Changed, Mask, CorruptFlag}
+use Rattle.tl_beats.proofs.Gaining.{gains_so, count_of_gained, gains_in_message}
+use Rattle.tl_beats.proofs.Failing.{at_element, holds_more_at, none_fails, failing_more}
+use Rattle.tl_beats.proofs.Codes.{same_reply_op}
+use Rattle.tl_beats.proofs.Only.{beat_of_byte}
+use Rattle.tl_beats.proofs.Reading.{bytes_fit}
+use Rattle.tl_beats.proofs.ReplyOnly.{same_reply}
+
+-- ---- beat by beat
+
+-- the first b beats agree with the first, their lowest unlawful flag is known, and their bytes are read
+pub record IsReplyReadSoFar (beats : List DBeat) (first : DBeat) (op : ReplyOp) (address b : ℕ) (bad_flag : Option ℕ) (bytes : List ℕ) : Type 0 where
+  pub same : HoldsBelow (SameReplyFields first) beats b
+  pub flags : MatchOption bad_flag (HoldsBelow (HasLawfulFlag op first) beats b) (λ k. FailsFirstAt (HasLawfulFlag op first) beats k)
+  pub counted : length bytes ≡ min (8 * b) (reply_byte_count op first.size)
+  pub each : (j byte : ℕ) → slice_get bytes j ≡ Some byte → (beat : DBeat) → slice_get beats (j / 8) ≡ Some beat → StandsInReply first.denied beat.lanes (lane_of address first.size j) byte
+
+pub reply_read_none : (beats : List DBeat) (first : DBeat) (op : ReplyOp) (address : ℕ) → IsReplyReadSoFar beats first op address 0 None []
+reply_read_none beats first op address = record {
+  same = λ k x h at. absurd (omega (arith, h));
+  flags = λ k x h at. absurd (omega (arith, h));
+  counted = omega arith;
+  each = λ j byte at. absurd (cc);
+}
+
+StandsInReply-byte : (denied : Bool) (lanes : List ℕ) (lane byte byte' : ℕ) → StandsInReply denied lanes lane byte → byte ≡ byte' → StandsInReply denied lanes lane byte'
+StandsInReply-byte denied lanes lane byte byte' stands e = subst (λ (x : ℕ). StandsInReply denied lanes lane x) e stands
+
+pub reply_read_more : (beats : List DBeat) (first : DBeat) (op : ReplyOp) (address b : ℕ) (d : DBeat) (bad_flag : Option ℕ) (lawful : Bool) (lane count : ℕ) (word old new : List ℕ) → b < length beats → length beats ≡ beat_count (reply_carries_bytes op) first.size → IsReplyReadSoFar beats first op address b bad_flag old → SameReplyFields first (get_or beats b d) → (IsTrue lawful ↔ IsLawfulFlag op first.denied (get_or beats b d).corrupt) → lane ≡ low address first.size % 8 → count ≡ min (reply_byte_count op first.size - length old) 8 → lane + count ≤ 8 → ((k : ℕ) → k < 8 → StandsInReply first.denied (get_or beats b d).lanes k (slice_index word k)) → Gains (λ k byte. slice_index word (lane + k) ≡ byte) count old new → IsReplyReadSoFar beats first op address (b + 1) (first_failing bad_flag lawful b) new
+reply_read_more beats first op address b d bad_flag lawful lane count word old new within counted so_far same passes lane_is count_is in_bus carried gains =
+    let here = get_or beats b d in
+    let at : slice_get beats b ≡ Some here = slice_get-get_or beats b d within in
+    let Q : ℕ → ℕ → ℕ → Type 0 = λ k l byte. (beat : DBeat) → slice_get beats k ≡ Some beat → StandsInReply first.denied beat.lanes l byte in
+    let gained : Gains (λ k byte. Q b (low address first.size % 8 + k) byte) count old new =
+        gains_so (λ k byte. slice_index word (lane + k) ≡ byte) (λ k byte. Q b (low address first.size % 8 + k) byte) count old new (λ k byte h stands beat found.
+        let is : here ≡ beat = cc in
+        subst (λ (x : DBeat). StandsInReply first.denied x.lanes (low address first.size % 8 + k) byte) is (subst (λ (l : ℕ). StandsInReply first.denied here.lanes (l + k) byte) lane_is (StandsInReply-byte first.denied here.lanes (lane + k) (slice_index word (lane + k)) byte (carried (lane + k) (omega (arith, h, in_bus))) stands))) gains in
+    record {
+      same = holds_more_at (SameReplyFields first) beats b d so_far.same within same;
+      flags = failing_more (HasLawfulFlag op first) beats b d bad_flag lawful within passes so_far.flags;
+      counted = gains.counted ∙ count_of_gained b (length old) count (reply_byte_count op first.size) so_far.counted count_is;
+      each = gains_in_message Q (reply_carries_bytes op) address first.size b count old new (rw (← counted) within) so_far.counted count_is gained so_far.each;
+    }
+
+pub reply_read_all : (beats : List DBeat) (first : DBeat) (op : ReplyOp) (address b : ℕ) (bytes : List ℕ) → length beats ≡ beat_count (reply_carries_bytes op) first.size → length beats ≤ b → IsReplyReadSoFar beats first op address b None bytes → IsReplyReadFrom beats first op address bytes
+reply_read_all beats first op address b bytes counted over so_far =
+    let fits = bytes_fit (reply_carries_bytes op) first.size in
+    record {
+      same = λ k x h at. so_far.same k x (omega (arith, h, over)) at;
+      flags = λ k x h at. so_far.flags k x (omega (arith, h, over)) at;
+      counted = omega (arith, so_far.counted, fits, counted, over);
+      each = λ j byte beat at found. so_far.each j byte at beat found;
+    }
+
+-- ---- a reply that beats spell, against their first beat
+
+-- no beat differs from the first
+no_reply_change : (reply : Response) (address : ℕ) (beats : List DBeat) (first : DBeat) (b : ℕ) → slice_get beats 0 ≡ Some first → SpellsReply reply address beats → FailsFirstAt (SameReplyFields first) beats b → ⊥
+no_reply_change reply address beats first b head spells fails =
+    let found = at_element (λ beat. SameReplyFields first beat → ⊥) (slice_get beats b) fails.here in
+    let here = (spells.each b found.0 found.1).fields in
+    let there = (spells.each 0 first head).fields in
+    found.2 record { opcode = cc; size = cc; source = cc; denied = cc }
+
+flag_same : (op other : ReplyOp) (denied denied' corrupt : Bool) → other ≡ op → denied' ≡ denied → IsLawfulFlag other denied' corrupt → IsLawfulFlag op denied corrupt
+flag_same op other denied denied' corrupt p q h = rw (← p, ← q) h
+
+-- no flag is unlawful
+no_bad_flag : (reply : Response) (address : ℕ) (beats : List DBeat) (first : DBeat) (op : ReplyOp) (b : ℕ) → slice_get beats 0 ≡ Some first → SpellsReply reply address beats → reply.op ≡ op → FailsFirstAt (HasLawfulFlag op first) beats b → ⊥
+no_bad_flag reply address beats first op b head spells same fails =
+    let found = at_element (λ beat. HasLawfulFlag op first beat → ⊥) (slice_get beats b) fails.here in
+    let lawful = (spells.each b found.0 found.1).corrupt in
+    let there = (spells.each 0 first head).fields in
+    found.2 (flag_same op reply.op first.denied reply.denied found.0.corrupt same (sym there.denied) lawful)
+
+-- ---- beats whose first beat has no fault
+
+pub record IsReplyBegun (beats : List DBeat) (first : DBeat) (op : ReplyOp) : Type 0 where
+  pub head : slice_get beats 0 ≡ Some first
+  pub code : reply_opcode_of op ≡ first.opcode
+  pub in_limit : first.size ≤ LARGEST_SIZE
+  pub count : length beats ≡ beat_count (reply_carries_bytes op) first.size
+
+-- no reply is spelled where a beat is at fault
+pub no_reply : (beats : List DBeat) (first : DBeat) (op : ReplyOp) (fault : BeatFault) → IsReplyBegun beats first op → IsFaultOfReplyBeats beats first op fault → (reply : Response) (address : ℕ) → SpellsReply reply address beats → ⊥
+no_reply beats first op NoBeat begun h reply address spells = h
+no_reply beats first op (Op f) begun h reply address spells = h
+no_reply beats first op Size begun h reply address spells = h
+no_reply beats first op Count begun h reply address spells = h
+no_reply beats first op (Changed b) begun h reply address spells = no_reply_change reply address beats first b begun.head spells h
+no_reply beats first op (Mask b) begun h reply address spells = h
+no_reply beats first op (CorruptFlag b) begun h reply address spells =
+    let same : reply.op ≡ op = same_reply_op reply.op op first.opcode (sym (spells.each 0 first begun.head).fields.opcode) begun.code in
+    no_bad_flag reply address beats first op b begun.head spells same h.1
+
+-- an opcode that a reply has is not at fault
+no_reply_op_fault : (op : ReplyOp) (opcode : ℕ) (fault : OpFault) → reply_opcode_of op ≡ opcode → IsFirstReplyOpFault opcode fault → ⊥
+no_reply_op_fault op opcode Cached code h = h.applies
+no_reply_op_fault op opcode UnknownOpcode code h = h.applies op code
+no_reply_op_fault op opcode UnknownParam code h = h.applies
+
+module _ (beats : List DBeat) (first : DBeat) (op : ReplyOp) (begun : IsReplyBegun beats first op) where
+  -- what is said of the first beat and of the opcode that it names
+  of_first : (P : DBeat → Type 0) → IsSomeAnd (slice_get beats 0) P → P first
+  of_first P h =
+      let found = at_element P (slice_get beats 0) h in
+      let is_first : found.0 ≡ first = cc in
+      subst P is_first found.2
+
+  no_earlier : (other : BeatFault) → beat_fault_rank other < 5 → HasReplyBeatFault beats other → ⊥
+  no_earlier NoBeat rank h = let none : slice_get beats 0 ≡ None = ap (λ xs. slice_get xs 0) h in absurd (cc)
+  no_earlier (Op fault) rank h = no_reply_op_fault op first.opcode fault begun.code (of_first (λ x. IsFirstReplyOpFault x.opcode fault) h)
+  no_earlier Size rank h = omega (arith, begun.in_limit, of_first (λ x. LARGEST_SIZE < x.size) h)
+  no_earlier Count rank h =
+      let named = of_first (λ x. (o : ReplyOp) × (reply_opcode_of o ≡ x.opcode) × (length beats ≢ beat_count (reply_carries_bytes o) x.size)) h in
+      let same : op ≡ named.0 = same_reply_op op named.0 first.opcode begun.code named.1 in
+      named.2 (begun.count ∙ ap (λ o. beat_count (reply_carries_bytes o) first.size) same)
+  no_earlier (Changed k) rank h = absurd (omega (arith, rank))
+  no_earlier (Mask k) rank h = absurd h
+  no_earlier (CorruptFlag k) rank h = absurd (omega (arith, rank))
+
+  no_earlier_than_flag : HoldsBelow (SameReplyFields first) beats (length beats) → (other : BeatFault) → beat_fault_rank other < 7 → HasReplyBeatFault beats other → ⊥
+  no_earlier_than_flag same NoBeat rank h = no_earlier NoBeat (omega arith) h
+  no_earlier_than_flag same (Op fault) rank h = no_earlier (Op fault) (omega arith) h
+  no_earlier_than_flag same Size rank h = no_earlier Size (omega arith) h
+  no_earlier_than_flag same Count rank h = no_earlier Count (omega arith) h
+  no_earlier_than_flag same (Changed k) rank h = none_fails (SameReplyFields first) beats k same (of_first (λ x. FailsFirstAt (SameReplyFields x) beats k) h)
+  no_earlier_than_flag same (Mask k) rank h = absurd h
+  no_earlier_than_flag same (CorruptFlag k) rank h = absurd (omega (arith, rank))
+
+  -- a fault that shows in a beat is then the first one
+  pub first_of_reply_beats : (fault : BeatFault) → IsFaultOfReplyBeats beats first op fault → IsFirstReplyBeatFault beats fault
+  first_of_reply_beats NoBeat h = absurd h
+  first_of_reply_beats (Op f) h = absurd h
+  first_of_reply_beats Size h = absurd h
+  first_of_reply_beats Count h = absurd h
+  first_of_reply_beats (Changed b) h = record { applies = rw begun.head h; first = no_earlier }
+  first_of_reply_beats (Mask b) h = absurd h
+  first_of_reply_beats (CorruptFlag b) h = record { applies = rw begun.head (op, begun.code, h.1); first = no_earlier_than_flag h.0 }
+
+-- ---- the reply that was read
+
+abbrev pub read_reply : DBeat → ReplyOp → List ℕ → Response
+read_reply first op bytes = record { op = op; size = first.size; source = first.source; denied = first.denied; bytes = bytes }
+
+module _ (beats : List DBeat) (first : DBeat) (op : ReplyOp) (address : ℕ) (begun : IsReplyBegun beats first op) (bytes : List ℕ) (read : IsReplyReadFrom beats first op address bytes) where
+  pub reply_read_lawful : IsLawfulResponse op first.size first.denied bytes
+  reply_read_lawful = record {
+    in_limit = begun.in_limit;
+    counted = read.counted;
+    clean = λ denied j d h.
+        let counted : j < reply_byte_count op first.size = rw read.counted at h in
+        let there : j / 8 < length beats = rw begun.count (beat_of_byte (reply_carries_bytes op) first.size j counted) in
+        (read.each j (get_or bytes j d) (get_or beats (j / 8) first) (slice_get-get_or bytes j d h) (slice_get-get_or beats (j / 8) first there)).zero_of_denied denied;
+  }
+
+  pub reply_read_spells : SpellsReply (read_reply first op bytes) address beats
+  reply_read_spells = record {
+    count = begun.count;
+    each = λ b beat at.
+        let within = slice_get_within beats b beat at in
+        let same = read.same b beat within at in
+        record {
+          fields = record { opcode = same.opcode ∙ sym begun.code; size = same.size; source = same.source; denied = same.denied };
+          corrupt = read.flags b beat within at;
+          bytes = λ given j byte found in_beat. (read.each j byte beat found (ap (λ k. slice_get beats k) in_beat ∙ at)).given given;
+        };
+  }
+
+  -- no other reply is spelled
+  pub reply_read_only : (reply : Response) → IsLawfulResponse reply.op reply.size reply.denied reply.bytes → SpellsReply reply address beats → read_reply first op bytes ≡ reply
+  reply_read_only reply lawful spells = same_reply (read_reply first op bytes) reply address beats reply_read_lawful lawful reply_read_spells spells

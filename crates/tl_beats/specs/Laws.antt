@@ -1,0 +1,22 @@
+-- What follows from the definitions of spelling.
+use Rattle.std.specs.Prelude.{◌≡◌, ℕ, List}
+use Rattle.tl_types.specs.Request.{Request, IsLawfulRequest}
+use Rattle.tl_types.specs.Response.{Response, IsLawfulResponse}
+use Rattle.tl_beats.specs.Beats.{SpellsAsk}
+use Rattle.tl_beats.specs.Replies.{SpellsReply}
+use Rattle.tl_beats.specs.declared.beat.ABeat.{ABeat}
+use Rattle.tl_beats.specs.declared.beat.DBeat.{DBeat}
+
+-- beats spell at most one request
+abbrev pub AtMostOneAsk : Type 0
+AtMostOneAsk =
+    (ask other : Request) (beats : List ABeat)
+        → IsLawfulRequest ask.op ask.size ask.bytes → IsLawfulRequest other.op other.size other.bytes
+        → SpellsAsk ask beats → SpellsAsk other beats → ask ≡ other
+
+-- beats spell at most one reply to a request at an address
+abbrev pub AtMostOneReply : Type 0
+AtMostOneReply =
+    (reply other : Response) (address : ℕ) (beats : List DBeat)
+        → IsLawfulResponse reply.op reply.size reply.denied reply.bytes → IsLawfulResponse other.op other.size other.denied other.bytes
+        → SpellsReply reply address beats → SpellsReply other address beats → reply ≡ other

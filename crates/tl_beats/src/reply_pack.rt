@@ -1,0 +1,76 @@
+//! Replies to beats.
+ghost use Rattle.std.specs.Prelude.{◌≡◌, ℕ, ◌+◌, ◌<◌, ◌≤◌, length, slice_index, All};
+ghost use Rattle.tl_types.specs.Operation.{reply_carries_bytes};
+ghost use Rattle.tl_beats.specs.Beats.{beat_count};
+ghost use Rattle.tl_beats.specs.Replies.{IsReplyBeatOf, IsCleanReply, SpellsReply};
+ghost use Rattle.tl_beats.specs.Packing.{reply_byte_at, IsBlankReplyOf};
+
+use crate::beat::{BUS_BYTES, DBeat, MAX_BEATS};
+use crate::bus::{beat_count, first_lane};
+use arrayvec::ArrayVec;
+use tl_types::{Reply, reply_opcode};
+
+/// A beat of a reply before its bytes: every lane is zero.
+fn blank_reply_beat(reply: &Reply) -> DBeat
+    ensures { IsBlankReplyOf reply.now result }
+{
+    let op = reply.op();
+    DBeat {
+        opcode: reply_opcode(op),
+        size: reply.size(),
+        source: reply.source(),
+        denied: reply.denied(),
+        corrupt: op.carries_bytes() && reply.denied(),
+        lanes: [0; BUS_BYTES],
+    }
+}
+
+/// The lanes of a beat whose bytes begin at the lane `first`.
+fn place_reply_bytes(given: &[u8], first: usize) -> [u8; BUS_BYTES]
+    requires { first + length given.now ≤ BUS_BYTES }
+    ensures { (k : ℕ) → k < BUS_BYTES → slice_index result k ≡ reply_byte_at given.now first k }
+{
+    let mut lanes = [0; BUS_BYTES];
+    if given.len() == BUS_BYTES {
+        lanes.copy_from_slice(given);
+        return lanes;
+    }
+    for k in 0..given.len() {
+        lanes[first + k] = given[k];
+    }
+    lanes
+}
+
+/// Beat number `b` of a reply to a request at the address.
+fn reply_beat(reply: &Reply, address: u64, blank: &DBeat, b: usize) -> DBeat
+    requires blank { IsBlankReplyOf reply.now blank.now }
+    requires beat { b < beat_count (reply_carries_bytes reply.now.op) reply.now.size }
+    ensures spells { IsReplyBeatOf reply.now address b result }
+    ensures clean { IsCleanReply reply.now address result }
+{
+    let bytes = reply.bytes();
+    if !reply.op().carries_bytes() {
+        return *blank;
+    }
+    let start = BUS_BYTES * b;
+    let given = &bytes[start..bytes.len().min(start + BUS_BYTES)];
+    DBeat {
+        lanes: place_reply_bytes(given, first_lane(address, reply.size())),
+        ..*blank
+    }
+}
+
+/// The beats that spell a reply to a request at the address, with zeros on the lanes that carry nothing.
+///
+/// They are marked corrupt where they carry the bytes of a denied reply.
+pub fn pack_reply(reply: &Reply, address: u64) -> ArrayVec<DBeat, MAX_BEATS>
+    ensures spells { SpellsReply reply.now address result.items }
+    ensures clean { All (λ beat. IsCleanReply reply.now address beat) result.items }
+{
+    let blank = blank_reply_beat(reply);
+    let mut beats = ArrayVec::new();
+    for b in 0..beat_count(reply.op().carries_bytes(), reply.size()) {
+        beats.push(reply_beat(reply, address, &blank, b));
+    }
+    beats
+}
