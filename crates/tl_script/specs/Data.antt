@@ -6,12 +6,13 @@ use Rattle.std.specs.Fmt.{digit_glyph}
 abbrev pub dash : ℕ
 dash = 45
 
--- what two characters spell
+-- the byte that two hexadecimal digits spell
+abbrev pub pair_of : ℕ → ℕ → Option ℕ
+pair_of high low = if is_digit high 16 && is_digit low 16 then Some (16 * digit_value high + digit_value low) else None
+
+-- what two characters spell: an unset byte by dashes, or a byte
 abbrev pub byte_of : ℕ → ℕ → Option (Option ℕ)
-byte_of high low =
-    if (high == dash) && (low == dash) then Some None
-    else if is_digit high 16 && is_digit low 16 then Some (Some (16 * digit_value high + digit_value low))
-    else None
+byte_of high low = if (high == dash) && (low == dash) then Some None else option_map Some (pair_of high low)
 
 -- the bytes that a word spells
 abbrev pub data_of : List ℕ → Option (List (Option ℕ))

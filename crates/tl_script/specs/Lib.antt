@@ -5,3 +5,4 @@ pub mod Word
 pub mod Operation
 pub mod Trace
 pub mod System
+pub mod History

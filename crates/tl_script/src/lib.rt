@@ -9,6 +9,7 @@
 #![tactic(auto)]
 
 mod data;
+mod history;
 mod name;
 mod number;
 mod operation;
@@ -18,6 +19,7 @@ mod system;
 mod tests;
 mod words;
 
+pub use history::{write_account, write_history};
 pub use operation::{Job, read_operation};
 pub use print::write_trace;
 pub use system::{Device, MAX_JOBS, System};

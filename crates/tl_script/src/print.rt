@@ -72,8 +72,9 @@ fn push_reply(text: &mut String, reply: &Reply) -> Result<(), AllocError>
     Ok(())
 }
 
+/// A request and its reply, as the lines of traces and of histories have them.
 #[tactic(auto, unfolding(crate::specs::Trace::message_text))]
-fn push_message(text: &mut String, ask: &Ask, reply: &Reply) -> Result<(), AllocError>
+pub fn push_message(text: &mut String, ask: &Ask, reply: &Reply) -> Result<(), AllocError>
     ensures { OnOk result (string_bytes text.new ≡ string_bytes text.old ++ message_text ask.now reply.now) }
 {
     push_ask(text, ask)?;

@@ -1,0 +1,43 @@
+//! The lines of histories, and of the slots' account.
+ghost use Rattle.std.specs.Prelude.{◌≡◌, ◌++◌, IfOk, OnOk, string_bytes};
+ghost use Rattle.tl_script.specs.History.{account_text, history_line, history_text};
+
+use crate::print::push_message;
+use std::alloc::{AllocError, Global};
+use tl_types::{Ask, Memory, Reply};
+
+#[tactic(auto, unfolding(crate::specs::History::history_line))]
+fn push_line(
+    text: &mut String,
+    port: usize,
+    index: usize,
+    ask: &Ask,
+    reply: &Reply,
+) -> Result<(), AllocError>
+    ensures { OnOk result (string_bytes text.new ≡ string_bytes text.old ++ history_line port index (ask.now, reply.now)) }
+{
+    write!(text, "p{port} #{index} w{} ", ask.source())?;
+    push_message(text, ask, reply)?;
+    text.push_str("\n")?;
+    Ok(())
+}
+
+/// The text of a port's history: a line for each request that it served, from index 0 on. The sources are wide ones.
+pub fn write_history(alloc: Global, port: usize, history: &[(Ask, Reply)]) -> Result<Vec<u8>, Memory>
+    ensures { IfOk result (λ text. text.items ≡ history_text port history.now) }
+{
+    let mut text = String::new(alloc);
+    for (index, (ask, reply)) in history.iter().enumerate() {
+        push_line(&mut text, port, index, ask, reply)?;
+    }
+    Ok(text.into_bytes())
+}
+
+/// The line of how many slots are free and how many are held.
+pub fn write_account(alloc: Global, free: usize, held: usize) -> Result<Vec<u8>, Memory>
+    ensures { IfOk result (λ text. text.items ≡ account_text free held) }
+{
+    let mut text = String::new(alloc);
+    write!(text, "free {free} held {held}\n")?;
+    Ok(text.into_bytes())
+}
