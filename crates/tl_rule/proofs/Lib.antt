@@ -1,0 +1,9 @@
+pub mod Tables
+pub mod Lists
+pub mod Serving
+pub mod Frames
+pub mod MasterFrame
+pub mod PortFrame
+pub mod Facts
+pub mod Allowing
+pub mod MasterSteps

@@ -1,0 +1,185 @@
+-- What each step tells: of the step, the seat before, the word found (at a store, the word stored) and the seat after.
+-- All of it is this project's own.
+use Rattle.std.specs.Prelude.{◌≡◌, ◌≢◌, ℕ, ◌+◌, ◌<◌, ◌/◌, ◌%◌, List, ◌∷◌, ◌++◌, [], length, slice_index_or, Bool, true, false, Option, Some, None}
+use Rattle.atomic_table.specs.Table.{Me, Step, rest}
+use Rattle.tl_types.specs.Request.{Request}
+use Rattle.tl_types.specs.Response.{Response}
+use Rattle.tl_types.specs.declared.trace.Entry.{Entry}
+use Rattle.tl_ops.specs.History.{IsLawfulHistory}
+use Rattle.tl_rule.specs.declared.view.About.{About}
+use Rattle.tl_rule.specs.declared.view.Held.{Held}
+use Rattle.tl_rule.specs.declared.view.Held.TheVariants.{Nothing, Filled, Sent, Taken}
+use Rattle.tl_rule.specs.declared.view.Hands.{Hands}
+use Rattle.tl_rule.specs.declared.view.Desk.{Desk}
+use Rattle.tl_rule.specs.declared.view.View.{View}
+use Rattle.tl_rule.specs.declared.view.View.TheVariants.{Dealer, Master, Port}
+use Rattle.tl_rule.specs.Record.{SlotRecord, Spells, SpellsAnswer}
+use Rattle.tl_rule.specs.Serving.{ask_at, drop_slot, HasDistinctSlots}
+use Rattle.tl_rule.specs.Views.{Owns, reset_of, new_hands, new_desk, no_hands, no_desk, Above, with_hand, with_serving, gone_hands}
+use Rattle.tl_rule.specs.Seen.{SeenFit, JustOwn, IsPlaceOf, HasSeen, HasGot, IsOut}
+
+-- ---- seats
+
+-- a seat: its view, and the slots that it has taken out, with their records
+abbrev pub Sat : Type 0
+Sat = Me SlotRecord View
+
+abbrev pub is_master : View → Bool
+is_master (Dealer a m p) = false
+is_master (Master v) = true
+is_master (Port u) = false
+
+abbrev pub is_port : View → Bool
+is_port (Dealer a m p) = false
+is_port (Master v) = false
+is_port (Port u) = true
+
+abbrev pub as_master : View → Hands
+as_master (Dealer a m p) = no_hands
+as_master (Master v) = v
+as_master (Port u) = no_hands
+
+abbrev pub as_port : View → Desk
+as_port (Dealer a m p) = no_desk
+as_port (Master v) = no_desk
+as_port (Port u) = u
+
+-- what the seat's hand has of the slot
+abbrev pub hand_of : Sat → ℕ → Held
+hand_of m i = slice_index_or (as_master m.0).hand i Nothing
+
+-- the seat's view, where the hand has x of the slot
+abbrev pub handed : Sat → ℕ → Held → View
+handed m i x = Master (with_hand (as_master m.0) i x (as_master m.0).got)
+
+-- the request that the seat serves at the slot
+abbrev pub service_of : Sat → ℕ → Option Request
+service_of m i = ask_at (as_port m.0).serving i
+
+-- the record of the slot that was taken last
+abbrev pub no_record : SlotRecord
+no_record = record { beats = []; port = 0; index = 0; replies = [] }
+
+abbrev pub top : List (ℕ × SlotRecord) → SlotRecord
+top [] = no_record
+top (x ∷ xs) = x.1
+
+-- no request of this source is out
+abbrev pub IsNew : Sat → ℕ → Type 0
+IsNew m source = (i p known : ℕ) (ask : Request) → hand_of m i ≡ Sent ask p known → source ≢ ask.source
+
+-- ---- steps
+
+abbrev pub Play : Type 1
+Play = Step SlotRecord → Sat → ℕ → Sat → Type 0
+
+abbrev pub Won : Type 1
+Won = Step SlotRecord → Sat → Sat → Type 0
+
+-- a compare-exchange, which changes the seat only where it found the word that it looked for
+abbrev pub Tried : Won → Play
+Tried won st m r n = (r ≡ st.first → won st m n) × (r ≢ st.first → n ≡ m)
+
+-- the slot was not in the hand, and is now, with its record
+pub record Claims (st : Step SlotRecord) (m n : Sat) : Type 0 where
+  pub letter : SlotRecord
+  pub seat : n ≡ (handed m st.word Filled, (st.word, letter) ∷ m.1)
+  pub free : hand_of m st.word ≡ Nothing
+  pub inside : st.word < length (as_master m.0).hand
+
+-- what the record spells is sent to the port that the stored word names
+pub record Sends (st : Step SlotRecord) (m : Sat) (r : ℕ) (n : Sat) : Type 0 where
+  pub ask : Request
+  pub spells : Spells (top m.1) ask
+  pub seat : n ≡ (handed m st.word (Sent ask (r / 2048) (length (as_master m.0).got)), rest m.1)
+
+-- a port's view in itself: no slot and no source is served twice, and its list is true of its memory
+pub record IsLawfulDesk (u : Desk) : Type 0 where
+  pub number : u.number < u.about.ports
+  pub slots : HasDistinctSlots u.serving
+  pub inside : (i : ℕ) (ask : Request) → ask_at u.serving i ≡ Some ask → i < u.about.slots
+  pub sources : (i j : ℕ) (ask other : Request) → ask_at u.serving i ≡ Some ask → ask_at u.serving j ≡ Some other → ask.source ≡ other.source → i ≡ j
+  pub lawful : IsLawfulHistory (reset_of u.about u.number) u.list
+
+-- the port serves what the record spells, at a slot and of a source that it did not serve, of the master that the word names
+pub record Accepts (st : Step SlotRecord) (m n : Sat) : Type 0 where
+  pub letter : SlotRecord
+  pub ask : Request
+  pub spells : Spells letter ask
+  pub seat : n ≡ (Port (with_serving (as_port m.0) ((as_port m.0).serving ++ (st.word, ask) ∷ []) (as_port m.0).list), (st.word, letter) ∷ m.1)
+  pub free : service_of m st.word ≡ None
+  pub owner : Owns (as_port m.0).about (st.first / 8 % 256) ask.source
+  pub apart : (j : ℕ) (other : Request) → service_of m j ≡ Some other → ask.source ≢ other.source
+  pub law : IsLawfulDesk (as_port n.0)
+
+-- the request that was served at the slot, and the reply that the record spells, are the last of the list
+pub record Answers (st : Step SlotRecord) (m : Sat) (r : ℕ) (n : Sat) : Type 0 where
+  pub ask : Request
+  pub serves : service_of m st.word ≡ Some ask
+  pub reply : Response
+  pub spells : SpellsAnswer (top m.1) ask.address reply
+  pub seat : n ≡ (Port (with_serving (as_port m.0) (drop_slot st.word (as_port m.0).serving) ((as_port m.0).list ++ (ask, reply) ∷ [])), rest m.1)
+  pub law : IsLawfulDesk (as_port n.0)
+
+abbrev pub entry : ℕ → ℕ → Request → Response → Entry
+entry p index ask reply = record { ask = ask; reply = reply; port = p; index = index }
+
+-- The reply to what was sent is collected. In one lawful history of the port's reset it stands after all that had been
+-- collected there when it was sent, and of the master's own requests are just those that it made
+pub record Collects (st : Step SlotRecord) (m n : Sat) : Type 0 where
+  pub letter : SlotRecord
+  pub ask : Request
+  pub port : ℕ
+  pub known : ℕ
+  pub reply : Response
+  pub was : hand_of m st.word ≡ Sent ask port known
+  pub spells : Spells letter ask
+  pub answer : SpellsAnswer letter ask.address reply
+  pub seat : n ≡ (Master (with_hand (as_master m.0) st.word (Taken port) ((as_master m.0).got ++ entry port letter.index ask reply ∷ [])), (st.word, letter) ∷ m.1)
+  pub fresh : IsPlaceOf (HasGot (as_master m.0) port) letter.index → ⊥
+  pub above : Above (as_master m.0).got known port letter.index
+  pub history : List (Request × Response)
+  pub lawful : IsLawfulHistory (reset_of (as_master m.0).about port) history
+  pub seen : SeenFit history letter.index ask reply (HasSeen (as_master m.0) port known)
+  pub own : JustOwn history (Owns (as_master m.0).about (as_master m.0).number) (HasGot (as_master n.0) port) (IsOut (as_master n.0) port)
+
+-- the hand loses the slot
+pub record Releases (st : Step SlotRecord) (m : Sat) (r : ℕ) (n : Sat) : Type 0 where
+  pub seat : n ≡ (handed m st.word Nothing, rest m.1)
+
+-- at the port, one lawful history of its reset has all that the master collected there, and no other request of its own
+pub record OwnsAll (v : Hands) (p : ℕ) : Type 0 where
+  pub history : List (Request × Response)
+  pub lawful : IsLawfulHistory (reset_of v.about p) history
+  pub own : JustOwn history (Owns v.about v.number) (HasGot v p) (λ ask. ⊥)
+
+-- the master has left
+pub record Leaves (st : Step SlotRecord) (m : Sat) (r : ℕ) (n : Sat) : Type 0 where
+  pub seat : n ≡ (Master (gone_hands (as_master m.0)), m.1)
+  pub owns_all : (p : ℕ) → OwnsAll (as_master m.0) p
+
+-- ---- the dealing of seats
+
+abbrev pub opening_view : About → View
+opening_view a = Dealer a 0 0
+
+-- what the dealer's view becomes, and the new seat's, where the next master or the next port gets its seat
+abbrev pub after_master : View → View
+after_master (Dealer a m p) = Dealer a (m + 1) p
+after_master (Master v) = Master v
+after_master (Port u) = Port u
+
+abbrev pub next_master : View → View
+next_master (Dealer a m p) = Master (new_hands a m)
+next_master (Master v) = Master v
+next_master (Port u) = Port u
+
+abbrev pub after_port : View → View
+after_port (Dealer a m p) = Dealer a m (p + 1)
+after_port (Master v) = Master v
+after_port (Port u) = Port u
+
+abbrev pub next_port : View → View
+next_port (Dealer a m p) = Port (new_desk a p)
+next_port (Master v) = Master v
+next_port (Port u) = Port u
