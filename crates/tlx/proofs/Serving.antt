@@ -1,5 +1,5 @@
 -- A request more is served: what the entries, the banks and the histories are then.
-use Rattle.std.proofs.Common.{◌≡◌, ◌≢◌, ◌∙◌, ℕ, suc, zero, ◌+◌, ◌<◌, ◌≤◌, ◌⊎◌, inl, inr, ⊎_elim, Bool, true, false, cond, eqb, List, [], ◌∷◌, ◌++◌, length, take, map, set, Option, Some, None, option_map, All, length-append, IsSomeAnd, slice_get, refl, ap, sym, arith, filter}
+use Rattle.std.proofs.Common.{◌≡◌, ◌∙◌, ℕ, suc, ◌+◌, ◌<◌, inl, inr, ⊎_elim, Bool, false, cond, eqb, List, [], ◌∷◌, ◌++◌, length, take, map, set, Option, Some, None, option_map, All, length-append, IsSomeAnd, slice_get, refl, ap, sym, arith}
 use Rattle.std.proofs.lemmas.Bool.{eq-eqb}
 use Rattle.std.proofs.lemmas.Bool.Decides.{eqb_tells}
 use Rattle.std.proofs.lemmas.List.{append-nil, take-append-le, take_at, length-set, length-map, map-append}
@@ -73,6 +73,7 @@ in_turn_more s log m e before last k x at = ⊎_elim earlier here (slice_get-pus
   earlier found =
       let within = slice_get_within log k x found in
       rw (take-append-le k log ((m, e) ∷ []) (omega (arith, within))) (before k x found)
+
   here : (k ≡ length log) × ((m, e) ≡ x) → IsServedAfter s (take k (log ++ (m, e) ∷ [])) x.1
   here found =
       let same : e ≡ x.1 = ap (λ (y : ℕ × Entry). y.1) found.1 in
@@ -85,7 +86,6 @@ module _ (s : System) (log : List (ℕ × Entry)) (slaves : List Slave) (old new
     (answered : e.reply ≡ reply old.bank e.ask) (bank : new.bank ≡ after old.bank e.ask)
     (history : new.history.items ≡ old.history.items ++ (record e.ask { source = wide }, record e.reply { source = wide }) ∷ [])
     (widened : IsWide s.counts m e.ask.source wide) where
-
   served : HasServed s log e.port old
   served = stand.each e.port old was
 
@@ -103,7 +103,7 @@ module _ (s : System) (log : List (ℕ × Entry)) (slaves : List Slave) (old new
         served.bank;
     history = rw (history, at_port-same log m e)
         (history_more s.counts (at_port e.port log) old.history.items (m, e) (record e.ask { source = wide }, record e.reply { source = wide }) served.history
-            (record { wide = wide; is = widened; ask = refl; reply = refl }));
+        (record { wide = wide; is = widened; ask = refl; reply = refl }));
   }
 
   other_port : (port : ℕ) (slave : Slave) → eqb e.port port ≡ false → HasServed s log port slave → HasServed s (log ++ (m, e) ∷ []) port slave
@@ -118,9 +118,9 @@ module _ (s : System) (log : List (ℕ × Entry)) (slaves : List Slave) (old new
     served = in_turn_more s log m e stand.served entry_is;
     each = λ port slave at. ⊎_elim
         (λ same.
-            let there : slice_get (set slaves e.port new) e.port ≡ Some slave = ap (λ (k : ℕ). slice_get (set slaves e.port new) k) same.1 ∙ at in
-            let is : new ≡ slave = cc (slice_get-set_same slaves e.port new (slice_get_within slaves e.port old was)) in
-            rw (← is, ← same.1) same_port)
+        let there : slice_get (set slaves e.port new) e.port ≡ Some slave = ap (λ (k : ℕ). slice_get (set slaves e.port new) k) same.1 ∙ at in
+        let is : new ≡ slave = cc (slice_get-set_same slaves e.port new (slice_get_within slaves e.port old was)) in
+        rw (← is, ← same.1) same_port)
         (λ other. other_port port slave other.0 (stand.each port slave (sym (slice_get-set_other slaves e.port port new other.1) ∙ at)))
         (eqb_tells e.port port);
   }
@@ -128,7 +128,6 @@ module _ (s : System) (log : List (ℕ × Entry)) (slaves : List Slave) (old new
 -- ---- at reset
 
 module _ (s : System) (slaves : List Slave) (lawful : IsLawfulSystem s) (banks : map bank_of slaves ≡ resets s) (quiet : All (λ (slave : Slave). slave.history.items ≡ []) slaves) where
-
   fresh_bank : (port : ℕ) (slave : Slave) → slice_get slaves port ≡ Some slave → slice_get (resets s) port ≡ Some slave.bank
   fresh_bank port slave at =
       ap (λ (stores : List Store). slice_get stores port) (sym banks) ∙ slice_get-map bank_of slaves port ∙ ap (option_map bank_of) at
@@ -161,8 +160,8 @@ pub histories_are : (s : System) (log : List (ℕ × Entry)) (slaves : List Slav
     → (p : ℕ) (history : List (Request × Response)) → slice_get histories p ≡ Some history → IsHistoryOf s.counts (at_port p log) history
 histories_are s log slaves histories stand are p history at =
     by_slave (slice_get slaves p) refl (sym (slice_get-map history_of slaves p) ∙ ap (λ (hs : List (List (Request × Response))). slice_get hs p) (sym are) ∙ at) where
-  by_slave : (found : Option Slave) → slice_get slaves p ≡ found → option_map history_of found ≡ Some history → IsHistoryOf s.counts (at_port p log) history
-  by_slave None is none = absurd (cc)
-  by_slave (Some slave) is here =
-      let same : history_of slave ≡ history = cc in
-      rw (← same) (stand.each p slave is).history
+      by_slave : (found : Option Slave) → slice_get slaves p ≡ found → option_map history_of found ≡ Some history → IsHistoryOf s.counts (at_port p log) history
+      by_slave None is none = absurd (cc)
+      by_slave (Some slave) is here =
+          let same : history_of slave ≡ history = cc in
+          rw (← same) (stand.each p slave is).history

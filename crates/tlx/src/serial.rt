@@ -46,12 +46,7 @@ impl Slave {
 }
 
 /// Serves a master's next request.
-fn send(
-    slaves: &mut [Slave],
-    system: &System,
-    master: usize,
-    ask: &Ask,
-) -> Result<Entry, Memory>
+fn send(slaves: &mut [Slave], system: &System, master: usize, ask: &Ask) -> Result<Entry, Memory>
     requires ready { length slaves.old ≡ length system.now.ranges + 1 }
     requires source { IsSomeAnd (slice_get system.now.counts master) (λ count. ask.now.source < count) }
     ensures asked { IfOk result (λ entry. entry.ask ≡ ask.now) }
@@ -135,11 +130,7 @@ fn histories_of(alloc: Global, slaves: Vec<Slave>) -> Result<Vec<History>, Memor
 }
 
 /// Serves the masters of a system, one after the other, and gives their traces.
-fn run_masters(
-    alloc: Global,
-    slaves: &mut [Slave],
-    system: &System,
-) -> Result<Vec<Trace>, Memory>
+fn run_masters(alloc: Global, slaves: &mut [Slave], system: &System) -> Result<Vec<Trace>, Memory>
     requires { length slaves.old ≡ length system.now.ranges + 1 }
     ensures asked { IfOk result (λ traces. map asks_in (lists_of traces.items) ≡ map sends system.now.jobs) }
     ensures stands { IfOk result (λ traces. Stand system.now [] slaves.old

@@ -1,5 +1,5 @@
 -- The requests so far are served.
-use Rattle.std.proofs.Common.{◌≡◌, ◌++◌, ℕ, List, length, take}
+use Rattle.std.proofs.Common.{◌≡◌, ◌++◌, ℕ, List, take}
 use Rattle.tl_types.specs.declared.trace.Entry.{Entry}
 use Rattle.tl_script.specs.System.{sends}
 use Rattle.tlx.specs.Serial.{asks_in, numbered}

@@ -1,12 +1,10 @@
-use Rattle.std.proofs.Common.{rules, ◌≡◌, ◌∙◌, ◌++◌, ◌∷◌, [], ◌+◌, List, length, map, sym, ap, take, drop}
-use Rattle.std.specs.Prelude.{All}
+use Rattle.std.proofs.Common.{rules, ◌≡◌, ◌∙◌, ◌++◌, ◌∷◌, [], List, length, map, ap, take, drop}
 use Rattle.std.proofs.lemmas.List.{length-map, take_at}
 use Rattle.tl_ops.specs.Store.{Store}
-use Rattle.tl_script.specs.System.{lists_of, store_of}
+use Rattle.tl_script.specs.System.{lists_of}
 use Rattle.tlx.specs.Serial.{log_of, resets, error_store}
 use Rattle.tlx.specs.Slave.{Stand, bank_of, history_of}
 use Rattle.tlx.proofs.Serving.{stand_fresh, histories_are}
-use Rattle.tlx.specs.declared.serial.Slave.{Slave}
 use Rattle.tlx.proofs.serial.run_serial.Goals as goal
 
 pub returns : goal.returns
@@ -17,8 +15,8 @@ returns c =
     let start : Stand system [] c.deref_mut.result.now = rw c.deref_mut.ensures.value (stand_fresh system fresh c.devices.ensures.lawful banks c.in_ok-slaves.ensures.histories) in
     let stand = c.in_ok-traces.ensures.stands start in
     let whole : take c.in_ok-slaves.slaves.len (c.run_masters.new.slaves ++ drop (length c.run_masters.new.slaves) fresh) ≡ c.run_masters.new.slaves =
-        let long : length c.run_masters.new.slaves ≡ c.in_ok-slaves.slaves.len = search rules in
-        take_at c.run_masters.new.slaves (drop (length c.run_masters.new.slaves) fresh) c.in_ok-slaves.slaves.len long in
+    let long : length c.run_masters.new.slaves ≡ c.in_ok-slaves.slaves.len = search rules in
+    take_at c.run_masters.new.slaves (drop (length c.run_masters.new.slaves) fresh) c.in_ok-slaves.slaves.len long in
     let are : lists_of c.in_ok-histories.histories.items ≡ map history_of c.run_masters.new.slaves = rw (← whole) c.in_ok-histories.ensures in
     record {
       asked = c.in_ok-traces.ensures.asked;

@@ -1,4 +1,4 @@
-use Rattle.std.proofs.Common.{rules, ◌≡◌, ◌∙◌, ◌++◌, ◌∷◌, [], ◌+◌, ◌<◌, ◌*◌, ℕ, length, Fits, w64, arith, Some, slice_get, refl, sym, ap}
+use Rattle.std.proofs.Common.{rules, ◌≡◌, ◌∙◌, ◌<◌, length, arith, Some, slice_get, refl, sym, ap}
 use Rattle.std.proofs.lemmas.Option.{slice_get-get_or}
 use Rattle.tl_map.specs.Map.{Routes}
 use Rattle.tl_map.specs.Block.{IsWide}
@@ -23,8 +23,8 @@ returns-clause-stands c = λ log stand.
     let below = routed_in_range c.args.system.now.ranges c.args.ask.now c.route-port.result routed in
     let within : c.route-port.result < length c.args.slaves.now = omega (arith, below, c.requires.ready) in
     let slave : slice_get c.args.slaves.now c.route-port.result ≡ Some c.index-slaves-port.result =
-        slice_get-get_or c.args.slaves.now c.route-port.result c.index-slaves-port.result within ∙ ap (λ (s : Slave). Some s) (sym c.index-slaves-port.is) in
+    slice_get-get_or c.args.slaves.now c.route-port.result c.index-slaves-port.result within ∙ ap (λ (s : Slave). Some s) (sym c.index-slaves-port.is) in
     let wide : IsWide c.args.system.now.counts c.args.master c.args.ask.now.source c.unwrap-wide.result =
-        rw (c.sources.ensures, c.source.ensures) at ((c.widen.ensures.wide c.unwrap-wide.result).0 c.unwrap-wide.ensures) in
+    rw (c.sources.ensures, c.source.ensures) at ((c.widen.ensures.wide c.unwrap-wide.result).0 c.unwrap-wide.ensures) in
     stand_more c.args.system.now log c.args.slaves.now c.index-slaves-port.result c.serve.new.self c.args.master c.unwrap-wide.result _ stand
     slave (rw c.copy.ensures routed) (search rules) (search rules) (search rules) (search rules) (rw c.copy.ensures wide)
