@@ -1,6 +1,6 @@
 -- Numbers stand for one operation, and for one opcode of replies.
 use Rattle.std.proofs.Common.{◌≡◌, ◌∙◌, ℕ, suc, zero, ap, sym, refl}
-use Rattle.tl_types.specs.Wire.{opcode_of, param_of, arith_param, logic_param, hint_param, IsCodeOf, reply_opcode_of}
+use Rattle.tl_types.specs.Wire.{opcode_of, param_of, IsCodeOf, reply_opcode_of}
 use Rattle.tl_types.specs.declared.operation.Arith.{Arith}
 use Rattle.tl_types.specs.declared.operation.Arith.TheVariants.{Min, Max, MinU, MaxU, Add}
 use Rattle.tl_types.specs.declared.operation.Logic.{Logic}

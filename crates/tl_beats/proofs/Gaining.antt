@@ -1,5 +1,5 @@
 -- Lists that grow beat by beat.
-use Rattle.std.proofs.Common.{◌≡◌, ◌∙◌, ℕ, suc, zero, ◌+◌, ◌-◌, ◌*◌, ◌/◌, ◌%◌, ◌^◌, ◌<◌, ◌≤◌, ◌⊎◌, inl, inr, min, max, Bool, true, false, if◌then◌else◌, List, [], ◌∷◌, ◌++◌, length, Option, Some, slice_get, ap, sym, refl, subst, arith, length-append, ⊎_elim}
+use Rattle.std.proofs.Common.{◌≡◌, ◌∙◌, ℕ, suc, zero, ◌+◌, ◌-◌, ◌*◌, ◌/◌, ◌%◌, ◌^◌, ◌<◌, ◌⊎◌, inl, inr, min, max, Bool, true, false, if◌then◌else◌, List, [], ◌∷◌, ◌++◌, length, Some, slice_get, ap, subst, arith, length-append, ⊎_elim}
 use Rattle.std.proofs.Math.Nat.{pow-suc}
 use Rattle.std.proofs.lemmas.Option.{slice_get_within}
 use Rattle.tl_types.proofs.Lists.{slice_get-push}
@@ -61,13 +61,13 @@ count_of_gained b old count total o n = omega arith
 pub gains_beat : {X : Type 0} (Q : ℕ → ℕ → X → Type 0) (address size b count : ℕ) (old new : List X) → b < max 1 (2 ^ size / 8) → length old ≡ min (8 * b) (2 ^ size) → count ≡ min (2 ^ size - length old) 8 → Gains (λ k x. Q b (low address size % 8 + k) x) count old new → ((j : ℕ) (x : X) → slice_get old j ≡ Some x → Q (j / 8) (lane_of address size j) x) → (j : ℕ) (x : X) → slice_get new j ≡ Some x → Q (j / 8) (lane_of address size j) x
 gains_beat Q address size b count old new beat o n gains so_far j x at =
     ⊎_elim
-        (λ kept. so_far j x kept)
-        (λ gained.
-            let place = place_of_gained address size b gained.0 (length old) count beat o n gained.2 in
-            let in_beat : j / 8 ≡ b = ap (λ i. i / 8) gained.1 ∙ place.0 in
-            let lane : lane_of address size j ≡ low address size % 8 + gained.0 = ap (λ i. lane_of address size i) gained.1 ∙ place.1 in
-            rw (in_beat, lane) gained.3)
-        (gains.each j x at)
+    (λ kept. so_far j x kept)
+    (λ gained.
+    let place = place_of_gained address size b gained.0 (length old) count beat o n gained.2 in
+    let in_beat : j / 8 ≡ b = ap (λ i. i / 8) gained.1 ∙ place.0 in
+    let lane : lane_of address size j ≡ low address size % 8 + gained.0 = ap (λ i. lane_of address size i) gained.1 ∙ place.1 in
+    rw (in_beat, lane) gained.3)
+    (gains.each j x at)
 
 -- and so in a message that may carry none
 pub gains_in_message : {X : Type 0} (Q : ℕ → ℕ → X → Type 0) (carries : Bool) (address size b count : ℕ) (old new : List X) → b < beat_count carries size → length old ≡ min (8 * b) (if carries then 2 ^ size else 0) → count ≡ min ((if carries then 2 ^ size else 0) - length old) 8 → Gains (λ k x. Q b (low address size % 8 + k) x) count old new → ((j : ℕ) (x : X) → slice_get old j ≡ Some x → Q (j / 8) (lane_of address size j) x) → (j : ℕ) (x : X) → slice_get new j ≡ Some x → Q (j / 8) (lane_of address size j) x

@@ -1,6 +1,5 @@
 -- Beats spell at most one request.
-use Rattle.std.proofs.Common.{◌≡◌, ◌≢◌, ◌∙◌, ℕ, ◌+◌, ◌-◌, ◌*◌, ◌/◌, ◌%◌, ◌^◌, ◌<◌, ◌≤◌, max, Bool, true, false, if◌then◌else◌, List, [], ◌∷◌, length, Option, Some, None, slice_get, get_or, ap, sym, refl, subst, arith}
-use Rattle.std.specs.Int.{bit_at}
+use Rattle.std.proofs.Common.{◌≡◌, ◌∙◌, ℕ, ◌/◌, ◌^◌, ◌<◌, Bool, true, false, if◌then◌else◌, List, [], ◌∷◌, length, Option, Some, None, slice_get, get_or, ap, sym, refl, subst, arith}
 use Rattle.std.proofs.lemmas.List.{same_lists}
 use Rattle.std.proofs.lemmas.Option.{slice_get-get_or}
 use Rattle.tl_types.specs.Request.{Request, IsLawfulRequest}
@@ -45,12 +44,12 @@ same_ask ask other (first ∷ rest) lawful lawful' spells spells' =
     let count : byte_count ask.op ask.size ≡ byte_count other.op other.size = rw (op, size) refl in
     let long : length ask.bytes ≡ length other.bytes = lawful.counted ∙ count ∙ sym lawful'.counted in
     let bytes : ask.bytes ≡ other.bytes =
-        same_lists ask.bytes other.bytes long (λ j d h.
-        let there : j / 8 < length beats = rw spells.count (beat_of_byte (carries_bytes ask.op) ask.size j (rw lawful.counted at h)) in
-        let beat = get_or beats (j / 8) first in
-        let at : slice_get beats (j / 8) ≡ Some beat = slice_get-get_or beats (j / 8) first there in
-        let ours = (spells.each (j / 8) beat at).bytes j (get_or ask.bytes j d) (slice_get-get_or ask.bytes j d h) refl in
-        let theirs = (spells'.each (j / 8) beat at).bytes j (get_or other.bytes j d) (slice_get-get_or other.bytes j d (rw (← long) h)) refl in
-        let lane : lane_of other.address other.size j ≡ lane_of ask.address ask.size j = rw (address, size) refl in
-        StandsAt-same beat.mask beat.lanes (lane_of ask.address ask.size j) (get_or ask.bytes j d) (get_or other.bytes j d) ours (subst (λ (l : ℕ). StandsAt beat.mask beat.lanes l (get_or other.bytes j d)) lane theirs)) in
+    same_lists ask.bytes other.bytes long (λ j d h.
+    let there : j / 8 < length beats = rw spells.count (beat_of_byte (carries_bytes ask.op) ask.size j (rw lawful.counted at h)) in
+    let beat = get_or beats (j / 8) first in
+    let at : slice_get beats (j / 8) ≡ Some beat = slice_get-get_or beats (j / 8) first there in
+    let ours = (spells.each (j / 8) beat at).bytes j (get_or ask.bytes j d) (slice_get-get_or ask.bytes j d h) refl in
+    let theirs = (spells'.each (j / 8) beat at).bytes j (get_or other.bytes j d) (slice_get-get_or other.bytes j d (rw (← long) h)) refl in
+    let lane : lane_of other.address other.size j ≡ lane_of ask.address ask.size j = rw (address, size) refl in
+    StandsAt-same beat.mask beat.lanes (lane_of ask.address ask.size j) (get_or ask.bytes j d) (get_or other.bytes j d) ours (subst (λ (l : ℕ). StandsAt beat.mask beat.lanes l (get_or other.bytes j d)) lane theirs)) in
     λ i. record { op = op i; size = size i; source = source i; address = address i; bytes = bytes i }

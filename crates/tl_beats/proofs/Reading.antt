@@ -1,5 +1,5 @@
 -- What is known of the beats of a request that are read one by one.
-use Rattle.std.proofs.Common.{◌≡◌, ◌≢◌, ◌∙◌, ℕ, ◌+◌, ◌-◌, ◌*◌, ◌/◌, ◌%◌, ◌^◌, ◌<◌, ◌≤◌, min, max, Bool, true, false, List, [], length, Option, Some, None, if◌then◌else◌, slice_get, get_or, ap, sym, refl, subst, arith}
+use Rattle.std.proofs.Common.{◌≡◌, ◌≢◌, ◌∙◌, ℕ, ◌+◌, ◌-◌, ◌*◌, ◌/◌, ◌%◌, ◌^◌, ◌<◌, ◌≤◌, min, Bool, true, false, List, [], length, Option, Some, None, if◌then◌else◌, slice_get, get_or, ap, sym, refl, subst, arith}
 use Rattle.std.specs.Prelude.{All, IsSome, IsSomeAnd, IsTrue, MatchOption, ◌↔◌}
 use Rattle.std.specs.Int.{bit_at}
 use Rattle.std.proofs.lemmas.Option.{slice_get_within, slice_get-get_or}
@@ -46,9 +46,9 @@ read_more beats first op b d bad_mask lawful lane count old new within counted s
     let at : slice_get beats b ≡ Some here = slice_get-get_or beats b d within in
     let Q : ℕ → ℕ → Option ℕ → Type 0 = λ k l given. (beat : ABeat) → slice_get beats k ≡ Some beat → StandsAt beat.mask beat.lanes l given in
     let gained : Gains (λ k given. Q b (low first.address first.size % 8 + k) given) count old new =
-        gains_so (λ k given. StandsAt here.mask here.lanes (lane + k) given) (λ k given. Q b (low first.address first.size % 8 + k) given) count old new (λ k given h stands beat found.
-        let is : here ≡ beat = cc in
-        subst (λ (x : ABeat). StandsAt x.mask x.lanes (low first.address first.size % 8 + k) given) is (subst (λ (l : ℕ). StandsAt here.mask here.lanes (l + k) given) lane_is stands)) gains in
+    gains_so (λ k given. StandsAt here.mask here.lanes (lane + k) given) (λ k given. Q b (low first.address first.size % 8 + k) given) count old new (λ k given h stands beat found.
+    let is : here ≡ beat = cc in
+    subst (λ (x : ABeat). StandsAt x.mask x.lanes (low first.address first.size % 8 + k) given) is (subst (λ (l : ℕ). StandsAt here.mask here.lanes (l + k) given) lane_is stands)) gains in
     record {
       same = holds_more_at (SameFields first) beats b d so_far.same within same;
       masks = failing_more (HasLawfulMask op first) beats b d bad_mask lawful within passes so_far.masks;

@@ -1,5 +1,5 @@
 -- Beats spell at most one reply to a request at an address.
-use Rattle.std.proofs.Common.{◌≡◌, ◌∙◌, ℕ, ◌+◌, ◌/◌, ◌<◌, ◌≤◌, Bool, true, false, List, [], ◌∷◌, length, Some, slice_get, slice_index, get_or, ap, sym, refl, arith}
+use Rattle.std.proofs.Common.{◌≡◌, ◌∙◌, ℕ, ◌/◌, ◌<◌, Bool, true, false, List, [], ◌∷◌, length, Some, slice_get, slice_index, get_or, ap, sym, refl, arith}
 use Rattle.std.proofs.lemmas.List.{same_lists}
 use Rattle.std.proofs.lemmas.Option.{slice_get-get_or}
 use Rattle.tl_types.specs.Response.{Response, IsLawfulResponse}
@@ -23,10 +23,10 @@ same_reply reply other address (first ∷ rest) lawful lawful' spells spells' =
     let count : reply_byte_count reply.op reply.size ≡ reply_byte_count other.op other.size = rw (op, size) refl in
     let long : length reply.bytes ≡ length other.bytes = lawful.counted ∙ count ∙ sym lawful'.counted in
     let bytes : reply.bytes ≡ other.bytes =
-        same_lists reply.bytes other.bytes long (λ j d h.
-        let h' : j < length other.bytes = rw (← long) h in
-        let there : j / 8 < length beats = rw spells.count (beat_of_byte (reply_carries_bytes reply.op) reply.size j (rw lawful.counted at h)) in
-        same_byte j d h h' denied size there reply.denied refl) in
+    same_lists reply.bytes other.bytes long (λ j d h.
+    let h' : j < length other.bytes = rw (← long) h in
+    let there : j / 8 < length beats = rw spells.count (beat_of_byte (reply_carries_bytes reply.op) reply.size j (rw lawful.counted at h)) in
+    same_byte j d h h' denied size there reply.denied refl) in
     λ i. record { op = op i; size = size i; source = source i; denied = denied i; bytes = bytes i }
   where
     same_byte : (j d : ℕ) → j < length reply.bytes → j < length other.bytes → reply.denied ≡ other.denied → reply.size ≡ other.size → j / 8 < length (first ∷ rest) → (is_denied : Bool) → reply.denied ≡ is_denied → get_or reply.bytes j d ≡ get_or other.bytes j d

@@ -1,6 +1,6 @@
 -- What is known of the beats of a reply that are read one by one.
-use Rattle.std.proofs.Common.{◌≡◌, ◌≢◌, ◌∙◌, ℕ, ◌+◌, ◌-◌, ◌*◌, ◌/◌, ◌%◌, ◌^◌, ◌<◌, ◌≤◌, min, max, Bool, true, false, List, [], length, Option, Some, None, slice_get, slice_index, get_or, ap, sym, refl, subst, arith}
-use Rattle.std.specs.Prelude.{All, IsSomeAnd, IsTrue, MatchOption, ◌↔◌}
+use Rattle.std.proofs.Common.{◌≡◌, ◌≢◌, ◌∙◌, ℕ, ◌+◌, ◌-◌, ◌*◌, ◌/◌, ◌%◌, ◌<◌, ◌≤◌, min, Bool, List, [], length, Option, Some, None, slice_get, slice_index, get_or, ap, sym, subst, arith}
+use Rattle.std.specs.Prelude.{IsSomeAnd, IsTrue, MatchOption, ◌↔◌}
 use Rattle.std.proofs.lemmas.Option.{slice_get_within, slice_get-get_or}
 use Rattle.tl_types.specs.List.{HoldsBelow, FailsFirstAt}
 use Rattle.tl_types.specs.Response.{Response, IsLawfulResponse}
@@ -50,9 +50,9 @@ reply_read_more beats first op address b d bad_flag lawful lane count word old n
     let at : slice_get beats b ≡ Some here = slice_get-get_or beats b d within in
     let Q : ℕ → ℕ → ℕ → Type 0 = λ k l byte. (beat : DBeat) → slice_get beats k ≡ Some beat → StandsInReply first.denied beat.lanes l byte in
     let gained : Gains (λ k byte. Q b (low address first.size % 8 + k) byte) count old new =
-        gains_so (λ k byte. slice_index word (lane + k) ≡ byte) (λ k byte. Q b (low address first.size % 8 + k) byte) count old new (λ k byte h stands beat found.
-        let is : here ≡ beat = cc in
-        subst (λ (x : DBeat). StandsInReply first.denied x.lanes (low address first.size % 8 + k) byte) is (subst (λ (l : ℕ). StandsInReply first.denied here.lanes (l + k) byte) lane_is (StandsInReply-byte first.denied here.lanes (lane + k) (slice_index word (lane + k)) byte (carried (lane + k) (omega (arith, h, in_bus))) stands))) gains in
+    gains_so (λ k byte. slice_index word (lane + k) ≡ byte) (λ k byte. Q b (low address first.size % 8 + k) byte) count old new (λ k byte h stands beat found.
+    let is : here ≡ beat = cc in
+    subst (λ (x : DBeat). StandsInReply first.denied x.lanes (low address first.size % 8 + k) byte) is (subst (λ (l : ℕ). StandsInReply first.denied here.lanes (l + k) byte) lane_is (StandsInReply-byte first.denied here.lanes (lane + k) (slice_index word (lane + k)) byte (carried (lane + k) (omega (arith, h, in_bus))) stands))) gains in
     record {
       same = holds_more_at (SameReplyFields first) beats b d so_far.same within same;
       flags = failing_more (HasLawfulFlag op first) beats b d bad_flag lawful within passes so_far.flags;

@@ -11,12 +11,12 @@ use Rattle.tl_beats.specs.declared.beat.DBeat.{DBeat}
 abbrev pub AtMostOneAsk : Type 0
 AtMostOneAsk =
     (ask other : Request) (beats : List ABeat)
-        → IsLawfulRequest ask.op ask.size ask.bytes → IsLawfulRequest other.op other.size other.bytes
-        → SpellsAsk ask beats → SpellsAsk other beats → ask ≡ other
+    → IsLawfulRequest ask.op ask.size ask.bytes → IsLawfulRequest other.op other.size other.bytes
+    → SpellsAsk ask beats → SpellsAsk other beats → ask ≡ other
 
 -- beats spell at most one reply to a request at an address
 abbrev pub AtMostOneReply : Type 0
 AtMostOneReply =
     (reply other : Response) (address : ℕ) (beats : List DBeat)
-        → IsLawfulResponse reply.op reply.size reply.denied reply.bytes → IsLawfulResponse other.op other.size other.denied other.bytes
-        → SpellsReply reply address beats → SpellsReply other address beats → reply ≡ other
+    → IsLawfulResponse reply.op reply.size reply.denied reply.bytes → IsLawfulResponse other.op other.size other.denied other.bytes
+    → SpellsReply reply address beats → SpellsReply other address beats → reply ≡ other

@@ -1,7 +1,7 @@
 -- How a reply stands on the bus, beat by beat: the chapter "Beats and bursts" of the TileLink specification, but for
 -- `corrupt`, which is this project's choice. A beat of a reply has no mask and no address: the request's address is
 -- handed in, and chooses the lanes of a reply smaller than the bus.
-use Rattle.std.specs.Prelude.{◌≡◌, ℕ, ◌/◌, ◌<◌, Bool, false, ◌&&◌, List, length, Some, slice_get, slice_index, IsTrue, All}
+use Rattle.std.specs.Prelude.{◌≡◌, ℕ, ◌/◌, ◌<◌, Bool, false, ◌&&◌, List, length, Some, slice_get, slice_index, IsTrue}
 use Rattle.tl_types.specs.Operation.{reply_carries_bytes}
 use Rattle.tl_types.specs.Wire.{reply_opcode_of}
 use Rattle.tl_types.specs.Response.{Response}

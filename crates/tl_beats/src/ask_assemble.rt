@@ -59,12 +59,7 @@ fn push_word(bytes: &mut ArrayVec<Option<u8>, MAX_BYTES>, beat: &ABeat)
 }
 
 /// Appends what stands at some lanes of a beat.
-fn push_lanes(
-    bytes: &mut ArrayVec<Option<u8>, MAX_BYTES>,
-    beat: &ABeat,
-    first: usize,
-    count: usize,
-)
+fn push_lanes(bytes: &mut ArrayVec<Option<u8>, MAX_BYTES>, beat: &ABeat, first: usize, count: usize)
     requires in_bus { first + count ≤ BUS_BYTES }
     requires room { length bytes.old.items + count ≤ MAX_BYTES }
     ensures { GainsLanes beat.now first count bytes.old.items bytes.new.items }

@@ -32,11 +32,11 @@ fn full_lanes(given: &[Option<u8>]) -> [u8; BUS_BYTES]
     ensures { (k : ℕ) → k < BUS_BYTES
         → slice_index result k ≡ unwrap_or (byte_at_place given.now 0 k) 0 }
 {
-    let mut lanes = [0; BUS_BYTES];
+    let mut word = [0; BUS_BYTES];
     for k in 0..BUS_BYTES {
-        lanes[k] = given[k].unwrap_or(0);
+        word[k] = given[k].unwrap_or(0);
     }
-    lanes
+    word
 }
 
 /// The mask and the lanes of a beat whose bytes begin at the lane `first`, some of which may be unset.

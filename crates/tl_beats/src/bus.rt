@@ -12,7 +12,11 @@ pub fn beat_count(carries: bool, size: u8) -> usize
     ensures value { result ≡ beat_count carries size }
     ensures in_limit { result ≤ MAX_BEATS }
 {
-    if carries { (width(size) / BUS_BYTES).max(1) } else { 1 }
+    if carries {
+        (width(size) / BUS_BYTES).max(1)
+    } else {
+        1
+    }
 }
 
 /// The lane at which a message begins.

@@ -1,6 +1,5 @@
-use Rattle.std.proofs.Common.{rules, arith, ◌≡◌, ℕ, ◌+◌, Option, subst, List}
+use Rattle.std.proofs.Common.{ℕ, ◌+◌, Option}
 use Rattle.tl_beats.specs.Beats.{StandsAt}
-use Rattle.tl_beats.specs.Reading.{GainsLanes}
 use Rattle.tl_beats.proofs.Gaining.{gains_none, gains_push}
 use Rattle.tl_beats.proofs.ask_assemble.push_lanes.Goals as goal
 

@@ -1,4 +1,4 @@
-use Rattle.std.proofs.Common.{rules, arith, ◌≡◌, ◌∙◌, sym, ap, refl, ℕ, ◌+◌, ◌<◌, Option, Some, slice_index}
+use Rattle.std.proofs.Common.{rules, arith, ◌≡◌, refl, ℕ, ◌+◌, Option}
 use Rattle.std.specs.Int.{bit_at}
 use Rattle.tl_beats.specs.Beats.{StandsAt}
 use Rattle.tl_beats.proofs.Gaining.{gains_none, gains_push}

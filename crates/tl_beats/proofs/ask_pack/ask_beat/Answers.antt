@@ -1,8 +1,7 @@
-use Rattle.std.proofs.Common.{rules, arith, ◌≡◌, ◌∙◌, sym, ap, refl, subst, inl, ℕ, ◌+◌, ◌-◌, ◌*◌, ◌/◌, ◌%◌, ◌^◌, ◌<◌, ◌≤◌, min, max, Bool, true, false, Option, Some, None, List, length, take, drop, unwrap_or, slice_index}
-use Rattle.std.specs.Prelude.{All, IsSome}
+use Rattle.std.proofs.Common.{rules, arith, ◌≡◌, ◌∙◌, sym, ap, refl, subst, inl, ℕ, ◌+◌, ◌-◌, ◌*◌, ◌/◌, ◌%◌, ◌^◌, ◌<◌, ◌≤◌, min, max, true, false, length, take, drop, unwrap_or, slice_index}
 use Rattle.std.specs.Int.{bit_at}
 use Rattle.tl_types.specs.Operation.{carries_bytes, may_leave_unset}
-use Rattle.tl_beats.specs.Beats.{low, lane_of, active_mask, StandsAt}
+use Rattle.tl_beats.specs.Beats.{low, lane_of, StandsAt}
 use Rattle.tl_beats.specs.Packing.{byte_at_place, mask_bit}
 use Rattle.tl_beats.proofs.Places.{first_fits}
 use Rattle.tl_beats.proofs.Words.{not_less, length-word, first_or_only, first_of_full, active_of_full, starts_within, byte_at_place-word}

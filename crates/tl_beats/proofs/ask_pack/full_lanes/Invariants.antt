@@ -5,6 +5,6 @@ use Rattle.tl_beats.proofs.ask_pack.full_lanes.Given as goal
 -- the lanes below k have their bytes
 abbrev pub invariant-loop-k : goal.invariant-loop-k
 invariant-loop-k l = record {
-  long : length l.lanes ≡ 8;
-  lanes : (j : ℕ) → j < l.k → slice_index l.lanes j ≡ unwrap_or (byte_at_place l.given 0 j) 0;
+  long : length l.word ≡ 8;
+  lanes : (j : ℕ) → j < l.k → slice_index l.word j ≡ unwrap_or (byte_at_place l.given 0 j) 0;
 }

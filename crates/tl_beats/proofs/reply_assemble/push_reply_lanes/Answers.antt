@@ -1,6 +1,5 @@
-use Rattle.std.proofs.Common.{rules, arith, ◌≡◌, ◌∙◌, ap, sym, refl, ℕ, ◌+◌, ◌<◌, ◌≤◌, ◌++◌, length, slice_index, slice_get, Some}
+use Rattle.std.proofs.Common.{rules, arith, ◌≡◌, ◌∙◌, ap, refl, ℕ, ◌+◌, ◌++◌, length, slice_index, slice_get, Some}
 use Rattle.std.proofs.lemmas.Option.{get_or_from_slice_get}
-use Rattle.tl_beats.specs.Reading.{Gains}
 use Rattle.tl_beats.proofs.Gaining.{gains_none, gains_push, gains_append, gains_so}
 use Rattle.tl_beats.proofs.reply_assemble.push_reply_lanes.Goals as goal
 

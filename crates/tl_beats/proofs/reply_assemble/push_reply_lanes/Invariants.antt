@@ -1,4 +1,4 @@
-use Rattle.std.proofs.Common.{◌≡◌, ℕ, ◌+◌, slice_index}
+use Rattle.std.proofs.Common.{◌≡◌, ◌+◌, slice_index}
 use Rattle.tl_beats.specs.Reading.{Gains}
 use Rattle.tl_beats.proofs.reply_assemble.push_reply_lanes.Given as goal
 

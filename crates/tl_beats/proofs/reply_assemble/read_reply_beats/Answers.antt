@@ -1,4 +1,4 @@
-use Rattle.std.proofs.Common.{rules, arith, ◌≡◌, ◌∙◌, sym, subst, Option, ℕ, ◌+◌, ◌-◌, ◌%◌, ◌^◌, ◌≤◌, min, length}
+use Rattle.std.proofs.Common.{rules, arith, ◌≡◌, subst, Option, ℕ, ◌+◌, ◌-◌, ◌%◌, ◌≤◌, min, length}
 use Rattle.tl_types.specs.Operation.{reply_carries_bytes, reply_byte_count}
 use Rattle.tl_beats.specs.Beats.{low}
 use Rattle.tl_beats.proofs.Places.{first_fits}

@@ -1,4 +1,4 @@
-use Rattle.std.proofs.Common.{rules, arith, ◌≡◌, ◌∙◌, sym, subst, ℕ, length, Some, slice_get, length-append}
+use Rattle.std.proofs.Common.{rules, length}
 use Rattle.std.proofs.lemmas.List.Elements.{All-push}
 use Rattle.tl_beats.specs.Replies.{IsReplyBeatOf, IsCleanReply}
 use Rattle.tl_beats.proofs.Spelling.{each_push}

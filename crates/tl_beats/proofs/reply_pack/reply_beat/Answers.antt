@@ -1,10 +1,6 @@
-use Rattle.std.proofs.Common.{rules, arith, ◌≡◌, ◌∙◌, sym, ap, refl, ℕ, ◌+◌, ◌-◌, ◌*◌, ◌/◌, ◌%◌, ◌^◌, ◌<◌, ◌≤◌, min, max, Bool, true, false, List, length, take, drop, slice_index}
-use Rattle.std.specs.Prelude.{◌&&◌, IsTrue}
+use Rattle.std.proofs.Common.{rules, arith, ◌≡◌, ◌∙◌, sym, ap, ℕ, ◌+◌, ◌-◌, ◌*◌, ◌/◌, ◌%◌, ◌^◌, ◌<◌, ◌≤◌, min, max, true, false, length, take, drop, slice_index}
 use Rattle.tl_types.specs.Operation.{reply_carries_bytes}
-use Rattle.tl_types.specs.Response.{Response}
-use Rattle.tl_types.specs.declared.operation.ReplyOp.{ReplyOp}
 use Rattle.tl_beats.specs.Beats.{low}
-use Rattle.tl_beats.specs.Replies.{IsLawfulFlag}
 use Rattle.tl_beats.specs.Packing.{reply_byte_at}
 use Rattle.tl_beats.proofs.Places.{first_fits}
 use Rattle.tl_beats.proofs.Words.{length-word, first_or_only, starts_within}
