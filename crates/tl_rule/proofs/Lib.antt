@@ -7,3 +7,5 @@ pub mod PortFrame
 pub mod Facts
 pub mod Allowing
 pub mod MasterSteps
+pub mod PortSteps
+pub mod AnswerStep
