@@ -9,3 +9,5 @@ pub mod Allowing
 pub mod MasterSteps
 pub mod PortSteps
 pub mod AnswerStep
+pub mod Own
+pub mod CollectStep

@@ -45,3 +45,6 @@ module _ {A : Type 0} where
   end_elim [] x d P old here far (suc j) = far (suc j) (omega arith)
   end_elim (y ∷ ys) x d P old here far zero = old zero (omega arith)
   end_elim (y ∷ ys) x d P old here far (suc j) = end_elim ys x d (λ n. P (suc n)) (λ j lt. old (suc j) (omega arith)) here (λ j lt. far (suc j) (omega arith)) j
+
+pub first_of : {A B : Type 0} (x y : A × B) → Some x ≡ Some y → x.0 ≡ y.0
+first_of x y e = let same : x ≡ y = cc in ap (λ z. z.0) same
