@@ -1,2 +1,6 @@
 pub mod DataLemmas
 pub mod NumberLemmas
+pub mod Views
+pub mod Jobs
+pub mod Resets
+pub mod Systems

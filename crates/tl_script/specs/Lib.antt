@@ -5,4 +5,10 @@ pub mod Word
 pub mod Operation
 pub mod Trace
 pub mod System
+pub mod Key
+pub mod Reading
+pub mod Value
+pub mod Port
+pub mod Master
+pub mod Script
 pub mod History

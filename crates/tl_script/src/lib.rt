@@ -9,17 +9,25 @@
 #![tactic(auto)]
 
 mod data;
+mod fault;
 mod history;
+mod masters;
 mod name;
 mod number;
 mod operation;
+mod parts;
+mod ports;
 mod print;
+mod script;
 mod system;
 #[cfg(test)]
 mod tests;
+mod value;
 mod words;
 
+pub use fault::{Key, ScriptFault};
 pub use history::{write_account, write_history};
 pub use operation::{Job, read_operation};
 pub use print::write_trace;
+pub use script::{SCRIPT_LIMIT, read_system};
 pub use system::{Device, MAX_JOBS, System};

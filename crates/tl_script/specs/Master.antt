@@ -1,0 +1,73 @@
+-- The masters of a script, and their operations. This project's own.
+use Rattle.std.specs.Prelude.{◌≡◌, ℕ, ◌+◌, ⊤, List, [], ◌∷◌, length, map, slice_get, Some, Result, Ok, Err, ok_or}
+use Rattle.toml.specs.Data.{Members}
+use Rattle.tl_script.specs.Operation.{operation_of}
+use Rattle.tl_script.specs.Reading.{◌>>=◌, each}
+use Rattle.tl_script.specs.System.{AreLawfulJobs}
+use Rattle.tl_script.specs.Value.{value_at, number_at, list_at, text_of, tables_of, up_to, some_of}
+use Rattle.tl_script.specs.declared.fault.Key.TheVariants.{Master as MasterKey, Sources, Ops}
+use Rattle.tl_script.specs.declared.fault.ScriptFault.{ScriptFault}
+use Rattle.tl_script.specs.declared.fault.ScriptFault.TheVariants.{BadOp, Memory}
+use Rattle.tl_script.specs.declared.parts.Master as code_master
+use Rattle.tl_script.specs.declared.operation.Job.{Job}
+use Rattle.tl_script.specs.declared.system.TheConstants.{MAX_JOBS}
+
+-- how many sources a master says to have, and its operations as the script writes them
+pub record Master : Type 0 where
+  pub sources : ℕ
+  pub lines : List (List ℕ)
+
+-- the lines of a master's operations
+unfoldable pub lines_at : Members → Result (List (List ℕ)) ScriptFault
+lines_at members = do
+  value ← value_at Ops members
+  items ← list_at Ops value
+  lines ← each (text_of Ops) items
+  up_to Ops MAX_JOBS lines
+
+unfoldable pub master_of : Members → Result Master ScriptFault
+master_of members = do
+  sources ← number_at Sources 0 65535 members
+  lines ← lines_at members
+  Ok (record { sources = sources; lines = lines })
+
+-- the masters, of which there is at least one
+unfoldable pub masters_of : Members → Result (List Master) ScriptFault
+masters_of members = do
+  value ← value_at MasterKey members
+  tables ← tables_of MasterKey value
+  some ← some_of MasterKey tables
+  each master_of some
+
+-- the operations of master m from line n on, or the lowest line that is none
+abbrev pub operations_from : ℕ → ℕ → ℕ → List (List ℕ) → Result (List Job) ScriptFault
+operations_from sources m n [] = Ok []
+operations_from sources m n (line ∷ lines) = do
+  operation ← ok_or (operation_of sources line) (BadOp m n)
+  operations ← operations_from sources m (n + 1) lines
+  Ok (operation ∷ operations)
+
+-- the operations of each master from m on
+abbrev pub jobs_from : ℕ → List Master → Result (List (List Job)) ScriptFault
+jobs_from m [] = Ok []
+jobs_from m (master ∷ masters) = do
+  operations ← operations_from master.sources m 0 master.lines
+  jobs ← jobs_from (m + 1) masters
+  Ok (operations ∷ jobs)
+
+-- what contracts see of a master
+abbrev pub master_view : code_master.Master → Master
+master_view master = record { sources = master.sources; lines = map (λ line. line.now) master.lines.items }
+
+-- ---- for the proofs of the readers
+
+-- the lists of operations of the first `masters` masters, lawful for the masters' counts of sources
+pub record LawfulSoFar (counts : List ℕ) (lists : List (List Job)) (masters : ℕ) : Type 0 where
+  pub counted : length lists ≡ masters
+  pub each : (m : ℕ) (count : ℕ) (jobs : List Job) → slice_get counts m ≡ Some count → slice_get lists m ≡ Some jobs → AreLawfulJobs count jobs
+
+-- the faults that reading operations can have
+abbrev pub IsOfJobs : ScriptFault → Type 0
+IsOfJobs (BadOp m n) = ⊤
+IsOfJobs Memory = ⊤
+IsOfJobs fault = ⊥

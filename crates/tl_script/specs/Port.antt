@@ -1,0 +1,72 @@
+-- The ports of a script: the slave of each at reset. This project's own.
+use Rattle.std.specs.Prelude.{ℕ, ◌-◌, ◌*◌, ◌^◌, nat_le, nat_lt, List, [], ◌∷◌, ◌++◌, codes, length, replicate, Option, Some, None, option_map, option_and_then, Result, Ok, Err, if◌then◌else◌, ok_or}
+use Rattle.std.specs.Str.{bytes_eq}
+use Rattle.toml.specs.Data.{Data, Members, get_member}
+use Rattle.tl_ops.specs.Store.{Store}
+use Rattle.tl_ops.specs.declared.kind.Kind as kind_of_slave
+use Rattle.tl_ops.specs.declared.kind.Kind.TheVariants.{Ram, Rom, Regs}
+use Rattle.tl_ops.specs.declared.bank.TheConstants.{MAX_LENGTH}
+use Rattle.tl_script.specs.Data.{pair_of}
+use Rattle.tl_script.specs.Key.{key_name}
+use Rattle.tl_script.specs.Reading.{◌>>=◌, each}
+use Rattle.tl_script.specs.Value.{value_at, number_at, text_of, tables_of}
+use Rattle.tl_script.specs.declared.fault.Key.TheVariants.{Port, Kind, Base, Length, Reset}
+use Rattle.tl_script.specs.declared.fault.ScriptFault.{ScriptFault}
+use Rattle.tl_script.specs.declared.fault.ScriptFault.TheVariants.{OutOfRange}
+
+-- the kind that a word names
+abbrev pub kind_of : List ℕ → Option kind_of_slave.Kind
+kind_of word =
+    if bytes_eq word (codes "ram") then Some Ram
+    else if bytes_eq word (codes "rom") then Some Rom
+    else if bytes_eq word (codes "regs") then Some Regs
+    else None
+
+unfoldable pub kind_at : Members → Result kind_of_slave.Kind ScriptFault
+kind_at members = do
+  value ← value_at Kind members
+  word ← text_of Kind value
+  ok_or (kind_of word) (OutOfRange Kind)
+
+-- the bytes that pairs of hexadecimal digits spell
+abbrev pub pairs_of : List ℕ → Option (List ℕ)
+pairs_of [] = Some []
+pairs_of (high ∷ []) = None
+pairs_of (high ∷ low ∷ more) = option_and_then (λ byte. option_map (λ bytes. byte ∷ bytes) (pairs_of more)) (pair_of high low)
+
+-- the bytes of a reset: those that its pairs spell, at most `count`, and zero bytes after them up to `count`
+unfoldable pub filled : ℕ → List ℕ → Result (List ℕ) ScriptFault
+filled count text =
+    if nat_lt (2 * count) (length text) then Err (OutOfRange Reset)
+    else ok_or (pairs_of text) (OutOfRange Reset) >>= (λ bytes. Ok (bytes ++ replicate (count - length bytes) 0))
+
+-- the text of a reset, which is empty where there is none
+abbrev pub reset_text : Option Data → Result (List ℕ) ScriptFault
+reset_text None = Ok []
+reset_text (Some value) = text_of Reset value
+
+-- the bytes of a slave of this many bytes
+unfoldable pub reset_at : ℕ → Members → Result (List ℕ) ScriptFault
+reset_at count members = reset_text (get_member (key_name Reset) members) >>= filled count
+
+-- the last address that a range may start at: the largest integer of a document
+abbrev pub last_base : ℕ
+last_base = 2 ^ 63 - 1
+
+-- the slave of a port
+unfoldable pub port_of : Members → Result Store ScriptFault
+port_of members = do
+  kind ← kind_at members
+  base ← number_at Base 0 last_base members
+  count ← number_at Length 0 MAX_LENGTH members
+  bytes ← reset_at count members
+  Ok (record { kind = kind; base = base; bytes = bytes })
+
+-- the tables of the ports, of which there may be none
+abbrev pub port_tables : Option Data → Result (List Members) ScriptFault
+port_tables None = Ok []
+port_tables (Some value) = tables_of Port value
+
+-- the slave of each port
+unfoldable pub ports_of : Members → Result (List Store) ScriptFault
+ports_of members = port_tables (get_member (key_name Port) members) >>= each port_of

@@ -1,0 +1,98 @@
+//! The masters of a script.
+ghost use Rattle.std.specs.Prelude.{◌≡◌, ◌<◌, ◌≤◌, IfErr, IfOk, length, map};
+ghost use Rattle.toml.specs.View.{table_view};
+ghost use Rattle.tl_script.specs.Master.{IsOfJobs, LawfulSoFar, jobs_from, lines_at, master_of, master_view, masters_of, operations_from};
+ghost use Rattle.tl_script.specs.Reading.{Gives, each};
+ghost use Rattle.tl_script.specs.System.{AreLawfulJobs, lists_of};
+
+use crate::fault::{Key, ScriptFault};
+use crate::operation::{Job, read_operation};
+use crate::parts::Master;
+use crate::system::MAX_JOBS;
+use crate::value::{list_at, number_at, tables_of, texts_of, value_at};
+use std::alloc::Global;
+use toml::Table;
+
+/// The most sources that a script may say.
+const MOST_SOURCES: u64 = 65_535;
+
+/// The lines of a master's operations.
+#[tactic(auto, unfolding(crate::specs::Master::lines_at))]
+fn read_lines<'a>(alloc: Global, table: &'a Table) -> Result<Vec<&'a str>, ScriptFault>
+    ensures value { Gives (λ lines. map (λ line. line.now) lines.items) result (lines_at (table_view table.now)) }
+    ensures in_limit { IfOk result (λ lines. length lines.items ≤ MAX_JOBS) }
+{
+    let values = list_at(value_at(table, Key::Ops)?, Key::Ops)?;
+    let lines = texts_of(alloc, values, Key::Ops)?;
+    if lines.len() > MAX_JOBS {
+        return Err(ScriptFault::OutOfRange(Key::Ops));
+    }
+    Ok(lines)
+}
+
+#[tactic(auto, unfolding(crate::specs::Master::master_of))]
+fn read_master<'a>(alloc: Global, table: &'a Table) -> Result<Master<'a>, ScriptFault>
+    ensures value { Gives master_view result (master_of (table_view table.now)) }
+{
+    let sources = number_at(table, Key::Sources, 0, MOST_SOURCES)?;
+    let lines = read_lines(alloc, table)?;
+    Ok(Master {
+        sources: sources as u16,
+        lines,
+    })
+}
+
+fn read_each_master<'a>(alloc: Global, tables: &[&'a Table]) -> Result<Vec<Master<'a>>, ScriptFault>
+    ensures value { Gives (λ masters. map master_view masters.items) result (each master_of (map (λ table. table_view table.now) tables.now)) }
+    ensures counted { IfOk result (λ masters. length masters.items ≡ length tables.now) }
+{
+    let mut masters = Vec::new(alloc);
+    for table in tables {
+        masters.push(read_master(alloc, table)?)?;
+    }
+    Ok(masters)
+}
+
+/// The masters, of which there is at least one.
+#[tactic(auto, unfolding(crate::specs::Master::masters_of))]
+pub fn read_masters<'a>(alloc: Global, table: &'a Table) -> Result<Vec<Master<'a>>, ScriptFault>
+    ensures value { Gives (λ masters. map master_view masters.items) result (masters_of (table_view table.now)) }
+    ensures some { IfOk result (λ masters. 0 < length masters.items) }
+{
+    let values = list_at(value_at(table, Key::Master)?, Key::Master)?;
+    let tables = tables_of(alloc, values, Key::Master)?;
+    if tables.is_empty() {
+        return Err(ScriptFault::OutOfRange(Key::Master));
+    }
+    read_each_master(alloc, &tables)
+}
+
+/// The operations of a master, or the lowest line that is none.
+fn read_operations(alloc: Global, m: usize, master: &Master<'_>) -> Result<Vec<Job>, ScriptFault>
+    ensures value { Gives (λ jobs. jobs.items) result
+        (operations_from master.now.sources m 0 (map (λ line. line.now) master.now.lines.items)) }
+    ensures lawful { IfOk result (λ jobs. AreLawfulJobs master.now.sources jobs.items) }
+    ensures bad { IfErr result IsOfJobs }
+{
+    let mut jobs = Vec::new(alloc);
+    for (n, line) in master.lines.iter().enumerate() {
+        match read_operation(alloc, line.as_bytes(), master.sources)? {
+            Some(job) => jobs.push(job)?,
+            None => return Err(ScriptFault::BadOp(m, n)),
+        }
+    }
+    Ok(jobs)
+}
+
+/// The operations of each master, or the lowest master's lowest line that is none.
+pub fn read_jobs(alloc: Global, masters: &[Master<'_>]) -> Result<Vec<Vec<Job>>, ScriptFault>
+    ensures value { Gives (λ jobs. lists_of jobs.items) result (jobs_from 0 (map master_view masters.now)) }
+    ensures lawful { IfOk result (λ jobs. LawfulSoFar (map (λ master. master.sources) (map master_view masters.now)) (lists_of jobs.items) (length masters.now)) }
+    ensures bad { IfErr result IsOfJobs }
+{
+    let mut jobs = Vec::new(alloc);
+    for (m, master) in masters.iter().enumerate() {
+        jobs.push(read_operations(alloc, m, master)?)?;
+    }
+    Ok(jobs)
+}
