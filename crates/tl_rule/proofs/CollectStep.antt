@@ -81,12 +81,21 @@ module _ (a : About) (c : Core) (i m p since : ℕ) (letter : SlotRecord) (ask :
           (λ ne. inl (record { slot = s.slot; letter = s.letter; phased = phase_else a c i (Taking m p) none m (Taken p) (old ++ e ∷ []) L S s.slot ne ∙ s.phased; at = get_or-set_other c.homes i s.slot none none ne ∙ s.at; index = s.index })))
       (λ (g : InGot a c t.master n k). inr (record { place = g.place; entry = g.entry; at = grown t.master g.place g.entry g.at; port = g.port; index = g.index })) t.place }
 
+  -- another answered slot has another index
+  other_answer : (j : ℕ) (A : IsAnswered a c j m p) → j ≢ i → A.home.letter.index ≡ letter.index → ⊥
+  other_answer j A ne index = let pair : Some (A.asked.ask, A.answer) ≡ Some (ask, reply) = sym (subst (λ (n : ℕ). slice_get (desk c.ports p).list n ≡ Some (A.asked.ask, A.answer)) index A.listed) ∙ place in
+      let asks : A.asked.ask ≡ ask = first_of (A.asked.ask, A.answer) (ask, reply) pair in
+      ne (L.sources m j i p p A.asked.known since A.asked.ask ask A.asked.sent sent (ap (λ (z : Request). z.source) asks))
+
+  same_index : (A B : SlotRecord) → A ≡ B → A.index ≡ B.index
+  same_index A B e = ap (λ (z : SlotRecord). z.index) e
+
+  home_is : (j : ℕ) (y : SlotRecord) (ask : Request) (h : HomeAsk c.homes j ask) → IsHome c.homes j y → h.letter.index ≡ y.index
+  home_is j y ask h home = let z = h.at in same_index h.letter y (cc)
+
   other_slot : (j : ℕ) (y : SlotRecord) → j ≢ i → phase c j ≡ Answered m p → IsHome c.homes j y → letter.index ≢ y.index
-  other_slot j y ne phased home same = let g = subst (InPhase a c j) phased (L.slots j (answered_inside a c L j m p phased)) in
-      let rec : g.home.letter ≡ y = (let z = g.home.at in cc) in let index : g.home.letter.index ≡ letter.index = ap (λ (z : SlotRecord). z.index) rec ∙ sym same in
-      let pair : Some (g.asked.ask, g.answer) ≡ Some (ask, reply) = sym (subst (λ (n : ℕ). slice_get (desk c.ports p).list n ≡ Some (g.asked.ask, g.answer)) index g.listed) ∙ place in
-      let both : (g.asked.ask, g.answer) ≡ (ask, reply) = cc in let asks : g.asked.ask ≡ ask = ap (λ (y : Request × Response). y.0) both in
-      ne (L.sources m j i p p g.asked.known since g.asked.ask ask g.asked.sent sent (ap (λ (z : Request). z.source) asks))
+  other_slot j y ne phased home same = let A = subst (InPhase a c j) phased (L.slots j (answered_inside a c L j m p phased)) in
+      other_answer j A ne (home_is j y A.asked.ask A.home home ∙ sym same)
 
   pub collect_places : Places a d
   collect_places = record {

@@ -11,3 +11,5 @@ pub mod PortSteps
 pub mod AnswerStep
 pub mod Own
 pub mod CollectStep
+pub mod LeaveStep
+pub mod Dealing

@@ -33,6 +33,12 @@ module _ {A : Type 0} where
   get_here (x ∷ xs) zero d h = refl
   get_here (x ∷ xs) (suc i) d h = get_here xs i d (omega arith)
 
+  -- where an item is, the default does not tell
+  pub any_default : (l : List A) (i : ℕ) (d b : A) → i < length l → get_or l i d ≡ get_or l i b
+  any_default [] i d b h = absurd (omega arith)
+  any_default (x ∷ xs) zero d b h = refl
+  any_default (x ∷ xs) (suc i) d b h = any_default xs i d b (omega arith)
+
   -- what is looked up after one item is set
   pub set_elim : (l : List A) (i : ℕ) (a d : A) → i < length l → (P : ℕ → A → Type 0) → P i a → ((j : ℕ) → j ≢ i → P j (get_or l j d)) → (j : ℕ) → P j (get_or (set l i a) j d)
   set_elim l i a d near P here else j = dite (ℕ_discrete j i)
