@@ -86,7 +86,7 @@ module _ (a : About) (c : Core) (L : Lawful a c) where
   pub in_ports : (p : ℕ) → p < a.ports → p ≤ MAX_AGENT
   in_ports p lt = let k = L.shape.limits.ports_in_limit in omega arith
 
-  fits_word : (i : ℕ) (f : Phase) → InPhase a c i f → FitsWord f
+  pub fits_word : (i : ℕ) (f : Phase) → InPhase a c i f → FitsWord f
   fits_word i Free h = record { owner = tt; port = tt }
   fits_word i (Filling m) h = record { owner = (low_master m (some_master c.masters m i (λ e. absurd (cc)))).1; port = tt }
   fits_word i (Posted m p) h = let s = h.asked.sent in record { owner = (low_master m (some_master c.masters m i (λ e. absurd (cc)))).1; port = in_ports p h.port }
@@ -104,6 +104,7 @@ module _ (a : About) (c : Core) (L : Lawful a c) where
     pub is : hands c.masters v.number ≡ v
     pub about : v.about ≡ a
     pub wide : length v.hand ≡ a.slots
+    pub place : id ≡ suc v.number
     pub sets : (w : Hands) → set (views_of a c.masters c.ports) id (Master w) ≡ views_of a (set c.masters v.number w) c.ports
 
   pub known : (id : ℕ) (v : Hands) → get_elem? (views_of a c.masters c.ports) id ≡ some (Master v) → Known id v
@@ -113,6 +114,7 @@ module _ (a : About) (c : Core) (L : Lawful a c) where
         is = ap (λ (n : ℕ). hands c.masters n) number ∙ at.1;
         about = ap (λ (x : Hands). x.about) (sym at.1) ∙ m.1;
         wide = ap (λ (x : Hands). length x.hand) (sym at.1) ∙ m.2;
+        place = t.3 ∙ ap suc (sym number);
         sets = λ w. t.2 w ∙ ap (λ (n : ℕ). views_of a (set c.masters n w) c.ports) (sym number);
       }
 

@@ -13,3 +13,5 @@ pub mod Own
 pub mod CollectStep
 pub mod LeaveStep
 pub mod Dealing
+pub mod StepLaws
+pub mod FitsLaws

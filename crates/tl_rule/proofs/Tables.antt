@@ -62,10 +62,10 @@ length_set (x ∷ xs) (suc i) a = ap suc (length_set xs i a)
 
 -- the view of a master stands behind the dealer's, at its number
 pub master_view : (a : About) (ms : List Hands) (ps : List Desk) (id : ℕ) (v : Hands) → get_elem? (views_of a ms ps) id ≡ some (Master v)
-    → (j : ℕ) × (get_elem? ms j ≡ some v) × ((w : Hands) → set (views_of a ms ps) id (Master w) ≡ views_of a (set ms j w) ps)
+    → (j : ℕ) × (get_elem? ms j ≡ some v) × ((w : Hands) → set (views_of a ms ps) id (Master w) ≡ views_of a (set ms j w) ps) × (id ≡ suc j)
 master_view a ms ps zero v e = absurd (cc)
 master_view a ms ps (suc j) v e = let at = master_at ms ps j v e in let near = (at_get ms j v v at).0 in
-    (j, at, λ w. ap (λ (l : List View). Dealer a (length ms) (length ps) ∷ l) (set_master ms ps j w near) ∙ ap (λ (n : ℕ). Dealer a n (length ps) ∷ (map Master (set ms j w) ++ map Port ps)) (sym (length_set ms j w)))
+    (j, at, λ w. ap (λ (l : List View). Dealer a (length ms) (length ps) ∷ l) (set_master ms ps j w near) ∙ ap (λ (n : ℕ). Dealer a n (length ps) ∷ (map Master (set ms j w) ++ map Port ps)) (sym (length_set ms j w)), refl)
 
 pub port_view : (a : About) (ms : List Hands) (ps : List Desk) (id : ℕ) (v : Desk) → get_elem? (views_of a ms ps) id ≡ some (Port v)
     → (p : ℕ) × (get_elem? ps p ≡ some v) × ((w : Desk) → set (views_of a ms ps) id (Port w) ≡ views_of a ms (set ps p w))
@@ -99,3 +99,18 @@ pub set_left : (ls : List Bool) (m : ℕ) → set (map leave_word ls) m 1 ≡ ma
 set_left [] m = refl
 set_left (l ∷ ls) zero = refl
 set_left (l ∷ ls) (suc m) = ap (λ (w : List ℕ). leave_word l ∷ w) (set_left ls m)
+
+-- a leave word stands behind those of all slots
+pub leaf_at : (fs : List Phase) (ls : List ℕ) (m : ℕ) → get_or (map word fs ++ ls) (length fs + m) 0 ≡ get_or ls m 0
+leaf_at [] ls m = let e : zero + m ≡ m = omega arith in ap (λ (k : ℕ). get_or ls k 0) e
+leaf_at (f ∷ fs) ls m = let e : length (f ∷ fs) + m ≡ suc (length fs + m) = omega arith in ap (λ (k : ℕ). get_or (word f ∷ (map word fs ++ ls)) k 0) e ∙ leaf_at fs ls m
+
+pub leave_at : (ls : List Bool) (m : ℕ) → get_or (map leave_word ls) m 0 ≡ leave_word (get_or ls m false)
+leave_at [] m = refl
+leave_at (l ∷ ls) zero = refl
+leave_at (l ∷ ls) (suc m) = leave_at ls m
+
+pub many_words : (fs : List Phase) (ls : List Bool) → length (map word fs ++ map leave_word ls) ≡ length fs + length ls
+many_words [] [] = refl
+many_words [] (l ∷ ls) = let e = many_words [] ls in omega arith
+many_words (f ∷ fs) ls = let e = many_words fs ls in omega arith

@@ -5,3 +5,4 @@ pub mod Rule
 pub mod Seen
 pub mod Events
 pub mod Moves
+pub mod Laws
