@@ -59,7 +59,7 @@ pub record SpellsAsk (ask : Request) (beats : List ABeat) : Type 0 where
   pub count : length beats ≡ beat_count (carries_bytes ask.op) ask.size
   pub each : (b : ℕ) (beat : ABeat) → slice_get beats b ≡ Some beat → IsBeatOf ask b beat
 
--- a beat has zeros on the lanes that carry nothing
+-- a beat has zeros on the lanes that carry nothing, which is this project's own rule
 pub record IsClean (ask : Request) (beat : ABeat) : Type 0 where
   pub without_bytes : carries_bytes ask.op ≡ false → (k : ℕ) → k < BUS_BYTES → slice_index beat.lanes k ≡ 0
   pub unset : (k : ℕ) → k < BUS_BYTES → bit_at beat.mask k ≡ 0 → slice_index beat.lanes k ≡ 0
