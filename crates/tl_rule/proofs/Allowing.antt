@@ -1,34 +1,27 @@
 -- How a step is shown to keep the rule: on a table that is written as a core, and where it changes something.
-use Rattle.std.proofs.Common.{◌≡◌, ◌≢◌, ℕ, zero, suc, ◌+◌, ◌*◌, ◌/◌, ◌%◌, ◌<◌, ◌≤◌, eqb, Bool, true, false, List, [], ◌∷◌, ◌++◌, map, length, get_or, set, sym, refl, ap, subst, ◌∙◌, arith, inl, inr, ⊎_elim, ◌⊎◌, get_or-set_same, get_or-set_other, length-set, length-append, Option, Some, None, slice_get}
+use Rattle.std.proofs.Common.{◌≡◌, ℕ, ◌<◌, eqb, false, List, length, get_or, set, sym, refl, ap, subst, ◌∙◌, arith, Some, slice_get}
 use mathlib.Core.Option as maybe
 use mathlib.Core.Option.{some, none}
-use mathlib.Core.Logic.{dite}
-use native.Mathlib.Decide.{ℕ_discrete, dec_lt}
 use lib.ListN.{get_elem?}
 use prog.Atomic.{either}
-use Rattle.atomic_table.specs.Table.{State, Step, Me, step, Act, keeps, takes, gives, Valid, Allows, carried_after, stepped, homes_after, rest}
+use Rattle.atomic_table.specs.Table.{State, step, Act, keeps, Valid, Allows, carried_after, stepped, homes_after}
 use Rattle.tl_types.specs.Request.{Request}
 use Rattle.tl_types.specs.Response.{Response}
 use Rattle.tl_types.specs.declared.trace.Entry.{Entry}
-use Rattle.tl_ops.specs.History.{IsLawfulHistory}
 use Rattle.tl_slots.specs.declared.phase.Phase.{Phase}
-use Rattle.tl_slots.specs.declared.phase.Phase.TheVariants.{Free, Filling, Posted, Serving, Answered, Taking}
+use Rattle.tl_slots.specs.declared.phase.Phase.TheVariants.{Free}
 use Rattle.tl_slots.specs.declared.event.Event.{Event}
-use Rattle.tl_slots.specs.declared.event.Event.TheVariants.{Claim, Post, Accept, Answer, Collect, Release, Look, Leave}
 use Rattle.tl_slots.specs.Machine.{IsAllowed, state_after}
 use Rattle.tl_slots.specs.Word.{word}
-use Rattle.tl_slots.proofs.Steps.{move_is_allowed}
 use Rattle.tl_rule.specs.declared.view.About.{About}
 use Rattle.tl_rule.specs.declared.view.Held.{Held}
-use Rattle.tl_rule.specs.declared.view.Held.TheVariants.{Nothing, Filled, Sent, Taken}
 use Rattle.tl_rule.specs.declared.view.Hands.{Hands}
 use Rattle.tl_rule.specs.declared.view.Desk.{Desk}
 use Rattle.tl_rule.specs.declared.view.View.{View}
-use Rattle.tl_rule.specs.declared.view.View.TheVariants.{Dealer, Master, Port}
-use Rattle.tl_rule.specs.Record.{SlotRecord, Spells, SpellsAnswer}
-use Rattle.tl_rule.specs.Serving.{ask_at, drop_slot, HasDistinctSlots}
-use Rattle.tl_rule.specs.Views.{Owns, reset_of, hands, desk, held, served, Above, no_hands, no_desk, with_hand, with_serving, gone_hands}
-use Rattle.tl_rule.specs.Rule.{Core, Names, IsHome, Asked, HomeAsk, InPhase, IsPosted, IsServing, IsAnswered, IsTaken, InSlot, InGot, Placed, Places, HasShape, Lawful, Fits, phase, views_of, table_of}
+use Rattle.tl_rule.specs.declared.view.View.TheVariants.{Master, Port}
+use Rattle.tl_rule.specs.Record.{SlotRecord}
+use Rattle.tl_rule.specs.Views.{hands, with_hand, with_serving}
+use Rattle.tl_rule.specs.Rule.{Core, Lawful, Fits, phase, views_of, table_of}
 use Rattle.tl_rule.specs.Events.{state_of, IsOneEvent}
 use lib.Seq.{set-get_or}
 use Rattle.atomic_table.proofs.Lists.{set_again, exchanged}
@@ -115,8 +108,8 @@ module _ (a : About) (slots id : ℕ) (m : Sat) (i : ℕ) where
   tries old new said won hit s h wide at _ =
       by_core a (λ s. length s.homes ≡ slots → get_elem? s.views id ≡ some m.0 → Goes a i id m (Tried won (step slots i old new said) m (get_or s.words i 0)) s (either (eqb (get_or s.words i 0) old) new (get_or s.words i 0)))
       (λ c L wide at. let t = table_of a c in exchanged (get_or t.words i 0) old new (Goes a i id m (Tried won (step slots i old new said) m (get_or t.words i 0)) t)
-          (λ e. let g = hit c L (sym L.shape.homes ∙ wide) at e in (g.0, g.1, g.2, g.3, ((λ _. g.4), λ miss. absurd (miss e))))
-          (λ miss. (m.0, keeps, tt, unmoved (Fits a) t i id m.0 m.1 (record { core = c; is = refl; lawful = L }) at, ((λ e. absurd (miss e)), λ _. refl))))
+      (λ e. let g = hit c L (sym L.shape.homes ∙ wide) at e in (g.0, g.1, g.2, g.3, ((λ _. g.4), λ miss. absurd (miss e))))
+      (λ miss. (m.0, keeps, tt, unmoved (Fits a) t i id m.0 m.1 (record { core = c; is = refl; lawful = L }) at, ((λ e. absurd (miss e)), λ _. refl))))
       s h wide at
 
   pub stores : (new : ℕ) (Told : Sat → Type 0)

@@ -1,50 +1,41 @@
 -- The step that answers a request: the pair goes to the end of the list, and the record goes home.
-use Rattle.std.proofs.Common.{◌≡◌, ◌≢◌, ℕ, zero, suc, ◌+◌, ◌*◌, ◌/◌, ◌%◌, ◌<◌, ◌≤◌, eqb, Bool, true, false, List, [], ◌∷◌, ◌++◌, map, length, get_or, set, sym, refl, ap, subst, ◌∙◌, arith, inl, inr, ⊎_elim, ◌⊎◌, get_or-set_same, get_or-set_other, length-set, length-append, Option, Some, None, slice_get}
-use mathlib.Core.Option as maybe
+use Rattle.std.proofs.Common.{◌≡◌, ℕ, ◌<◌, List, [], ◌∷◌, ◌++◌, length, get_or, sym, refl, ap, subst, ◌∙◌, arith, inl, inr, ⊎_elim, get_or-set_same, get_or-set_other, Some, slice_get}
 use mathlib.Core.Option.{some, none}
 use mathlib.Core.Logic.{dite}
-use native.Mathlib.Decide.{ℕ_discrete, dec_lt}
-use lib.ListN.{get_elem?}
-use prog.Atomic.{either}
-use Rattle.atomic_table.specs.Table.{State, Step, Me, step, Act, keeps, takes, gives, Valid, Allows, carried_after, stepped, homes_after, rest}
+use native.Mathlib.Decide.{ℕ_discrete}
+use Rattle.atomic_table.specs.Table.{step, gives, Allows, stepped}
 use Rattle.tl_types.specs.Request.{Request}
 use Rattle.tl_types.specs.Response.{Response}
 use Rattle.tl_types.specs.declared.trace.Entry.{Entry}
 use Rattle.tl_ops.specs.History.{IsLawfulHistory}
-use Rattle.tl_slots.specs.declared.phase.Phase.{Phase}
-use Rattle.tl_slots.specs.declared.phase.Phase.TheVariants.{Free, Filling, Posted, Serving, Answered, Taking}
-use Rattle.tl_slots.specs.declared.event.Event.{Event}
-use Rattle.tl_slots.specs.declared.event.Event.TheVariants.{Claim, Post, Accept, Answer, Collect, Release, Look, Leave}
-use Rattle.tl_slots.specs.Machine.{IsAllowed, state_after}
+use Rattle.tl_slots.specs.declared.phase.Phase.TheVariants.{Serving, Answered}
+use Rattle.tl_slots.specs.declared.event.Event.TheVariants.{Answer}
 use Rattle.tl_slots.specs.Word.{word}
 use Rattle.tl_slots.proofs.Steps.{move_is_allowed}
 use Rattle.tl_rule.specs.declared.view.About.{About}
-use Rattle.tl_rule.specs.declared.view.Held.{Held}
-use Rattle.tl_rule.specs.declared.view.Held.TheVariants.{Nothing, Filled, Sent, Taken}
-use Rattle.tl_rule.specs.declared.view.Hands.{Hands}
+use Rattle.tl_rule.specs.declared.view.Held.TheVariants.{Sent}
 use Rattle.tl_rule.specs.declared.view.Desk.{Desk}
-use Rattle.tl_rule.specs.declared.view.View.{View}
-use Rattle.tl_rule.specs.declared.view.View.TheVariants.{Dealer, Master, Port}
+use Rattle.tl_rule.specs.declared.view.View.TheVariants.{Port}
 use Rattle.tl_rule.specs.Record.{SlotRecord, Spells, SpellsAnswer}
 use Rattle.tl_rule.specs.Serving.{ask_at, drop_slot, HasDistinctSlots}
-use Rattle.tl_rule.specs.Views.{Owns, reset_of, hands, desk, held, served, Above, no_hands, no_desk, with_hand, with_serving, gone_hands}
-use Rattle.tl_rule.specs.Rule.{Core, Names, IsHome, Asked, HomeAsk, InPhase, IsPosted, IsServing, IsAnswered, IsTaken, InSlot, InGot, Placed, Places, HasShape, Lawful, Fits, phase, views_of, table_of}
+use Rattle.tl_rule.specs.Views.{Owns, reset_of, hands, desk, held, with_serving}
+use Rattle.tl_rule.specs.Rule.{Core, Names, InPhase, InSlot, InGot, Placed, Places, Lawful, Fits, phase, table_of}
 use Rattle.tl_rule.specs.Events.{state_of, IsOneEvent}
 use Rattle.tl_ops.specs.Store as store
 use Rattle.tl_ops.specs.History.{replay, asks_of}
 use Rattle.tl_ops.proofs.Histories.{IsLawfulHistory-push}
-use Rattle.tl_rule.specs.Moves.{Sat, Answers, IsLawfulDesk}
+use Rattle.tl_rule.specs.Moves.{Answers, IsLawfulDesk}
 use Rattle.tl_rule.proofs.Lists.{at_end, before_end, below_length, ended}
 use Rattle.tl_rule.proofs.Serving.{drop_here, drop_else, drop_once}
-use Rattle.tl_rule.proofs.PortFrame.{port_moves, PortStep, port_moved, served_here, list_here, port_phase_here, port_phase_else, desk_elim}
+use Rattle.tl_rule.proofs.PortFrame.{port_moves, PortStep, port_moved, list_here, port_phase_here, port_phase_else, desk_elim}
 use Rattle.tl_rule.proofs.Facts.{KnownPort, known_port, one_owner, some_master, low_port}
 use Rattle.tl_rule.proofs.PortSteps.{serving_inside, asked_there, law_after}
-use Rattle.tl_rule.proofs.Allowing.{fits_after, found, there, port_step, Goes, stores}
+use Rattle.tl_rule.proofs.Allowing.{fits_after, found, there, port_step, stores}
 
 -- the places, once the slot i has its answer at the end of the list
 module _ (a : About) (c : Core) (i p o : ℕ) (letter : SlotRecord) (ask : Request) (reply : Response) (now : List (ℕ × Request)) (L : Lawful a c)
-  (S : PortStep a c i (Answered o p) (some letter) p now ((desk c.ports p).list ++ (ask, reply) ∷ []))
-  (ph : phase c i ≡ Serving o p) (own : Owns a o ask.source) (last : letter.index ≡ length (desk c.ports p).list) where
+    (S : PortStep a c i (Answered o p) (some letter) p now ((desk c.ports p).list ++ (ask, reply) ∷ []))
+    (ph : phase c i ≡ Serving o p) (own : Owns a o ask.source) (last : letter.index ≡ length (desk c.ports p).list) where
   abbrev more : List (Request × Response)
   more = (desk c.ports p).list ++ (ask, reply) ∷ []
 
@@ -61,11 +52,15 @@ module _ (a : About) (c : Core) (i p o : ℕ) (letter : SlotRecord) (ask : Reque
   lists_grow n = desk_elim c.ports p now more S.near (λ n u. (k : ℕ) (y : Request × Response) → slice_get (desk c.ports n).list k ≡ Some y → slice_get u.list k ≡ Some y) S.grows (λ n _ k y at. at) n
 
   old_place : (n k : ℕ) (r : Request) → Placed a c n k r → Placed a e n k r
-  old_place n k r t = record { master = t.master; owns = t.owns; place = ⊎_elim
-      (λ (s : InSlot a c t.master n k). inl (dite (ℕ_discrete s.slot i)
-          (λ at. absurd (let z : Serving o p ≡ Answered t.master n = sym ph ∙ subst (λ (j : ℕ). phase c j ≡ Answered t.master n) at s.phased in cc))
-          (λ ne. record { slot = s.slot; letter = s.letter; phased = port_phase_else a c i (Answered o p) (some letter) p now more L S s.slot ne ∙ s.phased; at = get_or-set_other c.homes i s.slot (some letter) none ne ∙ s.at; index = s.index })))
-      (λ (g : InGot a c t.master n k). inr (record { place = g.place; entry = g.entry; at = g.at; port = g.port; index = g.index })) t.place }
+  old_place n k r t = record {
+    master = t.master;
+    owns = t.owns;
+    place = ⊎_elim
+        (λ (s : InSlot a c t.master n k). inl (dite (ℕ_discrete s.slot i)
+        (λ at. absurd (let z : Serving o p ≡ Answered t.master n = sym ph ∙ subst (λ (j : ℕ). phase c j ≡ Answered t.master n) at s.phased in cc))
+        (λ ne. record { slot = s.slot; letter = s.letter; phased = port_phase_else a c i (Answered o p) (some letter) p now more L S s.slot ne ∙ s.phased; at = get_or-set_other c.homes i s.slot (some letter) none ne ∙ s.at; index = s.index })))
+        (λ (g : InGot a c t.master n k). inr (record { place = g.place; entry = g.entry; at = g.at; port = g.port; index = g.index })) t.place;
+  }
 
   new_place : (k : ℕ) (y : Request × Response) → k ≡ length (desk c.ports p).list → (ask, reply) ≡ y → Placed a e p k y.0
   new_place k y at is = subst (λ (z : Request × Response). Placed a e p k z.0) is (record { master = o; owns = own; place = inl (record { slot = i; letter = letter; phased = port_phase_here a c i (Answered o p) (some letter) p now more L S; at = home_here; index = last ∙ sym at }) })
@@ -79,15 +74,15 @@ module _ (a : About) (c : Core) (i p o : ℕ) (letter : SlotRecord) (ask : Reque
     got_once = P.got_once;
     apart = λ m n j k r g phased home at port. dite (ℕ_discrete j i)
         (λ same. let f : Answered o p ≡ Answered m n = sym (port_phase_here a c i (Answered o p) (some letter) p now more L S) ∙ subst (λ (z : ℕ). phase e z ≡ Answered m n) same phased in
-          let r_is : letter ≡ r = (let z = subst (λ (z : ℕ). get_or e.homes z none ≡ some r) same home in let w = home_here in cc) in
-          let to : p ≡ n = cc in let stands = subst (λ (z : ℕ). slice_get (desk c.ports z).list g.index ≡ Some (g.ask, g.reply)) (port ∙ sym to) (P.got m k g at).0 in
-          let low = below_length (desk c.ports p).list g.index (g.ask, g.reply) stands in let index = ap (λ (z : SlotRecord). z.index) r_is in λ clash. omega arith)
+        let r_is : letter ≡ r = (let z = subst (λ (z : ℕ). get_or e.homes z none ≡ some r) same home in let w = home_here in cc) in
+        let to : p ≡ n = cc in let stands = subst (λ (z : ℕ). slice_get (desk c.ports z).list g.index ≡ Some (g.ask, g.reply)) (port ∙ sym to) (P.got m k g at).0 in
+        let low = below_length (desk c.ports p).list g.index (g.ask, g.reply) stands in let index = ap (λ (z : SlotRecord). z.index) r_is in λ clash. omega arith)
         (λ ne. P.apart m n j k r g (sym (port_phase_else a c i (Answered o p) (some letter) p now more L S j ne) ∙ phased) (sym (get_or-set_other c.homes i j (some letter) none ne) ∙ home) at port);
   }
 
 module _ (a : About) (c : Core) (L : Lawful a c) (id i o : ℕ) (u : Desk) (K : KnownPort a c L id u) (carried : List (ℕ × SlotRecord))
-  (letter : SlotRecord) (ask : Request) (reply : Response) (serves : ask_at u.serving i ≡ Some ask) (own : Owns u.about o ask.source) (spells : Spells letter ask)
-  (answer : SpellsAnswer letter ask.address reply) (last : letter.index ≡ length u.list) (right : reply ≡ store.reply (replay (reset_of u.about u.number) (asks_of u.list)) ask) where
+    (letter : SlotRecord) (ask : Request) (reply : Response) (serves : ask_at u.serving i ≡ Some ask) (own : Owns u.about o ask.source) (spells : Spells letter ask)
+    (answer : SpellsAnswer letter ask.address reply) (last : letter.index ≡ length u.list) (right : reply ≡ store.reply (replay (reset_of u.about u.number) (asks_of u.list)) ask) where
   abbrev now : List (ℕ × Request)
   now = drop_slot i u.serving
 
@@ -128,21 +123,22 @@ module _ (a : About) (c : Core) (L : Lawful a c) (id i o : ℕ) (u : Desk) (K : 
           above = λ j g _ at to. let l = low j g at to in omega arith;
         };
       } in
-      let M = port_moved a c i (Answered o p) (some letter) p now more L S (answer_places a c i p o letter ask reply now L S ph (subst (λ (z : About). Owns z o ask.source) K.about own) last') in
-      (subst (λ (l : List (Request × Response)). IsOneEvent a (Answer i o p) (table_of a c) (stepped (table_of a c) i (word (Answered o p)) id ((i, letter) ∷ carried) (Port (with_serving u now (l ++ (ask, reply) ∷ []))) gives)) list_is
-          (port_step a c i id u (Answered o p) (some letter) now more ((i, letter) ∷ carried) gives (Answer i o p) L K (let e = L.shape.phases in omega arith) refl M
+      let M = port_moved a c i (Answered o p) (some letter) p now more L S (answer_places a c i p o letter ask reply now L S ph (subst (λ (z : About). Owns z o ask.source) K.about own) last') in (
+        subst (λ (l : List (Request × Response)). IsOneEvent a (Answer i o p) (table_of a c) (stepped (table_of a c) i (word (Answered o p)) id ((i, letter) ∷ carried) (Port (with_serving u now (l ++ (ask, reply) ∷ []))) gives)) list_is
+            (port_step a c i id u (Answered o p) (some letter) now more ((i, letter) ∷ carried) gives (Answer i o p) L K (let e = L.shape.phases in omega arith) refl M
             (move_is_allowed (state_of a c) (Answer i o p) _ refl (found a c L i (Serving o p) lt ph) (there a c L o near) (low_port a c L p K.near).0 tt) refl),
-        subst (λ (l : List (Request × Response)). IsLawfulDesk (with_serving u now (l ++ (ask, reply) ∷ []))) list_is (law_after a c L id i u K carried (Answered o p) (some letter) now more M))
+        subst (λ (l : List (Request × Response)). IsLawfulDesk (with_serving u now (l ++ (ask, reply) ∷ []))) list_is (law_after a c L id i u K carried (Answered o p) (some letter) now more M),
+      )
 
 pub answers : (a : About) (slots id : ℕ) (u : Desk) (carried : List (ℕ × SlotRecord)) (i new o : ℕ) (letter : SlotRecord) (ask : Request) (reply : Response) → ask_at u.serving i ≡ Some ask → new ≡ word (Answered o u.number) → Owns u.about o ask.source
     → Spells letter ask → SpellsAnswer letter ask.address reply → letter.index ≡ length u.list → reply ≡ store.reply (replay (reset_of u.about u.number) (asks_of u.list)) ask
     → Allows (Fits a) slots id (Port u, (i, letter) ∷ carried) i (λ _. new) (λ _. Answers (step slots i new 0 none) (Port u, (i, letter) ∷ carried) new)
 answers a slots id u carried i new o letter ask reply serves is own spells answer last right = let v = with_serving u (drop_slot i u.serving) (u.list ++ (ask, reply) ∷ []) in
     stores a slots id (Port u, (i, letter) ∷ carried) i new (Answers (step slots i new 0 none) (Port u, (i, letter) ∷ carried) new) (λ c L wide at. let K = known_port a c L id u at in
-        let E = answer_event a c L id i o u K carried letter ask reply serves own spells answer last right in (
-          Port v,
-          gives,
-          tt,
-          subst (λ (n : ℕ). Fits a (stepped (table_of a c) i n id ((i, letter) ∷ carried) (Port v) gives)) (sym is) (fits_after a (Answer i o u.number) _ _ E.0),
-          record { ask = ask; serves = serves; reply = reply; spells = answer; seat = refl; law = E.1 },
-        ))
+    let E = answer_event a c L id i o u K carried letter ask reply serves own spells answer last right in (
+      Port v,
+      gives,
+      tt,
+      subst (λ (n : ℕ). Fits a (stepped (table_of a c) i n id ((i, letter) ∷ carried) (Port v) gives)) (sym is) (fits_after a (Answer i o u.number) _ _ E.0),
+      record { ask = ask; serves = serves; reply = reply; spells = answer; seat = refl; law = E.1 },
+    ))

@@ -1,49 +1,40 @@
 -- The step that collects a reply.
-use Rattle.std.proofs.Common.{◌≡◌, ◌≢◌, ℕ, zero, suc, ◌+◌, ◌*◌, ◌/◌, ◌%◌, ◌<◌, ◌≤◌, eqb, Bool, true, false, List, [], ◌∷◌, ◌++◌, map, length, get_or, set, sym, refl, ap, subst, ◌∙◌, arith, inl, inr, ⊎_elim, ◌⊎◌, get_or-set_same, get_or-set_other, length-set, length-append, Option, Some, None, slice_get}
+use Rattle.std.proofs.Common.{◌≡◌, ◌≢◌, ℕ, ◌<◌, eqb, false, List, [], ◌∷◌, ◌++◌, length, get_or, sym, refl, ap, subst, ◌∙◌, arith, inl, inr, ⊎_elim, get_or-set_same, get_or-set_other, length-set, length-append, Some, slice_get}
 use mathlib.Core.Option as maybe
 use mathlib.Core.Option.{some, none}
 use mathlib.Core.Logic.{dite}
-use native.Mathlib.Decide.{ℕ_discrete, dec_lt}
-use lib.ListN.{get_elem?}
+use native.Mathlib.Decide.{ℕ_discrete}
 use prog.Atomic.{either}
-use Rattle.atomic_table.specs.Table.{State, Step, Me, step, Act, keeps, takes, gives, Valid, Allows, carried_after, stepped, homes_after, rest}
+use Rattle.atomic_table.specs.Table.{step, takes, Allows, stepped}
 use Rattle.tl_types.specs.Request.{Request}
 use Rattle.tl_types.specs.Response.{Response}
 use Rattle.tl_types.specs.declared.trace.Entry.{Entry}
 use Rattle.tl_ops.specs.History.{IsLawfulHistory}
-use Rattle.tl_slots.specs.declared.phase.Phase.{Phase}
-use Rattle.tl_slots.specs.declared.phase.Phase.TheVariants.{Free, Filling, Posted, Serving, Answered, Taking}
-use Rattle.tl_slots.specs.declared.event.Event.{Event}
-use Rattle.tl_slots.specs.declared.event.Event.TheVariants.{Claim, Post, Accept, Answer, Collect, Release, Look, Leave}
-use Rattle.tl_slots.specs.Machine.{IsAllowed, state_after}
+use Rattle.tl_slots.specs.declared.phase.Phase.TheVariants.{Serving, Answered, Taking}
+use Rattle.tl_slots.specs.declared.event.Event.TheVariants.{Collect}
 use Rattle.tl_slots.specs.Word.{word}
 use Rattle.tl_slots.proofs.Steps.{move_is_allowed}
 use Rattle.tl_rule.specs.declared.view.About.{About}
-use Rattle.tl_rule.specs.declared.view.Held.{Held}
-use Rattle.tl_rule.specs.declared.view.Held.TheVariants.{Nothing, Filled, Sent, Taken}
+use Rattle.tl_rule.specs.declared.view.Held.TheVariants.{Nothing, Sent, Taken}
 use Rattle.tl_rule.specs.declared.view.Hands.{Hands}
-use Rattle.tl_rule.specs.declared.view.Desk.{Desk}
-use Rattle.tl_rule.specs.declared.view.View.{View}
-use Rattle.tl_rule.specs.declared.view.View.TheVariants.{Dealer, Master, Port}
+use Rattle.tl_rule.specs.declared.view.View.TheVariants.{Master}
 use Rattle.tl_rule.specs.Record.{SlotRecord, Spells, SpellsAnswer}
-use Rattle.tl_rule.specs.Serving.{ask_at, drop_slot, HasDistinctSlots}
-use Rattle.tl_rule.specs.Views.{Owns, reset_of, hands, desk, held, served, Above, no_hands, no_desk, with_hand, with_serving, gone_hands}
-use Rattle.tl_rule.specs.Rule.{Core, Names, IsHome, Asked, HomeAsk, InPhase, IsPosted, IsServing, IsAnswered, IsTaken, InSlot, InGot, Placed, Places, HasShape, Lawful, Fits, phase, views_of, table_of}
+use Rattle.tl_rule.specs.Views.{Owns, reset_of, hands, desk, held, Above, no_hands, with_hand}
+use Rattle.tl_rule.specs.Rule.{Core, Names, IsHome, HomeAsk, InPhase, IsAnswered, InSlot, InGot, Placed, Places, Lawful, Fits, phase, table_of}
 use Rattle.tl_rule.specs.Events.{state_of, IsOneEvent}
-use Rattle.tl_slots.specs.Word.{FitsWord}
-use Rattle.tl_rule.specs.Seen.{SeenFit, JustOwn, IsPlaceOf, HasSeen, HasGot, IsOut}
-use Rattle.tl_rule.specs.Moves.{Sat, Tried, Collects, entry}
+use Rattle.tl_rule.specs.Seen.{SeenFit, JustOwn, HasSeen, HasGot, IsOut}
+use Rattle.tl_rule.specs.Moves.{Tried, Collects, entry}
 use Rattle.tl_rule.proofs.Tables.{of_get}
 use Rattle.tl_rule.proofs.Lists.{at_end, before_end, below_length, ended, first_of}
 use Rattle.tl_rule.proofs.MasterFrame.{master_moves, MasterStep, moved, held_here, got_here, got_elim, phase_here, phase_else}
 use Rattle.tl_rule.proofs.Facts.{Known, known, shown, in_hand_of, not_left, some_list, low_master, low_port, in_ports, one_named}
 use Rattle.tl_rule.proofs.Own.{just_own, seen_fit, answered_inside}
-use Rattle.tl_rule.proofs.Allowing.{fits_after, found, there, present, master_step, Goes, tries}
+use Rattle.tl_rule.proofs.Allowing.{fits_after, found, there, present, master_step, tries}
 
 -- the places, once the answer of the slot i is collected
 module _ (a : About) (c : Core) (i m p since : ℕ) (letter : SlotRecord) (ask : Request) (reply : Response) (L : Lawful a c)
-  (S : MasterStep a c i (Taking m p) none m (Taken p) ((hands c.masters m).got ++ entry p letter.index ask reply ∷ []))
-  (ph : phase c i ≡ Answered m p) (at_home : IsHome c.homes i letter) (sent : held c.masters m i ≡ Sent ask p since) (place : slice_get (desk c.ports p).list letter.index ≡ Some (ask, reply)) where
+    (S : MasterStep a c i (Taking m p) none m (Taken p) ((hands c.masters m).got ++ entry p letter.index ask reply ∷ []))
+    (ph : phase c i ≡ Answered m p) (at_home : IsHome c.homes i letter) (sent : held c.masters m i ≡ Sent ask p since) (place : slice_get (desk c.ports p).list letter.index ≡ Some (ask, reply)) where
   abbrev old : List Entry
   old = (hands c.masters m).got
 
@@ -72,14 +63,18 @@ module _ (a : About) (c : Core) (i m p since : ℕ) (letter : SlotRecord) (ask :
   gotten = record { place = length old; entry = e; at = subst (λ l. slice_get l (length old) ≡ Some e) (sym (got_here c.masters m i (Taken p) (old ++ e ∷ []) S.near in_hand)) (ended old e (length old) refl); port = refl; index = refl }
 
   new_placed : (n k : ℕ) (y : Request × Response) → Placed a c n k y.0 → Placed a d n k y.0
-  new_placed n k y t = record { master = t.master; owns = t.owns; place = ⊎_elim
-      (λ (s : InSlot a c t.master n k). dite (ℕ_discrete s.slot i)
-          (λ same. let f : Answered m p ≡ Answered t.master n = sym ph ∙ subst (λ (z : ℕ). phase c z ≡ Answered t.master n) same s.phased in
-            let em : m ≡ t.master = cc in let en : p ≡ n = cc in let one : letter ≡ s.letter = (let z = subst (λ (z : ℕ). get_or c.homes z none ≡ some s.letter) same s.at in cc) in
-            let ek : letter.index ≡ k = ap (λ (z : SlotRecord). z.index) one ∙ s.index in
-            inr (subst (λ (z : ℕ). InGot a d z n k) em (subst (λ (z : ℕ). InGot a d m z k) en (subst (λ (z : ℕ). InGot a d m p z) ek gotten))))
-          (λ ne. inl (record { slot = s.slot; letter = s.letter; phased = phase_else a c i (Taking m p) none m (Taken p) (old ++ e ∷ []) L S s.slot ne ∙ s.phased; at = get_or-set_other c.homes i s.slot none none ne ∙ s.at; index = s.index })))
-      (λ (g : InGot a c t.master n k). inr (record { place = g.place; entry = g.entry; at = grown t.master g.place g.entry g.at; port = g.port; index = g.index })) t.place }
+  new_placed n k y t = record {
+    master = t.master;
+    owns = t.owns;
+    place = ⊎_elim
+        (λ (s : InSlot a c t.master n k). dite (ℕ_discrete s.slot i)
+        (λ same. let f : Answered m p ≡ Answered t.master n = sym ph ∙ subst (λ (z : ℕ). phase c z ≡ Answered t.master n) same s.phased in
+        let em : m ≡ t.master = cc in let en : p ≡ n = cc in let one : letter ≡ s.letter = (let z = subst (λ (z : ℕ). get_or c.homes z none ≡ some s.letter) same s.at in cc) in
+        let ek : letter.index ≡ k = ap (λ (z : SlotRecord). z.index) one ∙ s.index in
+        inr (subst (λ (z : ℕ). InGot a d z n k) em (subst (λ (z : ℕ). InGot a d m z k) en (subst (λ (z : ℕ). InGot a d m p z) ek gotten))))
+        (λ ne. inl (record { slot = s.slot; letter = s.letter; phased = phase_else a c i (Taking m p) none m (Taken p) (old ++ e ∷ []) L S s.slot ne ∙ s.phased; at = get_or-set_other c.homes i s.slot none none ne ∙ s.at; index = s.index })))
+        (λ (g : InGot a c t.master n k). inr (record { place = g.place; entry = g.entry; at = grown t.master g.place g.entry g.at; port = g.port; index = g.index })) t.place;
+  }
 
   -- another answered slot has another index
   other_answer : (j : ℕ) (A : IsAnswered a c j m p) → j ≢ i → A.home.letter.index ≡ letter.index → ⊥
@@ -105,23 +100,23 @@ module _ (a : About) (c : Core) (i m p since : ℕ) (letter : SlotRecord) (ask :
         (λ n _ at. P.got n j g at) n;
     got_once = λ n j k g f. elim_got (λ n l. slice_get l j ≡ Some g → slice_get l k ≡ Some f → g.port ≡ f.port → g.index ≡ f.index → j ≡ k)
         (λ at there port index. ⊎_elim
-            (λ (t : (j < length old) × (slice_get old j ≡ Some g)). ⊎_elim (λ (u : (k < length old) × (slice_get old k ≡ Some f)). P.got_once m j k g f t.1 u.1 port index)
-                (λ (u : (k ≡ length old) × (e ≡ f)). absurd (P.apart m p i j letter g ph at_home t.1 (port ∙ ap (λ (z : Entry). z.port) (sym u.1)) (index ∙ ap (λ (z : Entry). z.index) (sym u.1)))) (at_end old e f k there))
-            (λ (t : (j ≡ length old) × (e ≡ g)). ⊎_elim (λ (u : (k < length old) × (slice_get old k ≡ Some f)). absurd (P.apart m p i k letter f ph at_home u.1 (sym port ∙ ap (λ (z : Entry). z.port) (sym t.1)) (sym index ∙ ap (λ (z : Entry). z.index) (sym t.1))))
-                (λ (u : (k ≡ length old) × (e ≡ f)). t.0 ∙ sym u.0) (at_end old e f k there)) (at_end old e g j at))
+        (λ (t : (j < length old) × (slice_get old j ≡ Some g)). ⊎_elim (λ (u : (k < length old) × (slice_get old k ≡ Some f)). P.got_once m j k g f t.1 u.1 port index)
+        (λ (u : (k ≡ length old) × (e ≡ f)). absurd (P.apart m p i j letter g ph at_home t.1 (port ∙ ap (λ (z : Entry). z.port) (sym u.1)) (index ∙ ap (λ (z : Entry). z.index) (sym u.1)))) (at_end old e f k there))
+        (λ (t : (j ≡ length old) × (e ≡ g)). ⊎_elim (λ (u : (k < length old) × (slice_get old k ≡ Some f)). absurd (P.apart m p i k letter f ph at_home u.1 (sym port ∙ ap (λ (z : Entry). z.port) (sym t.1)) (sym index ∙ ap (λ (z : Entry). z.index) (sym t.1))))
+        (λ (u : (k ≡ length old) × (e ≡ f)). t.0 ∙ sym u.0) (at_end old e f k there)) (at_end old e g j at))
         (λ n _ at there. P.got_once n j k g f at there) n;
     apart = λ n r j k y g phased home at port. dite (ℕ_discrete j i)
         (λ same. absurd (not_here n r (subst (λ (z : ℕ). phase d z ≡ Answered n r) same phased)))
         (λ ne. let was = sym (phase_else a c i (Taking m p) none m (Taken p) (old ++ e ∷ []) L S j ne) ∙ phased in let home' = sym (get_or-set_other c.homes i j none none ne) ∙ home in
-          elim_got (λ n l. phase c j ≡ Answered n r → slice_get l k ≡ Some g → g.index ≢ y.index)
-          (λ was at. ⊎_elim (λ (t : (k < length old) × (slice_get old k ≡ Some g)). P.apart m r j k y g was home' t.1 port)
-              (λ (t : (k ≡ length old) × (e ≡ g)). let to : r ≡ p = sym port ∙ ap (λ (z : Entry). z.port) (sym t.1) in
-                λ clash. other_slot j y ne (subst (λ (z : ℕ). phase c j ≡ Answered m z) to was) home' (ap (λ (z : Entry). z.index) t.1 ∙ clash)) (at_end old e g k at))
-          (λ n _ was at. P.apart n r j k y g was home' at port) n was at);
+        elim_got (λ n l. phase c j ≡ Answered n r → slice_get l k ≡ Some g → g.index ≢ y.index)
+        (λ was at. ⊎_elim (λ (t : (k < length old) × (slice_get old k ≡ Some g)). P.apart m r j k y g was home' t.1 port)
+        (λ (t : (k ≡ length old) × (e ≡ g)). let to : r ≡ p = sym port ∙ ap (λ (z : Entry). z.port) (sym t.1) in
+        λ clash. other_slot j y ne (subst (λ (z : ℕ). phase c j ≡ Answered m z) to was) home' (ap (λ (z : Entry). z.index) t.1 ∙ clash)) (at_end old e g k at))
+        (λ n _ was at. P.apart n r j k y g was home' at port) n was at);
   }
 
 module _ (a : About) (c : Core) (L : Lawful a c) (id i : ℕ) (v : Hands) (K : Known a c L id v) (carried : List (ℕ × SlotRecord)) (ask : Request) (p since : ℕ)
-  (lt : i < a.slots) (sent_is : get_or v.hand i Nothing ≡ Sent ask p since) (ph : phase c i ≡ Answered v.number p) (A : IsAnswered a c i v.number p) where
+    (lt : i < a.slots) (sent_is : get_or v.hand i Nothing ≡ Sent ask p since) (ph : phase c i ≡ Answered v.number p) (A : IsAnswered a c i v.number p) where
   abbrev letter : SlotRecord
   letter = A.home.letter
 
@@ -182,7 +177,7 @@ module _ (a : About) (c : Core) (L : Lawful a c) (id i : ℕ) (v : Hands) (K : K
   pub collect_event : IsOneEvent a (Collect i v.number p) (table_of a c) (stepped (table_of a c) i (word (Taking v.number p)) id carried (Master (with_hand v i (Taken p) (v.got ++ last ∷ []))) (takes i letter))
   collect_event = subst (λ (l : List Entry). IsOneEvent a (Collect i v.number p) (table_of a c) (stepped (table_of a c) i (word (Taking v.number p)) id carried (Master (with_hand v i (Taken p) (l ++ last ∷ []))) (takes i letter))) got_is
       (master_step a c i id v (Taking v.number p) none (Taken p) (held_before ++ last ∷ []) carried (takes i letter) (Collect i v.number p) L K (let e = L.shape.phases in omega arith) refl collect_lawful
-        (move_is_allowed (state_of a c) (Collect i v.number p) _ refl (found a c L i (Answered v.number p) lt ph) (there a c L v.number K.near) in_range (present a c L v.number K.near staying)) refl)
+      (move_is_allowed (state_of a c) (Collect i v.number p) _ refl (found a c L i (Answered v.number p) lt ph) (there a c L v.number K.near) in_range (present a c L v.number K.near staying)) refl)
 
   -- what the seat is told
   pub collect_told : (slots from new : ℕ) (said : maybe.Option SlotRecord) → Collects (step slots i from new said) (Master v, carried) (Master (with_hand v i (Taken p) (v.got ++ last ∷ [])), (i, letter) ∷ carried)
@@ -214,14 +209,14 @@ pub collects : (a : About) (slots id : ℕ) (v : Hands) (carried : List (ℕ × 
     → Allows (Fits a) slots id (Master v, carried) i (λ n. either (eqb n from) new n) (Tried Collects (step slots i from new said) (Master v, carried))
 collects a slots id v carried i from new said ask p since sent_is to from_is is = let m = v.number in
     tries a slots id (Master v, carried) i from new said Collects (λ c L wide at hit. let K = known a c L id v at in
-        let lt : i < a.slots = (let z = in_hand_of v.hand i (λ e. absurd (cc)) in let w = K.wide in omega arith) in
-        let ph = shown a c L i (Answered m p) lt (record { owner = (low_master a c L m K.near).1; port = in_ports a c L p (subst (λ (z : About). p < z.ports) K.about to) }) (hit ∙ from_is) in
-        let A = subst (InPhase a c i) ph (L.slots i lt) in
-        let E = collect_event a c L id i v K carried ask p since lt sent_is ph A in
-        let view = Master (with_hand v i (Taken p) (v.got ++ entry p A.home.letter.index ask A.answer ∷ [])) in (
-          view,
-          takes i A.home.letter,
-          of_get c.homes i (some A.home.letter) none (let e = L.shape.homes in omega arith) A.home.at,
-          subst (λ (n : ℕ). Fits a (stepped (table_of a c) i n id carried view (takes i A.home.letter))) (sym is) (fits_after a (Collect i m p) _ _ E),
-          collect_told a c L id i v K carried ask p since lt sent_is ph A slots from new said,
-        ))
+    let lt : i < a.slots = (let z = in_hand_of v.hand i (λ e. absurd (cc)) in let w = K.wide in omega arith) in
+    let ph = shown a c L i (Answered m p) lt (record { owner = (low_master a c L m K.near).1; port = in_ports a c L p (subst (λ (z : About). p < z.ports) K.about to) }) (hit ∙ from_is) in
+    let A = subst (InPhase a c i) ph (L.slots i lt) in
+    let E = collect_event a c L id i v K carried ask p since lt sent_is ph A in
+    let view = Master (with_hand v i (Taken p) (v.got ++ entry p A.home.letter.index ask A.answer ∷ [])) in (
+      view,
+      takes i A.home.letter,
+      of_get c.homes i (some A.home.letter) none (let e = L.shape.homes in omega arith) A.home.at,
+      subst (λ (n : ℕ). Fits a (stepped (table_of a c) i n id carried view (takes i A.home.letter))) (sym is) (fits_after a (Collect i m p) _ _ E),
+      collect_told a c L id i v K carried ask p since lt sent_is ph A slots from new said,
+    ))

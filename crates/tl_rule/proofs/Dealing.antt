@@ -1,35 +1,18 @@
 -- How a table begins, and how seats are dealt.
-use Rattle.std.proofs.Common.{◌≡◌, ◌≢◌, ℕ, zero, suc, ◌+◌, ◌*◌, ◌/◌, ◌%◌, ◌<◌, ◌≤◌, eqb, Bool, true, false, List, [], ◌∷◌, ◌++◌, map, length, get_or, set, sym, refl, ap, subst, ◌∙◌, arith, inl, inr, ⊎_elim, ◌⊎◌, get_or-set_same, get_or-set_other, length-set, length-append, Option, Some, None, slice_get}
-use mathlib.Core.Option as maybe
+use Rattle.std.proofs.Common.{◌≡◌, ℕ, zero, suc, ◌+◌, ◌<◌, ◌≤◌, true, false, List, [], ◌∷◌, ◌++◌, map, length, get_or, set, sym, refl, ap, subst, ◌∙◌, arith, length-append}
 use mathlib.Core.Option.{some, none}
-use mathlib.Core.Logic.{dite}
-use native.Mathlib.Decide.{ℕ_discrete, dec_lt}
 use lib.ListN.{get_elem?}
-use prog.Atomic.{either}
-use Rattle.atomic_table.specs.Table.{State, Step, Me, step, Act, keeps, takes, gives, Valid, Allows, carried_after, stepped, homes_after, rest}
-use Rattle.tl_types.specs.Request.{Request}
-use Rattle.tl_types.specs.Response.{Response}
-use Rattle.tl_types.specs.declared.trace.Entry.{Entry}
-use Rattle.tl_ops.specs.History.{IsLawfulHistory}
-use Rattle.tl_slots.specs.declared.phase.Phase.{Phase}
-use Rattle.tl_slots.specs.declared.phase.Phase.TheVariants.{Free, Filling, Posted, Serving, Answered, Taking}
-use Rattle.tl_slots.specs.declared.event.Event.{Event}
-use Rattle.tl_slots.specs.declared.event.Event.TheVariants.{Claim, Post, Accept, Answer, Collect, Release, Look, Leave}
-use Rattle.tl_slots.specs.Machine.{IsAllowed, state_after}
+use Rattle.tl_slots.specs.declared.phase.Phase.TheVariants.{Free}
 use Rattle.tl_slots.specs.Word.{word}
-use Rattle.tl_slots.proofs.Steps.{move_is_allowed}
 use Rattle.tl_rule.specs.declared.view.About.{About}
-use Rattle.tl_rule.specs.declared.view.Held.{Held}
-use Rattle.tl_rule.specs.declared.view.Held.TheVariants.{Nothing, Filled, Sent, Taken}
+use Rattle.tl_rule.specs.declared.view.Held.TheVariants.{Nothing}
 use Rattle.tl_rule.specs.declared.view.Hands.{Hands}
 use Rattle.tl_rule.specs.declared.view.Desk.{Desk}
 use Rattle.tl_rule.specs.declared.view.View.{View}
 use Rattle.tl_rule.specs.declared.view.View.TheVariants.{Dealer, Master, Port}
-use Rattle.tl_rule.specs.Record.{SlotRecord, Spells, SpellsAnswer}
-use Rattle.tl_rule.specs.Serving.{ask_at, drop_slot, HasDistinctSlots}
-use Rattle.tl_rule.specs.Views.{Owns, reset_of, hands, desk, held, served, Above, no_hands, no_desk, with_hand, with_serving, gone_hands}
-use Rattle.tl_rule.specs.Rule.{Core, Names, IsHome, Asked, HomeAsk, InPhase, IsPosted, IsServing, IsAnswered, IsTaken, InSlot, InGot, Placed, Places, HasShape, Lawful, Fits, phase, views_of, table_of}
-use Rattle.tl_rule.specs.Events.{state_of, IsOneEvent}
+use Rattle.tl_rule.specs.Record.{SlotRecord}
+use Rattle.tl_rule.specs.Views.{hands, desk, held, no_hands, no_desk}
+use Rattle.tl_rule.specs.Rule.{Core, InPhase, Lawful, Fits, views_of, table_of}
 use Rattle.std.proofs.Common.{replicate}
 use Rattle.std.proofs.lemmas.List.{length-replicate}
 use mathlib.Core.Option.{some-injective, some-ne-none}
@@ -41,7 +24,7 @@ use Rattle.tl_rule.specs.Moves.{opening_view, after_master, next_master, after_p
 use Rattle.tl_rule.proofs.Tables.{past}
 use Rattle.tl_rule.proofs.Lists.{end_elim}
 use Rattle.tl_rule.proofs.Allowing.{by_core}
-use Rattle.tl_rule.proofs.LeaveStep.{Alike, alike}
+use Rattle.tl_rule.proofs.LeaveStep.{alike}
 
 blank_nothing : (n i : ℕ) → get_or (replicate n Nothing) i Nothing ≡ Nothing
 blank_nothing zero i = refl
@@ -111,14 +94,14 @@ pub deals_master : (a : About) (id m p : ℕ) → m < a.masters → Splits (Fits
 deals_master a id m p more s h =
     by_core a (λ s. get_elem? s.views id ≡ some (Dealer a m p) → Fits a (record { words = s.words; homes = s.homes; views = set s.views id (Dealer a (m + 1) p) ++ Master (new_hands a m) ∷ [] }))
     (λ c L. elim id as (λ id. get_elem? (views_of a c.masters c.ports) id ≡ some (Dealer a m p) → Fits a (record { words = (table_of a c).words; homes = c.homes; views = set (views_of a c.masters c.ports) id (Dealer a (m + 1) p) ++ Master (new_hands a m) ∷ [] })) [
-      zero ↦ λ at. let is = some-injective (Dealer a (length c.masters) (length c.ports)) (Dealer a m p) at in let ms_is : length c.masters ≡ m = cc in let ps_is : length c.ports ≡ p = cc in
-        let lt : length c.masters < a.masters = omega arith in
-        let none_yet : length c.ports ≡ 0 = L.shape.dealt lt in let long = length-append c.masters (new_hands a (length c.masters) ∷ []) in
-        let counted : m + 1 ≡ length (c.masters ++ new_hands a (length c.masters) ∷ []) = omega arith in record {
-          core = with_master a c L lt;
-          is = λ z. record { words = (table_of a c).words; homes = c.homes; views = (ap (λ (k : ℕ). Dealer a (m + 1) p ∷ ((map Master c.masters ++ map Port c.ports) ++ Master (new_hands a k) ∷ [])) (sym ms_is) ∙ (λ z. Dealer a (counted z) (sym ps_is z) ∷ masters_only c.masters c.ports (new_hands a (length c.masters)) none_yet z)) z };
-          lawful = master_lawful a c L lt;
-        }
+      | zero ↦ λ at. let is = some-injective (Dealer a (length c.masters) (length c.ports)) (Dealer a m p) at in let ms_is : length c.masters ≡ m = cc in let ps_is : length c.ports ≡ p = cc in
+          let lt : length c.masters < a.masters = omega arith in
+          let none_yet : length c.ports ≡ 0 = L.shape.dealt lt in let long = length-append c.masters (new_hands a (length c.masters) ∷ []) in
+          let counted : m + 1 ≡ length (c.masters ++ new_hands a (length c.masters) ∷ []) = omega arith in record {
+            core = with_master a c L lt;
+            is = λ z. record { words = (table_of a c).words; homes = c.homes; views = (ap (λ (k : ℕ). Dealer a (m + 1) p ∷ ((map Master c.masters ++ map Port c.ports) ++ Master (new_hands a k) ∷ [])) (sym ms_is) ∙ (λ z. Dealer a (counted z) (sym ps_is z) ∷ masters_only c.masters c.ports (new_hands a (length c.masters)) none_yet z)) z };
+            lawful = master_lawful a c L lt;
+          }
       | suc j ↦ λ at. absurd (no_dealer c.masters c.ports j a m p at)
     ])
     s h
@@ -166,14 +149,14 @@ pub deals_port : (a : About) (id m p : ℕ) → m ≡ a.masters → p < a.ports 
 deals_port a id m p all more s h =
     by_core a (λ s. get_elem? s.views id ≡ some (Dealer a m p) → Fits a (record { words = s.words; homes = s.homes; views = set s.views id (Dealer a m (p + 1)) ++ Port (new_desk a p) ∷ [] }))
     (λ c L. elim id as (λ id. get_elem? (views_of a c.masters c.ports) id ≡ some (Dealer a m p) → Fits a (record { words = (table_of a c).words; homes = c.homes; views = set (views_of a c.masters c.ports) id (Dealer a m (p + 1)) ++ Port (new_desk a p) ∷ [] })) [
-      zero ↦ λ at. let is = some-injective (Dealer a (length c.masters) (length c.ports)) (Dealer a m p) at in let ms_is : length c.masters ≡ m = cc in let ps_is : length c.ports ≡ p = cc in
-        let lt : length c.ports < a.ports = omega arith in
-        let long = length-append c.ports (new_desk a (length c.ports) ∷ []) in
-        let counted : p + 1 ≡ length (c.ports ++ new_desk a (length c.ports) ∷ []) = omega arith in record {
-          core = with_port a c L (ms_is ∙ all) lt;
-          is = λ z. record { words = (table_of a c).words; homes = c.homes; views = (ap (λ (k : ℕ). Dealer a m (p + 1) ∷ ((map Master c.masters ++ map Port c.ports) ++ Port (new_desk a k) ∷ [])) (sym ps_is) ∙ (λ z. Dealer a (sym ms_is z) (counted z) ∷ ports_more c.masters c.ports (new_desk a (length c.ports)) z)) z };
-          lawful = port_lawful a c L (ms_is ∙ all) lt;
-        }
+      | zero ↦ λ at. let is = some-injective (Dealer a (length c.masters) (length c.ports)) (Dealer a m p) at in let ms_is : length c.masters ≡ m = cc in let ps_is : length c.ports ≡ p = cc in
+          let lt : length c.ports < a.ports = omega arith in
+          let long = length-append c.ports (new_desk a (length c.ports) ∷ []) in
+          let counted : p + 1 ≡ length (c.ports ++ new_desk a (length c.ports) ∷ []) = omega arith in record {
+            core = with_port a c L (ms_is ∙ all) lt;
+            is = λ z. record { words = (table_of a c).words; homes = c.homes; views = (ap (λ (k : ℕ). Dealer a m (p + 1) ∷ ((map Master c.masters ++ map Port c.ports) ++ Port (new_desk a k) ∷ [])) (sym ps_is) ∙ (λ z. Dealer a (sym ms_is z) (counted z) ∷ ports_more c.masters c.ports (new_desk a (length c.ports)) z)) z };
+            lawful = port_lawful a c L (ms_is ∙ all) lt;
+          }
       | suc j ↦ λ at. absurd (no_dealer c.masters c.ports j a m p at)
     ])
     s h

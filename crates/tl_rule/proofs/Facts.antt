@@ -1,18 +1,14 @@
 -- What a table that fits tells of a word, of a view and of a slot.
-use Rattle.std.proofs.Common.{◌≡◌, ◌≢◌, ℕ, zero, suc, ◌+◌, ◌*◌, ◌<◌, ◌≤◌, true, false, List, [], ◌∷◌, ◌++◌, map, length, get_or, set, sym, refl, ap, subst, ◌∙◌, arith, inl, inr, ◌⊎◌, Option, Some, None, slice_get}
-use mathlib.Core.Option as maybe
-use mathlib.Core.Option.{some, none}
+use Rattle.std.proofs.Common.{◌≡◌, ◌≢◌, ℕ, suc, ◌<◌, ◌≤◌, true, false, List, length, get_or, set, sym, refl, ap, subst, ◌∙◌, arith, inl, inr, ◌⊎◌, Option, Some, None, slice_get}
+use mathlib.Core.Option.{some}
 use mathlib.Core.Logic.{dite}
 use native.Mathlib.Decide.{dec_lt}
 use lib.ListN.{get_elem?}
 use Rattle.tl_types.specs.Request.{Request}
 use Rattle.tl_types.specs.Response.{Response}
-use Rattle.tl_types.specs.declared.trace.Entry.{Entry}
-use Rattle.tl_types.specs.declared.limits.TheConstants.{MAX_SLOTS, MAX_MASTERS, MAX_PORTS}
 use Rattle.tl_slots.specs.declared.phase.Phase.{Phase}
 use Rattle.tl_slots.specs.declared.phase.Phase.TheVariants.{Free, Filling, Posted, Serving, Answered, Taking}
 use Rattle.tl_slots.specs.declared.word.TheConstants.{MAX_AGENT}
-use Rattle.tl_slots.specs.Phase.{owner_of}
 use Rattle.tl_slots.specs.Word.{FitsWord, word}
 use Rattle.tl_slots.proofs.Words.{word-injective}
 use Rattle.tl_map.specs.Block.{IsWide}

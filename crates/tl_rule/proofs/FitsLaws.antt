@@ -1,44 +1,27 @@
 -- What a table that fits says of its seats and words.
-use Rattle.std.proofs.Common.{◌≡◌, ◌≢◌, ℕ, zero, suc, ◌+◌, ◌*◌, ◌/◌, ◌%◌, ◌<◌, ◌≤◌, eqb, Bool, true, false, List, [], ◌∷◌, ◌++◌, map, length, get_or, set, sym, refl, ap, subst, ◌∙◌, arith, inl, inr, ⊎_elim, ◌⊎◌, get_or-set_same, get_or-set_other, length-set, length-append, Option, Some, None, slice_get}
+use Rattle.std.proofs.Common.{◌≡◌, ◌≢◌, ℕ, suc, ◌+◌, ◌<◌, Bool, true, false, List, ◌++◌, map, length, get_or, sym, refl, ap, subst, ◌∙◌, arith, inl, inr, ⊎_elim, ◌⊎◌}
 use mathlib.Core.Option as maybe
 use mathlib.Core.Option.{some, none}
-use mathlib.Core.Logic.{dite}
-use native.Mathlib.Decide.{ℕ_discrete, dec_lt}
-use lib.ListN.{get_elem?}
-use prog.Atomic.{either}
-use Rattle.atomic_table.specs.Table.{State, Step, Me, step, Act, keeps, takes, gives, Valid, Allows, carried_after, stepped, homes_after, rest}
-use Rattle.tl_types.specs.Request.{Request}
-use Rattle.tl_types.specs.Response.{Response}
-use Rattle.tl_types.specs.declared.trace.Entry.{Entry}
 use Rattle.tl_ops.specs.History.{IsLawfulHistory}
 use Rattle.tl_slots.specs.declared.phase.Phase.{Phase}
 use Rattle.tl_slots.specs.declared.phase.Phase.TheVariants.{Free, Filling, Posted, Serving, Answered, Taking}
-use Rattle.tl_slots.specs.declared.event.Event.{Event}
-use Rattle.tl_slots.specs.declared.event.Event.TheVariants.{Claim, Post, Accept, Answer, Collect, Release, Look, Leave}
-use Rattle.tl_slots.specs.Machine.{IsAllowed, state_after}
 use Rattle.tl_slots.specs.Word.{word}
-use Rattle.tl_slots.proofs.Steps.{move_is_allowed}
 use Rattle.tl_rule.specs.declared.view.About.{About}
-use Rattle.tl_rule.specs.declared.view.Held.{Held}
-use Rattle.tl_rule.specs.declared.view.Held.TheVariants.{Nothing, Filled, Sent, Taken}
+use Rattle.tl_rule.specs.declared.view.Held.TheVariants.{Nothing}
 use Rattle.tl_rule.specs.declared.view.Hands.{Hands}
 use Rattle.tl_rule.specs.declared.view.Desk.{Desk}
-use Rattle.tl_rule.specs.declared.view.View.{View}
-use Rattle.tl_rule.specs.declared.view.View.TheVariants.{Dealer, Master, Port}
+use Rattle.tl_rule.specs.declared.view.View.TheVariants.{Master, Port}
 use Rattle.tl_rule.specs.Record.{SlotRecord, Spells, SpellsAnswer}
-use Rattle.tl_rule.specs.Serving.{ask_at, drop_slot, HasDistinctSlots}
-use Rattle.tl_rule.specs.Views.{Owns, reset_of, hands, desk, held, served, Above, no_hands, no_desk, with_hand, with_serving, gone_hands}
-use Rattle.tl_rule.specs.Rule.{Core, Names, IsHome, Asked, HomeAsk, InPhase, IsPosted, IsServing, IsAnswered, IsTaken, InSlot, InGot, Placed, Places, HasShape, Lawful, Fits, phase, views_of, table_of}
-use Rattle.tl_rule.specs.Events.{state_of, IsOneEvent}
-use Rattle.tl_slots.specs.Phase.{owner_of}
-use Rattle.tl_slots.specs.Word.{FitsWord, IsWordOf}
+use Rattle.tl_rule.specs.Views.{Owns, reset_of, desk}
+use Rattle.tl_rule.specs.Rule.{Core, Names, IsHome, InPhase, Lawful, phase, table_of}
+use Rattle.tl_slots.specs.Word.{IsWordOf}
 use Rattle.tl_slots.proofs.Words.{one_phase}
 use Rattle.tl_rule.specs.Rule.{leave_word}
 use Rattle.tl_rule.specs.Seen.{SeenFit, JustOwn, HasSeen, HasGot, IsOut}
 use Rattle.tl_rule.specs.Moves.{IsLawfulDesk}
-use Rattle.tl_rule.specs.Laws.{Table, HasView, HasHome, in_hand, IsSeenAnswer, AreArenaWords, ListsAreJustOwn, AnswersAreSeenFit, NoOwnedSlotIsClaimed, HandsAreApart, DesksAreLawful, WordsFit, AllFreeAfterAllLeft}
+use Rattle.tl_rule.specs.Laws.{HasView, HasHome, IsSeenAnswer, AreArenaWords, ListsAreJustOwn, AnswersAreSeenFit, NoOwnedSlotIsClaimed, HandsAreApart, DesksAreLawful, WordsFit, AllFreeAfterAllLeft}
 use Rattle.tl_rule.proofs.Tables.{at_get, word_at, leaf_at, leave_at, many_words}
-use Rattle.tl_rule.proofs.Facts.{Known, known, KnownPort, known_port, shown, some_master, low_master, low_port, one_named, owner_holds, not_left, in_hand_of, fits_word, free_names_none}
+use Rattle.tl_rule.proofs.Facts.{Known, known, known_port, shown, some_master, low_master, low_port, one_named, owner_holds, not_left, in_hand_of, fits_word, free_names_none}
 use Rattle.tl_rule.proofs.Own.{just_own, seen_fit}
 use Rattle.tl_rule.proofs.PortSteps.{desk_law}
 use Rattle.tl_rule.proofs.Allowing.{by_core}
@@ -46,30 +29,31 @@ use Rattle.tl_rule.proofs.Allowing.{by_core}
 pub lists_law : ListsAreJustOwn
 lists_law a s id at v u F seat desk_seat =
     by_core a (λ s. HasView s id (Master v) → HasView s at (Port u) → IsLawfulHistory (reset_of v.about u.number) u.list × JustOwn u.list (Owns v.about v.number) (HasGot v u.number) (IsOut v u.number))
-    (λ c L seat there. let K = known a c L id v seat in let D = known_port a c L at u there in let w = L.shape.master_views v.number K.near in
-      (subst (λ (z : About). IsLawfulHistory (reset_of z u.number) u.list) (sym K.about) (subst (λ (d : Desk). IsLawfulHistory (reset_of a u.number) d.list) D.is (L.lawful u.number)),
-        subst (λ (d : Desk). JustOwn d.list (Owns v.about v.number) (HasGot v u.number) (IsOut v u.number)) D.is
-          (subst (λ (x : Hands). JustOwn (desk c.ports u.number).list (Owns x.about x.number) (HasGot x u.number) (IsOut x u.number)) K.is (just_own a c L v.number u.number w.1 w.0)))) s F seat desk_seat
+    (λ c L seat there. let K = known a c L id v seat in let D = known_port a c L at u there in let w = L.shape.master_views v.number K.near in (
+      subst (λ (z : About). IsLawfulHistory (reset_of z u.number) u.list) (sym K.about) (subst (λ (d : Desk). IsLawfulHistory (reset_of a u.number) d.list) D.is (L.lawful u.number)),
+      subst (λ (d : Desk). JustOwn d.list (Owns v.about v.number) (HasGot v u.number) (IsOut v u.number)) D.is
+          (subst (λ (x : Hands). JustOwn (desk c.ports u.number).list (Owns x.about x.number) (HasGot x u.number) (IsOut x u.number)) K.is (just_own a c L v.number u.number w.1 w.0)),
+    )) s F seat desk_seat
 
 pub answers_law : AnswersAreSeenFit
 answers_law a s id at i v u letter F seat desk_seat lt is home =
     by_core a (λ s. HasView s id (Master v) → HasView s at (Port u) → get_or s.words i 0 ≡ word (Answered v.number u.number) → HasHome s i letter → IsSeenAnswer v u i letter)
     (λ c L seat there is home. let K = known a c L id v seat in let D = known_port a c L at u there in let m = v.number in let p = u.number in
-      let ph = shown a c L i (Answered m p) lt (record { owner = (low_master a c L m K.near).1; port = (low_port a c L p D.near).1 }) is in let A = subst (InPhase a c i) ph (L.slots i lt) in
-      let same = one_letter c.homes i A.home.letter letter A.home.at (at_get c.homes i (some letter) none home).1 in
-      let fit : SeenFit u.list A.home.letter.index A.asked.ask A.answer (HasSeen v p A.asked.known) = subst (λ (d : Desk). SeenFit d.list A.home.letter.index A.asked.ask A.answer (HasSeen v p A.asked.known)) D.is
-          (subst (λ (x : Hands). SeenFit (desk c.ports p).list A.home.letter.index A.asked.ask A.answer (HasSeen x p A.asked.known)) K.is (seen_fit a c L m p i A)) in record {
-        ask = A.asked.ask;
-        known = A.asked.known;
-        reply = A.answer;
-        sent = ap (λ (x : Hands). get_or x.hand i Nothing) (sym K.is) ∙ A.asked.sent;
-        asks = subst (λ (r : SlotRecord). Spells r A.asked.ask) same A.home.spells;
-        answers = subst (λ (r : SlotRecord). SpellsAnswer r A.asked.ask.address A.answer) same A.spells;
-        seen = subst (λ (r : SlotRecord). SeenFit u.list r.index A.asked.ask A.answer (HasSeen v p A.asked.known)) same fit;
-      }) s F seat desk_seat is home
-    where
-      one_letter : (homes : List (maybe.Option SlotRecord)) (i : ℕ) (x y : SlotRecord) → IsHome homes i x → IsHome homes i y → x ≡ y
-      one_letter homes i x y a b = cc
+    let ph = shown a c L i (Answered m p) lt (record { owner = (low_master a c L m K.near).1; port = (low_port a c L p D.near).1 }) is in let A = subst (InPhase a c i) ph (L.slots i lt) in
+    let same = one_letter c.homes i A.home.letter letter A.home.at (at_get c.homes i (some letter) none home).1 in
+    let fit : SeenFit u.list A.home.letter.index A.asked.ask A.answer (HasSeen v p A.asked.known) = subst (λ (d : Desk). SeenFit d.list A.home.letter.index A.asked.ask A.answer (HasSeen v p A.asked.known)) D.is
+    (subst (λ (x : Hands). SeenFit (desk c.ports p).list A.home.letter.index A.asked.ask A.answer (HasSeen x p A.asked.known)) K.is (seen_fit a c L m p i A)) in record {
+      ask = A.asked.ask;
+      known = A.asked.known;
+      reply = A.answer;
+      sent = ap (λ (x : Hands). get_or x.hand i Nothing) (sym K.is) ∙ A.asked.sent;
+      asks = subst (λ (r : SlotRecord). Spells r A.asked.ask) same A.home.spells;
+      answers = subst (λ (r : SlotRecord). SpellsAnswer r A.asked.ask.address A.answer) same A.spells;
+      seen = subst (λ (r : SlotRecord). SeenFit u.list r.index A.asked.ask A.answer (HasSeen v p A.asked.known)) same fit;
+    }) s F seat desk_seat is home
+  where
+    one_letter : (homes : List (maybe.Option SlotRecord)) (i : ℕ) (x y : SlotRecord) → IsHome homes i x → IsHome homes i y → x ≡ y
+    one_letter homes i x y a b = cc
 
 -- a slot in a hand is named by its word's phase
 named : (a : About) (c : Core) (L : Lawful a c) (id i : ℕ) (v : Hands) → Known a c L id v → get_or v.hand i Nothing ≢ Nothing → Names (phase c i) v.number
@@ -79,13 +63,13 @@ pub unclaimed_law : NoOwnedSlotIsClaimed
 unclaimed_law a s id i v F seat h =
     by_core a (λ s. HasView s id (Master v) → get_or s.words i 0 ≢ word Free)
     (λ c L seat is. let K = known a c L id v seat in let lt : i < a.slots = (let z = in_hand_of v.hand i h in let w = K.wide in omega arith) in
-      let ph = shown a c L i Free lt (record { owner = tt; port = tt }) is in free_names_none v.number (subst (λ f. Names f v.number) ph (named a c L id i v K h))) s F seat
+    let ph = shown a c L i Free lt (record { owner = tt; port = tt }) is in free_names_none v.number (subst (λ f. Names f v.number) ph (named a c L id i v K h))) s F seat
 
 pub apart_law : HandsAreApart
 apart_law a s id other i v w F seat there h g =
     by_core a (λ s. HasView s id (Master v) → HasView s other (Master w) → id ≡ other)
     (λ c L seat there. let K = known a c L id v seat in let J = known a c L other w there in
-      K.place ∙ ap suc (one_named (phase c i) v.number w.number (named a c L id i v K h) (named a c L other i w J g)) ∙ sym J.place) s F seat there
+    K.place ∙ ap suc (one_named (phase c i) v.number w.number (named a c L id i v K h) (named a c L other i w J g)) ∙ sym J.place) s F seat there
 
 pub desks_law : DesksAreLawful
 desks_law a s at u F seat =
@@ -100,7 +84,7 @@ bit_or false = inl refl
 pub words_law : WordsFit
 words_law a s F = by_core a (λ s. AreArenaWords a s.words) (λ c L. let n = L.shape.phases in let k = L.shape.left in
     let leave_is = λ (m : ℕ). (let e : a.slots + m ≡ length c.phases + m = omega arith in
-      ap (λ (j : ℕ). get_or (map word c.phases ++ map leave_word c.left) j 0) e ∙ leaf_at c.phases (map leave_word c.left) m ∙ leave_at c.left m) in record {
+    ap (λ (j : ℕ). get_or (map word c.phases ++ map leave_word c.left) j 0) e ∙ leaf_at c.phases (map leave_word c.left) m ∙ leave_at c.left m) in record {
       many = many_words c.phases c.left ∙ (λ t. n t + k t);
       phases = λ i lt. (phase c i, record { fits = fits_word a c L i (phase c i) (L.slots i lt); is = word_at c.phases _ i (omega arith) });
       leaves = λ m lt. subst (λ (w : ℕ). (w ≡ 0) ⊎ (w ≡ 1)) (sym (leave_is m)) (bit_or (get_or c.left m false));

@@ -1,26 +1,14 @@
 -- What a step leaves of the slots that it does not touch.
-use Rattle.std.proofs.Common.{◌≡◌, ◌≢◌, ℕ, zero, suc, ◌+◌, ◌<◌, ◌≤◌, Bool, true, false, cond, List, [], ◌∷◌, ◌++◌, length, get_or, set, sym, refl, ap, subst, ◌∙◌, arith, inl, inr, ⊎_elim, ◌⊎◌, get_or-set_same, get_or-set_other, length-set, Option, Some, None, slice_get}
-use mathlib.Core.Option as maybe
-use mathlib.Core.Option.{some, none}
-use mathlib.Core.Logic.{dite}
-use native.Mathlib.Decide.{ℕ_discrete}
+use Rattle.std.proofs.Common.{◌≡◌, ℕ, ◌<◌, ◌≤◌, length, get_or, sym, subst, ◌∙◌, arith, inl, inr, ⊎_elim, Some, slice_get}
+use mathlib.Core.Option.{none}
 use Rattle.tl_types.specs.Request.{Request}
 use Rattle.tl_types.specs.Response.{Response}
 use Rattle.tl_types.specs.declared.trace.Entry.{Entry}
-use Rattle.tl_ops.specs.History.{IsLawfulHistory}
 use Rattle.tl_slots.specs.declared.phase.Phase.{Phase}
 use Rattle.tl_slots.specs.declared.phase.Phase.TheVariants.{Free, Filling, Posted, Serving, Answered, Taking}
-use Rattle.tl_slots.specs.Phase.{owner_of}
 use Rattle.tl_rule.specs.declared.view.About.{About}
-use Rattle.tl_rule.specs.declared.view.Held.{Held}
-use Rattle.tl_rule.specs.declared.view.Held.TheVariants.{Nothing, Filled, Sent, Taken}
-use Rattle.tl_rule.specs.declared.view.Hands.{Hands}
-use Rattle.tl_rule.specs.declared.view.Desk.{Desk}
-use Rattle.tl_rule.specs.Record.{SlotRecord, Spells, SpellsAnswer}
-use Rattle.tl_rule.specs.Serving.{ask_at, HasDistinctSlots}
-use Rattle.tl_rule.specs.Views.{Owns, reset_of, hands, desk, held, served, Above, no_hands, no_desk, with_hand, with_serving}
-use Rattle.tl_rule.specs.Rule.{Core, Names, Asked, HomeAsk, InPhase, IsPosted, IsServing, IsAnswered, IsTaken, InSlot, InGot, Placed, Places, HasShape, Lawful, phase}
-use Rattle.tl_rule.proofs.Lists.{set_elim}
+use Rattle.tl_rule.specs.Views.{hands, desk, held, served, Above}
+use Rattle.tl_rule.specs.Rule.{Core, Asked, HomeAsk, InPhase, InSlot, InGot, Places, phase}
 
 -- c and d agree on the slot j, and lists only grew
 pub record Same (c d : Core) (j : ℕ) : Type 0 where
@@ -66,9 +54,13 @@ pub record Quiet (c d : Core) : Type 0 where
 pub quiet : (a : About) (c d : Core) → Quiet c d → Places a c → Places a d
 quiet a c d q P = let list_at = λ (p k : ℕ) (x : Request × Response) (e : slice_get (desk d.ports p).list k ≡ Some x). subst (λ l. slice_get l k ≡ Some x) (q.same_lists p) e in
     let got_at = λ (n j : ℕ) (x : Entry) (e : slice_get (hands d.masters n).got j ≡ Some x). subst (λ l. slice_get l j ≡ Some x) (q.same_gots n) e in record {
-      placed = λ p k x e. let t = P.placed p k x (list_at p k x e) in record { master = t.master; owns = t.owns; place = ⊎_elim
-          (λ (s : InSlot a c t.master p k). inl (let f = q.forth s.slot t.master p s.phased in record { slot = s.slot; letter = s.letter; phased = f.0; at = f.1 ∙ s.at; index = s.index }))
-          (λ (g : InGot a c t.master p k). inr (record { place = g.place; entry = g.entry; at = subst (λ l. slice_get l g.place ≡ Some g.entry) (sym (q.same_gots t.master)) g.at; port = g.port; index = g.index })) t.place };
+      placed = λ p k x e. let t = P.placed p k x (list_at p k x e) in record {
+        master = t.master;
+        owns = t.owns;
+        place = ⊎_elim
+            (λ (s : InSlot a c t.master p k). inl (let f = q.forth s.slot t.master p s.phased in record { slot = s.slot; letter = s.letter; phased = f.0; at = f.1 ∙ s.at; index = s.index }))
+            (λ (g : InGot a c t.master p k). inr (record { place = g.place; entry = g.entry; at = subst (λ l. slice_get l g.place ≡ Some g.entry) (sym (q.same_gots t.master)) g.at; port = g.port; index = g.index })) t.place;
+      };
       got = λ m j e at. let t = P.got m j e (got_at m j e at) in (subst (λ l. slice_get l e.index ≡ Some (e.ask, e.reply)) (sym (q.same_lists e.port)) t.0, t.1);
       got_once = λ m j k e u at there. P.got_once m j k e u (got_at m j e at) (got_at m k u there);
       apart = λ m p i j r e f home at. let b = q.back i m p f in P.apart m p i j r e b.0 (sym b.1 ∙ home) (got_at m j e at);

@@ -1,45 +1,35 @@
 -- Tables that differ in numbers, in counts and in who has left; and the step by which a master leaves.
-use Rattle.std.proofs.Common.{◌≡◌, ◌≢◌, ℕ, zero, suc, ◌+◌, ◌*◌, ◌/◌, ◌%◌, ◌<◌, ◌≤◌, eqb, Bool, true, false, List, [], ◌∷◌, ◌++◌, map, length, get_or, set, sym, refl, ap, subst, ◌∙◌, arith, inl, inr, ⊎_elim, ◌⊎◌, get_or-set_same, get_or-set_other, length-set, length-append, Option, Some, None, slice_get}
+use Rattle.std.proofs.Common.{◌≡◌, ◌≢◌, ℕ, ◌+◌, ◌<◌, true, false, List, ◌++◌, map, length, get_or, set, sym, refl, ap, subst, ◌∙◌, arith, get_or-set_same, get_or-set_other, length-set, Some, slice_get}
 use mathlib.Core.Option as maybe
 use mathlib.Core.Option.{some, none}
-use mathlib.Core.Logic.{dite}
-use native.Mathlib.Decide.{ℕ_discrete, dec_lt}
-use lib.ListN.{get_elem?}
-use prog.Atomic.{either}
-use Rattle.atomic_table.specs.Table.{State, Step, Me, step, Act, keeps, takes, gives, Valid, Allows, carried_after, stepped, homes_after, rest}
+use Rattle.atomic_table.specs.Table.{step, keeps, Allows, stepped}
 use Rattle.tl_types.specs.Request.{Request}
 use Rattle.tl_types.specs.Response.{Response}
 use Rattle.tl_types.specs.declared.trace.Entry.{Entry}
 use Rattle.tl_ops.specs.History.{IsLawfulHistory}
 use Rattle.tl_slots.specs.declared.phase.Phase.{Phase}
-use Rattle.tl_slots.specs.declared.phase.Phase.TheVariants.{Free, Filling, Posted, Serving, Answered, Taking}
-use Rattle.tl_slots.specs.declared.event.Event.{Event}
-use Rattle.tl_slots.specs.declared.event.Event.TheVariants.{Claim, Post, Accept, Answer, Collect, Release, Look, Leave}
-use Rattle.tl_slots.specs.Machine.{IsAllowed, state_after}
+use Rattle.tl_slots.specs.declared.phase.Phase.TheVariants.{Free}
+use Rattle.tl_slots.specs.declared.event.Event.TheVariants.{Leave}
 use Rattle.tl_slots.specs.Word.{word}
-use Rattle.tl_slots.proofs.Steps.{move_is_allowed}
 use Rattle.tl_rule.specs.declared.view.About.{About}
-use Rattle.tl_rule.specs.declared.view.Held.{Held}
-use Rattle.tl_rule.specs.declared.view.Held.TheVariants.{Nothing, Filled, Sent, Taken}
+use Rattle.tl_rule.specs.declared.view.Held.TheVariants.{Nothing}
 use Rattle.tl_rule.specs.declared.view.Hands.{Hands}
-use Rattle.tl_rule.specs.declared.view.Desk.{Desk}
-use Rattle.tl_rule.specs.declared.view.View.{View}
-use Rattle.tl_rule.specs.declared.view.View.TheVariants.{Dealer, Master, Port}
-use Rattle.tl_rule.specs.Record.{SlotRecord, Spells, SpellsAnswer}
-use Rattle.tl_rule.specs.Serving.{ask_at, drop_slot, HasDistinctSlots}
-use Rattle.tl_rule.specs.Views.{Owns, reset_of, hands, desk, held, served, Above, no_hands, no_desk, with_hand, with_serving, gone_hands}
-use Rattle.tl_rule.specs.Rule.{Core, Names, IsHome, Asked, HomeAsk, InPhase, IsPosted, IsServing, IsAnswered, IsTaken, InSlot, InGot, Placed, Places, HasShape, Lawful, Fits, phase, views_of, table_of}
+use Rattle.tl_rule.specs.declared.view.View.TheVariants.{Master}
+use Rattle.tl_rule.specs.Record.{SlotRecord}
+use Rattle.tl_rule.specs.Serving.{ask_at, HasDistinctSlots}
+use Rattle.tl_rule.specs.Views.{reset_of, hands, desk, held, served, no_hands, gone_hands}
+use Rattle.tl_rule.specs.Rule.{Core, Names, InPhase, HasShape, Lawful, Fits, phase, views_of, table_of}
 use Rattle.tl_rule.specs.Events.{state_of, IsOneEvent}
 use Rattle.std.proofs.Common.{Any}
 use Rattle.tl_slots.specs.Phase.{owner_of}
 use Rattle.tl_slots.proofs.Steps.{leave_is_allowed}
-use Rattle.tl_rule.specs.Moves.{Sat, Leaves, OwnsAll}
+use Rattle.tl_rule.specs.Moves.{Leaves, OwnsAll}
 use Rattle.tl_rule.proofs.Tables.{set_left, set_leaf}
 use Rattle.tl_rule.proofs.Lists.{set_elim, any_default}
-use Rattle.tl_rule.proofs.Frames.{Same, stays, Quiet, quiet}
+use Rattle.tl_rule.proofs.Frames.{Same, stays, quiet}
 use Rattle.tl_rule.proofs.Facts.{Known, known, owner_holds}
 use Rattle.tl_rule.proofs.Own.{all_own}
-use Rattle.tl_rule.proofs.Allowing.{fits_after, there, present, Goes, stores}
+use Rattle.tl_rule.proofs.Allowing.{fits_after, there, present, stores}
 
 -- c and d differ at most in numbers, counts and who has left
 pub record Alike (c d : Core) : Type 0 where
@@ -88,7 +78,7 @@ module _ (a : About) (c d : Core) (L : Lawful a c) (A : Alike c d) where
 -- ---- a master leaves
 
 module _ (a : About) (c : Core) (L : Lawful a c) (id : ℕ) (v : Hands) (K : Known a c L id v) (carried : List (ℕ × SlotRecord))
-  (staying : v.left ≡ false) (empty : (j : ℕ) → get_or v.hand j Nothing ≡ Nothing) where
+    (staying : v.left ≡ false) (empty : (j : ℕ) → get_or v.hand j Nothing ≡ Nothing) where
   abbrev w : Hands
   w = gone_hands (hands c.masters v.number)
 
@@ -153,10 +143,10 @@ pub leaves : (a : About) (slots id : ℕ) (v : Hands) (carried : List (ℕ × Sl
     → Allows (Fits a) slots id (Master v, carried) i (λ _. 1) (λ _. Leaves (step slots i 1 0 none) (Master v, carried) 1)
 leaves a slots id v carried i staying empty is =
     stores a slots id (Master v, carried) i 1 (Leaves (step slots i 1 0 none) (Master v, carried) 1) (λ c L wide at. let K = known a c L id v at in let t = L.shape.master_views v.number K.near in
-        let E = leave_event a c L id v K carried staying empty in let there : a.slots + v.number ≡ i = omega arith in (
-          Master (gone_hands v),
-          keeps,
-          tt,
-          subst (λ (n : ℕ). Fits a (stepped (table_of a c) n 1 id carried (Master (gone_hands v)) keeps)) there (fits_after a (Leave v.number) _ _ E),
-          record { seat = refl; owns_all = λ p. subst (λ (w : Hands). OwnsAll w p) K.is (all_own a c L v.number p t.1 t.0 (empty_here a c L id v K carried staying empty)) },
-        ))
+    let E = leave_event a c L id v K carried staying empty in let there : a.slots + v.number ≡ i = omega arith in (
+      Master (gone_hands v),
+      keeps,
+      tt,
+      subst (λ (n : ℕ). Fits a (stepped (table_of a c) n 1 id carried (Master (gone_hands v)) keeps)) there (fits_after a (Leave v.number) _ _ E),
+      record { seat = refl; owns_all = λ p. subst (λ (w : Hands). OwnsAll w p) K.is (all_own a c L v.number p t.1 t.0 (empty_here a c L id v K carried staying empty)) },
+    ))

@@ -1,5 +1,5 @@
 -- Lists that grow at their end, and lists in which one item is set.
-use Rattle.std.proofs.Common.{◌≡◌, ◌≢◌, ℕ, zero, suc, ◌<◌, ◌≤◌, List, [], ◌∷◌, ◌++◌, length, get_or, set, refl, ap, sym, subst, arith, inl, inr, ⊎_elim, ◌⊎◌, get_or-set_same, get_or-set_other, Option, Some, None, slice_get}
+use Rattle.std.proofs.Common.{◌≡◌, ◌≢◌, ℕ, zero, suc, ◌<◌, List, [], ◌∷◌, ◌++◌, length, get_or, set, refl, ap, sym, subst, arith, inl, inr, ⊎_elim, ◌⊎◌, get_or-set_same, get_or-set_other, Some, slice_get}
 use mathlib.Core.Logic.{dite}
 use native.Mathlib.Decide.{ℕ_discrete}
 

@@ -1,27 +1,22 @@
 -- A step of a master, which changes one slot and that slot in its hand, keeps what the rule says of all else.
-use Rattle.std.proofs.Common.{◌≡◌, ◌≢◌, ℕ, zero, suc, ◌+◌, ◌<◌, ◌≤◌, Bool, true, false, cond, List, [], ◌∷◌, ◌++◌, length, get_or, set, sym, refl, ap, subst, ◌∙◌, arith, inl, inr, ⊎_elim, ◌⊎◌, get_or-set_same, get_or-set_other, length-set, Option, Some, None, slice_get}
+use Rattle.std.proofs.Common.{◌≡◌, ◌≢◌, ℕ, ◌<◌, ◌≤◌, true, false, List, length, get_or, set, sym, refl, ap, subst, ◌∙◌, arith, inl, inr, ⊎_elim, ◌⊎◌, get_or-set_same, get_or-set_other, length-set, Some, slice_get}
 use mathlib.Core.Option as maybe
 use mathlib.Core.Option.{some, none}
 use mathlib.Core.Logic.{dite}
 use native.Mathlib.Decide.{ℕ_discrete}
 use Rattle.tl_types.specs.Request.{Request}
-use Rattle.tl_types.specs.Response.{Response}
 use Rattle.tl_types.specs.declared.trace.Entry.{Entry}
-use Rattle.tl_ops.specs.History.{IsLawfulHistory}
 use Rattle.tl_slots.specs.declared.phase.Phase.{Phase}
-use Rattle.tl_slots.specs.declared.phase.Phase.TheVariants.{Free, Filling, Posted, Serving, Answered, Taking}
-use Rattle.tl_slots.specs.Phase.{owner_of}
+use Rattle.tl_slots.specs.declared.phase.Phase.TheVariants.{Free, Serving, Answered}
 use Rattle.tl_rule.specs.declared.view.About.{About}
 use Rattle.tl_rule.specs.declared.view.Held.{Held}
-use Rattle.tl_rule.specs.declared.view.Held.TheVariants.{Nothing, Filled, Sent, Taken}
+use Rattle.tl_rule.specs.declared.view.Held.TheVariants.{Nothing, Sent}
 use Rattle.tl_rule.specs.declared.view.Hands.{Hands}
-use Rattle.tl_rule.specs.declared.view.Desk.{Desk}
-use Rattle.tl_rule.specs.Record.{SlotRecord, Spells, SpellsAnswer}
-use Rattle.tl_rule.specs.Serving.{ask_at, HasDistinctSlots}
-use Rattle.tl_rule.specs.Views.{Owns, reset_of, hands, desk, held, served, Above, no_hands, no_desk, with_hand, with_serving}
-use Rattle.tl_rule.specs.Rule.{Core, Names, Asked, HomeAsk, InPhase, IsPosted, IsServing, IsAnswered, IsTaken, InSlot, InGot, Placed, Places, HasShape, Lawful, phase}
+use Rattle.tl_rule.specs.Record.{SlotRecord}
+use Rattle.tl_rule.specs.Views.{Owns, hands, held, served, no_hands, with_hand}
+use Rattle.tl_rule.specs.Rule.{Core, Names, InPhase, Places, HasShape, Lawful, phase}
 use Rattle.tl_rule.proofs.Lists.{set_elim}
-use Rattle.tl_rule.proofs.Frames.{Same, stays, Quiet, quiet}
+use Rattle.tl_rule.proofs.Frames.{Same, stays, quiet}
 
 abbrev pub master_moves : Core → ℕ → Phase → maybe.Option SlotRecord → ℕ → Held → List Entry → Core
 master_moves c i f h m x got = record { phases = set c.phases i f; left = c.left; homes = set c.homes i h; masters = set c.masters m (with_hand (hands c.masters m) i x got); ports = c.ports }
@@ -102,8 +97,8 @@ module _ (a : About) (c : Core) (i : ℕ) (f : Phase) (h : maybe.Option SlotReco
   hand_kept = held_elim c.masters m i x got S.near in_hand (λ n j y. y ≢ Nothing → Names (phase d j) n)
       (λ some-held. subst (λ g. Names g m) (sym phase_here) (S.names some-held))
       (λ n j far some-held. dite (ℕ_discrete j i)
-          (λ e. let other : Names (phase c i) n = subst (λ (k : ℕ). Names (phase c k) n) e (L.hand n j some-held) in absurd (far (S.mine n other) e))
-          (λ ne. subst (λ g. Names g n) (sym (phase_else j ne)) (L.hand n j some-held)))
+      (λ e. let other : Names (phase c i) n = subst (λ (k : ℕ). Names (phase c k) n) e (L.hand n j some-held) in absurd (far (S.mine n other) e))
+      (λ ne. subst (λ g. Names g n) (sym (phase_else j ne)) (L.hand n j some-held)))
 
   service_kept : (p j : ℕ) (q : Request) → served c.ports p j ≡ Some q → (n : ℕ) × (phase d j ≡ Serving n p)
   service_kept p j q e = let t = L.service p j q e in dite (ℕ_discrete j i)

@@ -1,41 +1,28 @@
 -- The steps that claim a slot, post a request and release a slot.
-use Rattle.std.proofs.Common.{◌≡◌, ◌≢◌, ℕ, zero, suc, ◌+◌, ◌*◌, ◌/◌, ◌%◌, ◌<◌, ◌≤◌, eqb, Bool, true, false, List, [], ◌∷◌, ◌++◌, map, length, get_or, set, sym, refl, ap, subst, ◌∙◌, arith, inl, inr, ⊎_elim, ◌⊎◌, get_or-set_same, get_or-set_other, length-set, length-append, Option, Some, None, slice_get}
+use Rattle.std.proofs.Common.{◌≡◌, ◌≢◌, ℕ, ◌/◌, ◌<◌, eqb, false, List, ◌∷◌, length, get_or, sym, refl, ap, subst, ◌∙◌, arith, ⊎_elim, get_or-set_same, slice_get}
 use mathlib.Core.Option as maybe
 use mathlib.Core.Option.{some, none}
-use mathlib.Core.Logic.{dite}
-use native.Mathlib.Decide.{ℕ_discrete, dec_lt}
-use lib.ListN.{get_elem?}
 use prog.Atomic.{either}
-use Rattle.atomic_table.specs.Table.{State, Step, Me, step, Act, keeps, takes, gives, Valid, Allows, carried_after, stepped, homes_after, rest}
+use Rattle.atomic_table.specs.Table.{step, takes, gives, Allows, stepped}
 use Rattle.tl_types.specs.Request.{Request}
-use Rattle.tl_types.specs.Response.{Response}
 use Rattle.tl_types.specs.declared.trace.Entry.{Entry}
-use Rattle.tl_ops.specs.History.{IsLawfulHistory}
-use Rattle.tl_slots.specs.declared.phase.Phase.{Phase}
 use Rattle.tl_slots.specs.declared.phase.Phase.TheVariants.{Free, Filling, Posted, Serving, Answered, Taking}
-use Rattle.tl_slots.specs.declared.event.Event.{Event}
-use Rattle.tl_slots.specs.declared.event.Event.TheVariants.{Claim, Post, Accept, Answer, Collect, Release, Look, Leave}
-use Rattle.tl_slots.specs.Machine.{IsAllowed, state_after}
+use Rattle.tl_slots.specs.declared.event.Event.TheVariants.{Claim, Post, Release}
 use Rattle.tl_slots.specs.Word.{word}
 use Rattle.tl_slots.proofs.Steps.{move_is_allowed}
 use Rattle.tl_rule.specs.declared.view.About.{About}
-use Rattle.tl_rule.specs.declared.view.Held.{Held}
 use Rattle.tl_rule.specs.declared.view.Held.TheVariants.{Nothing, Filled, Sent, Taken}
 use Rattle.tl_rule.specs.declared.view.Hands.{Hands}
-use Rattle.tl_rule.specs.declared.view.Desk.{Desk}
-use Rattle.tl_rule.specs.declared.view.View.{View}
-use Rattle.tl_rule.specs.declared.view.View.TheVariants.{Dealer, Master, Port}
-use Rattle.tl_rule.specs.Record.{SlotRecord, Spells, SpellsAnswer}
-use Rattle.tl_rule.specs.Serving.{ask_at, drop_slot, HasDistinctSlots}
-use Rattle.tl_rule.specs.Views.{Owns, reset_of, hands, desk, held, served, Above, no_hands, no_desk, with_hand, with_serving, gone_hands}
-use Rattle.tl_rule.specs.Rule.{Core, Names, IsHome, Asked, HomeAsk, InPhase, IsPosted, IsServing, IsAnswered, IsTaken, InSlot, InGot, Placed, Places, HasShape, Lawful, Fits, phase, views_of, table_of}
+use Rattle.tl_rule.specs.declared.view.View.TheVariants.{Master}
+use Rattle.tl_rule.specs.Record.{SlotRecord, Spells}
+use Rattle.tl_rule.specs.Views.{Owns, hands, held, with_hand}
+use Rattle.tl_rule.specs.Rule.{Core, Names, InPhase, Lawful, Fits, phase, table_of}
 use Rattle.tl_rule.specs.Events.{state_of, IsOneEvent}
-use Rattle.tl_slots.specs.Word.{FitsWord}
-use Rattle.tl_rule.specs.Moves.{Sat, Tried, Claims, Sends, Releases, is_master, as_master, hand_of, handed, IsNew}
+use Rattle.tl_rule.specs.Moves.{Tried, Claims, Sends, Releases}
 use Rattle.tl_rule.proofs.Tables.{of_get}
-use Rattle.tl_rule.proofs.MasterFrame.{master_moves, MasterStep, moved, held_here, got_here, quiet_master}
-use Rattle.tl_rule.proofs.Facts.{Known, known, shown, nothing_or, seat_is, filled_phase, taken_phase, in_hand_of, not_left, low_master, one_named, free_names_none}
-use Rattle.tl_rule.proofs.Allowing.{fits_after, found, there, present, master_step, Goes, tries, stores}
+use Rattle.tl_rule.proofs.MasterFrame.{MasterStep, moved, held_here, got_here, quiet_master}
+use Rattle.tl_rule.proofs.Facts.{Known, known, shown, nothing_or, filled_phase, taken_phase, in_hand_of, not_left, low_master, one_named, free_names_none}
+use Rattle.tl_rule.proofs.Allowing.{fits_after, found, there, present, master_step, tries, stores}
 
 -- ---- claim
 
@@ -67,7 +54,7 @@ module _ (a : About) (c : Core) (L : Lawful a c) (id i : ℕ) (v : Hands) (K : K
       } in
       let M = moved a c i (Filling m) none m Filled v.got L S (quiet_master a c i (Filling m) none m Filled v.got L S (ap (λ (x : Hands). x.got) (sym K.is)) (λ n p e. absurd (let z : Free ≡ Answered n p = sym ph ∙ e in cc)) (λ n p e. absurd (cc)) L.places) in
       master_step a c i id v (Filling m) none Filled v.got carried (takes i letter) (Claim i m) L K (in_phases lt) refl M
-          (move_is_allowed (state_of a c) (Claim i m) _ refl (found a c L i Free lt ph) (there a c L m K.near) tt (present a c L m K.near here_left)) refl
+      (move_is_allowed (state_of a c) (Claim i m) _ refl (found a c L i Free lt ph) (there a c L m K.near) tt (present a c L m K.near here_left)) refl
 
   -- ---- post
 
@@ -97,7 +84,7 @@ module _ (a : About) (c : Core) (L : Lawful a c) (id i : ℕ) (v : Hands) (K : K
       } in
       let M = moved a c i (Posted m p) (some letter) m y v.got L S (quiet_master a c i (Posted m p) (some letter) m y v.got L S (ap (λ (x : Hands). x.got) (sym K.is)) (λ n p e. absurd (let z : Filling m ≡ Answered n p = sym ph ∙ e in cc)) (λ n p e. absurd (cc)) L.places) in
       master_step a c i id v (Posted m p) (some letter) y v.got ((i, letter) ∷ carried) gives (Post i m p) L K (in_phases lt) refl M
-          (move_is_allowed (state_of a c) (Post i m p) _ refl (found a c L i (Filling m) lt ph) (there a c L m K.near) (subst (λ (z : About). p < z.ports) K.about to) (present a c L m K.near staying)) refl
+      (move_is_allowed (state_of a c) (Post i m p) _ refl (found a c L i (Filling m) lt ph) (there a c L m K.near) (subst (λ (z : About). p < z.ports) K.about to) (present a c L m K.near staying)) refl
 
   -- ---- release
 
@@ -123,7 +110,7 @@ module _ (a : About) (c : Core) (L : Lawful a c) (id i : ℕ) (v : Hands) (K : K
       } in
       let M = moved a c i Free (some letter) m Nothing v.got L S (quiet_master a c i Free (some letter) m Nothing v.got L S (ap (λ (x : Hands). x.got) (sym K.is)) (λ n r e. absurd (let z : Taking m p ≡ Answered n r = sym ph ∙ e in cc)) (λ n p e. absurd (cc)) L.places) in
       master_step a c i id v Free (some letter) Nothing v.got ((i, letter) ∷ carried) gives (Release i m p) L K (in_phases lt) refl M
-          (move_is_allowed (state_of a c) (Release i m p) _ refl (found a c L i (Taking m p) lt ph) (there a c L m K.near) to (present a c L m K.near staying)) refl
+      (move_is_allowed (state_of a c) (Release i m p) _ refl (found a c L i (Taking m p) lt ph) (there a c L m K.near) to (present a c L m K.near staying)) refl
 
 -- ---- what each step owes
 
@@ -131,40 +118,40 @@ pub claims : (a : About) (slots id : ℕ) (v : Hands) (carried : List (ℕ × Sl
     → Allows (Fits a) slots id (Master v, carried) i (λ n. either (eqb n 0) new n) (Tried Claims (step slots i 0 new said) (Master v, carried))
 claims a slots id v carried i new said staying inside is =
     tries a slots id (Master v, carried) i 0 new said Claims (λ c L wide at hit. let K = known a c L id v at in let lt : i < a.slots = omega arith in
-        let ph = shown a c L i Free lt (record { owner = tt; port = tt }) hit in let home = subst (InPhase a c i) ph (L.slots i lt) in
-        let E = claim_event a c L id i v K carried home.0 lt staying ph in
-        let none_held = λ (ne : get_or v.hand i Nothing ≢ Nothing). free_names_none v.number (subst (λ g. Names g v.number) ph (L.hand v.number i (subst (λ (x : Hands). get_or x.hand i Nothing ≢ Nothing) (sym K.is) ne))) in (
-          Master (with_hand v i Filled v.got),
-          takes i home.0,
-          of_get c.homes i (some home.0) none (in_homes a c L id i v K carried lt) home.1,
-          subst (λ (n : ℕ). Fits a (stepped (table_of a c) i n id carried (Master (with_hand v i Filled v.got)) (takes i home.0))) (sym is) (fits_after a (Claim i v.number) _ _ E),
-          record { letter = home.0; seat = refl; free = ⊎_elim (λ e. e) (λ ne. absurd (none_held ne)) (nothing_or (get_or v.hand i Nothing)); inside = let w = K.wide in omega arith },
-        ))
+    let ph = shown a c L i Free lt (record { owner = tt; port = tt }) hit in let home = subst (InPhase a c i) ph (L.slots i lt) in
+    let E = claim_event a c L id i v K carried home.0 lt staying ph in
+    let none_held = λ (ne : get_or v.hand i Nothing ≢ Nothing). free_names_none v.number (subst (λ g. Names g v.number) ph (L.hand v.number i (subst (λ (x : Hands). get_or x.hand i Nothing ≢ Nothing) (sym K.is) ne))) in (
+      Master (with_hand v i Filled v.got),
+      takes i home.0,
+      of_get c.homes i (some home.0) none (in_homes a c L id i v K carried lt) home.1,
+      subst (λ (n : ℕ). Fits a (stepped (table_of a c) i n id carried (Master (with_hand v i Filled v.got)) (takes i home.0))) (sym is) (fits_after a (Claim i v.number) _ _ E),
+      record { letter = home.0; seat = refl; free = ⊎_elim (λ e. e) (λ ne. absurd (none_held ne)) (nothing_or (get_or v.hand i Nothing)); inside = let w = K.wide in omega arith },
+    ))
 
 pub posts : (a : About) (slots id : ℕ) (v : Hands) (carried : List (ℕ × SlotRecord)) (i new : ℕ) (letter : SlotRecord) (ask : Request) (p : ℕ) → get_or v.hand i Nothing ≡ Filled → new ≡ word (Posted v.number p) → Spells letter ask → p < v.about.ports
     → Owns v.about v.number ask.source → ((j : ℕ) (other : Request) (r n : ℕ) → get_or v.hand j Nothing ≡ Sent other r n → ask.source ≢ other.source)
     → Allows (Fits a) slots id (Master v, (i, letter) ∷ carried) i (λ _. new) (λ _. Sends (step slots i new 0 none) (Master v, (i, letter) ∷ carried) new)
 posts a slots id v carried i new letter ask p filled is spells to own distinct = let y = Sent ask p (length v.got) in
     stores a slots id (Master v, (i, letter) ∷ carried) i new (Sends (step slots i new 0 none) (Master v, (i, letter) ∷ carried) new) (λ c L wide at. let K = known a c L id v at in
-        let lt : i < a.slots = (let z = in_hand_of v.hand i (λ e. absurd (cc)) in let w = K.wide in omega arith) in
-        let E = post_event a c L id i v K carried letter ask p lt filled spells to own distinct in
-        let small = (low_master a c L v.number K.near).1 in let port : new / 2048 ≡ p = omega arith in (
-          Master (with_hand v i y v.got),
-          gives,
-          tt,
-          subst (λ (n : ℕ). Fits a (stepped (table_of a c) i n id ((i, letter) ∷ carried) (Master (with_hand v i y v.got)) gives)) (sym is) (fits_after a (Post i v.number p) _ _ E),
-          record { ask = ask; spells = spells; seat = λ t. (Master (with_hand v i (Sent ask (sym port t) (length v.got)) v.got), carried) },
-        ))
+    let lt : i < a.slots = (let z = in_hand_of v.hand i (λ e. absurd (cc)) in let w = K.wide in omega arith) in
+    let E = post_event a c L id i v K carried letter ask p lt filled spells to own distinct in
+    let small = (low_master a c L v.number K.near).1 in let port : new / 2048 ≡ p = omega arith in (
+      Master (with_hand v i y v.got),
+      gives,
+      tt,
+      subst (λ (n : ℕ). Fits a (stepped (table_of a c) i n id ((i, letter) ∷ carried) (Master (with_hand v i y v.got)) gives)) (sym is) (fits_after a (Post i v.number p) _ _ E),
+      record { ask = ask; spells = spells; seat = λ t. (Master (with_hand v i (Sent ask (sym port t) (length v.got)) v.got), carried) },
+    ))
 
 pub releases : (a : About) (slots id : ℕ) (v : Hands) (carried : List (ℕ × SlotRecord)) (i : ℕ) (letter : SlotRecord) (p : ℕ) → get_or v.hand i Nothing ≡ Taken p
     → Allows (Fits a) slots id (Master v, (i, letter) ∷ carried) i (λ _. 0) (λ _. Releases (step slots i 0 0 none) (Master v, (i, letter) ∷ carried) 0)
 releases a slots id v carried i letter p taken =
     stores a slots id (Master v, (i, letter) ∷ carried) i 0 (Releases (step slots i 0 0 none) (Master v, (i, letter) ∷ carried) 0) (λ c L wide at. let K = known a c L id v at in
-        let lt : i < a.slots = (let z = in_hand_of v.hand i (λ e. absurd (cc)) in let w = K.wide in omega arith) in
-        let E = release_event a c L id i v K carried letter p lt taken in (
-          Master (with_hand v i Nothing v.got),
-          gives,
-          tt,
-          fits_after a (Release i v.number p) _ _ E,
-          record { seat = refl },
-        ))
+    let lt : i < a.slots = (let z = in_hand_of v.hand i (λ e. absurd (cc)) in let w = K.wide in omega arith) in
+    let E = release_event a c L id i v K carried letter p lt taken in (
+      Master (with_hand v i Nothing v.got),
+      gives,
+      tt,
+      fits_after a (Release i v.number p) _ _ E,
+      record { seat = refl },
+    ))

@@ -1,35 +1,16 @@
 -- Where the rule holds, a master's view and a port's list fit together.
-use Rattle.std.proofs.Common.{◌≡◌, ◌≢◌, ℕ, zero, suc, ◌+◌, ◌*◌, ◌/◌, ◌%◌, ◌<◌, ◌≤◌, eqb, Bool, true, false, List, [], ◌∷◌, ◌++◌, map, length, get_or, set, sym, refl, ap, subst, ◌∙◌, arith, inl, inr, ⊎_elim, ◌⊎◌, get_or-set_same, get_or-set_other, length-set, length-append, Option, Some, None, slice_get}
-use mathlib.Core.Option as maybe
-use mathlib.Core.Option.{some, none}
-use mathlib.Core.Logic.{dite}
-use native.Mathlib.Decide.{ℕ_discrete, dec_lt}
-use lib.ListN.{get_elem?}
-use prog.Atomic.{either}
-use Rattle.atomic_table.specs.Table.{State, Step, Me, step, Act, keeps, takes, gives, Valid, Allows, carried_after, stepped, homes_after, rest}
+use Rattle.std.proofs.Common.{◌≡◌, ℕ, ◌<◌, List, sym, refl, ap, subst, ◌∙◌, arith, inl, inr, ⊎_elim, ◌⊎◌, Some, slice_get}
 use Rattle.tl_types.specs.Request.{Request}
 use Rattle.tl_types.specs.Response.{Response}
 use Rattle.tl_types.specs.declared.trace.Entry.{Entry}
 use Rattle.tl_ops.specs.History.{IsLawfulHistory}
-use Rattle.tl_slots.specs.declared.phase.Phase.{Phase}
-use Rattle.tl_slots.specs.declared.phase.Phase.TheVariants.{Free, Filling, Posted, Serving, Answered, Taking}
-use Rattle.tl_slots.specs.declared.event.Event.{Event}
-use Rattle.tl_slots.specs.declared.event.Event.TheVariants.{Claim, Post, Accept, Answer, Collect, Release, Look, Leave}
-use Rattle.tl_slots.specs.Machine.{IsAllowed, state_after}
-use Rattle.tl_slots.specs.Word.{word}
-use Rattle.tl_slots.proofs.Steps.{move_is_allowed}
+use Rattle.tl_slots.specs.declared.phase.Phase.TheVariants.{Free, Answered}
 use Rattle.tl_rule.specs.declared.view.About.{About}
-use Rattle.tl_rule.specs.declared.view.Held.{Held}
-use Rattle.tl_rule.specs.declared.view.Held.TheVariants.{Nothing, Filled, Sent, Taken}
+use Rattle.tl_rule.specs.declared.view.Held.TheVariants.{Nothing, Sent}
 use Rattle.tl_rule.specs.declared.view.Hands.{Hands}
-use Rattle.tl_rule.specs.declared.view.Desk.{Desk}
-use Rattle.tl_rule.specs.declared.view.View.{View}
-use Rattle.tl_rule.specs.declared.view.View.TheVariants.{Dealer, Master, Port}
-use Rattle.tl_rule.specs.Record.{SlotRecord, Spells, SpellsAnswer}
-use Rattle.tl_rule.specs.Serving.{ask_at, drop_slot, HasDistinctSlots}
-use Rattle.tl_rule.specs.Views.{Owns, reset_of, hands, desk, held, served, Above, no_hands, no_desk, with_hand, with_serving, gone_hands}
-use Rattle.tl_rule.specs.Rule.{Core, Names, IsHome, Asked, HomeAsk, InPhase, IsPosted, IsServing, IsAnswered, IsTaken, InSlot, InGot, Placed, Places, HasShape, Lawful, Fits, phase, views_of, table_of}
-use Rattle.tl_rule.specs.Events.{state_of, IsOneEvent}
+use Rattle.tl_rule.specs.Record.{SlotRecord}
+use Rattle.tl_rule.specs.Views.{Owns, reset_of, hands, desk, held}
+use Rattle.tl_rule.specs.Rule.{Core, IsHome, InPhase, IsAnswered, InSlot, InGot, Lawful, phase}
 use Rattle.tl_rule.specs.Seen.{SeenFit, JustOwn, IsPlaceOf, HasSeen, HasGot, IsOut}
 use Rattle.tl_rule.specs.Moves.{OwnsAll}
 use Rattle.tl_rule.proofs.Facts.{one_owner, phase_inside}
@@ -57,12 +38,12 @@ module _ (a : About) (c : Core) (L : Lawful a c) (m p : ℕ) where
   found : (k : ℕ) (x : Request × Response) → slice_get h k ≡ Some x → Owns a m x.0.source → At k x ⊎ IsPlaceOf (HasGot v p) k
   found k x at own = let t = L.places.placed p k x at in let one = one_owner a t.master m x.0.source x.0.source t.owns own refl in ⊎_elim
       (λ (s : InSlot a c t.master p k). inl (let ph : phase c s.slot ≡ Answered m p = subst (λ (n : ℕ). phase c s.slot ≡ Answered n p) one s.phased in
-          let g = subst (InPhase a c s.slot) ph (L.slots s.slot (answered_inside a c L s.slot m p ph)) in
-          let same : g.home.letter ≡ s.letter = (let y = g.home.at in let z = s.at in cc) in
-          let index : g.home.letter.index ≡ k = ap (λ (z : SlotRecord). z.index) same ∙ s.index in
-          let pair : Some (g.asked.ask, g.answer) ≡ Some x = sym (subst (λ (n : ℕ). slice_get h n ≡ Some (g.asked.ask, g.answer)) index g.listed) ∙ at in
-          let ask : g.asked.ask ≡ x.0 = cc in
-          record { slot = s.slot; known = g.asked.known; letter = s.letter; sent = g.asked.sent ∙ (λ z. Sent (ask z) p g.asked.known); at = s.at; index = s.index }))
+      let g = subst (InPhase a c s.slot) ph (L.slots s.slot (answered_inside a c L s.slot m p ph)) in
+      let same : g.home.letter ≡ s.letter = (let y = g.home.at in let z = s.at in cc) in
+      let index : g.home.letter.index ≡ k = ap (λ (z : SlotRecord). z.index) same ∙ s.index in
+      let pair : Some (g.asked.ask, g.answer) ≡ Some x = sym (subst (λ (n : ℕ). slice_get h n ≡ Some (g.asked.ask, g.answer)) index g.listed) ∙ at in
+      let ask : g.asked.ask ≡ x.0 = cc in
+      record { slot = s.slot; known = g.asked.known; letter = s.letter; sent = g.asked.sent ∙ (λ z. Sent (ask z) p g.asked.known); at = s.at; index = s.index }))
       (λ (g : InGot a c t.master p k). inr (record { entry = g.entry; is = record { place = g.place; at = subst (λ (n : ℕ). slice_get (hands c.masters n).got g.place ≡ Some g.entry) one g.at; port = g.port }; at = g.index })) t.place
 
   stands : (e : Entry) → HasGot v p e → slice_get h e.index ≡ Some (e.ask, e.reply)
@@ -74,7 +55,7 @@ module _ (a : About) (c : Core) (L : Lawful a c) (m p : ℕ) where
     others = λ k x at own. ⊎_elim (λ (t : At k x). inr (record { slot = t.slot; known = t.known; sent = t.sent })) inl (found k x at own);
     once = λ k l x y at there own same not_k not_l. let own' = subst (λ (z : ℕ). Owns a m z) same own in
         ⊎_elim (λ (t : At k x). ⊎_elim (λ (u : At l y). let one = L.sources m t.slot u.slot p p t.known u.known x.0 y.0 t.sent u.sent same in
-          let ans : t.letter ≡ u.letter = (let z = subst (λ (n : ℕ). IsHome c.homes n t.letter) one t.at in let w = u.at in cc) in sym t.index ∙ ap (λ (z : SlotRecord). z.index) ans ∙ u.index)
+        let ans : t.letter ≡ u.letter = (let z = subst (λ (n : ℕ). IsHome c.homes n t.letter) one t.at in let w = u.at in cc) in sym t.index ∙ ap (λ (z : SlotRecord). z.index) ans ∙ u.index)
         (λ z. absurd (not_l z)) (found l y there own')) (λ z. absurd (not_k z)) (found k x at own);
   }
 

@@ -1,27 +1,23 @@
 -- A step of a port, which changes one slot, the list and what is served at that slot, keeps what the rule says of all else.
-use Rattle.std.proofs.Common.{◌≡◌, ◌≢◌, ℕ, zero, suc, ◌+◌, ◌<◌, ◌≤◌, Bool, true, false, cond, List, [], ◌∷◌, ◌++◌, length, get_or, set, sym, refl, ap, subst, ◌∙◌, arith, inl, inr, ⊎_elim, ◌⊎◌, get_or-set_same, get_or-set_other, length-set, Option, Some, None, slice_get}
+use Rattle.std.proofs.Common.{◌≡◌, ◌≢◌, ℕ, ◌<◌, List, length, set, sym, refl, ap, subst, ◌∙◌, arith, get_or-set_same, get_or-set_other, length-set, Some, slice_get}
 use mathlib.Core.Option as maybe
 use mathlib.Core.Option.{some, none}
 use mathlib.Core.Logic.{dite}
 use native.Mathlib.Decide.{ℕ_discrete}
 use Rattle.tl_types.specs.Request.{Request}
 use Rattle.tl_types.specs.Response.{Response}
-use Rattle.tl_types.specs.declared.trace.Entry.{Entry}
 use Rattle.tl_ops.specs.History.{IsLawfulHistory}
 use Rattle.tl_slots.specs.declared.phase.Phase.{Phase}
-use Rattle.tl_slots.specs.declared.phase.Phase.TheVariants.{Free, Filling, Posted, Serving, Answered, Taking}
-use Rattle.tl_slots.specs.Phase.{owner_of}
+use Rattle.tl_slots.specs.declared.phase.Phase.TheVariants.{Free, Serving, Answered}
 use Rattle.tl_rule.specs.declared.view.About.{About}
-use Rattle.tl_rule.specs.declared.view.Held.{Held}
-use Rattle.tl_rule.specs.declared.view.Held.TheVariants.{Nothing, Filled, Sent, Taken}
-use Rattle.tl_rule.specs.declared.view.Hands.{Hands}
+use Rattle.tl_rule.specs.declared.view.Held.TheVariants.{Nothing}
 use Rattle.tl_rule.specs.declared.view.Desk.{Desk}
-use Rattle.tl_rule.specs.Record.{SlotRecord, Spells, SpellsAnswer}
+use Rattle.tl_rule.specs.Record.{SlotRecord}
 use Rattle.tl_rule.specs.Serving.{ask_at, HasDistinctSlots}
-use Rattle.tl_rule.specs.Views.{Owns, reset_of, hands, desk, held, served, Above, no_hands, no_desk, with_hand, with_serving}
-use Rattle.tl_rule.specs.Rule.{Core, Names, Asked, HomeAsk, InPhase, IsPosted, IsServing, IsAnswered, IsTaken, InSlot, InGot, Placed, Places, HasShape, Lawful, phase}
+use Rattle.tl_rule.specs.Views.{reset_of, desk, held, served, no_desk, with_serving}
+use Rattle.tl_rule.specs.Rule.{Core, Names, InPhase, Places, HasShape, Lawful, phase}
 use Rattle.tl_rule.proofs.Lists.{set_elim}
-use Rattle.tl_rule.proofs.Frames.{Same, stays, Quiet, quiet}
+use Rattle.tl_rule.proofs.Frames.{Same, stays, quiet}
 
 abbrev pub port_moves : Core → ℕ → Phase → maybe.Option SlotRecord → ℕ → List (ℕ × Request) → List (Request × Response) → Core
 port_moves c i f h p now list = record { phases = set c.phases i f; left = c.left; homes = set c.homes i h; masters = c.masters; ports = set c.ports p (with_serving (desk c.ports p) now list) }
@@ -95,11 +91,11 @@ module _ (a : About) (c : Core) (i : ℕ) (f : Phase) (h : maybe.Option SlotReco
   port_service_kept : (n j : ℕ) (ask : Request) → served e.ports n j ≡ Some ask → (k : ℕ) × (phase e j ≡ Serving k n)
   port_service_kept n j ask = desk_elim c.ports p now list S.near (λ n u. ask_at u.serving j ≡ Some ask → (k : ℕ) × (phase e j ≡ Serving k n))
       (λ is. dite (ℕ_discrete j i)
-          (λ same. let t = S.names ask (subst (λ (z : ℕ). ask_at now z ≡ Some ask) same is) in (t.0, subst (λ (z : ℕ). phase e z ≡ Serving t.0 p) (sym same) (port_phase_here ∙ t.1)))
-          (λ ne. service_else p j ask ne (sym (S.others j ne) ∙ is)))
+      (λ same. let t = S.names ask (subst (λ (z : ℕ). ask_at now z ≡ Some ask) same is) in (t.0, subst (λ (z : ℕ). phase e z ≡ Serving t.0 p) (sym same) (port_phase_here ∙ t.1)))
+      (λ ne. service_else p j ask ne (sym (S.others j ne) ∙ is)))
       (λ n far is. dite (ℕ_discrete j i)
-          (λ same. let t = L.service n j ask is in absurd (far (S.mine t.0 n (subst (λ (z : ℕ). phase c z ≡ Serving t.0 n) same t.1))))
-          (λ ne. service_else n j ask ne is)) n
+      (λ same. let t = L.service n j ask is in absurd (far (S.mine t.0 n (subst (λ (z : ℕ). phase c z ≡ Serving t.0 n) same t.1))))
+      (λ ne. service_else n j ask ne is)) n
 
   port_shape_kept : HasShape a e
   port_shape_kept = let z = length-set c.ports p (with_serving (desk c.ports p) now list) in let t = L.shape in record {

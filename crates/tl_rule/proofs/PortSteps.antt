@@ -1,47 +1,33 @@
 -- The steps that accept a request and answer it, and what every table that fits says of a port.
-use Rattle.std.proofs.Common.{◌≡◌, ◌≢◌, ℕ, zero, suc, ◌+◌, ◌*◌, ◌/◌, ◌%◌, ◌<◌, ◌≤◌, eqb, Bool, true, false, List, [], ◌∷◌, ◌++◌, map, length, get_or, set, sym, refl, ap, subst, ◌∙◌, arith, inl, inr, ⊎_elim, ◌⊎◌, get_or-set_same, get_or-set_other, length-set, length-append, Option, Some, None, slice_get}
+use Rattle.std.proofs.Common.{◌≡◌, ◌≢◌, ℕ, ◌/◌, ◌%◌, ◌<◌, ◌≤◌, eqb, List, [], ◌∷◌, ◌++◌, length, sym, refl, ap, subst, ◌∙◌, arith, ⊎_elim, get_or-set_same, length-set, Some, None, slice_get}
 use mathlib.Core.Option as maybe
 use mathlib.Core.Option.{some, none}
-use mathlib.Core.Logic.{dite}
-use native.Mathlib.Decide.{ℕ_discrete, dec_lt}
-use lib.ListN.{get_elem?}
 use prog.Atomic.{either}
-use Rattle.atomic_table.specs.Table.{State, Step, Me, step, Act, keeps, takes, gives, Valid, Allows, carried_after, stepped, homes_after, rest}
+use Rattle.atomic_table.specs.Table.{step, takes, Allows, stepped}
 use Rattle.tl_types.specs.Request.{Request}
 use Rattle.tl_types.specs.Response.{Response}
-use Rattle.tl_types.specs.declared.trace.Entry.{Entry}
 use Rattle.tl_ops.specs.History.{IsLawfulHistory}
 use Rattle.tl_slots.specs.declared.phase.Phase.{Phase}
-use Rattle.tl_slots.specs.declared.phase.Phase.TheVariants.{Free, Filling, Posted, Serving, Answered, Taking}
-use Rattle.tl_slots.specs.declared.event.Event.{Event}
-use Rattle.tl_slots.specs.declared.event.Event.TheVariants.{Claim, Post, Accept, Answer, Collect, Release, Look, Leave}
-use Rattle.tl_slots.specs.Machine.{IsAllowed, state_after}
+use Rattle.tl_slots.specs.declared.phase.Phase.TheVariants.{Free, Posted, Serving, Answered}
+use Rattle.tl_slots.specs.declared.event.Event.TheVariants.{Accept}
 use Rattle.tl_slots.specs.Word.{word}
 use Rattle.tl_slots.proofs.Steps.{move_is_allowed}
 use Rattle.tl_rule.specs.declared.view.About.{About}
-use Rattle.tl_rule.specs.declared.view.Held.{Held}
-use Rattle.tl_rule.specs.declared.view.Held.TheVariants.{Nothing, Filled, Sent, Taken}
-use Rattle.tl_rule.specs.declared.view.Hands.{Hands}
+use Rattle.tl_rule.specs.declared.view.Held.TheVariants.{Sent}
 use Rattle.tl_rule.specs.declared.view.Desk.{Desk}
-use Rattle.tl_rule.specs.declared.view.View.{View}
-use Rattle.tl_rule.specs.declared.view.View.TheVariants.{Dealer, Master, Port}
-use Rattle.tl_rule.specs.Record.{SlotRecord, Spells, SpellsAnswer}
-use Rattle.tl_rule.specs.Serving.{ask_at, drop_slot, HasDistinctSlots}
-use Rattle.tl_rule.specs.Views.{Owns, reset_of, hands, desk, held, served, Above, no_hands, no_desk, with_hand, with_serving, gone_hands}
-use Rattle.tl_rule.specs.Rule.{Core, Names, IsHome, Asked, HomeAsk, InPhase, IsPosted, IsServing, IsAnswered, IsTaken, InSlot, InGot, Placed, Places, HasShape, Lawful, Fits, phase, views_of, table_of}
+use Rattle.tl_rule.specs.declared.view.View.TheVariants.{Port}
+use Rattle.tl_rule.specs.Record.{SlotRecord}
+use Rattle.tl_rule.specs.Serving.{ask_at, HasDistinctSlots}
+use Rattle.tl_rule.specs.Views.{Owns, reset_of, desk, held, served, no_desk, with_serving}
+use Rattle.tl_rule.specs.Rule.{Core, Names, Asked, InPhase, Lawful, Fits, phase, table_of}
 use Rattle.tl_rule.specs.Events.{state_of, IsOneEvent}
-use Rattle.tl_ops.specs.Store as store
-use Rattle.tl_ops.specs.History.{replay, asks_of}
-use Rattle.tl_ops.proofs.Histories.{IsLawfulHistory-push}
-use Rattle.tl_slots.specs.Word.{FitsWord}
 use Rattle.tl_slots.specs.declared.word.TheConstants.{MAX_AGENT}
-use Rattle.tl_rule.specs.Moves.{Sat, Tried, Accepts, Answers, IsLawfulDesk, is_port, as_port, service_of}
+use Rattle.tl_rule.specs.Moves.{Tried, Accepts, IsLawfulDesk}
 use Rattle.tl_rule.proofs.Tables.{of_get}
-use Rattle.tl_rule.proofs.Lists.{at_end, before_end, below_length, ended}
-use Rattle.tl_rule.proofs.Serving.{push_here, push_else, push_once, drop_here, drop_else, drop_once}
-use Rattle.tl_rule.proofs.PortFrame.{port_moves, PortStep, port_moved, served_here, list_here, quiet_port, port_phase_here, port_phase_else, desk_elim}
-use Rattle.tl_rule.proofs.Facts.{KnownPort, known_port, shown, none_or, one_owner, phase_inside, some_master, some_port, low_port, one_named}
-use Rattle.tl_rule.proofs.Allowing.{fits_after, found, there, port_step, Goes, tries, stores}
+use Rattle.tl_rule.proofs.Serving.{push_here, push_else, push_once}
+use Rattle.tl_rule.proofs.PortFrame.{port_moves, PortStep, port_moved, served_here, quiet_port}
+use Rattle.tl_rule.proofs.Facts.{KnownPort, known_port, shown, none_or, one_owner, phase_inside, some_master, low_port}
+use Rattle.tl_rule.proofs.Allowing.{fits_after, found, there, port_step, tries}
 
 -- a slot in this phase is there
 pub serving_inside : (a : About) (c : Core) (L : Lawful a c) (i m p : ℕ) → phase c i ≡ Serving m p → i < a.slots
@@ -85,7 +71,7 @@ module _ (a : About) (c : Core) (L : Lawful a c) (id i : ℕ) (u : Desk) (K : Kn
 
   pub accept_event : (letter : SlotRecord) (o : ℕ) (lt : i < a.slots) (ph : phase c i ≡ Posted o u.number) (s : Asked c.masters o i u.number)
       → IsOneEvent a (Accept i o u.number) (table_of a c) (stepped (table_of a c) i (word (Serving o u.number)) id carried (Port (with_serving u (u.serving ++ (i, s.ask) ∷ []) u.list)) (takes i letter))
-        × IsLawfulDesk (with_serving u (u.serving ++ (i, s.ask) ∷ []) u.list)
+      × IsLawfulDesk (with_serving u (u.serving ++ (i, s.ask) ∷ []) u.list)
   accept_event letter o lt ph s = let p = u.number in let now = u.serving ++ (i, s.ask) ∷ [] in let none_there = unserved o ph in
       let near : o < length c.masters = some_owner o s in
       let S : PortStep a c i (Serving o p) none p now u.list = record {
@@ -100,10 +86,11 @@ module _ (a : About) (c : Core) (L : Lawful a c) (id i : ℕ) (u : Desk) (K : Kn
         lawful = subst (λ (w : Desk). IsLawfulHistory (reset_of a p) w.list) K.is (L.lawful p);
         here = record { asked = s; serves = served_here c.ports p now u.list K.near i ∙ push_here u.serving i s.ask none_there };
       } in
-      let M = port_moved a c i (Serving o p) none p now u.list L S (quiet_port a c i (Serving o p) none p now u.list L S (ap (λ (w : Desk). w.list) (sym K.is)) (λ n r e. absurd (let z : Posted o p ≡ Answered n r = sym ph ∙ e in cc)) (λ n r e. absurd (cc)) L.places) in
-      (port_step a c i id u (Serving o p) none now u.list carried (takes i letter) (Accept i o p) L K (in_phases lt) refl M
-          (move_is_allowed (state_of a c) (Accept i o p) _ refl (found a c L i (Posted o p) lt ph) (there a c L o near) (low_port a c L p K.near).0 tt) refl,
-        law_after (Serving o p) none now u.list M)
+      let M = port_moved a c i (Serving o p) none p now u.list L S (quiet_port a c i (Serving o p) none p now u.list L S (ap (λ (w : Desk). w.list) (sym K.is)) (λ n r e. absurd (let z : Posted o p ≡ Answered n r = sym ph ∙ e in cc)) (λ n r e. absurd (cc)) L.places) in (
+        port_step a c i id u (Serving o p) none now u.list carried (takes i letter) (Accept i o p) L K (in_phases lt) refl M
+            (move_is_allowed (state_of a c) (Accept i o p) _ refl (found a c L i (Posted o p) lt ph) (there a c L o near) (low_port a c L p K.near).0 tt) refl,
+        law_after (Serving o p) none now u.list M,
+      )
     where
       some_owner : (o : ℕ) → Asked c.masters o i u.number → o < length c.masters
       some_owner o s = let t = s.sent in some_master c.masters o i (λ e. absurd (cc))
@@ -112,28 +99,28 @@ pub accepts : (a : About) (slots id : ℕ) (u : Desk) (carried : List (ℕ × Sl
     → Allows (Fits a) slots id (Port u, carried) i (λ n. either (eqb n old) new n) (Tried Accepts (step slots i old new said) (Port u, carried))
 accepts a slots id u carried i old new o said inside small old_is is = let p = u.number in
     tries a slots id (Port u, carried) i old new said Accepts (λ c L wide at hit. let K = known_port a c L id u at in let lt : i < a.slots = omega arith in
-        let low = (low_port a c L p K.near).1 in
-        let ph = shown a c L i (Posted o p) lt (record { owner = small; port = low }) (hit ∙ old_is) in let h = subst (InPhase a c i) ph (L.slots i lt) in
-        let ask = h.asked.ask in let letter = h.home.letter in let now = u.serving ++ (i, ask) ∷ [] in
-        let E = accept_event a c L id i u K carried letter o lt ph h.asked in
-        let none_there = unserved a c L id i u K carried o ph in
-        let mine = L.block o i p h.asked.known ask h.asked.sent in
-        let owner : o ≡ old / 8 % 256 = omega arith in
-        let away = λ (j : ℕ) (other : Request) (is_there : ask_at u.serving j ≡ Some other) (same : ask.source ≡ other.source).
-            let ne : j ≢ i = (λ e. let z = subst (λ (k : ℕ). ask_at u.serving k ≡ Some other) e is_there in absurd (cc)) in
-            ne (sym (E.1.sources i j ask other (push_here u.serving i ask none_there) (push_else u.serving i j ask ne ∙ is_there) same)) in (
-          Port (with_serving u now u.list),
-          takes i letter,
-          of_get c.homes i (some letter) none (in_homes a c L id i u K carried lt) h.home.at,
-          subst (λ (n : ℕ). Fits a (stepped (table_of a c) i n id carried (Port (with_serving u now u.list)) (takes i letter))) (sym is) (fits_after a (Accept i o p) _ _ E.0),
-          record {
-            letter = letter;
-            ask = ask;
-            spells = h.home.spells;
-            seat = refl;
-            free = none_there;
-            owner = subst (λ (n : ℕ). Owns u.about n ask.source) owner (subst (λ (z : About). Owns z o ask.source) (sym K.about) mine);
-            apart = away;
-            law = E.1;
-          },
-        ))
+    let low = (low_port a c L p K.near).1 in
+    let ph = shown a c L i (Posted o p) lt (record { owner = small; port = low }) (hit ∙ old_is) in let h = subst (InPhase a c i) ph (L.slots i lt) in
+    let ask = h.asked.ask in let letter = h.home.letter in let now = u.serving ++ (i, ask) ∷ [] in
+    let E = accept_event a c L id i u K carried letter o lt ph h.asked in
+    let none_there = unserved a c L id i u K carried o ph in
+    let mine = L.block o i p h.asked.known ask h.asked.sent in
+    let owner : o ≡ old / 8 % 256 = omega arith in
+    let away = λ (j : ℕ) (other : Request) (is_there : ask_at u.serving j ≡ Some other) (same : ask.source ≡ other.source).
+    let ne : j ≢ i = (λ e. let z = subst (λ (k : ℕ). ask_at u.serving k ≡ Some other) e is_there in absurd (cc)) in
+    ne (sym (E.1.sources i j ask other (push_here u.serving i ask none_there) (push_else u.serving i j ask ne ∙ is_there) same)) in (
+      Port (with_serving u now u.list),
+      takes i letter,
+      of_get c.homes i (some letter) none (in_homes a c L id i u K carried lt) h.home.at,
+      subst (λ (n : ℕ). Fits a (stepped (table_of a c) i n id carried (Port (with_serving u now u.list)) (takes i letter))) (sym is) (fits_after a (Accept i o p) _ _ E.0),
+      record {
+        letter = letter;
+        ask = ask;
+        spells = h.home.spells;
+        seat = refl;
+        free = none_there;
+        owner = subst (λ (n : ℕ). Owns u.about n ask.source) owner (subst (λ (z : About). Owns z o ask.source) (sym K.about) mine);
+        apart = away;
+        law = E.1;
+      },
+    ))

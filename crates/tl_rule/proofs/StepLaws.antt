@@ -1,44 +1,29 @@
 -- The laws of the steps, over any table that fits.
-use Rattle.std.proofs.Common.{◌≡◌, ◌≢◌, ℕ, zero, suc, ◌+◌, ◌*◌, ◌/◌, ◌%◌, ◌<◌, ◌≤◌, eqb, Bool, true, false, List, [], ◌∷◌, ◌++◌, map, length, get_or, set, sym, refl, ap, subst, ◌∙◌, arith, inl, inr, ⊎_elim, ◌⊎◌, get_or-set_same, get_or-set_other, length-set, length-append, Option, Some, None, slice_get}
+use Rattle.std.proofs.Common.{◌≡◌, ◌≢◌, ℕ, ◌+◌, ◌<◌, List, [], ◌∷◌, ◌++◌, length, get_or, sym, refl, ap, subst, ◌∙◌, arith}
 use mathlib.Core.Option as maybe
 use mathlib.Core.Option.{some, none}
-use mathlib.Core.Logic.{dite}
-use native.Mathlib.Decide.{ℕ_discrete, dec_lt}
 use lib.ListN.{get_elem?}
-use prog.Atomic.{either}
-use Rattle.atomic_table.specs.Table.{State, Step, Me, step, Act, keeps, takes, gives, Valid, Allows, carried_after, stepped, homes_after, rest}
+use Rattle.atomic_table.specs.Table.{keeps, takes, gives, stepped}
 use Rattle.tl_types.specs.Request.{Request}
 use Rattle.tl_types.specs.Response.{Response}
-use Rattle.tl_types.specs.declared.trace.Entry.{Entry}
-use Rattle.tl_ops.specs.History.{IsLawfulHistory}
-use Rattle.tl_slots.specs.declared.phase.Phase.{Phase}
 use Rattle.tl_slots.specs.declared.phase.Phase.TheVariants.{Free, Filling, Posted, Serving, Answered, Taking}
-use Rattle.tl_slots.specs.declared.event.Event.{Event}
 use Rattle.tl_slots.specs.declared.event.Event.TheVariants.{Claim, Post, Accept, Answer, Collect, Release, Look, Leave}
-use Rattle.tl_slots.specs.Machine.{IsAllowed, state_after}
 use Rattle.tl_slots.specs.Word.{word}
-use Rattle.tl_slots.proofs.Steps.{move_is_allowed}
 use Rattle.tl_rule.specs.declared.view.About.{About}
-use Rattle.tl_rule.specs.declared.view.Held.{Held}
 use Rattle.tl_rule.specs.declared.view.Held.TheVariants.{Nothing, Filled, Sent, Taken}
 use Rattle.tl_rule.specs.declared.view.Hands.{Hands}
-use Rattle.tl_rule.specs.declared.view.Desk.{Desk}
-use Rattle.tl_rule.specs.declared.view.View.{View}
-use Rattle.tl_rule.specs.declared.view.View.TheVariants.{Dealer, Master, Port}
+use Rattle.tl_rule.specs.declared.view.View.TheVariants.{Master, Port}
 use Rattle.tl_rule.specs.Record.{SlotRecord, Spells, SpellsAnswer}
-use Rattle.tl_rule.specs.Serving.{ask_at, drop_slot, HasDistinctSlots}
-use Rattle.tl_rule.specs.Views.{Owns, reset_of, hands, desk, held, served, Above, no_hands, no_desk, with_hand, with_serving, gone_hands}
-use Rattle.tl_rule.specs.Rule.{Core, Names, IsHome, Asked, HomeAsk, InPhase, IsPosted, IsServing, IsAnswered, IsTaken, InSlot, InGot, Placed, Places, HasShape, Lawful, Fits, phase, views_of, table_of}
+use Rattle.tl_rule.specs.Serving.{drop_slot}
+use Rattle.tl_rule.specs.Views.{held, with_hand, with_serving, gone_hands}
+use Rattle.tl_rule.specs.Rule.{Core, IsHome, InPhase, Lawful, table_of}
 use Rattle.tl_rule.specs.Events.{state_of, IsOneEvent}
-use Rattle.std.proofs.Common.{replicate}
-use Rattle.tl_slots.specs.Word.{FitsWord, IsWordOf}
+use Rattle.tl_slots.specs.Word.{FitsWord}
 use Rattle.tl_slots.proofs.Steps.{look_is_allowed}
-use Rattle.tl_slots.proofs.Words.{one_phase}
-use Rattle.tl_rule.specs.Seen.{SeenFit, JustOwn, HasSeen, HasGot, IsOut}
 use Rattle.tl_rule.specs.Moves.{entry}
-use Rattle.tl_rule.specs.Laws.{Table, HasView, HasHome, in_hand, Opens, ClaimIsOneEvent, PostIsOneEvent, LookIsOneEvent, AcceptIsOneEvent, AnswerIsOneEvent, CollectIsOneEvent, ReleaseIsOneEvent, LeaveIsOneEvent}
+use Rattle.tl_rule.specs.Laws.{HasView, HasHome, Opens, ClaimIsOneEvent, PostIsOneEvent, LookIsOneEvent, AcceptIsOneEvent, AnswerIsOneEvent, CollectIsOneEvent, ReleaseIsOneEvent, LeaveIsOneEvent}
 use Rattle.tl_rule.proofs.Tables.{at_get}
-use Rattle.tl_rule.proofs.Facts.{Known, known, KnownPort, known_port, shown, in_hand_of, low_master, low_port, in_ports, spells_one, answers_one}
+use Rattle.tl_rule.proofs.Facts.{Known, known, known_port, shown, in_hand_of, low_master, low_port, in_ports, spells_one, answers_one}
 use Rattle.tl_rule.proofs.Allowing.{by_core, unmoved}
 use Rattle.tl_rule.proofs.MasterSteps.{claim_event, post_event, release_event}
 use Rattle.tl_rule.proofs.PortSteps.{accept_event}
@@ -60,7 +45,7 @@ pub post_law : PostIsOneEvent
 post_law a s id i v carried letter ask p F seat filled spells to own distinct =
     by_core a (λ s. HasView s id (Master v) → IsOneEvent a (Post i v.number p) s (stepped s i (word (Posted v.number p)) id ((i, letter) ∷ carried) (Master (with_hand v i (Sent ask p (length v.got)) v.got)) gives))
     (λ c L seat. let K = known a c L id v seat in
-      post_event a c L id i v K carried letter ask p (held_inside a c L id i v K (λ e. absurd (cc))) filled spells to own (λ j other q known at. distinct j q known other at)) s F seat
+    post_event a c L id i v K carried letter ask p (held_inside a c L id i v K (λ e. absurd (cc))) filled spells to own (λ j other q known at. distinct j q known other at)) s F seat
 
 pub look_law : LookIsOneEvent
 look_law a s id i w carried F seat lt =
@@ -86,13 +71,13 @@ one_letter homes i x y a b = cc
 pub accept_law : AcceptIsOneEvent
 accept_law a s id i u carried letter ask owner F seat lt small at home spells =
     by_core a (λ s. HasView s id (Port u) → get_or s.words i 0 ≡ word (Posted owner u.number) → HasHome s i letter
-        → IsOneEvent a (Accept i owner u.number) s (stepped s i (word (Serving owner u.number)) id carried (Port (with_serving u (u.serving ++ (i, ask) ∷ []) u.list)) (takes i letter)))
+    → IsOneEvent a (Accept i owner u.number) s (stepped s i (word (Serving owner u.number)) id carried (Port (with_serving u (u.serving ++ (i, ask) ∷ []) u.list)) (takes i letter)))
     (λ c L seat at home. let K = known_port a c L id u seat in
-      let ph = shown a c L i (Posted owner u.number) lt (record { owner = small; port = (low_port a c L u.number K.near).1 }) at in let h = subst (InPhase a c i) ph (L.slots i lt) in
-      let same = one_letter c.homes i h.home.letter letter h.home.at (home_as c i letter home) in
-      let asks : h.asked.ask ≡ ask = spells_one letter h.asked.ask ask (subst (λ (r : SlotRecord). Spells r h.asked.ask) same h.home.spells) spells in
-      subst (λ (q : Request). IsOneEvent a (Accept i owner u.number) (table_of a c) (stepped (table_of a c) i (word (Serving owner u.number)) id carried (Port (with_serving u (u.serving ++ (i, q) ∷ []) u.list)) (takes i letter))) asks
-          (accept_event a c L id i u K carried letter owner lt ph h.asked).0) s F seat at home
+    let ph = shown a c L i (Posted owner u.number) lt (record { owner = small; port = (low_port a c L u.number K.near).1 }) at in let h = subst (InPhase a c i) ph (L.slots i lt) in
+    let same = one_letter c.homes i h.home.letter letter h.home.at (home_as c i letter home) in
+    let asks : h.asked.ask ≡ ask = spells_one letter h.asked.ask ask (subst (λ (r : SlotRecord). Spells r h.asked.ask) same h.home.spells) spells in
+    subst (λ (q : Request). IsOneEvent a (Accept i owner u.number) (table_of a c) (stepped (table_of a c) i (word (Serving owner u.number)) id carried (Port (with_serving u (u.serving ++ (i, q) ∷ []) u.list)) (takes i letter))) asks
+    (accept_event a c L id i u K carried letter owner lt ph h.asked).0) s F seat at home
 
 pub answer_law : AnswerIsOneEvent
 answer_law a s id i u carried letter ask reply owner F seat serves own spells answer last right =
@@ -102,19 +87,19 @@ answer_law a s id i u carried letter ask reply owner F seat serves own spells an
 pub collect_law : CollectIsOneEvent
 collect_law a s id i v carried letter ask reply p since F seat sent to at home answer =
     by_core a (λ s. HasView s id (Master v) → get_or s.words i 0 ≡ word (Answered v.number p) → HasHome s i letter
-        → IsOneEvent a (Collect i v.number p) s (stepped s i (word (Taking v.number p)) id carried (Master (with_hand v i (Taken p) (v.got ++ entry p letter.index ask reply ∷ []))) (takes i letter)))
+    → IsOneEvent a (Collect i v.number p) s (stepped s i (word (Taking v.number p)) id carried (Master (with_hand v i (Taken p) (v.got ++ entry p letter.index ask reply ∷ []))) (takes i letter)))
     (λ c L seat at home. let K = known a c L id v seat in let lt = held_inside a c L id i v K (λ e. absurd (cc)) in
-      let fits : FitsWord (Answered v.number p) = record { owner = (low_master a c L v.number K.near).1; port = in_ports a c L p (subst (λ (z : About). p < z.ports) K.about to) } in
-      let ph = shown a c L i (Answered v.number p) lt fits at in let A = subst (InPhase a c i) ph (L.slots i lt) in
-      let E = collect_event a c L id i v K carried ask p since lt sent ph A in
-      let same = one_letter c.homes i A.home.letter letter A.home.at (home_as c i letter home) in
-      let asks : A.asked.ask ≡ ask = one_ask c.masters v.number i p since A.asked.known A.asked.ask ask A.asked.sent (ap (λ (x : Hands). get_or x.hand i Nothing) K.is ∙ sent) in
-      let replies : A.answer ≡ reply = answers_one letter ask.address A.answer reply (subst (λ (q : Request). SpellsAnswer letter q.address A.answer) asks (subst (λ (r : SlotRecord). SpellsAnswer r A.asked.ask.address A.answer) same A.spells)) answer in
-      subst (λ (r : Response). IsOneEvent a (Collect i v.number p) (table_of a c) (stepped (table_of a c) i (word (Taking v.number p)) id carried (Master (with_hand v i (Taken p) (v.got ++ entry p letter.index ask r ∷ []))) (takes i letter))) replies
-          (subst (λ (x : SlotRecord). IsOneEvent a (Collect i v.number p) (table_of a c) (stepped (table_of a c) i (word (Taking v.number p)) id carried (Master (with_hand v i (Taken p) (v.got ++ entry p x.index ask A.answer ∷ []))) (takes i x))) same E)) s F seat at home
-    where
-      one_ask : (ms : List Hands) (m i p known since : ℕ) (ask other : Request) → held ms m i ≡ Sent ask p since → held ms m i ≡ Sent other p known → ask ≡ other
-      one_ask ms m i p known since ask other x y = cc
+    let fits : FitsWord (Answered v.number p) = record { owner = (low_master a c L v.number K.near).1; port = in_ports a c L p (subst (λ (z : About). p < z.ports) K.about to) } in
+    let ph = shown a c L i (Answered v.number p) lt fits at in let A = subst (InPhase a c i) ph (L.slots i lt) in
+    let E = collect_event a c L id i v K carried ask p since lt sent ph A in
+    let same = one_letter c.homes i A.home.letter letter A.home.at (home_as c i letter home) in
+    let asks : A.asked.ask ≡ ask = one_ask c.masters v.number i p since A.asked.known A.asked.ask ask A.asked.sent (ap (λ (x : Hands). get_or x.hand i Nothing) K.is ∙ sent) in
+    let replies : A.answer ≡ reply = answers_one letter ask.address A.answer reply (subst (λ (q : Request). SpellsAnswer letter q.address A.answer) asks (subst (λ (r : SlotRecord). SpellsAnswer r A.asked.ask.address A.answer) same A.spells)) answer in
+    subst (λ (r : Response). IsOneEvent a (Collect i v.number p) (table_of a c) (stepped (table_of a c) i (word (Taking v.number p)) id carried (Master (with_hand v i (Taken p) (v.got ++ entry p letter.index ask r ∷ []))) (takes i letter))) replies
+    (subst (λ (x : SlotRecord). IsOneEvent a (Collect i v.number p) (table_of a c) (stepped (table_of a c) i (word (Taking v.number p)) id carried (Master (with_hand v i (Taken p) (v.got ++ entry p x.index ask A.answer ∷ []))) (takes i x))) same E)) s F seat at home
+  where
+    one_ask : (ms : List Hands) (m i p known since : ℕ) (ask other : Request) → held ms m i ≡ Sent ask p since → held ms m i ≡ Sent other p known → ask ≡ other
+    one_ask ms m i p known since ask other x y = cc
 
 pub release_law : ReleaseIsOneEvent
 release_law a s id i v carried letter p F seat taken =

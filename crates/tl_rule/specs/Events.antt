@@ -1,5 +1,5 @@
 -- What a step of the table is to the core of slots. All of it is this project's own.
-use Rattle.std.specs.Prelude.{◌≡◌, ℕ}
+use Rattle.std.specs.Prelude.{◌≡◌}
 use Rattle.atomic_table.specs.Table.{State}
 use Rattle.tl_slots.specs.declared.event.Event.{Event}
 use Rattle.tl_slots.specs.Machine as machine

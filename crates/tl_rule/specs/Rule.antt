@@ -1,6 +1,6 @@
 -- The rule of the arena's table: what the words, the records at home and the seats' views are between any two steps.
 -- All of it is this project's own.
-use Rattle.std.specs.Prelude.{◌≡◌, ◌≢◌, ℕ, ◌+◌, ◌<◌, ◌≤◌, ◌⊎◌, Bool, true, false, cond, List, [], ◌∷◌, ◌++◌, map, length, slice_get, slice_index_or, Option, Some, None}
+use Rattle.std.specs.Prelude.{◌≡◌, ◌≢◌, ℕ, ◌<◌, ◌≤◌, ◌⊎◌, Bool, true, false, cond, List, ◌∷◌, ◌++◌, map, length, slice_get, slice_index_or, Some}
 use mathlib.Core.Option as maybe
 use Rattle.atomic_table.specs.Table.{State}
 use Rattle.tl_types.specs.Request.{Request}
@@ -13,7 +13,6 @@ use Rattle.tl_slots.specs.Phase.{owner_of}
 use Rattle.tl_slots.specs.Word.{word}
 use Rattle.tl_slots.specs.Machine.{IsInLimits}
 use Rattle.tl_rule.specs.declared.view.About.{About}
-use Rattle.tl_rule.specs.declared.view.Held.{Held}
 use Rattle.tl_rule.specs.declared.view.Held.TheVariants.{Nothing, Filled, Sent, Taken}
 use Rattle.tl_rule.specs.declared.view.Hands.{Hands}
 use Rattle.tl_rule.specs.declared.view.Desk.{Desk}

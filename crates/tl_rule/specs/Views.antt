@@ -1,5 +1,5 @@
 -- The views of seats: what is looked up in them, and how a step changes them. All of it is this project's own.
-use Rattle.std.specs.Prelude.{◌≡◌, ℕ, ◌+◌, ◌<◌, false, true, List, [], ◌∷◌, ◌++◌, length, slice_get, slice_index_or, slice_set, replicate, Bool, Option, Some, None}
+use Rattle.std.specs.Prelude.{◌≡◌, ℕ, ◌<◌, false, true, List, [], slice_get, slice_index_or, slice_set, replicate, Option, Some}
 use Rattle.tl_types.specs.Request.{Request}
 use Rattle.tl_types.specs.Response.{Response}
 use Rattle.tl_types.specs.declared.trace.Entry.{Entry}
@@ -8,11 +8,9 @@ use Rattle.tl_ops.specs.declared.kind.Kind.TheVariants.{NoDevice}
 use Rattle.tl_map.specs.Block.{IsWide}
 use Rattle.tl_rule.specs.declared.view.About.{About}
 use Rattle.tl_rule.specs.declared.view.Held.{Held}
-use Rattle.tl_rule.specs.declared.view.Held.TheVariants.{Nothing, Filled, Sent, Taken}
+use Rattle.tl_rule.specs.declared.view.Held.TheVariants.{Nothing}
 use Rattle.tl_rule.specs.declared.view.Hands.{Hands}
 use Rattle.tl_rule.specs.declared.view.Desk.{Desk}
-use Rattle.tl_rule.specs.declared.view.View.{View}
-use Rattle.tl_rule.specs.declared.view.View.TheVariants.{Dealer, Master, Port}
 use Rattle.tl_rule.specs.Serving.{ask_at}
 
 -- ---- what never changes

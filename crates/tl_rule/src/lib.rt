@@ -12,6 +12,7 @@
 //! Read on in `docs/MODEL.md`, "The running arena".
 #![tactic(auto)]
 
+pub mod laws;
 mod view;
 
 pub use view::{About, Desk, Hands, Held, View};
