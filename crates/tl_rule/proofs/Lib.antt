@@ -15,3 +15,4 @@ pub mod LeaveStep
 pub mod Dealing
 pub mod StepLaws
 pub mod FitsLaws
+pub mod Seats
