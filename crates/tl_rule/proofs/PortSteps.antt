@@ -24,7 +24,7 @@ use Rattle.tl_rule.specs.Events.{state_of, IsOneEvent}
 use Rattle.tl_slots.specs.declared.word.TheConstants.{MAX_AGENT}
 use Rattle.tl_rule.specs.Moves.{Tried, Accepts, IsLawfulDesk}
 use Rattle.tl_rule.proofs.Tables.{of_get}
-use Rattle.tl_rule.proofs.Serving.{push_here, push_else, push_once}
+use Rattle.tl_rule.proofs.Serving.{serves_few, push_here, push_else, push_once}
 use Rattle.tl_rule.proofs.PortFrame.{port_moves, PortStep, port_moved, served_here, quiet_port}
 use Rattle.tl_rule.proofs.Facts.{KnownPort, known_port, shown, none_or, one_owner, phase_inside, some_master, low_port}
 use Rattle.tl_rule.proofs.Allowing.{fits_after, found, there, port_step, tries}
@@ -40,15 +40,17 @@ asked_there a c L p i ask is = let t = L.service p i ask is in let h = subst (In
 
 -- a port's view in itself
 pub desk_law : (a : About) (c : Core) (L : Lawful a c) (p : ℕ) → p < length c.ports → IsLawfulDesk (desk c.ports p)
-desk_law a c L p lt = let v = L.shape.port_views p lt in record {
-  number = let l = (low_port a c L p lt).0 in let e = v.0 in let f = ap (λ (z : About). z.ports) v.1 in omega arith;
-  slots = L.serves_once p;
-  inside = λ i ask is. let t = asked_there a c L p i ask is in let l = serving_inside a c L i t.0 p t.2 in let f = ap (λ (z : About). z.slots) v.1 in omega arith;
-  sources = λ i j ask other is at same. let t = asked_there a c L p i ask is in let s = asked_there a c L p j other at in
-      let one = one_owner a s.0 t.0 other.source ask.source (L.block s.0 j p s.1 other s.3) (L.block t.0 i p t.1 ask t.3) (sym same) in
-      L.sources t.0 i j p p t.1 s.1 ask other t.3 (subst (λ (n : ℕ). held c.masters n j ≡ Sent other p s.1) one s.3) same;
-  lawful = subst (λ (z : About). IsLawfulHistory (reset_of z (desk c.ports p).number) (desk c.ports p).list) (sym v.1) (subst (λ (n : ℕ). IsLawfulHistory (reset_of a n) (desk c.ports p).list) (sym v.0) (L.lawful p));
-}
+desk_law a c L p lt = let v = L.shape.port_views p lt in
+    let there = λ (i : ℕ) (ask : Request) (is : served c.ports p i ≡ Some ask). (let t = asked_there a c L p i ask is in let l = serving_inside a c L i t.0 p t.2 in subst (λ (z : About). i < z.slots) (sym v.1) l) in record {
+      number = let l = (low_port a c L p lt).0 in let e = v.0 in let f = ap (λ (z : About). z.ports) v.1 in omega arith;
+      slots = L.serves_once p;
+      inside = there;
+      few = serves_few (desk c.ports p).about.slots (desk c.ports p).serving (L.serves_once p) there;
+      sources = λ i j ask other is at same. let t = asked_there a c L p i ask is in let s = asked_there a c L p j other at in
+          let one = one_owner a s.0 t.0 other.source ask.source (L.block s.0 j p s.1 other s.3) (L.block t.0 i p t.1 ask t.3) (sym same) in
+          L.sources t.0 i j p p t.1 s.1 ask other t.3 (subst (λ (n : ℕ). held c.masters n j ≡ Sent other p s.1) one s.3) same;
+      lawful = subst (λ (z : About). IsLawfulHistory (reset_of z (desk c.ports p).number) (desk c.ports p).list) (sym v.1) (subst (λ (n : ℕ). IsLawfulHistory (reset_of a n) (desk c.ports p).list) (sym v.0) (L.lawful p));
+    }
 
 module _ (a : About) (c : Core) (L : Lawful a c) (id i : ℕ) (u : Desk) (K : KnownPort a c L id u) (carried : List (ℕ × SlotRecord)) where
   in_phases : i < a.slots → i < length c.phases

@@ -1,5 +1,5 @@
 -- What a port serves, once it has accepted a slot and once it has answered one.
-use Rattle.std.proofs.Common.{◌≡◌, ◌≢◌, ℕ, cond, eqb, eq-eqb, ne_eqb, List, [], ◌∷◌, ◌++◌, refl, ap, sym, subst, ◌∙◌, Some, None}
+use Rattle.std.proofs.Common.{◌≡◌, ◌≢◌, ℕ, cond, eqb, eq-eqb, ne_eqb, List, [], ◌∷◌, ◌++◌, refl, ap, sym, subst, ◌∙◌, Some, None, zero, suc, ◌+◌, ◌<◌, ◌≤◌, length, arith}
 use mathlib.Core.Logic.{dite}
 use native.Mathlib.Decide.{ℕ_discrete}
 use Rattle.tl_types.specs.Request.{Request}
@@ -54,3 +54,21 @@ drop_once [] i once = tt
 drop_once (f ∷ fs) i once = dite (ℕ_discrete f.0 i)
     (λ e. subst HasDistinctSlots (sym (dropped_is f fs i e)) once.1)
     (λ n. subst HasDistinctSlots (sym (dropped_not f fs i n)) (drop_else fs i f.0 n ∙ once.0, drop_once fs i once.1))
+
+-- ---- how many slots are served at once
+
+drop_length : (fs : List (ℕ × Request)) (i : ℕ) → length fs ≤ suc (length (drop_slot i fs))
+drop_length [] i = omega arith
+drop_length (f ∷ fs) i = dite (ℕ_discrete f.0 i)
+    (λ e. let s = ap (λ (l : List (ℕ × Request)). length l) (dropped_is f fs i e) in omega arith)
+    (λ n. let s = ap (λ (l : List (ℕ × Request)). length l) (dropped_not f fs i n) in let r = drop_length fs i in omega arith)
+
+-- no more than there are slots
+pub serves_few : (n : ℕ) (fs : List (ℕ × Request)) → HasDistinctSlots fs → ((i : ℕ) (ask : Request) → ask_at fs i ≡ Some ask → i < n) → length fs ≤ n
+serves_few zero [] once inside = omega arith
+serves_few zero (f ∷ fs) once inside = let none : f.0 < 0 = inside f.0 f.1 (first_is f fs f.0 refl) in absurd (omega arith)
+serves_few (suc n) fs once inside =
+    let rest = serves_few n (drop_slot n fs) (drop_once fs n once) (λ i ask is.
+        let ne : i ≢ n = (λ e. let z = subst (λ (k : ℕ). ask_at (drop_slot n fs) k ≡ Some ask) e is in let w = drop_here fs n once in absurd (cc)) in
+        let low = inside i ask (sym (drop_else fs n i ne) ∙ is) in omega arith) in
+    let long = drop_length fs n in omega arith

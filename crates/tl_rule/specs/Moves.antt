@@ -1,6 +1,6 @@
 -- What each step tells: of the step, the seat before, the word found (at a store, the word stored) and the seat after.
 -- All of it is this project's own.
-use Rattle.std.specs.Prelude.{◌≡◌, ◌≢◌, ℕ, ◌+◌, ◌<◌, ◌/◌, ◌%◌, List, ◌∷◌, ◌++◌, [], length, slice_index_or, Bool, true, false, Option, Some, None}
+use Rattle.std.specs.Prelude.{◌≡◌, ◌≢◌, ℕ, ◌+◌, ◌<◌, ◌/◌, ◌%◌, List, ◌∷◌, ◌++◌, [], length, slice_index_or, Bool, true, false, Option, Some, None, ◌≤◌}
 use Rattle.atomic_table.specs.Table.{Me, Step, rest}
 use Rattle.tl_types.specs.Request.{Request}
 use Rattle.tl_types.specs.Response.{Response}
@@ -98,6 +98,7 @@ pub record IsLawfulDesk (u : Desk) : Type 0 where
   pub number : u.number < u.about.ports
   pub slots : HasDistinctSlots u.serving
   pub inside : (i : ℕ) (ask : Request) → ask_at u.serving i ≡ Some ask → i < u.about.slots
+  pub few : length u.serving ≤ u.about.slots
   pub sources : (i j : ℕ) (ask other : Request) → ask_at u.serving i ≡ Some ask → ask_at u.serving j ≡ Some other → ask.source ≡ other.source → i ≡ j
   pub lawful : IsLawfulHistory (reset_of u.about u.number) u.list
 
