@@ -1,5 +1,5 @@
 -- The step that collects a reply.
-use Rattle.std.proofs.Common.{◌≡◌, ◌≢◌, ℕ, ◌<◌, eqb, false, List, [], ◌∷◌, ◌++◌, length, get_or, sym, refl, ap, subst, ◌∙◌, arith, inl, inr, ⊎_elim, get_or-set_same, get_or-set_other, length-set, length-append, Some, slice_get}
+use Rattle.std.proofs.Common.{◌≡◌, ◌≢◌, ℕ, ◌<◌, eqb, false, List, [], ◌∷◌, ◌++◌, length, get_or, sym, refl, ap, subst, ◌∙◌, arith, inl, inr, ⊎_elim, get_or-set_same, get_or-set_other, length-set, length-append, Some, slice_get, take}
 use mathlib.Core.Option as maybe
 use mathlib.Core.Option.{some, none}
 use mathlib.Core.Logic.{dite}
@@ -22,13 +22,13 @@ use Rattle.tl_rule.specs.Record.{SlotRecord, Spells, SpellsAnswer}
 use Rattle.tl_rule.specs.Views.{Owns, reset_of, hands, desk, held, Above, no_hands, with_hand}
 use Rattle.tl_rule.specs.Rule.{Core, Names, IsHome, HomeAsk, InPhase, IsAnswered, InSlot, InGot, Placed, Places, Lawful, Fits, phase, table_of}
 use Rattle.tl_rule.specs.Events.{state_of, IsOneEvent}
-use Rattle.tl_rule.specs.Seen.{SeenFit, JustOwn, HasSeen, HasGot, IsOut}
+use Rattle.tl_rule.specs.Seen.{SeenFit, JustOwn, IsPlaceOf, at_port, sent_at}
 use Rattle.tl_rule.specs.Moves.{Tried, Collects, entry}
 use Rattle.tl_rule.proofs.Tables.{of_get}
 use Rattle.tl_rule.proofs.Lists.{at_end, before_end, below_length, ended, first_of}
 use Rattle.tl_rule.proofs.MasterFrame.{master_moves, MasterStep, moved, held_here, got_here, got_elim, phase_here, phase_else}
 use Rattle.tl_rule.proofs.Facts.{Known, known, shown, in_hand_of, not_left, some_list, low_master, low_port, in_ports, one_named}
-use Rattle.tl_rule.proofs.Own.{just_own, seen_fit, answered_inside}
+use Rattle.tl_rule.proofs.Own.{just_own, seen_fit, answered_inside, got_back}
 use Rattle.tl_rule.proofs.Allowing.{fits_after, found, there, present, master_step, tries}
 
 -- the places, once the answer of the slot i is collected
@@ -194,14 +194,14 @@ module _ (a : About) (c : Core) (L : Lawful a c) (id i : ℕ) (v : Hands) (K : K
         spells = subst (Spells letter) ask_is A.home.spells;
         answer = subst (λ (q : Request). SpellsAnswer letter q.address reply) ask_is A.spells;
         seat = refl;
-        fresh = λ t. L.places.apart m p i t.is.place letter t.entry ph A.home.at (subst (λ l. slice_get l t.is.place ≡ Some t.entry) (sym got_is) t.is.at) t.is.port t.at;
+        fresh = λ t. let b = got_back p v.got t.entry t.is in L.places.apart m p i b.0 letter t.entry ph A.home.at (subst (λ l. slice_get l b.0 ≡ Some t.entry) (sym got_is) b.1) b.2 t.at;
         above = subst (λ (k : ℕ). Above v.got k p letter.index) known_is (subst (λ (l : List Entry). Above l A.asked.known p letter.index) got_is A.above);
         history = (desk c.ports p).list;
         lawful = subst (λ (z : About). IsLawfulHistory (reset_of z p) (desk c.ports p).list) (sym K.about) (L.lawful p);
-        seen = subst (λ (q : Request). SeenFit (desk c.ports p).list letter.index q reply (HasSeen v p since)) ask_is
-            (subst (λ (k : ℕ). SeenFit (desk c.ports p).list letter.index A.asked.ask reply (HasSeen v p k)) known_is
-            (subst (λ (w : Hands). SeenFit (desk c.ports p).list letter.index A.asked.ask reply (HasSeen w p A.asked.known)) K.is (seen_fit a c L m p i A)));
-        own = subst (λ (w : Hands). JustOwn (desk c.ports p).list (Owns w.about w.number) (HasGot w p) (IsOut w p)) hands_is own;
+        seen = subst (λ (q : Request). SeenFit (desk c.ports p).list letter.index q reply (at_port p (take since v.got))) ask_is
+            (subst (λ (k : ℕ). SeenFit (desk c.ports p).list letter.index A.asked.ask reply (at_port p (take k v.got))) known_is
+            (subst (λ (w : Hands). SeenFit (desk c.ports p).list letter.index A.asked.ask reply (at_port p (take A.asked.known w.got))) K.is (seen_fit a c L m p i A)));
+        own = subst (λ (w : Hands). JustOwn (desk c.ports p).list (Owns w.about w.number) (at_port p w.got) (sent_at p w.hand)) hands_is own;
       }
 
 pub collects : (a : About) (slots id : ℕ) (v : Hands) (carried : List (ℕ × SlotRecord)) (i from new : ℕ) (said : maybe.Option SlotRecord) (ask : Request) (p since : ℕ) → get_or v.hand i Nothing ≡ Sent ask p since → p < v.about.ports

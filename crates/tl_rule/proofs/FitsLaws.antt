@@ -1,5 +1,5 @@
 -- What a table that fits says of its seats and words.
-use Rattle.std.proofs.Common.{◌≡◌, ◌≢◌, ℕ, suc, ◌+◌, ◌<◌, Bool, true, false, List, ◌++◌, map, length, get_or, sym, refl, ap, subst, ◌∙◌, arith, inl, inr, ⊎_elim, ◌⊎◌}
+use Rattle.std.proofs.Common.{◌≡◌, ◌≢◌, ℕ, suc, ◌+◌, ◌<◌, Bool, true, false, List, ◌++◌, map, length, get_or, sym, refl, ap, subst, ◌∙◌, arith, inl, inr, ⊎_elim, ◌⊎◌, take}
 use mathlib.Core.Option as maybe
 use mathlib.Core.Option.{some, none}
 use Rattle.tl_ops.specs.History.{IsLawfulHistory}
@@ -17,7 +17,7 @@ use Rattle.tl_rule.specs.Rule.{Core, Names, IsHome, InPhase, Lawful, phase, tabl
 use Rattle.tl_slots.specs.Word.{IsWordOf}
 use Rattle.tl_slots.proofs.Words.{one_phase}
 use Rattle.tl_rule.specs.Rule.{leave_word}
-use Rattle.tl_rule.specs.Seen.{SeenFit, JustOwn, HasSeen, HasGot, IsOut}
+use Rattle.tl_rule.specs.Seen.{SeenFit, JustOwn, at_port, sent_at}
 use Rattle.tl_rule.specs.Moves.{IsLawfulDesk}
 use Rattle.tl_rule.specs.Laws.{HasView, HasHome, IsSeenAnswer, AreArenaWords, ListsAreJustOwn, AnswersAreSeenFit, NoOwnedSlotIsClaimed, HandsAreApart, DesksAreLawful, WordsFit, AllFreeAfterAllLeft}
 use Rattle.tl_rule.proofs.Tables.{at_get, word_at, leaf_at, leave_at, many_words}
@@ -28,11 +28,11 @@ use Rattle.tl_rule.proofs.Allowing.{by_core}
 
 pub lists_law : ListsAreJustOwn
 lists_law a s id at v u F seat desk_seat =
-    by_core a (λ s. HasView s id (Master v) → HasView s at (Port u) → IsLawfulHistory (reset_of v.about u.number) u.list × JustOwn u.list (Owns v.about v.number) (HasGot v u.number) (IsOut v u.number))
+    by_core a (λ s. HasView s id (Master v) → HasView s at (Port u) → IsLawfulHistory (reset_of v.about u.number) u.list × JustOwn u.list (Owns v.about v.number) (at_port u.number v.got) (sent_at u.number v.hand))
     (λ c L seat there. let K = known a c L id v seat in let D = known_port a c L at u there in let w = L.shape.master_views v.number K.near in (
       subst (λ (z : About). IsLawfulHistory (reset_of z u.number) u.list) (sym K.about) (subst (λ (d : Desk). IsLawfulHistory (reset_of a u.number) d.list) D.is (L.lawful u.number)),
-      subst (λ (d : Desk). JustOwn d.list (Owns v.about v.number) (HasGot v u.number) (IsOut v u.number)) D.is
-          (subst (λ (x : Hands). JustOwn (desk c.ports u.number).list (Owns x.about x.number) (HasGot x u.number) (IsOut x u.number)) K.is (just_own a c L v.number u.number w.1 w.0)),
+      subst (λ (d : Desk). JustOwn d.list (Owns v.about v.number) (at_port u.number v.got) (sent_at u.number v.hand)) D.is
+          (subst (λ (x : Hands). JustOwn (desk c.ports u.number).list (Owns x.about x.number) (at_port u.number x.got) (sent_at u.number x.hand)) K.is (just_own a c L v.number u.number w.1 w.0)),
     )) s F seat desk_seat
 
 pub answers_law : AnswersAreSeenFit
@@ -41,15 +41,15 @@ answers_law a s id at i v u letter F seat desk_seat lt is home =
     (λ c L seat there is home. let K = known a c L id v seat in let D = known_port a c L at u there in let m = v.number in let p = u.number in
     let ph = shown a c L i (Answered m p) lt (record { owner = (low_master a c L m K.near).1; port = (low_port a c L p D.near).1 }) is in let A = subst (InPhase a c i) ph (L.slots i lt) in
     let same = one_letter c.homes i A.home.letter letter A.home.at (at_get c.homes i (some letter) none home).1 in
-    let fit : SeenFit u.list A.home.letter.index A.asked.ask A.answer (HasSeen v p A.asked.known) = subst (λ (d : Desk). SeenFit d.list A.home.letter.index A.asked.ask A.answer (HasSeen v p A.asked.known)) D.is
-    (subst (λ (x : Hands). SeenFit (desk c.ports p).list A.home.letter.index A.asked.ask A.answer (HasSeen x p A.asked.known)) K.is (seen_fit a c L m p i A)) in record {
+    let fit : SeenFit u.list A.home.letter.index A.asked.ask A.answer (at_port p (take A.asked.known v.got)) = subst (λ (d : Desk). SeenFit d.list A.home.letter.index A.asked.ask A.answer (at_port p (take A.asked.known v.got))) D.is
+    (subst (λ (x : Hands). SeenFit (desk c.ports p).list A.home.letter.index A.asked.ask A.answer (at_port p (take A.asked.known x.got))) K.is (seen_fit a c L m p i A)) in record {
       ask = A.asked.ask;
       known = A.asked.known;
       reply = A.answer;
       sent = ap (λ (x : Hands). get_or x.hand i Nothing) (sym K.is) ∙ A.asked.sent;
       asks = subst (λ (r : SlotRecord). Spells r A.asked.ask) same A.home.spells;
       answers = subst (λ (r : SlotRecord). SpellsAnswer r A.asked.ask.address A.answer) same A.spells;
-      seen = subst (λ (r : SlotRecord). SeenFit u.list r.index A.asked.ask A.answer (HasSeen v p A.asked.known)) same fit;
+      seen = subst (λ (r : SlotRecord). SeenFit u.list r.index A.asked.ask A.answer (at_port p (take A.asked.known v.got))) same fit;
     }) s F seat desk_seat is home
   where
     one_letter : (homes : List (maybe.Option SlotRecord)) (i : ℕ) (x y : SlotRecord) → IsHome homes i x → IsHome homes i y → x ≡ y

@@ -1,6 +1,6 @@
 -- The laws of the rule: that each kind of step is one event of the core, and what the rule says of seats and words. All
 -- of it is this project's own.
-use Rattle.std.specs.Prelude.{◌≡◌, ◌≢◌, ℕ, ◌+◌, ◌<◌, ◌≤◌, ◌⊎◌, false, List, [], ◌∷◌, ◌++◌, length, slice_index, slice_index_or, replicate, Some}
+use Rattle.std.specs.Prelude.{◌≡◌, ◌≢◌, ℕ, ◌+◌, ◌<◌, ◌≤◌, ◌⊎◌, false, List, [], ◌∷◌, ◌++◌, length, slice_index, slice_index_or, replicate, Some, take}
 use mathlib.Core.Option.{some}
 use lib.ListN.{get_elem?}
 use Rattle.atomic_table.specs.Table.{State, stepped, keeps, takes, gives, Splits, opening}
@@ -26,7 +26,7 @@ use Rattle.tl_rule.specs.Serving.{ask_at, drop_slot}
 use Rattle.tl_rule.specs.Views.{Owns, reset_of, with_hand, with_serving, gone_hands}
 use Rattle.tl_rule.specs.Rule.{Fits, Names}
 use Rattle.tl_rule.specs.Events.{IsOneEvent}
-use Rattle.tl_rule.specs.Seen.{SeenFit, JustOwn, HasSeen, HasGot, IsOut}
+use Rattle.tl_rule.specs.Seen.{SeenFit, JustOwn, at_port, sent_at}
 use Rattle.tl_rule.specs.Moves.{IsLawfulDesk, entry, opening_view, after_master, next_master, after_port, next_port}
 
 abbrev pub Table : Type 0
@@ -112,7 +112,7 @@ LeaveIsOneEvent = (a : About) (s : Table) (id : ℕ) (v : Hands) (carried : List
 -- a master's view and a port's list: what it collected there stands there, and what else there is of its own it has sent there
 abbrev pub ListsAreJustOwn : Type 0
 ListsAreJustOwn = (a : About) (s : Table) (id at : ℕ) (v : Hands) (u : Desk) → Fits a s → HasView s id (Master v) → HasView s at (Port u)
-    → IsLawfulHistory (reset_of v.about u.number) u.list × JustOwn u.list (Owns v.about v.number) (HasGot v u.number) (IsOut v u.number)
+    → IsLawfulHistory (reset_of v.about u.number) u.list × JustOwn u.list (Owns v.about v.number) (at_port u.number v.got) (sent_at u.number v.hand)
 
 -- an answered slot: its owner has sent it, its record spells the reply, and that stands in the port's list after all that the owner had seen there
 pub record IsSeenAnswer (v : Hands) (u : Desk) (i : ℕ) (letter : SlotRecord) : Type 0 where
@@ -122,7 +122,7 @@ pub record IsSeenAnswer (v : Hands) (u : Desk) (i : ℕ) (letter : SlotRecord) :
   pub sent : in_hand v i ≡ Sent ask u.number known
   pub asks : Spells letter ask
   pub answers : SpellsAnswer letter ask.address reply
-  pub seen : SeenFit u.list letter.index ask reply (HasSeen v u.number known)
+  pub seen : SeenFit u.list letter.index ask reply (at_port u.number (take known v.got))
 
 abbrev pub AnswersAreSeenFit : Type 0
 AnswersAreSeenFit = (a : About) (s : Table) (id at i : ℕ) (v : Hands) (u : Desk) (letter : SlotRecord) → Fits a s → HasView s id (Master v) → HasView s at (Port u)

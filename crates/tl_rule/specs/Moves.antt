@@ -1,6 +1,6 @@
 -- What each step tells: of the step, the seat before, the word found (at a store, the word stored) and the seat after.
 -- All of it is this project's own.
-use Rattle.std.specs.Prelude.{◌≡◌, ◌≢◌, ℕ, ◌+◌, ◌<◌, ◌/◌, ◌%◌, List, ◌∷◌, ◌++◌, [], length, slice_index_or, Bool, true, false, Option, Some, None, ◌≤◌}
+use Rattle.std.specs.Prelude.{◌≡◌, ◌≢◌, ℕ, ◌+◌, ◌<◌, ◌/◌, ◌%◌, List, ◌∷◌, ◌++◌, [], length, slice_index_or, Bool, true, false, Option, Some, None, ◌≤◌, take}
 use Rattle.atomic_table.specs.Table.{Me, Step, rest}
 use Rattle.tl_types.specs.Request.{Request}
 use Rattle.tl_types.specs.Response.{Response}
@@ -16,7 +16,7 @@ use Rattle.tl_rule.specs.declared.view.View.TheVariants.{Dealer, Master, Port}
 use Rattle.tl_rule.specs.Record.{SlotRecord, Spells, SpellsAnswer}
 use Rattle.tl_rule.specs.Serving.{ask_at, drop_slot, HasDistinctSlots}
 use Rattle.tl_rule.specs.Views.{Owns, reset_of, new_hands, new_desk, no_hands, no_desk, Above, with_hand, with_serving, gone_hands}
-use Rattle.tl_rule.specs.Seen.{SeenFit, JustOwn, IsPlaceOf, HasSeen, HasGot, IsOut}
+use Rattle.tl_rule.specs.Seen.{SeenFit, JustOwn, IsPlaceOf, at_port, sent_at}
 
 -- ---- seats
 
@@ -137,12 +137,12 @@ pub record Collects (st : Step SlotRecord) (m n : Sat) : Type 0 where
   pub spells : Spells letter ask
   pub answer : SpellsAnswer letter ask.address reply
   pub seat : n ≡ (Master (with_hand (as_master m.0) st.word (Taken port) ((as_master m.0).got ++ entry port letter.index ask reply ∷ [])), (st.word, letter) ∷ m.1)
-  pub fresh : IsPlaceOf (HasGot (as_master m.0) port) letter.index → ⊥
+  pub fresh : IsPlaceOf (at_port port (as_master m.0).got) letter.index → ⊥
   pub above : Above (as_master m.0).got known port letter.index
   pub history : List (Request × Response)
   pub lawful : IsLawfulHistory (reset_of (as_master m.0).about port) history
-  pub seen : SeenFit history letter.index ask reply (HasSeen (as_master m.0) port known)
-  pub own : JustOwn history (Owns (as_master m.0).about (as_master m.0).number) (HasGot (as_master n.0) port) (IsOut (as_master n.0) port)
+  pub seen : SeenFit history letter.index ask reply (at_port port (take known (as_master m.0).got))
+  pub own : JustOwn history (Owns (as_master m.0).about (as_master m.0).number) (at_port port (as_master n.0).got) (sent_at port (as_master n.0).hand)
 
 -- the hand loses the slot
 pub record Releases (st : Step SlotRecord) (m : Sat) (r : ℕ) (n : Sat) : Type 0 where
@@ -152,7 +152,7 @@ pub record Releases (st : Step SlotRecord) (m : Sat) (r : ℕ) (n : Sat) : Type 
 pub record OwnsAll (v : Hands) (p : ℕ) : Type 0 where
   pub history : List (Request × Response)
   pub lawful : IsLawfulHistory (reset_of v.about p) history
-  pub own : JustOwn history (Owns v.about v.number) (HasGot v p) (λ ask. ⊥)
+  pub own : JustOwn history (Owns v.about v.number) (at_port p v.got) []
 
 -- the master has left
 pub record Leaves (st : Step SlotRecord) (m : Sat) (r : ℕ) (n : Sat) : Type 0 where
