@@ -25,11 +25,11 @@ pub lawful_more : (counts : List ℕ) (lists : List (List Job)) (jobs : List Job
 lawful_more counts lists jobs m count before here lawful = record {
   counted = length-append lists (jobs ∷ []) ∙ ap (λ (n : ℕ). n + 1) before.counted;
   each = λ k other found counted is.
-    ⊎_elim (λ (old : slice_get lists k ≡ Some found). before.each k other found counted old)
+      ⊎_elim (λ (old : slice_get lists k ≡ Some found). before.each k other found counted old)
       (λ (new : (k ≡ length lists) × (jobs ≡ found)).
-        let at : k ≡ m = new.0 ∙ before.counted in
-        let same : count ≡ other = some_is count other (sym here ∙ ap (slice_get counts) (sym at) ∙ counted) in
-        rw (← same, ← new.1) lawful)
+      let at : k ≡ m = new.0 ∙ before.counted in
+      let same : count ≡ other = some_is count other (sym here ∙ ap (slice_get counts) (sym at) ∙ counted) in
+      rw (← same, ← new.1) lawful)
       (slice_get-push lists jobs found k is);
 } where
   some_is : (x y : ℕ) → Some x ≡ Some y → x ≡ y

@@ -8,7 +8,6 @@ use Rattle.tl_script.specs.declared.fault.ScriptFault.{ScriptFault}
 use Rattle.tl_script.specs.declared.fault.ScriptFault.TheVariants.{Map, Sources, Memory}
 
 infixl 10 ◌>>=◌
-
 -- the first, and if it has no fault, the second on what it gave
 abbrev pub ◌>>=◌ : {A B : Type 0} → Result A ScriptFault → (A → Result B ScriptFault) → Result B ScriptFault
 (Ok x) >>= f = f x

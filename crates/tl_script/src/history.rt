@@ -23,7 +23,11 @@ fn push_line(
 }
 
 /// The text of a port's history: a line for each request that it served, from index 0 on. The sources are wide ones.
-pub fn write_history(alloc: Global, port: usize, history: &[(Ask, Reply)]) -> Result<Vec<u8>, Memory>
+pub fn write_history(
+    alloc: Global,
+    port: usize,
+    history: &[(Ask, Reply)],
+) -> Result<Vec<u8>, Memory>
     ensures { IfOk result (λ text. text.items ≡ history_text port history.now) }
 {
     let mut text = String::new(alloc);

@@ -24,11 +24,7 @@ pub enum Job {
 
 /// The operation that a line spells, for a master that has this many sources; none for every other line.
 #[tactic(auto, unfolding(crate::specs::Operation::operation_of))]
-pub fn read_operation(
-    alloc: Global,
-    line: &[u8],
-    sources: u16,
-) -> Result<Option<Job>, AllocError>
+pub fn read_operation(alloc: Global, line: &[u8], sources: u16) -> Result<Option<Job>, AllocError>
     ensures value { IfOk result (λ job. job ≡ operation_of sources line.now) }
     ensures source { IfOk result (λ job. IfSome job (IsFrom sources)) }
 {

@@ -89,13 +89,7 @@ fn make_system(alloc: Global, parts: Parts<'_>) -> Result<System, ScriptFault>
     let map = Map::new(alloc, &ranges)?;
     let sources = Sources::new(alloc, &counts)?;
     let jobs = read_jobs(alloc, &parts.masters)?;
-    Ok(System::new(
-        parts.slots,
-        parts.devices,
-        sources,
-        map,
-        jobs,
-    ))
+    Ok(System::new(parts.slots, parts.devices, sources, map, jobs))
 }
 
 /// The system that a script describes, or its first fault in the order of the checks. Want of memory may be answered

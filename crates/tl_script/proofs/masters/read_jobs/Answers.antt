@@ -26,7 +26,7 @@ loop-m-preserved c =
     record {
       read = grind (arith, common_steps);
       lawful = rw pushed (lawful_more (map (λ (each : Master). each.sources) (map master_view masters)) (lists_of c.loop-m.jobs.items) jobs.items m master.sources
-        c.loop-m.invariant.lawful here c.in_ok-read_operations.ensures.lawful);
+          c.loop-m.invariant.lawful here c.in_ok-read_operations.ensures.lawful);
     }
 
 pub returns-clause-lawful : goal.returns-clause-lawful

@@ -8,7 +8,7 @@ use Rattle.tl_script.proofs.masters.read_jobs.Given as goal
 abbrev pub invariant-loop-m : goal.invariant-loop-m
 invariant-loop-m l = record {
   read :
-    with_front (lists_of l.jobs.items) (jobs_from l.m (map master_view (drop l.m l.masters)))
-    ≡ jobs_from 0 (map master_view l.masters);
+      with_front (lists_of l.jobs.items) (jobs_from l.m (map master_view (drop l.m l.masters)))
+      ≡ jobs_from 0 (map master_view l.masters);
   lawful : LawfulSoFar (map (λ master. master.sources) (map master_view l.masters)) (lists_of l.jobs.items) l.m;
 }

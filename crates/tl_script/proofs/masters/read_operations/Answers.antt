@@ -11,5 +11,5 @@ loop-n-preserved c =
       read = grind (arith, common_steps);
       counted = grind (arith, common_steps);
       sources = rw c.in_ok-push-in-Some.ensures.items
-        (sends-push c.args.master.now.sources c.loop-n.jobs.items c.in-Some.job c.loop-n.invariant.sources source);
+          (sends-push c.args.master.now.sources c.loop-n.jobs.items c.in-Some.job c.loop-n.invariant.sources source);
     }
