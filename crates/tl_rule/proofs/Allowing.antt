@@ -1,4 +1,4 @@
--- How a step is shown to keep the rule: on a table that is written as a core, and where it changes something.
+-- How a step is shown to keep the rule: on a table that is written as parts, and where it changes something.
 use Rattle.std.proofs.Common.{◌≡◌, ℕ, ◌<◌, eqb, false, List, length, get_or, set, sym, refl, ap, subst, ◌∙◌, arith, Some, slice_get}
 use mathlib.Core.Option as maybe
 use mathlib.Core.Option.{some, none}
@@ -21,28 +21,28 @@ use Rattle.tl_rule.specs.declared.view.View.{View}
 use Rattle.tl_rule.specs.declared.view.View.TheVariants.{Master, Port}
 use Rattle.tl_rule.specs.Record.{SlotRecord}
 use Rattle.tl_rule.specs.Views.{hands, with_hand, with_serving}
-use Rattle.tl_rule.specs.Rule.{Core, Lawful, Fits, phase, views_of, table_of}
+use Rattle.tl_rule.specs.Rule.{Parts, Lawful, Fits, phase, views_of, table_of}
 use Rattle.tl_rule.specs.Events.{state_of, IsOneEvent}
 use lib.Seq.{set-get_or}
 use Rattle.atomic_table.proofs.Lists.{set_again, exchanged}
-use Rattle.tl_rule.specs.Moves.{Sat, Won, Tried}
+use Rattle.tl_rule.specs.Moves.{Seat, Won, Tried}
 use Rattle.tl_rule.proofs.Tables.{set_word}
 use Rattle.tl_rule.proofs.Lists.{get_here}
 use Rattle.tl_rule.proofs.MasterFrame.{master_moves}
 use Rattle.tl_rule.proofs.PortFrame.{port_moves}
 use Rattle.tl_rule.proofs.Facts.{Known, KnownPort}
 
--- it is enough to look at tables that are written as a core
-pub by_core : (a : About) (P : State SlotRecord View → Type 0) → ((c : Core) → Lawful a c → P (table_of a c)) → (s : State SlotRecord View) → Fits a s → P s
-by_core a P prove s F = subst P (sym F.is) (prove F.core F.lawful)
+-- it is enough to look at tables that are written as parts
+pub by_parts : (a : About) (P : State SlotRecord View → Type 0) → ((c : Parts) → Lawful a c → P (table_of a c)) → (s : State SlotRecord View) → Fits a s → P s
+by_parts a P prove s F = subst P (sym F.is) (prove F.parts F.lawful)
 
 -- what an event leaves fits
 pub fits_after : (a : About) (event : Event) (s t : State SlotRecord View) → IsOneEvent a event s t → Fits a t
-fits_after a event s t E = record { core = E.after; is = E.is; lawful = E.lawful_after }
+fits_after a event s t E = record { parts = E.after; is = E.is; lawful = E.lawful_after }
 
 -- ---- what is enough for an event to be allowed
 
-module _ (a : About) (c : Core) (L : Lawful a c) where
+module _ (a : About) (c : Parts) (L : Lawful a c) where
   pub found : (i : ℕ) (f : Phase) → i < a.slots → phase c i ≡ f → slice_get c.phases i ≡ Some f
   found i f lt e = let n = L.shape.phases in get_here c.phases i Free (omega arith) ∙ ap Some e
 
@@ -59,7 +59,7 @@ pub unmoved : (holds : State SlotRecord View → Type 0) (s : State SlotRecord V
 unmoved holds s i id m carried h at = subst holds (λ k. record { words = sym (set-get_or s.words i 0) k; homes = s.homes; views = sym (set_again s.views id m at) k }) h
 
 -- a master's step
-pub master_step : (a : About) (c : Core) (i id : ℕ) (v : Hands) (f : Phase) (h : maybe.Option SlotRecord) (x : Held) (got : List Entry) (carried : List (ℕ × SlotRecord)) (act : Act SlotRecord) (event : Event)
+pub master_step : (a : About) (c : Parts) (i id : ℕ) (v : Hands) (f : Phase) (h : maybe.Option SlotRecord) (x : Held) (got : List Entry) (carried : List (ℕ × SlotRecord)) (act : Act SlotRecord) (event : Event)
     → (L : Lawful a c) → Known a c L id v → i < length c.phases → homes_after c.homes carried act ≡ set c.homes i h → Lawful a (master_moves c i f h v.number x got)
     → IsAllowed (state_of a c) event → state_of a (master_moves c i f h v.number x got) ≡ state_after (state_of a c) event
     → IsOneEvent a event (table_of a c) (stepped (table_of a c) i (word f) id carried (Master (with_hand v i x got)) act)
@@ -77,7 +77,7 @@ master_step a c i id v f h x got carried act event L K near homes M allowed leav
     }
 
 -- a port's step
-pub port_step : (a : About) (c : Core) (i id : ℕ) (u : Desk) (f : Phase) (h : maybe.Option SlotRecord) (now : List (ℕ × Request)) (list : List (Request × Response)) (carried : List (ℕ × SlotRecord)) (act : Act SlotRecord) (event : Event)
+pub port_step : (a : About) (c : Parts) (i id : ℕ) (u : Desk) (f : Phase) (h : maybe.Option SlotRecord) (now : List (ℕ × Request)) (list : List (Request × Response)) (carried : List (ℕ × SlotRecord)) (act : Act SlotRecord) (event : Event)
     → (L : Lawful a c) → KnownPort a c L id u → i < length c.phases → homes_after c.homes carried act ≡ set c.homes i h → Lawful a (port_moves c i f h u.number now list)
     → IsAllowed (state_of a c) event → state_of a (port_moves c i f h u.number now list) ≡ state_after (state_of a c) event
     → IsOneEvent a event (table_of a c) (stepped (table_of a c) i (word f) id carried (Port (with_serving u now list)) act)
@@ -97,23 +97,23 @@ port_step a c i id u f h now list carried act event L K near homes M allowed lea
 -- ---- what a step owes
 
 -- where the word becomes n, the seat has a view and an act that keep the rule, and `then` holds of the seat after
-abbrev pub Goes : About → ℕ → ℕ → Sat → (Sat → Type 0) → State SlotRecord View → ℕ → Type 0
+abbrev pub Goes : About → ℕ → ℕ → Seat → (Seat → Type 0) → State SlotRecord View → ℕ → Type 0
 Goes a i id m then s n = (w : View) × (act : Act SlotRecord) × Valid s.homes m.1 act × Fits a (stepped s i n id m.1 w act) × then (w, carried_after m.1 act)
 
-module _ (a : About) (slots id : ℕ) (m : Sat) (i : ℕ) where
+module _ (a : About) (slots id : ℕ) (m : Seat) (i : ℕ) where
   -- a compare-exchange has to keep the rule where it finds the word that it looks for
   pub tries : (old new : ℕ) (said : maybe.Option SlotRecord) (won : Won)
-      → ((c : Core) → Lawful a c → a.slots ≡ slots → get_elem? (table_of a c).views id ≡ some m.0 → get_or (table_of a c).words i 0 ≡ old → Goes a i id m (won (step slots i old new said) m) (table_of a c) new)
+      → ((c : Parts) → Lawful a c → a.slots ≡ slots → get_elem? (table_of a c).views id ≡ some m.0 → get_or (table_of a c).words i 0 ≡ old → Goes a i id m (won (step slots i old new said) m) (table_of a c) new)
       → Allows (Fits a) slots id m i (λ n. either (eqb n old) new n) (Tried won (step slots i old new said) m)
   tries old new said won hit s h wide at _ =
-      by_core a (λ s. length s.homes ≡ slots → get_elem? s.views id ≡ some m.0 → Goes a i id m (Tried won (step slots i old new said) m (get_or s.words i 0)) s (either (eqb (get_or s.words i 0) old) new (get_or s.words i 0)))
+      by_parts a (λ s. length s.homes ≡ slots → get_elem? s.views id ≡ some m.0 → Goes a i id m (Tried won (step slots i old new said) m (get_or s.words i 0)) s (either (eqb (get_or s.words i 0) old) new (get_or s.words i 0)))
       (λ c L wide at. let t = table_of a c in exchanged (get_or t.words i 0) old new (Goes a i id m (Tried won (step slots i old new said) m (get_or t.words i 0)) t)
       (λ e. let g = hit c L (sym L.shape.homes ∙ wide) at e in (g.0, g.1, g.2, g.3, ((λ _. g.4), λ miss. absurd (miss e))))
-      (λ miss. (m.0, keeps, tt, unmoved (Fits a) t i id m.0 m.1 (record { core = c; is = refl; lawful = L }) at, ((λ e. absurd (miss e)), λ _. refl))))
+      (λ miss. (m.0, keeps, tt, unmoved (Fits a) t i id m.0 m.1 (record { parts = c; is = refl; lawful = L }) at, ((λ e. absurd (miss e)), λ _. refl))))
       s h wide at
 
-  pub stores : (new : ℕ) (Told : Sat → Type 0)
-      → ((c : Core) → Lawful a c → a.slots ≡ slots → get_elem? (table_of a c).views id ≡ some m.0 → Goes a i id m Told (table_of a c) new)
+  pub stores : (new : ℕ) (Told : Seat → Type 0)
+      → ((c : Parts) → Lawful a c → a.slots ≡ slots → get_elem? (table_of a c).views id ≡ some m.0 → Goes a i id m Told (table_of a c) new)
       → Allows (Fits a) slots id m i (λ _. new) (λ _. Told)
   stores new Told keep s h wide at _ =
-      by_core a (λ s. length s.homes ≡ slots → get_elem? s.views id ≡ some m.0 → Goes a i id m Told s new) (λ c L wide at. keep c L (sym L.shape.homes ∙ wide) at) s h wide at
+      by_parts a (λ s. length s.homes ≡ slots → get_elem? s.views id ≡ some m.0 → Goes a i id m Told s new) (λ c L wide at. keep c L (sym L.shape.homes ∙ wide) at) s h wide at

@@ -19,7 +19,7 @@ use Rattle.tl_rule.specs.declared.view.View.TheVariants.{Port}
 use Rattle.tl_rule.specs.Record.{SlotRecord, Spells, SpellsAnswer}
 use Rattle.tl_rule.specs.Serving.{ask_at, drop_slot, HasDistinctSlots}
 use Rattle.tl_rule.specs.Views.{Owns, reset_of, hands, desk, held, with_serving}
-use Rattle.tl_rule.specs.Rule.{Core, Names, InPhase, InSlot, InGot, Placed, Places, Lawful, Fits, phase, table_of}
+use Rattle.tl_rule.specs.Rule.{Parts, Names, InPhase, InSlot, InGot, Placed, Places, Lawful, Fits, phase, table_of}
 use Rattle.tl_rule.specs.Events.{state_of, IsOneEvent}
 use Rattle.tl_ops.specs.Store as store
 use Rattle.tl_ops.specs.History.{replay, asks_of}
@@ -33,13 +33,13 @@ use Rattle.tl_rule.proofs.PortSteps.{serving_inside, asked_there, law_after}
 use Rattle.tl_rule.proofs.Allowing.{fits_after, found, there, port_step, stores}
 
 -- the places, once the slot i has its answer at the end of the list
-module _ (a : About) (c : Core) (i p o : ℕ) (letter : SlotRecord) (ask : Request) (reply : Response) (now : List (ℕ × Request)) (L : Lawful a c)
+module _ (a : About) (c : Parts) (i p o : ℕ) (letter : SlotRecord) (ask : Request) (reply : Response) (now : List (ℕ × Request)) (L : Lawful a c)
     (S : PortStep a c i (Answered o p) (some letter) p now ((desk c.ports p).list ++ (ask, reply) ∷ []))
     (ph : phase c i ≡ Serving o p) (own : Owns a o ask.source) (last : letter.index ≡ length (desk c.ports p).list) where
   abbrev more : List (Request × Response)
   more = (desk c.ports p).list ++ (ask, reply) ∷ []
 
-  abbrev e : Core
+  abbrev e : Parts
   e = port_moves c i (Answered o p) (some letter) p now more
 
   in_homes : i < length c.homes
@@ -80,7 +80,7 @@ module _ (a : About) (c : Core) (i p o : ℕ) (letter : SlotRecord) (ask : Reque
         (λ ne. P.apart m n j k r g (sym (port_phase_else a c i (Answered o p) (some letter) p now more L S j ne) ∙ phased) (sym (get_or-set_other c.homes i j (some letter) none ne) ∙ home) at port);
   }
 
-module _ (a : About) (c : Core) (L : Lawful a c) (id i o : ℕ) (u : Desk) (K : KnownPort a c L id u) (carried : List (ℕ × SlotRecord))
+module _ (a : About) (c : Parts) (L : Lawful a c) (id i o : ℕ) (u : Desk) (K : KnownPort a c L id u) (carried : List (ℕ × SlotRecord))
     (letter : SlotRecord) (ask : Request) (reply : Response) (serves : ask_at u.serving i ≡ Some ask) (own : Owns u.about o ask.source) (spells : Spells letter ask)
     (answer : SpellsAnswer letter ask.address reply) (last : letter.index ≡ length u.list) (right : reply ≡ store.reply (replay (reset_of u.about u.number) (asks_of u.list)) ask) where
   abbrev now : List (ℕ × Request)

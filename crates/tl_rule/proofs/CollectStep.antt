@@ -20,9 +20,9 @@ use Rattle.tl_rule.specs.declared.view.Hands.{Hands}
 use Rattle.tl_rule.specs.declared.view.View.TheVariants.{Master}
 use Rattle.tl_rule.specs.Record.{SlotRecord, Spells, SpellsAnswer}
 use Rattle.tl_rule.specs.Views.{Owns, reset_of, hands, desk, held, Above, no_hands, with_hand}
-use Rattle.tl_rule.specs.Rule.{Core, Names, IsHome, HomeAsk, InPhase, IsAnswered, InSlot, InGot, Placed, Places, Lawful, Fits, phase, table_of}
+use Rattle.tl_rule.specs.Rule.{Parts, Names, IsHome, HomeAsk, InPhase, IsAnswered, InSlot, InGot, Placed, Places, Lawful, Fits, phase, table_of}
 use Rattle.tl_rule.specs.Events.{state_of, IsOneEvent}
-use Rattle.tl_rule.specs.Seen.{SeenFit, JustOwn, IsPlaceOf, at_port, sent_at}
+use Rattle.tl_rule.specs.Seen.{SeenFit, JustOwn, at_port, sent_at}
 use Rattle.tl_rule.specs.Moves.{Tried, Collects, entry}
 use Rattle.tl_rule.proofs.Tables.{of_get}
 use Rattle.tl_rule.proofs.Lists.{at_end, before_end, below_length, ended, first_of}
@@ -32,7 +32,7 @@ use Rattle.tl_rule.proofs.Own.{just_own, seen_fit, answered_inside, got_back}
 use Rattle.tl_rule.proofs.Allowing.{fits_after, found, there, present, master_step, tries}
 
 -- the places, once the answer of the slot i is collected
-module _ (a : About) (c : Core) (i m p since : ℕ) (letter : SlotRecord) (ask : Request) (reply : Response) (L : Lawful a c)
+module _ (a : About) (c : Parts) (i m p since : ℕ) (letter : SlotRecord) (ask : Request) (reply : Response) (L : Lawful a c)
     (S : MasterStep a c i (Taking m p) none m (Taken p) ((hands c.masters m).got ++ entry p letter.index ask reply ∷ []))
     (ph : phase c i ≡ Answered m p) (at_home : IsHome c.homes i letter) (sent : held c.masters m i ≡ Sent ask p since) (place : slice_get (desk c.ports p).list letter.index ≡ Some (ask, reply)) where
   abbrev old : List Entry
@@ -41,7 +41,7 @@ module _ (a : About) (c : Core) (i m p since : ℕ) (letter : SlotRecord) (ask :
   abbrev e : Entry
   e = entry p letter.index ask reply
 
-  abbrev d : Core
+  abbrev d : Parts
   d = master_moves c i (Taking m p) none m (Taken p) (old ++ e ∷ [])
 
   abbrev P : Places a c
@@ -115,7 +115,7 @@ module _ (a : About) (c : Core) (i m p since : ℕ) (letter : SlotRecord) (ask :
         (λ n _ was at. P.apart n r j k y g was home' at port) n was at);
   }
 
-module _ (a : About) (c : Core) (L : Lawful a c) (id i : ℕ) (v : Hands) (K : Known a c L id v) (carried : List (ℕ × SlotRecord)) (ask : Request) (p since : ℕ)
+module _ (a : About) (c : Parts) (L : Lawful a c) (id i : ℕ) (v : Hands) (K : Known a c L id v) (carried : List (ℕ × SlotRecord)) (ask : Request) (p since : ℕ)
     (lt : i < a.slots) (sent_is : get_or v.hand i Nothing ≡ Sent ask p since) (ph : phase c i ≡ Answered v.number p) (A : IsAnswered a c i v.number p) where
   abbrev letter : SlotRecord
   letter = A.home.letter
@@ -153,8 +153,8 @@ module _ (a : About) (c : Core) (L : Lawful a c) (id i : ℕ) (v : Hands) (K : K
   abbrev held_before : List Entry
   held_before = (hands c.masters v.number).got
 
-  abbrev moved_core : Core
-  moved_core = master_moves c i (Taking v.number p) none v.number (Taken p) (held_before ++ last ∷ [])
+  abbrev moved_parts : Parts
+  moved_parts = master_moves c i (Taking v.number p) none v.number (Taken p) (held_before ++ last ∷ [])
 
   collect_step : MasterStep a c i (Taking v.number p) none v.number (Taken p) (held_before ++ last ∷ [])
   collect_step = record {
@@ -171,7 +171,7 @@ module _ (a : About) (c : Core) (L : Lawful a c) (id i : ℕ) (v : Hands) (K : K
     here = record { taken = held_here c.masters v.number i (Taken p) (held_before ++ last ∷ []) K.near in_view; port = in_range };
   }
 
-  collect_lawful : Lawful a moved_core
+  collect_lawful : Lawful a moved_parts
   collect_lawful = moved a c i (Taking v.number p) none v.number (Taken p) (held_before ++ last ∷ []) L collect_step (collect_places a c i v.number p since letter ask reply L collect_step ph A.home.at held_is place)
 
   pub collect_event : IsOneEvent a (Collect i v.number p) (table_of a c) (stepped (table_of a c) i (word (Taking v.number p)) id carried (Master (with_hand v i (Taken p) (v.got ++ last ∷ []))) (takes i letter))
@@ -181,7 +181,7 @@ module _ (a : About) (c : Core) (L : Lawful a c) (id i : ℕ) (v : Hands) (K : K
 
   -- what the seat is told
   pub collect_told : (slots from new : ℕ) (said : maybe.Option SlotRecord) → Collects (step slots i from new said) (Master v, carried) (Master (with_hand v i (Taken p) (v.got ++ last ∷ [])), (i, letter) ∷ carried)
-  collect_told slots from new said = let m = v.number in let d = moved_core in
+  collect_told slots from new said = let m = v.number in let d = moved_parts in
       let hands_is : hands d.masters m ≡ with_hand v i (Taken p) (v.got ++ last ∷ []) = get_or-set_same c.masters m (with_hand (hands c.masters m) i (Taken p) (held_before ++ last ∷ [])) no_hands K.near ∙ (λ t. with_hand (K.is t) i (Taken p) (got_is t ++ last ∷ [])) in
       let views = collect_lawful.shape.master_views m (let z = K.near in let y = length-set c.masters m (with_hand (hands c.masters m) i (Taken p) (held_before ++ last ∷ [])) in omega arith) in
       let own = just_own a d collect_lawful m p views.1 views.0 in record {

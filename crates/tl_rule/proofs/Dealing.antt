@@ -12,7 +12,7 @@ use Rattle.tl_rule.specs.declared.view.View.{View}
 use Rattle.tl_rule.specs.declared.view.View.TheVariants.{Dealer, Master, Port}
 use Rattle.tl_rule.specs.Record.{SlotRecord}
 use Rattle.tl_rule.specs.Views.{hands, desk, held, no_hands, no_desk}
-use Rattle.tl_rule.specs.Rule.{Core, InPhase, Lawful, Fits, views_of, table_of}
+use Rattle.tl_rule.specs.Rule.{Parts, InPhase, Lawful, Fits, views_of, table_of}
 use Rattle.std.proofs.Common.{replicate}
 use Rattle.std.proofs.lemmas.List.{length-replicate}
 use mathlib.Core.Option.{some-injective, some-ne-none}
@@ -23,7 +23,7 @@ use Rattle.tl_rule.specs.Rule.{leave_word}
 use Rattle.tl_rule.specs.Moves.{opening_view, after_master, next_master, after_port, next_port}
 use Rattle.tl_rule.proofs.Tables.{past}
 use Rattle.tl_rule.proofs.Lists.{end_elim}
-use Rattle.tl_rule.proofs.Allowing.{by_core}
+use Rattle.tl_rule.proofs.Allowing.{by_parts}
 use Rattle.tl_rule.proofs.LeaveStep.{alike}
 
 blank_nothing : (n i : ℕ) → get_or (replicate n Nothing) i Nothing ≡ Nothing
@@ -53,11 +53,11 @@ ports_more (x ∷ ms) ps w = ap (λ (l : List View). Master x ∷ l) (ports_more
 
 -- ---- a master's seat
 
-module _ (a : About) (c : Core) (L : Lawful a c) (more : length c.masters < a.masters) where
+module _ (a : About) (c : Parts) (L : Lawful a c) (more : length c.masters < a.masters) where
   abbrev new_master : Hands
   new_master = new_hands a (length c.masters)
 
-  abbrev with_master : Core
+  abbrev with_master : Parts
   with_master = record { phases = c.phases; left = c.left; homes = c.homes; masters = c.masters ++ new_master ∷ []; ports = c.ports }
 
   by_master : (P : ℕ → Hands → Type 0) → ((j : ℕ) → j < length c.masters → P j (hands c.masters j)) → P (length c.masters) new_master → ((j : ℕ) → length c.masters < j → P j no_hands) → (j : ℕ) → P j (hands with_master.masters j)
@@ -92,13 +92,13 @@ module _ (a : About) (c : Core) (L : Lawful a c) (more : length c.masters < a.ma
 
 pub deals_master : (a : About) (id m p : ℕ) → m < a.masters → Splits (Fits a) id (Dealer a m p) (after_master (Dealer a m p)) (next_master (Dealer a m p))
 deals_master a id m p more s h =
-    by_core a (λ s. get_elem? s.views id ≡ some (Dealer a m p) → Fits a (record { words = s.words; homes = s.homes; views = set s.views id (Dealer a (m + 1) p) ++ Master (new_hands a m) ∷ [] }))
+    by_parts a (λ s. get_elem? s.views id ≡ some (Dealer a m p) → Fits a (record { words = s.words; homes = s.homes; views = set s.views id (Dealer a (m + 1) p) ++ Master (new_hands a m) ∷ [] }))
     (λ c L. elim id as (λ id. get_elem? (views_of a c.masters c.ports) id ≡ some (Dealer a m p) → Fits a (record { words = (table_of a c).words; homes = c.homes; views = set (views_of a c.masters c.ports) id (Dealer a (m + 1) p) ++ Master (new_hands a m) ∷ [] })) [
       | zero ↦ λ at. let is = some-injective (Dealer a (length c.masters) (length c.ports)) (Dealer a m p) at in let ms_is : length c.masters ≡ m = cc in let ps_is : length c.ports ≡ p = cc in
           let lt : length c.masters < a.masters = omega arith in
           let none_yet : length c.ports ≡ 0 = L.shape.dealt lt in let long = length-append c.masters (new_hands a (length c.masters) ∷ []) in
           let counted : m + 1 ≡ length (c.masters ++ new_hands a (length c.masters) ∷ []) = omega arith in record {
-            core = with_master a c L lt;
+            parts = with_master a c L lt;
             is = λ z. record { words = (table_of a c).words; homes = c.homes; views = (ap (λ (k : ℕ). Dealer a (m + 1) p ∷ ((map Master c.masters ++ map Port c.ports) ++ Master (new_hands a k) ∷ [])) (sym ms_is) ∙ (λ z. Dealer a (counted z) (sym ps_is z) ∷ masters_only c.masters c.ports (new_hands a (length c.masters)) none_yet z)) z };
             lawful = master_lawful a c L lt;
           }
@@ -108,11 +108,11 @@ deals_master a id m p more s h =
 
 -- ---- a port's seat
 
-module _ (a : About) (c : Core) (L : Lawful a c) (all : length c.masters ≡ a.masters) (more : length c.ports < a.ports) where
+module _ (a : About) (c : Parts) (L : Lawful a c) (all : length c.masters ≡ a.masters) (more : length c.ports < a.ports) where
   abbrev new_port : Desk
   new_port = new_desk a (length c.ports)
 
-  abbrev with_port : Core
+  abbrev with_port : Parts
   with_port = record { phases = c.phases; left = c.left; homes = c.homes; masters = c.masters; ports = c.ports ++ new_port ∷ [] }
 
   by_port : (P : ℕ → Desk → Type 0) → ((j : ℕ) → j < length c.ports → P j (desk c.ports j)) → P (length c.ports) new_port → ((j : ℕ) → length c.ports < j → P j no_desk) → (j : ℕ) → P j (desk with_port.ports j)
@@ -147,13 +147,13 @@ module _ (a : About) (c : Core) (L : Lawful a c) (all : length c.masters ≡ a.m
 
 pub deals_port : (a : About) (id m p : ℕ) → m ≡ a.masters → p < a.ports → Splits (Fits a) id (Dealer a m p) (after_port (Dealer a m p)) (next_port (Dealer a m p))
 deals_port a id m p all more s h =
-    by_core a (λ s. get_elem? s.views id ≡ some (Dealer a m p) → Fits a (record { words = s.words; homes = s.homes; views = set s.views id (Dealer a m (p + 1)) ++ Port (new_desk a p) ∷ [] }))
+    by_parts a (λ s. get_elem? s.views id ≡ some (Dealer a m p) → Fits a (record { words = s.words; homes = s.homes; views = set s.views id (Dealer a m (p + 1)) ++ Port (new_desk a p) ∷ [] }))
     (λ c L. elim id as (λ id. get_elem? (views_of a c.masters c.ports) id ≡ some (Dealer a m p) → Fits a (record { words = (table_of a c).words; homes = c.homes; views = set (views_of a c.masters c.ports) id (Dealer a m (p + 1)) ++ Port (new_desk a p) ∷ [] })) [
       | zero ↦ λ at. let is = some-injective (Dealer a (length c.masters) (length c.ports)) (Dealer a m p) at in let ms_is : length c.masters ≡ m = cc in let ps_is : length c.ports ≡ p = cc in
           let lt : length c.ports < a.ports = omega arith in
           let long = length-append c.ports (new_desk a (length c.ports) ∷ []) in
           let counted : p + 1 ≡ length (c.ports ++ new_desk a (length c.ports) ∷ []) = omega arith in record {
-            core = with_port a c L (ms_is ∙ all) lt;
+            parts = with_port a c L (ms_is ∙ all) lt;
             is = λ z. record { words = (table_of a c).words; homes = c.homes; views = (ap (λ (k : ℕ). Dealer a m (p + 1) ∷ ((map Master c.masters ++ map Port c.ports) ++ Port (new_desk a k) ∷ [])) (sym ps_is) ∙ (λ z. Dealer a (sym ms_is z) (counted z) ∷ ports_more c.masters c.ports (new_desk a (length c.ports)) z)) z };
             lawful = port_lawful a c L (ms_is ∙ all) lt;
           }
@@ -186,8 +186,8 @@ all_home (x ∷ xs) zero h = (x, refl)
 all_home (x ∷ xs) (suc i) h = all_home xs i (omega arith)
 
 pub opens : (a : About) (ws : List ℕ) (xs : List SlotRecord) → ws ≡ replicate (a.slots + a.masters) 0 → length xs ≡ a.slots → IsInLimits a.slots a.masters a.ports → Fits a (opening ws xs (opening_view a))
-opens a ws xs words long limits = let c : Core = record { phases = replicate a.slots Free; left = replicate a.masters false; homes = map some xs; masters = []; ports = [] } in record {
-  core = c;
+opens a ws xs words long limits = let c : Parts = record { phases = replicate a.slots Free; left = replicate a.masters false; homes = map some xs; masters = []; ports = [] } in record {
+  parts = c;
   is = λ z. record { words = (words ∙ all_free a.slots a.masters) z; homes = map some xs; views = Dealer a 0 0 ∷ [] };
   lawful = record {
     shape = record {

@@ -25,8 +25,8 @@ use Rattle.tl_rule.specs.declared.view.View.TheVariants.{Dealer, Master, Port}
 use Rattle.tl_rule.specs.Record.{SlotRecord, Spells, SpellsAnswer}
 use Rattle.tl_rule.specs.Serving.{ask_at}
 use Rattle.tl_rule.specs.Views.{Owns, hands, desk, held, served, no_hands, no_desk}
-use Rattle.tl_rule.specs.Rule.{Core, Names, InPhase, Lawful, phase, views_of, table_of}
-use Rattle.tl_rule.specs.Moves.{Sat, is_master, as_master, is_port, as_port}
+use Rattle.tl_rule.specs.Rule.{Parts, Names, InPhase, Lawful, phase, views_of, table_of}
+use Rattle.tl_rule.specs.Moves.{Seat, is_master, as_master, is_port, as_port}
 use Rattle.tl_rule.proofs.Tables.{at_get, past, master_view, port_view, word_at}
 
 -- ---- what is not blank is there
@@ -72,7 +72,7 @@ answers_one r address reply other x y = same_reply reply other address r.replies
 
 -- ---- words and views
 
-module _ (a : About) (c : Core) (L : Lawful a c) where
+module _ (a : About) (c : Parts) (L : Lawful a c) where
   pub low_master : (m : ℕ) → m < length c.masters → (m < a.masters) × (m ≤ MAX_AGENT)
   low_master m lt = let l = L.shape.masters in let k = L.shape.limits.masters_in_limit in (omega arith, omega arith)
 
@@ -139,7 +139,7 @@ one_named f m n x y = let z : Some m ≡ Some n = sym x ∙ y in cc
 pub free_names_none : (m : ℕ) → Names Free m → ⊥
 free_names_none m n = cc
 
-module _ (a : About) (c : Core) (L : Lawful a c) (m i : ℕ) where
+module _ (a : About) (c : Parts) (L : Lawful a c) (m i : ℕ) where
   filled_is : (f : Phase) → Names f m → InPhase a c i f → held c.masters m i ≡ Filled → f ≡ Filling m
   filled_is Free n h e = absurd (cc)
   filled_is (Filling o) n h e = ap Filling (one_named (Filling o) o m refl n)
@@ -185,7 +185,7 @@ is_master_at (Dealer a m p) e = absurd (cc)
 is_master_at (Master v) e = refl
 is_master_at (Port u) e = absurd (cc)
 
-pub seat_is : (m : Sat) → is_master m.0 ≡ true → m ≡ (Master (as_master m.0), m.1)
+pub seat_is : (m : Seat) → is_master m.0 ≡ true → m ≡ (Master (as_master m.0), m.1)
 seat_is m e = λ t. (is_master_at m.0 e t, m.1)
 
 is_port_at : (w : View) → is_port w ≡ true → w ≡ Port (as_port w)
@@ -193,5 +193,5 @@ is_port_at (Dealer a m p) e = absurd (cc)
 is_port_at (Master v) e = absurd (cc)
 is_port_at (Port u) e = refl
 
-pub port_seat_is : (m : Sat) → is_port m.0 ≡ true → m ≡ (Port (as_port m.0), m.1)
+pub port_seat_is : (m : Seat) → is_port m.0 ≡ true → m ≡ (Port (as_port m.0), m.1)
 port_seat_is m e = λ t. (is_port_at m.0 e t, m.1)

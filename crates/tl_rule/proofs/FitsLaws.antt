@@ -13,7 +13,7 @@ use Rattle.tl_rule.specs.declared.view.Desk.{Desk}
 use Rattle.tl_rule.specs.declared.view.View.TheVariants.{Master, Port}
 use Rattle.tl_rule.specs.Record.{SlotRecord, Spells, SpellsAnswer}
 use Rattle.tl_rule.specs.Views.{Owns, reset_of, desk}
-use Rattle.tl_rule.specs.Rule.{Core, Names, IsHome, InPhase, Lawful, phase, table_of}
+use Rattle.tl_rule.specs.Rule.{Parts, Names, IsHome, InPhase, Lawful, phase, table_of}
 use Rattle.tl_slots.specs.Word.{IsWordOf}
 use Rattle.tl_slots.proofs.Words.{one_phase}
 use Rattle.tl_rule.specs.Rule.{leave_word}
@@ -24,11 +24,11 @@ use Rattle.tl_rule.proofs.Tables.{at_get, word_at, leaf_at, leave_at, many_words
 use Rattle.tl_rule.proofs.Facts.{Known, known, known_port, shown, some_master, low_master, low_port, one_named, owner_holds, not_left, in_hand_of, fits_word, free_names_none}
 use Rattle.tl_rule.proofs.Own.{just_own, seen_fit}
 use Rattle.tl_rule.proofs.PortSteps.{desk_law}
-use Rattle.tl_rule.proofs.Allowing.{by_core}
+use Rattle.tl_rule.proofs.Allowing.{by_parts}
 
 pub lists_law : ListsAreJustOwn
 lists_law a s id at v u F seat desk_seat =
-    by_core a (λ s. HasView s id (Master v) → HasView s at (Port u) → IsLawfulHistory (reset_of v.about u.number) u.list × JustOwn u.list (Owns v.about v.number) (at_port u.number v.got) (sent_at u.number v.hand))
+    by_parts a (λ s. HasView s id (Master v) → HasView s at (Port u) → IsLawfulHistory (reset_of v.about u.number) u.list × JustOwn u.list (Owns v.about v.number) (at_port u.number v.got) (sent_at u.number v.hand))
     (λ c L seat there. let K = known a c L id v seat in let D = known_port a c L at u there in let w = L.shape.master_views v.number K.near in (
       subst (λ (z : About). IsLawfulHistory (reset_of z u.number) u.list) (sym K.about) (subst (λ (d : Desk). IsLawfulHistory (reset_of a u.number) d.list) D.is (L.lawful u.number)),
       subst (λ (d : Desk). JustOwn d.list (Owns v.about v.number) (at_port u.number v.got) (sent_at u.number v.hand)) D.is
@@ -37,7 +37,7 @@ lists_law a s id at v u F seat desk_seat =
 
 pub answers_law : AnswersAreSeenFit
 answers_law a s id at i v u letter F seat desk_seat lt is home =
-    by_core a (λ s. HasView s id (Master v) → HasView s at (Port u) → get_or s.words i 0 ≡ word (Answered v.number u.number) → HasHome s i letter → IsSeenAnswer v u i letter)
+    by_parts a (λ s. HasView s id (Master v) → HasView s at (Port u) → get_or s.words i 0 ≡ word (Answered v.number u.number) → HasHome s i letter → IsSeenAnswer v u i letter)
     (λ c L seat there is home. let K = known a c L id v seat in let D = known_port a c L at u there in let m = v.number in let p = u.number in
     let ph = shown a c L i (Answered m p) lt (record { owner = (low_master a c L m K.near).1; port = (low_port a c L p D.near).1 }) is in let A = subst (InPhase a c i) ph (L.slots i lt) in
     let same = one_letter c.homes i A.home.letter letter A.home.at (at_get c.homes i (some letter) none home).1 in
@@ -56,24 +56,24 @@ answers_law a s id at i v u letter F seat desk_seat lt is home =
     one_letter homes i x y a b = cc
 
 -- a slot in a hand is named by its word's phase
-named : (a : About) (c : Core) (L : Lawful a c) (id i : ℕ) (v : Hands) → Known a c L id v → get_or v.hand i Nothing ≢ Nothing → Names (phase c i) v.number
+named : (a : About) (c : Parts) (L : Lawful a c) (id i : ℕ) (v : Hands) → Known a c L id v → get_or v.hand i Nothing ≢ Nothing → Names (phase c i) v.number
 named a c L id i v K h = L.hand v.number i (subst (λ (x : Hands). get_or x.hand i Nothing ≢ Nothing) (sym K.is) h)
 
 pub unclaimed_law : NoOwnedSlotIsClaimed
 unclaimed_law a s id i v F seat h =
-    by_core a (λ s. HasView s id (Master v) → get_or s.words i 0 ≢ word Free)
+    by_parts a (λ s. HasView s id (Master v) → get_or s.words i 0 ≢ word Free)
     (λ c L seat is. let K = known a c L id v seat in let lt : i < a.slots = (let z = in_hand_of v.hand i h in let w = K.wide in omega arith) in
     let ph = shown a c L i Free lt (record { owner = tt; port = tt }) is in free_names_none v.number (subst (λ f. Names f v.number) ph (named a c L id i v K h))) s F seat
 
 pub apart_law : HandsAreApart
 apart_law a s id other i v w F seat there h g =
-    by_core a (λ s. HasView s id (Master v) → HasView s other (Master w) → id ≡ other)
+    by_parts a (λ s. HasView s id (Master v) → HasView s other (Master w) → id ≡ other)
     (λ c L seat there. let K = known a c L id v seat in let J = known a c L other w there in
     K.place ∙ ap suc (one_named (phase c i) v.number w.number (named a c L id i v K h) (named a c L other i w J g)) ∙ sym J.place) s F seat there
 
 pub desks_law : DesksAreLawful
 desks_law a s at u F seat =
-    by_core a (λ s. HasView s at (Port u) → IsLawfulDesk u) (λ c L seat. let D = known_port a c L at u seat in subst IsLawfulDesk D.is (desk_law a c L u.number D.near)) s F seat
+    by_parts a (λ s. HasView s at (Port u) → IsLawfulDesk u) (λ c L seat. let D = known_port a c L at u seat in subst IsLawfulDesk D.is (desk_law a c L u.number D.near)) s F seat
 
 -- ---- words
 
@@ -82,7 +82,7 @@ bit_or true = inr refl
 bit_or false = inl refl
 
 pub words_law : WordsFit
-words_law a s F = by_core a (λ s. AreArenaWords a s.words) (λ c L. let n = L.shape.phases in let k = L.shape.left in
+words_law a s F = by_parts a (λ s. AreArenaWords a s.words) (λ c L. let n = L.shape.phases in let k = L.shape.left in
     let leave_is = λ (m : ℕ). (let e : a.slots + m ≡ length c.phases + m = omega arith in
     ap (λ (j : ℕ). get_or (map word c.phases ++ map leave_word c.left) j 0) e ∙ leaf_at c.phases (map leave_word c.left) m ∙ leave_at c.left m) in record {
       many = many_words c.phases c.left ∙ (λ t. n t + k t);

@@ -8,10 +8,10 @@ use Rattle.tl_slots.specs.declared.phase.Phase.{Phase}
 use Rattle.tl_slots.specs.declared.phase.Phase.TheVariants.{Free, Filling, Posted, Serving, Answered, Taking}
 use Rattle.tl_rule.specs.declared.view.About.{About}
 use Rattle.tl_rule.specs.Views.{hands, desk, held, served, Above}
-use Rattle.tl_rule.specs.Rule.{Core, Asked, HomeAsk, InPhase, InSlot, InGot, Places, phase}
+use Rattle.tl_rule.specs.Rule.{Parts, Asked, HomeAsk, InPhase, InSlot, InGot, Places, phase}
 
 -- c and d agree on the slot j, and lists only grew
-pub record Same (c d : Core) (j : ℕ) : Type 0 where
+pub record Same (c d : Parts) (j : ℕ) : Type 0 where
   pub held_same : (n : ℕ) → held d.masters n j ≡ held c.masters n j
   pub home_same : get_or d.homes j none ≡ get_or c.homes j none
   pub served_same : (p : ℕ) → served d.ports p j ≡ served c.ports p j
@@ -19,7 +19,7 @@ pub record Same (c d : Core) (j : ℕ) : Type 0 where
   pub longer : (n : ℕ) → length (hands c.masters n).got ≤ length (hands d.masters n).got
   pub gots : (n k : ℕ) → k < length (hands c.masters n).got → slice_get (hands d.masters n).got k ≡ slice_get (hands c.masters n).got k
 
-module _ (a : About) (c d : Core) (j : ℕ) (s : Same c d j) where
+module _ (a : About) (c d : Parts) (j : ℕ) (s : Same c d j) where
   abbrev still_asked : (m p : ℕ) → Asked c.masters m j p → Asked d.masters m j p
   still_asked m p t = let l = s.longer m in let f = t.few in record { ask = t.ask; known = t.known; sent = s.held_same m ∙ t.sent; few = omega arith }
 
@@ -45,13 +45,13 @@ module _ (a : About) (c d : Core) (j : ℕ) (s : Same c d j) where
   stays (Taking m p) h = record { taken = s.held_same m ∙ h.taken; port = h.port }
 
 -- no answered slot, no list and no collected reply is changed
-pub record Quiet (c d : Core) : Type 0 where
+pub record Quiet (c d : Parts) : Type 0 where
   pub same_lists : (p : ℕ) → (desk d.ports p).list ≡ (desk c.ports p).list
   pub same_gots : (n : ℕ) → (hands d.masters n).got ≡ (hands c.masters n).got
   pub forth : (j m p : ℕ) → phase c j ≡ Answered m p → (phase d j ≡ Answered m p) × (get_or d.homes j none ≡ get_or c.homes j none)
   pub back : (j m p : ℕ) → phase d j ≡ Answered m p → (phase c j ≡ Answered m p) × (get_or d.homes j none ≡ get_or c.homes j none)
 
-pub quiet : (a : About) (c d : Core) → Quiet c d → Places a c → Places a d
+pub quiet : (a : About) (c d : Parts) → Quiet c d → Places a c → Places a d
 quiet a c d q P = let list_at = λ (p k : ℕ) (x : Request × Response) (e : slice_get (desk d.ports p).list k ≡ Some x). subst (λ l. slice_get l k ≡ Some x) (q.same_lists p) e in
     let got_at = λ (n j : ℕ) (x : Entry) (e : slice_get (hands d.masters n).got j ≡ Some x). subst (λ l. slice_get l j ≡ Some x) (q.same_gots n) e in record {
       placed = λ p k x e. let t = P.placed p k x (list_at p k x e) in record {

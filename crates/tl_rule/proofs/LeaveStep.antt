@@ -18,7 +18,7 @@ use Rattle.tl_rule.specs.declared.view.View.TheVariants.{Master}
 use Rattle.tl_rule.specs.Record.{SlotRecord}
 use Rattle.tl_rule.specs.Serving.{ask_at, HasDistinctSlots}
 use Rattle.tl_rule.specs.Views.{reset_of, hands, desk, held, served, no_hands, gone_hands}
-use Rattle.tl_rule.specs.Rule.{Core, Names, InPhase, HasShape, Lawful, Fits, phase, views_of, table_of}
+use Rattle.tl_rule.specs.Rule.{Parts, Names, InPhase, HasShape, Lawful, Fits, phase, views_of, table_of}
 use Rattle.tl_rule.specs.Events.{state_of, IsOneEvent}
 use Rattle.std.proofs.Common.{Any}
 use Rattle.tl_slots.specs.Phase.{owner_of}
@@ -32,7 +32,7 @@ use Rattle.tl_rule.proofs.Own.{all_own}
 use Rattle.tl_rule.proofs.Allowing.{fits_after, there, present, stores}
 
 -- c and d differ at most in numbers, counts and who has left
-pub record Alike (c d : Core) : Type 0 where
+pub record Alike (c d : Parts) : Type 0 where
   pub phases : d.phases ≡ c.phases
   pub homes : d.homes ≡ c.homes
   pub held_same : (n i : ℕ) → held d.masters n i ≡ held c.masters n i
@@ -40,7 +40,7 @@ pub record Alike (c d : Core) : Type 0 where
   pub serving_same : (p : ℕ) → (desk d.ports p).serving ≡ (desk c.ports p).serving
   pub list_same : (p : ℕ) → (desk d.ports p).list ≡ (desk c.ports p).list
 
-module _ (a : About) (c d : Core) (L : Lawful a c) (A : Alike c d) where
+module _ (a : About) (c d : Parts) (L : Lawful a c) (A : Alike c d) where
   phase_same : (j : ℕ) → phase d j ≡ phase c j
   phase_same j = ap (λ (l : List Phase). get_or l j Free) A.phases
 
@@ -77,21 +77,21 @@ module _ (a : About) (c d : Core) (L : Lawful a c) (A : Alike c d) where
 
 -- ---- a master leaves
 
-module _ (a : About) (c : Core) (L : Lawful a c) (id : ℕ) (v : Hands) (K : Known a c L id v) (carried : List (ℕ × SlotRecord))
+module _ (a : About) (c : Parts) (L : Lawful a c) (id : ℕ) (v : Hands) (K : Known a c L id v) (carried : List (ℕ × SlotRecord))
     (staying : v.left ≡ false) (empty : (j : ℕ) → get_or v.hand j Nothing ≡ Nothing) where
   abbrev w : Hands
   w = gone_hands (hands c.masters v.number)
 
-  abbrev left_core : Core
-  left_core = record { phases = c.phases; left = set c.left v.number true; homes = c.homes; masters = set c.masters v.number w; ports = c.ports }
+  abbrev left_parts : Parts
+  left_parts = record { phases = c.phases; left = set c.left v.number true; homes = c.homes; masters = set c.masters v.number w; ports = c.ports }
 
-  by : (P : ℕ → Hands → Type 0) → P v.number w → ((n : ℕ) → n ≢ v.number → P n (hands c.masters n)) → (n : ℕ) → P n (hands left_core.masters n)
+  by : (P : ℕ → Hands → Type 0) → P v.number w → ((n : ℕ) → n ≢ v.number → P n (hands c.masters n)) → (n : ℕ) → P n (hands left_parts.masters n)
   by = set_elim c.masters v.number w no_hands K.near
 
   pub empty_here : (j : ℕ) → held c.masters v.number j ≡ Nothing
   empty_here j = ap (λ (x : Hands). get_or x.hand j Nothing) K.is ∙ empty j
 
-  left_alike : Alike c left_core
+  left_alike : Alike c left_parts
   left_alike = record {
     phases = refl;
     homes = refl;
@@ -101,7 +101,7 @@ module _ (a : About) (c : Core) (L : Lawful a c) (id : ℕ) (v : Hands) (K : Kno
     list_same = λ p. refl;
   }
 
-  left_shape : HasShape a left_core
+  left_shape : HasShape a left_parts
   left_shape = let e = length-set c.masters v.number w in let t = L.shape in record {
     limits = t.limits;
     phases = t.phases;
@@ -114,8 +114,8 @@ module _ (a : About) (c : Core) (L : Lawful a c) (id : ℕ) (v : Hands) (K : Kno
     port_views = t.port_views;
   }
 
-  left_lawful : Lawful a left_core
-  left_lawful = alike a c left_core L left_alike left_shape
+  left_lawful : Lawful a left_parts
+  left_lawful = alike a c left_parts L left_alike left_shape
       (by (λ n y. get_or (set c.left v.number true) n false ≡ y.left) (get_or-set_same c.left v.number true false (there a c L v.number K.near)) (λ n ne. get_or-set_other c.left v.number n true false ne ∙ L.leaving n))
       (λ n j. by (λ n y. y.left ≡ true → get_or y.hand j Nothing ≡ Nothing) (λ _. empty_here j) (λ n _. L.gone n j) n)
 
@@ -130,7 +130,7 @@ module _ (a : About) (c : Core) (L : Lawful a c) (id : ℕ) (v : Hands) (K : Kno
       let words = set_leaf c.phases _ (a.slots + m) m 1 (let e = L.shape.phases in omega arith) ∙ ap (λ (l : List ℕ). map word c.phases ++ l) (set_left c.left m) in
       let views = K.sets (gone_hands v) ∙ ap (λ (y : Hands). views_of a (set c.masters m (gone_hands y)) c.ports) (sym K.is) in record {
         before = c;
-        after = left_core;
+        after = left_parts;
         was = refl;
         is = λ z. record { words = words z; homes = c.homes; views = views z };
         lawful_before = L;

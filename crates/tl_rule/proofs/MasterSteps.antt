@@ -16,7 +16,7 @@ use Rattle.tl_rule.specs.declared.view.Hands.{Hands}
 use Rattle.tl_rule.specs.declared.view.View.TheVariants.{Master}
 use Rattle.tl_rule.specs.Record.{SlotRecord, Spells}
 use Rattle.tl_rule.specs.Views.{Owns, hands, held, with_hand}
-use Rattle.tl_rule.specs.Rule.{Core, Names, InPhase, Lawful, Fits, phase, table_of}
+use Rattle.tl_rule.specs.Rule.{Parts, Names, InPhase, Lawful, Fits, phase, table_of}
 use Rattle.tl_rule.specs.Events.{state_of, IsOneEvent}
 use Rattle.tl_rule.specs.Moves.{Tried, Claims, Sends, Releases}
 use Rattle.tl_rule.proofs.Tables.{of_get}
@@ -26,7 +26,7 @@ use Rattle.tl_rule.proofs.Allowing.{fits_after, found, there, present, master_st
 
 -- ---- claim
 
-module _ (a : About) (c : Core) (L : Lawful a c) (id i : ℕ) (v : Hands) (K : Known a c L id v) (carried : List (ℕ × SlotRecord)) where
+module _ (a : About) (c : Parts) (L : Lawful a c) (id i : ℕ) (v : Hands) (K : Known a c L id v) (carried : List (ℕ × SlotRecord)) where
   in_phases : i < a.slots → i < length c.phases
   in_phases lt = let e = L.shape.phases in omega arith
 

@@ -1,36 +1,20 @@
 -- Where the rule holds, a master's view and a port's list fit together.
-use Rattle.std.proofs.Common.{◌≡◌, ◌≢◌, ℕ, zero, suc, ◌+◌, ◌*◌, ◌/◌, ◌%◌, ◌<◌, ◌≤◌, eqb, Bool, true, false, List, [], ◌∷◌, ◌++◌, map, length, get_or, set, sym, refl, ap, subst, ◌∙◌, arith, inl, inr, ⊎_elim, ◌⊎◌, get_or-set_same, get_or-set_other, length-set, length-append, Option, Some, None, slice_get}
-use mathlib.Core.Option as maybe
-use mathlib.Core.Option.{some, none}
+use Rattle.std.proofs.Common.{◌≡◌, ◌≢◌, ℕ, zero, suc, ◌<◌, List, [], ◌∷◌, get_or, sym, refl, ap, subst, ◌∙◌, arith, inl, inr, ⊎_elim, ◌⊎◌, Some, slice_get}
 use mathlib.Core.Logic.{dite}
-use native.Mathlib.Decide.{ℕ_discrete, dec_lt}
-use lib.ListN.{get_elem?}
-use prog.Atomic.{either}
-use Rattle.atomic_table.specs.Table.{State, Step, Me, step, Act, keeps, takes, gives, Valid, Allows, carried_after, stepped, homes_after, rest}
+use native.Mathlib.Decide.{ℕ_discrete}
 use Rattle.tl_types.specs.Request.{Request}
 use Rattle.tl_types.specs.Response.{Response}
 use Rattle.tl_types.specs.declared.trace.Entry.{Entry}
 use Rattle.tl_ops.specs.History.{IsLawfulHistory}
-use Rattle.tl_slots.specs.declared.phase.Phase.{Phase}
-use Rattle.tl_slots.specs.declared.phase.Phase.TheVariants.{Free, Filling, Posted, Serving, Answered, Taking}
-use Rattle.tl_slots.specs.declared.event.Event.{Event}
-use Rattle.tl_slots.specs.declared.event.Event.TheVariants.{Claim, Post, Accept, Answer, Collect, Release, Look, Leave}
-use Rattle.tl_slots.specs.Machine.{IsAllowed, state_after}
-use Rattle.tl_slots.specs.Word.{word}
-use Rattle.tl_slots.proofs.Steps.{move_is_allowed}
+use Rattle.tl_slots.specs.declared.phase.Phase.TheVariants.{Free, Answered}
 use Rattle.tl_rule.specs.declared.view.About.{About}
 use Rattle.tl_rule.specs.declared.view.Held.{Held}
-use Rattle.tl_rule.specs.declared.view.Held.TheVariants.{Nothing, Filled, Sent, Taken}
+use Rattle.tl_rule.specs.declared.view.Held.TheVariants.{Nothing, Sent}
 use Rattle.tl_rule.specs.declared.view.Hands.{Hands}
-use Rattle.tl_rule.specs.declared.view.Desk.{Desk}
-use Rattle.tl_rule.specs.declared.view.View.{View}
-use Rattle.tl_rule.specs.declared.view.View.TheVariants.{Dealer, Master, Port}
-use Rattle.tl_rule.specs.Record.{SlotRecord, Spells, SpellsAnswer}
-use Rattle.tl_rule.specs.Serving.{ask_at, drop_slot, HasDistinctSlots}
-use Rattle.tl_rule.specs.Views.{Owns, reset_of, hands, desk, held, served, Above, no_hands, no_desk, with_hand, with_serving, gone_hands}
-use Rattle.tl_rule.specs.Rule.{Core, Names, IsHome, Asked, HomeAsk, InPhase, IsPosted, IsServing, IsAnswered, IsTaken, InSlot, InGot, Placed, Places, HasShape, Lawful, Fits, phase, views_of, table_of}
-use Rattle.tl_rule.specs.Events.{state_of, IsOneEvent}
-use Rattle.std.proofs.Common.{cond, eq-eqb, ne_eqb, filter, Contains, take}
+use Rattle.tl_rule.specs.Record.{SlotRecord}
+use Rattle.tl_rule.specs.Views.{Owns, reset_of, hands, desk, held}
+use Rattle.tl_rule.specs.Rule.{Parts, IsHome, InPhase, IsAnswered, InSlot, InGot, Lawful, phase}
+use Rattle.std.proofs.Common.{cond, eq-eqb, ne_eqb, Contains, take}
 use Rattle.std.proofs.lemmas.List.Elements.{Contains-append_left, Contains-append_right}
 use Rattle.tl_rule.specs.Seen.{SeenFit, JustOwn, IsPlaceOf, at_port, sent_to, sent_at}
 use Rattle.tl_rule.specs.Moves.{OwnsAll}
@@ -66,7 +50,7 @@ pub got_back : (p : ℕ) (es : List Entry) (e : Entry) → Contains (at_port p e
 got_back p [] e h = let l = h.1 in absurd (omega arith)
 got_back p (x ∷ xs) e h = dite (ℕ_discrete x.port p)
     (λ same. ⊎_elim (λ (is : x ≡ e). (zero, ap Some is, ap (λ (y : Entry). y.port) (sym is) ∙ same)) (λ (later : Contains (at_port p xs) e). let t = got_back p xs e later in (suc t.0, t.1, t.2))
-        (contains_cases x e (at_port p xs) (subst (λ (l : List Entry). Contains l e) (kept p x xs same) h)))
+    (contains_cases x e (at_port p xs) (subst (λ (l : List Entry). Contains l e) (kept p x xs same) h)))
     (λ ne. let t = got_back p xs e (subst (λ (l : List Entry). Contains l e) (dropped p x xs ne) h) in (suc t.0, t.1, t.2))
 
 -- what was sent to the port from a slot
@@ -86,10 +70,10 @@ taken_get (suc n) (x ∷ xs) (suc k) e at = let t = taken_get n xs k e at in let
 -- ---- what the rule says
 
 -- a slot in this phase is there
-pub answered_inside : (a : About) (c : Core) (L : Lawful a c) (i m p : ℕ) → phase c i ≡ Answered m p → i < a.slots
+pub answered_inside : (a : About) (c : Parts) (L : Lawful a c) (i m p : ℕ) → phase c i ≡ Answered m p → i < a.slots
 answered_inside a c L i m p ph = let n = L.shape.phases in let z = phase_inside c.phases i (λ e. absurd (let clash : Free ≡ Answered m p = sym e ∙ ph in cc)) in omega arith
 
-module _ (a : About) (c : Core) (L : Lawful a c) (m p : ℕ) where
+module _ (a : About) (c : Parts) (L : Lawful a c) (m p : ℕ) where
   abbrev v : Hands
   v = hands c.masters m
 
@@ -114,12 +98,12 @@ module _ (a : About) (c : Core) (L : Lawful a c) (m p : ℕ) where
   found : (k : ℕ) (x : Request × Response) → slice_get h k ≡ Some x → Owns a m x.0.source → At k x ⊎ IsPlaceOf mine k
   found k x at own = let t = L.places.placed p k x at in let one = one_owner a t.master m x.0.source x.0.source t.owns own refl in ⊎_elim
       (λ (s : InSlot a c t.master p k). inl (let ph : phase c s.slot ≡ Answered m p = subst (λ (n : ℕ). phase c s.slot ≡ Answered n p) one s.phased in
-          let g = subst (InPhase a c s.slot) ph (L.slots s.slot (answered_inside a c L s.slot m p ph)) in
-          let same : g.home.letter ≡ s.letter = (let y = g.home.at in let z = s.at in cc) in
-          let index : g.home.letter.index ≡ k = ap (λ (z : SlotRecord). z.index) same ∙ s.index in
-          let pair : Some (g.asked.ask, g.answer) ≡ Some x = sym (subst (λ (n : ℕ). slice_get h n ≡ Some (g.asked.ask, g.answer)) index g.listed) ∙ at in
-          let ask : g.asked.ask ≡ x.0 = cc in
-          record { slot = s.slot; known = g.asked.known; letter = s.letter; sent = g.asked.sent ∙ (λ z. Sent (ask z) p g.asked.known); at = s.at; index = s.index }))
+      let g = subst (InPhase a c s.slot) ph (L.slots s.slot (answered_inside a c L s.slot m p ph)) in
+      let same : g.home.letter ≡ s.letter = (let y = g.home.at in let z = s.at in cc) in
+      let index : g.home.letter.index ≡ k = ap (λ (z : SlotRecord). z.index) same ∙ s.index in
+      let pair : Some (g.asked.ask, g.answer) ≡ Some x = sym (subst (λ (n : ℕ). slice_get h n ≡ Some (g.asked.ask, g.answer)) index g.listed) ∙ at in
+      let ask : g.asked.ask ≡ x.0 = cc in
+      record { slot = s.slot; known = g.asked.known; letter = s.letter; sent = g.asked.sent ∙ (λ z. Sent (ask z) p g.asked.known); at = s.at; index = s.index }))
       (λ (g : InGot a c t.master p k). inr (record { entry = g.entry; is = got_forth p v.got g.place g.entry (subst (λ (n : ℕ). slice_get (hands c.masters n).got g.place ≡ Some g.entry) one g.at) g.port; at = g.index })) t.place
 
   stands_at : (k : ℕ) (e : Entry) → slice_get v.got k ≡ Some e → e.port ≡ p → slice_get h e.index ≡ Some (e.ask, e.reply)

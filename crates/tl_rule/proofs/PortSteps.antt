@@ -19,7 +19,7 @@ use Rattle.tl_rule.specs.declared.view.View.TheVariants.{Port}
 use Rattle.tl_rule.specs.Record.{SlotRecord}
 use Rattle.tl_rule.specs.Serving.{ask_at, HasDistinctSlots}
 use Rattle.tl_rule.specs.Views.{Owns, reset_of, desk, held, served, no_desk, with_serving}
-use Rattle.tl_rule.specs.Rule.{Core, Names, Asked, InPhase, Lawful, Fits, phase, table_of}
+use Rattle.tl_rule.specs.Rule.{Parts, Names, Asked, InPhase, Lawful, Fits, phase, table_of}
 use Rattle.tl_rule.specs.Events.{state_of, IsOneEvent}
 use Rattle.tl_slots.specs.declared.word.TheConstants.{MAX_AGENT}
 use Rattle.tl_rule.specs.Moves.{Tried, Accepts, IsLawfulDesk}
@@ -30,16 +30,16 @@ use Rattle.tl_rule.proofs.Facts.{KnownPort, known_port, shown, none_or, one_owne
 use Rattle.tl_rule.proofs.Allowing.{fits_after, found, there, port_step, tries}
 
 -- a slot in this phase is there
-pub serving_inside : (a : About) (c : Core) (L : Lawful a c) (i m p : ℕ) → phase c i ≡ Serving m p → i < a.slots
+pub serving_inside : (a : About) (c : Parts) (L : Lawful a c) (i m p : ℕ) → phase c i ≡ Serving m p → i < a.slots
 serving_inside a c L i m p ph = let n = L.shape.phases in let z = phase_inside c.phases i (λ e. absurd (let clash : Free ≡ Serving m p = sym e ∙ ph in cc)) in omega arith
 
 -- what a port serves at a slot was asked by the master that the phase names
-pub asked_there : (a : About) (c : Core) (L : Lawful a c) (p i : ℕ) (ask : Request) → served c.ports p i ≡ Some ask → (m : ℕ) × (known : ℕ) × (phase c i ≡ Serving m p) × (held c.masters m i ≡ Sent ask p known)
+pub asked_there : (a : About) (c : Parts) (L : Lawful a c) (p i : ℕ) (ask : Request) → served c.ports p i ≡ Some ask → (m : ℕ) × (known : ℕ) × (phase c i ≡ Serving m p) × (held c.masters m i ≡ Sent ask p known)
 asked_there a c L p i ask is = let t = L.service p i ask is in let h = subst (InPhase a c i) t.1 (L.slots i (serving_inside a c L i t.0 p t.1)) in
     let same : h.asked.ask ≡ ask = (let z = h.serves in cc) in (t.0, h.asked.known, t.1, h.asked.sent ∙ (λ z. Sent (same z) p h.asked.known))
 
 -- a port's view in itself
-pub desk_law : (a : About) (c : Core) (L : Lawful a c) (p : ℕ) → p < length c.ports → IsLawfulDesk (desk c.ports p)
+pub desk_law : (a : About) (c : Parts) (L : Lawful a c) (p : ℕ) → p < length c.ports → IsLawfulDesk (desk c.ports p)
 desk_law a c L p lt = let v = L.shape.port_views p lt in
     let there = λ (i : ℕ) (ask : Request) (is : served c.ports p i ≡ Some ask). (let t = asked_there a c L p i ask is in let l = serving_inside a c L i t.0 p t.2 in subst (λ (z : About). i < z.slots) (sym v.1) l) in record {
       number = let l = (low_port a c L p lt).0 in let e = v.0 in let f = ap (λ (z : About). z.ports) v.1 in omega arith;
@@ -52,14 +52,14 @@ desk_law a c L p lt = let v = L.shape.port_views p lt in
       lawful = subst (λ (z : About). IsLawfulHistory (reset_of z (desk c.ports p).number) (desk c.ports p).list) (sym v.1) (subst (λ (n : ℕ). IsLawfulHistory (reset_of a n) (desk c.ports p).list) (sym v.0) (L.lawful p));
     }
 
-module _ (a : About) (c : Core) (L : Lawful a c) (id i : ℕ) (u : Desk) (K : KnownPort a c L id u) (carried : List (ℕ × SlotRecord)) where
+module _ (a : About) (c : Parts) (L : Lawful a c) (id i : ℕ) (u : Desk) (K : KnownPort a c L id u) (carried : List (ℕ × SlotRecord)) where
   in_phases : i < a.slots → i < length c.phases
   in_phases lt = let e = L.shape.phases in omega arith
 
   in_homes : i < a.slots → i < length c.homes
   in_homes lt = let e = L.shape.homes in omega arith
 
-  -- the law of the view, once its core is changed
+  -- the law of the view, once the table is changed
   pub law_after : (f : Phase) (h : maybe.Option SlotRecord) (now : List (ℕ × Request)) (list : List (Request × Response)) → Lawful a (port_moves c i f h u.number now list) → IsLawfulDesk (with_serving u now list)
   law_after f h now list M = let d = port_moves c i f h u.number now list in
       let is : desk d.ports u.number ≡ with_serving u now list = get_or-set_same c.ports u.number (with_serving (desk c.ports u.number) now list) no_desk K.near ∙ ap (λ (w : Desk). with_serving w now list) K.is in

@@ -1,5 +1,5 @@
 -- What a port serves, once it has accepted a slot and once it has answered one.
-use Rattle.std.proofs.Common.{◌≡◌, ◌≢◌, ℕ, cond, eqb, eq-eqb, ne_eqb, List, [], ◌∷◌, ◌++◌, refl, ap, sym, subst, ◌∙◌, Some, None, zero, suc, ◌+◌, ◌<◌, ◌≤◌, length, arith}
+use Rattle.std.proofs.Common.{◌≡◌, ◌≢◌, ℕ, cond, eqb, eq-eqb, ne_eqb, List, [], ◌∷◌, ◌++◌, refl, ap, sym, subst, ◌∙◌, Some, None, zero, suc, ◌<◌, ◌≤◌, length, arith}
 use mathlib.Core.Logic.{dite}
 use native.Mathlib.Decide.{ℕ_discrete}
 use Rattle.tl_types.specs.Request.{Request}
@@ -69,6 +69,6 @@ serves_few zero [] once inside = omega arith
 serves_few zero (f ∷ fs) once inside = let none : f.0 < 0 = inside f.0 f.1 (first_is f fs f.0 refl) in absurd (omega arith)
 serves_few (suc n) fs once inside =
     let rest = serves_few n (drop_slot n fs) (drop_once fs n once) (λ i ask is.
-        let ne : i ≢ n = (λ e. let z = subst (λ (k : ℕ). ask_at (drop_slot n fs) k ≡ Some ask) e is in let w = drop_here fs n once in absurd (cc)) in
-        let low = inside i ask (sym (drop_else fs n i ne) ∙ is) in omega arith) in
+    let ne : i ≢ n = (λ e. let z = subst (λ (k : ℕ). ask_at (drop_slot n fs) k ≡ Some ask) e is in let w = drop_here fs n once in absurd (cc)) in
+    let low = inside i ask (sym (drop_else fs n i ne) ∙ is) in omega arith) in
     let long = drop_length fs n in omega arith

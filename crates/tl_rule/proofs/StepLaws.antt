@@ -16,7 +16,7 @@ use Rattle.tl_rule.specs.declared.view.View.TheVariants.{Master, Port}
 use Rattle.tl_rule.specs.Record.{SlotRecord, Spells, SpellsAnswer}
 use Rattle.tl_rule.specs.Serving.{drop_slot}
 use Rattle.tl_rule.specs.Views.{held, with_hand, with_serving, gone_hands}
-use Rattle.tl_rule.specs.Rule.{Core, IsHome, InPhase, Lawful, table_of}
+use Rattle.tl_rule.specs.Rule.{Parts, IsHome, InPhase, Lawful, table_of}
 use Rattle.tl_rule.specs.Events.{state_of, IsOneEvent}
 use Rattle.tl_slots.specs.Word.{FitsWord}
 use Rattle.tl_slots.proofs.Steps.{look_is_allowed}
@@ -24,7 +24,7 @@ use Rattle.tl_rule.specs.Moves.{entry}
 use Rattle.tl_rule.specs.Laws.{HasView, HasHome, Opens, ClaimIsOneEvent, PostIsOneEvent, LookIsOneEvent, AcceptIsOneEvent, AnswerIsOneEvent, CollectIsOneEvent, ReleaseIsOneEvent, LeaveIsOneEvent}
 use Rattle.tl_rule.proofs.Tables.{at_get}
 use Rattle.tl_rule.proofs.Facts.{Known, known, known_port, shown, in_hand_of, low_master, low_port, in_ports, spells_one, answers_one}
-use Rattle.tl_rule.proofs.Allowing.{by_core, unmoved}
+use Rattle.tl_rule.proofs.Allowing.{by_parts, unmoved}
 use Rattle.tl_rule.proofs.MasterSteps.{claim_event, post_event, release_event}
 use Rattle.tl_rule.proofs.PortSteps.{accept_event}
 use Rattle.tl_rule.proofs.AnswerStep.{answer_event}
@@ -33,23 +33,23 @@ use Rattle.tl_rule.proofs.LeaveStep.{leave_event}
 use Rattle.tl_rule.proofs.Dealing.{opens}
 
 -- a slot that a master's hand has something of is there
-held_inside : (a : About) (c : Core) (L : Lawful a c) (id i : ℕ) (v : Hands) → Known a c L id v → get_or v.hand i Nothing ≢ Nothing → i < a.slots
+held_inside : (a : About) (c : Parts) (L : Lawful a c) (id i : ℕ) (v : Hands) → Known a c L id v → get_or v.hand i Nothing ≢ Nothing → i < a.slots
 held_inside a c L id i v K h = let z = in_hand_of v.hand i h in let w = K.wide in omega arith
 
 pub claim_law : ClaimIsOneEvent
 claim_law a s id i v carried letter F seat staying lt at =
-    by_core a (λ s. HasView s id (Master v) → get_or s.words i 0 ≡ word Free → IsOneEvent a (Claim i v.number) s (stepped s i (word (Filling v.number)) id carried (Master (with_hand v i Filled v.got)) (takes i letter)))
+    by_parts a (λ s. HasView s id (Master v) → get_or s.words i 0 ≡ word Free → IsOneEvent a (Claim i v.number) s (stepped s i (word (Filling v.number)) id carried (Master (with_hand v i Filled v.got)) (takes i letter)))
     (λ c L seat at. claim_event a c L id i v (known a c L id v seat) carried letter lt staying (shown a c L i Free lt (record { owner = tt; port = tt }) at)) s F seat at
 
 pub post_law : PostIsOneEvent
 post_law a s id i v carried letter ask p F seat filled spells to own distinct =
-    by_core a (λ s. HasView s id (Master v) → IsOneEvent a (Post i v.number p) s (stepped s i (word (Posted v.number p)) id ((i, letter) ∷ carried) (Master (with_hand v i (Sent ask p (length v.got)) v.got)) gives))
+    by_parts a (λ s. HasView s id (Master v) → IsOneEvent a (Post i v.number p) s (stepped s i (word (Posted v.number p)) id ((i, letter) ∷ carried) (Master (with_hand v i (Sent ask p (length v.got)) v.got)) gives))
     (λ c L seat. let K = known a c L id v seat in
     post_event a c L id i v K carried letter ask p (held_inside a c L id i v K (λ e. absurd (cc))) filled spells to own (λ j other q known at. distinct j q known other at)) s F seat
 
 pub look_law : LookIsOneEvent
 look_law a s id i w carried F seat lt =
-    by_core a (λ s. HasView s id w → IsOneEvent a (Look i) s (stepped s i (get_or s.words i 0) id carried w keeps))
+    by_parts a (λ s. HasView s id w → IsOneEvent a (Look i) s (stepped s i (get_or s.words i 0) id carried w keeps))
     (λ c L seat. record {
       before = c;
       after = c;
@@ -62,7 +62,7 @@ look_law a s id i w carried F seat lt =
     }) s F seat
 
 -- a record at home, as the rule says it
-home_as : (c : Core) (i : ℕ) (letter : SlotRecord) → get_elem? c.homes i ≡ some (some letter) → IsHome c.homes i letter
+home_as : (c : Parts) (i : ℕ) (letter : SlotRecord) → get_elem? c.homes i ≡ some (some letter) → IsHome c.homes i letter
 home_as c i letter h = (at_get c.homes i (some letter) none h).1
 
 one_letter : (homes : List (maybe.Option SlotRecord)) (i : ℕ) (x y : SlotRecord) → IsHome homes i x → IsHome homes i y → x ≡ y
@@ -70,7 +70,7 @@ one_letter homes i x y a b = cc
 
 pub accept_law : AcceptIsOneEvent
 accept_law a s id i u carried letter ask owner F seat lt small at home spells =
-    by_core a (λ s. HasView s id (Port u) → get_or s.words i 0 ≡ word (Posted owner u.number) → HasHome s i letter
+    by_parts a (λ s. HasView s id (Port u) → get_or s.words i 0 ≡ word (Posted owner u.number) → HasHome s i letter
     → IsOneEvent a (Accept i owner u.number) s (stepped s i (word (Serving owner u.number)) id carried (Port (with_serving u (u.serving ++ (i, ask) ∷ []) u.list)) (takes i letter)))
     (λ c L seat at home. let K = known_port a c L id u seat in
     let ph = shown a c L i (Posted owner u.number) lt (record { owner = small; port = (low_port a c L u.number K.near).1 }) at in let h = subst (InPhase a c i) ph (L.slots i lt) in
@@ -81,12 +81,12 @@ accept_law a s id i u carried letter ask owner F seat lt small at home spells =
 
 pub answer_law : AnswerIsOneEvent
 answer_law a s id i u carried letter ask reply owner F seat serves own spells answer last right =
-    by_core a (λ s. HasView s id (Port u) → IsOneEvent a (Answer i owner u.number) s (stepped s i (word (Answered owner u.number)) id ((i, letter) ∷ carried) (Port (with_serving u (drop_slot i u.serving) (u.list ++ (ask, reply) ∷ []))) gives))
+    by_parts a (λ s. HasView s id (Port u) → IsOneEvent a (Answer i owner u.number) s (stepped s i (word (Answered owner u.number)) id ((i, letter) ∷ carried) (Port (with_serving u (drop_slot i u.serving) (u.list ++ (ask, reply) ∷ []))) gives))
     (λ c L seat. (answer_event a c L id i owner u (known_port a c L id u seat) carried letter ask reply serves own spells answer last right).0) s F seat
 
 pub collect_law : CollectIsOneEvent
 collect_law a s id i v carried letter ask reply p since F seat sent to at home answer =
-    by_core a (λ s. HasView s id (Master v) → get_or s.words i 0 ≡ word (Answered v.number p) → HasHome s i letter
+    by_parts a (λ s. HasView s id (Master v) → get_or s.words i 0 ≡ word (Answered v.number p) → HasHome s i letter
     → IsOneEvent a (Collect i v.number p) s (stepped s i (word (Taking v.number p)) id carried (Master (with_hand v i (Taken p) (v.got ++ entry p letter.index ask reply ∷ []))) (takes i letter)))
     (λ c L seat at home. let K = known a c L id v seat in let lt = held_inside a c L id i v K (λ e. absurd (cc)) in
     let fits : FitsWord (Answered v.number p) = record { owner = (low_master a c L v.number K.near).1; port = in_ports a c L p (subst (λ (z : About). p < z.ports) K.about to) } in
@@ -103,12 +103,12 @@ collect_law a s id i v carried letter ask reply p since F seat sent to at home a
 
 pub release_law : ReleaseIsOneEvent
 release_law a s id i v carried letter p F seat taken =
-    by_core a (λ s. HasView s id (Master v) → IsOneEvent a (Release i v.number p) s (stepped s i (word Free) id ((i, letter) ∷ carried) (Master (with_hand v i Nothing v.got)) gives))
+    by_parts a (λ s. HasView s id (Master v) → IsOneEvent a (Release i v.number p) s (stepped s i (word Free) id ((i, letter) ∷ carried) (Master (with_hand v i Nothing v.got)) gives))
     (λ c L seat. let K = known a c L id v seat in release_event a c L id i v K carried letter p (held_inside a c L id i v K (λ e. absurd (cc))) taken) s F seat
 
 pub leave_law : LeaveIsOneEvent
 leave_law a s id v carried F seat staying empty =
-    by_core a (λ s. HasView s id (Master v) → IsOneEvent a (Leave v.number) s (stepped s (a.slots + v.number) 1 id carried (Master (gone_hands v)) keeps))
+    by_parts a (λ s. HasView s id (Master v) → IsOneEvent a (Leave v.number) s (stepped s (a.slots + v.number) 1 id carried (Master (gone_hands v)) keeps))
     (λ c L seat. leave_event a c L id v (known a c L id v seat) carried staying empty) s F seat
 
 pub opens_law : Opens

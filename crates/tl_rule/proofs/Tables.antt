@@ -1,4 +1,4 @@
--- A table that is written as a `Core`: where its words and views stand, and what a change of one does.
+-- A table that is written as `Parts`: where its words and views stand, and what a change of one does.
 use Rattle.std.proofs.Common.{◌≡◌, ℕ, zero, suc, ◌+◌, ◌<◌, ◌≤◌, Bool, true, false, List, [], ◌∷◌, ◌++◌, map, length, get_or, set, sym, refl, ap, subst, ◌∙◌, arith}
 use mathlib.Core.Option.{some, some-injective, some-ne-none}
 use lib.ListN.{get_elem?}

@@ -6,17 +6,17 @@ use Rattle.tl_slots.specs.Machine as machine
 use Rattle.tl_rule.specs.declared.view.About.{About}
 use Rattle.tl_rule.specs.declared.view.View.{View}
 use Rattle.tl_rule.specs.Record.{SlotRecord}
-use Rattle.tl_rule.specs.Rule.{Core, Lawful, table_of}
+use Rattle.tl_rule.specs.Rule.{Parts, Lawful, table_of}
 
 -- the state of the core that the words show: the phase of each slot, and who has left
-abbrev pub state_of : About → Core → machine.State
+abbrev pub state_of : About → Parts → machine.State
 state_of a c = record { phases = c.phases; left = c.left; ports = a.ports }
 
 -- a table that fits becomes one that fits, by one event: the core accepts it in the state that the words show, and the
 -- words then show the state that it leaves
 pub record IsOneEvent (a : About) (event : Event) (s t : State SlotRecord View) : Type 0 where
-  pub before : Core
-  pub after : Core
+  pub before : Parts
+  pub after : Parts
   pub was : s ≡ table_of a before
   pub is : t ≡ table_of a after
   pub lawful_before : Lawful a before

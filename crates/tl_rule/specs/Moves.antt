@@ -21,8 +21,8 @@ use Rattle.tl_rule.specs.Seen.{SeenFit, JustOwn, IsPlaceOf, at_port, sent_at}
 -- ---- seats
 
 -- a seat: its view, and the slots that it has taken out, with their records
-abbrev pub Sat : Type 0
-Sat = Me SlotRecord View
+abbrev pub Seat : Type 0
+Seat = Me SlotRecord View
 
 abbrev pub is_master : View → Bool
 is_master (Dealer a m p) = false
@@ -45,15 +45,15 @@ as_port (Master v) = no_desk
 as_port (Port u) = u
 
 -- what the seat's hand has of the slot
-abbrev pub hand_of : Sat → ℕ → Held
+abbrev pub hand_of : Seat → ℕ → Held
 hand_of m i = slice_index_or (as_master m.0).hand i Nothing
 
 -- the seat's view, where the hand has x of the slot
-abbrev pub handed : Sat → ℕ → Held → View
+abbrev pub handed : Seat → ℕ → Held → View
 handed m i x = Master (with_hand (as_master m.0) i x (as_master m.0).got)
 
 -- the request that the seat serves at the slot
-abbrev pub service_of : Sat → ℕ → Option Request
+abbrev pub service_of : Seat → ℕ → Option Request
 service_of m i = ask_at (as_port m.0).serving i
 
 -- the record of the slot that was taken last
@@ -65,30 +65,30 @@ top [] = no_record
 top (x ∷ xs) = x.1
 
 -- no request of this source is out
-abbrev pub IsNew : Sat → ℕ → Type 0
+abbrev pub IsNew : Seat → ℕ → Type 0
 IsNew m source = (i p known : ℕ) (ask : Request) → hand_of m i ≡ Sent ask p known → source ≢ ask.source
 
 -- ---- steps
 
 abbrev pub Play : Type 1
-Play = Step SlotRecord → Sat → ℕ → Sat → Type 0
+Play = Step SlotRecord → Seat → ℕ → Seat → Type 0
 
 abbrev pub Won : Type 1
-Won = Step SlotRecord → Sat → Sat → Type 0
+Won = Step SlotRecord → Seat → Seat → Type 0
 
 -- a compare-exchange, which changes the seat only where it found the word that it looked for
 abbrev pub Tried : Won → Play
 Tried won st m r n = (r ≡ st.first → won st m n) × (r ≢ st.first → n ≡ m)
 
 -- the slot was not in the hand, and is now, with its record
-pub record Claims (st : Step SlotRecord) (m n : Sat) : Type 0 where
+pub record Claims (st : Step SlotRecord) (m n : Seat) : Type 0 where
   pub letter : SlotRecord
   pub seat : n ≡ (handed m st.word Filled, (st.word, letter) ∷ m.1)
   pub free : hand_of m st.word ≡ Nothing
   pub inside : st.word < length (as_master m.0).hand
 
 -- what the record spells is sent to the port that the stored word names
-pub record Sends (st : Step SlotRecord) (m : Sat) (r : ℕ) (n : Sat) : Type 0 where
+pub record Sends (st : Step SlotRecord) (m : Seat) (r : ℕ) (n : Seat) : Type 0 where
   pub ask : Request
   pub spells : Spells (top m.1) ask
   pub seat : n ≡ (handed m st.word (Sent ask (r / 2048) (length (as_master m.0).got)), rest m.1)
@@ -103,7 +103,7 @@ pub record IsLawfulDesk (u : Desk) : Type 0 where
   pub lawful : IsLawfulHistory (reset_of u.about u.number) u.list
 
 -- the port serves what the record spells, at a slot and of a source that it did not serve, of the master that the word names
-pub record Accepts (st : Step SlotRecord) (m n : Sat) : Type 0 where
+pub record Accepts (st : Step SlotRecord) (m n : Seat) : Type 0 where
   pub letter : SlotRecord
   pub ask : Request
   pub spells : Spells letter ask
@@ -114,7 +114,7 @@ pub record Accepts (st : Step SlotRecord) (m n : Sat) : Type 0 where
   pub law : IsLawfulDesk (as_port n.0)
 
 -- the request that was served at the slot, and the reply that the record spells, are the last of the list
-pub record Answers (st : Step SlotRecord) (m : Sat) (r : ℕ) (n : Sat) : Type 0 where
+pub record Answers (st : Step SlotRecord) (m : Seat) (r : ℕ) (n : Seat) : Type 0 where
   pub ask : Request
   pub serves : service_of m st.word ≡ Some ask
   pub reply : Response
@@ -127,7 +127,7 @@ entry p index ask reply = record { ask = ask; reply = reply; port = p; index = i
 
 -- The reply to what was sent is collected. In one lawful history of the port's reset it stands after all that had been
 -- collected there when it was sent, and of the master's own requests are just those that it made
-pub record Collects (st : Step SlotRecord) (m n : Sat) : Type 0 where
+pub record Collects (st : Step SlotRecord) (m n : Seat) : Type 0 where
   pub letter : SlotRecord
   pub ask : Request
   pub port : ℕ
@@ -145,7 +145,7 @@ pub record Collects (st : Step SlotRecord) (m n : Sat) : Type 0 where
   pub own : JustOwn history (Owns (as_master m.0).about (as_master m.0).number) (at_port port (as_master n.0).got) (sent_at port (as_master n.0).hand)
 
 -- the hand loses the slot
-pub record Releases (st : Step SlotRecord) (m : Sat) (r : ℕ) (n : Sat) : Type 0 where
+pub record Releases (st : Step SlotRecord) (m : Seat) (r : ℕ) (n : Seat) : Type 0 where
   pub seat : n ≡ (handed m st.word Nothing, rest m.1)
 
 -- at the port, one lawful history of its reset has all that the master collected there, and no other request of its own
@@ -155,7 +155,7 @@ pub record OwnsAll (v : Hands) (p : ℕ) : Type 0 where
   pub own : JustOwn history (Owns v.about v.number) (at_port p v.got) []
 
 -- the master has left
-pub record Leaves (st : Step SlotRecord) (m : Sat) (r : ℕ) (n : Sat) : Type 0 where
+pub record Leaves (st : Step SlotRecord) (m : Seat) (r : ℕ) (n : Seat) : Type 0 where
   pub seat : n ≡ (Master (gone_hands (as_master m.0)), m.1)
   pub owns_all : (p : ℕ) → OwnsAll (as_master m.0) p
 

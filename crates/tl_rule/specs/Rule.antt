@@ -26,7 +26,7 @@ use Rattle.tl_rule.specs.Views.{Owns, reset_of, hands, desk, held, served, Above
 
 -- a table that fits, taken apart: the phase of each slot, which masters have left, the record of each slot where it is
 -- at home, and the views of masters and ports by number
-pub record Core : Type 0 where
+pub record Parts : Type 0 where
   pub phases : List Phase
   pub left : List Bool
   pub homes : List (maybe.Option SlotRecord)
@@ -41,10 +41,10 @@ leave_word left = cond left 1 0
 abbrev pub views_of : About → List Hands → List Desk → List View
 views_of a ms ps = Dealer a (length ms) (length ps) ∷ (map Master ms ++ map Port ps)
 
-abbrev pub table_of : About → Core → State SlotRecord View
+abbrev pub table_of : About → Parts → State SlotRecord View
 table_of a c = record { words = map word c.phases ++ map leave_word c.left; homes = c.homes; views = views_of a c.masters c.ports }
 
-abbrev pub phase : Core → ℕ → Phase
+abbrev pub phase : Parts → ℕ → Phase
 phase c i = slice_index_or c.phases i Free
 
 -- the phase names the master
@@ -71,7 +71,7 @@ pub record HomeAsk (homes : List (maybe.Option SlotRecord)) (i : ℕ) (ask : Req
   pub at : IsHome homes i letter
   pub spells : Spells letter ask
 
-module _ (a : About) (c : Core) where
+module _ (a : About) (c : Parts) where
   pub record IsPosted (i m p : ℕ) : Type 0 where
     pub asked : Asked c.masters m i p
     pub home : HomeAsk c.homes i asked.ask
@@ -159,30 +159,30 @@ module _ (a : About) (c : Core) where
 
   pub record Lawful : Type 0 where
     pub shape : HasShape
-    -- (a) a leave word is set just where that master's view has left: else no one could tell from the words who has gone
+    -- a leave word is set just where that master's view has left: else no one could tell from the words who has gone
     pub leaving : (m : ℕ) → slice_index_or c.left m false ≡ (hands c.masters m).left
-    -- (a) who has left holds nothing: so where all have left every slot is free
+    -- who has left holds nothing: so where all have left every slot is free
     pub gone : (m i : ℕ) → (hands c.masters m).left ≡ true → held c.masters m i ≡ Nothing
-    -- (b), (c), (e), (g) each slot is as its word says: so who steps on a slot knows from the word found what it has before it
+    -- each slot is as its word says: so who steps on a slot knows from the word found what it has before it
     pub slots : (i : ℕ) → i < a.slots → InPhase i (phase c i)
-    -- (b) what is in a master's hand names that master: so a slot is in one hand at most, and none that is owned is claimed
+    -- what is in a master's hand names that master: so a slot is in one hand at most, and none that is owned is claimed
     pub hand : (m i : ℕ) → held c.masters m i ≢ Nothing → Names (phase c i) m
-    -- (c) what a port serves is serving at that port: so a request is served by one port alone
+    -- what a port serves is serving at that port: so a request is served by one port alone
     pub service : (p i : ℕ) (ask : Request) → served c.ports p i ≡ Some ask → (m : ℕ) × (phase c i ≡ Serving m p)
-    -- (c) a port serves a slot once: so an answer ends the service
+    -- a port serves a slot once: so an answer ends the service
     pub serves_once : (p : ℕ) → HasDistinctSlots (desk c.ports p).serving
-    -- (d) what a master has sent has distinct sources: so a reply is of one request
+    -- what a master has sent has distinct sources: so a reply is of one request
     pub sources : (m i j p q known since : ℕ) (ask other : Request) → held c.masters m i ≡ Sent ask p known → held c.masters m j ≡ Sent other q since
         → ask.source ≡ other.source → i ≡ j
-    -- (d) and of the master's own: so requests of two masters are never mixed up
+    -- and of the master's own: so requests of two masters are never mixed up
     pub block : (m i p known : ℕ) (ask : Request) → held c.masters m i ≡ Sent ask p known → Owns a m ask.source
-    -- (f) each place of a list is that of one answered slot or of one collected reply: so no reply is invented, lost or given twice
+    -- each place of a list is that of one answered slot or of one collected reply: so no reply is invented, lost or given twice
     pub places : Places
-    -- (h) each list is true of the port's memory: so what is collected from it is the sequential memory's reply
+    -- each list is true of the port's memory: so what is collected from it is the sequential memory's reply
     pub lawful : (p : ℕ) → IsLawfulHistory (reset_of a p) (desk c.ports p).list
 
 -- the table fits: it is the image of lists that are lawful
 pub record Fits (a : About) (s : State SlotRecord View) : Type 0 where
-  pub core : Core
-  pub is : s ≡ table_of a core
-  pub lawful : Lawful a core
+  pub parts : Parts
+  pub is : s ≡ table_of a parts
+  pub lawful : Lawful a parts
