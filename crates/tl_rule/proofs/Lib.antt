@@ -16,3 +16,4 @@ pub mod Dealing
 pub mod StepLaws
 pub mod FitsLaws
 pub mod Seats
+pub mod Carried

@@ -6,3 +6,4 @@ pub mod Seen
 pub mod Events
 pub mod Moves
 pub mod Laws
+pub mod Carried
