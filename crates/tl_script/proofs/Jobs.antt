@@ -1,7 +1,6 @@
 -- What a push of an operation, and of a master's operations, leads to.
-use Rattle.std.proofs.Common.{◌≡◌, ◌∙◌, ℕ, ◌+◌, ◌<◌, List, [], ◌∷◌, ◌++◌, length, map, option_map, Some, slice_get, refl, sym, ap, ⊎_elim, arith, length-append}
+use Rattle.std.proofs.Common.{◌≡◌, ◌∙◌, ℕ, ◌+◌, ◌<◌, List, [], ◌∷◌, ◌++◌, length, Some, slice_get, sym, ap, ⊎_elim, arith, length-append}
 use Rattle.std.specs.Prelude.{All}
-use Rattle.std.specs.List.{filter_map}
 use Rattle.std.proofs.lemmas.Grind.{common_steps}
 use Rattle.std.proofs.lemmas.List.Elements.{All-append, filter_map-append}
 use Rattle.tl_types.proofs.Lists.{slice_get-push}

@@ -1,5 +1,5 @@
 -- The masters of a script, and their operations. This project's own.
-use Rattle.std.specs.Prelude.{◌≡◌, ℕ, ◌+◌, ⊤, List, [], ◌∷◌, length, map, slice_get, Some, Result, Ok, Err, ok_or}
+use Rattle.std.specs.Prelude.{◌≡◌, ℕ, ◌+◌, ⊤, List, [], ◌∷◌, length, map, slice_get, Some, Result, Ok, ok_or}
 use Rattle.toml.specs.Data.{Members}
 use Rattle.tl_script.specs.Operation.{operation_of}
 use Rattle.tl_script.specs.Reading.{◌>>=◌, each}

@@ -1,5 +1,5 @@
 -- The ports of a script: the slave of each at reset. This project's own.
-use Rattle.std.specs.Prelude.{ℕ, ◌-◌, ◌*◌, ◌^◌, nat_le, nat_lt, List, [], ◌∷◌, ◌++◌, codes, length, replicate, Option, Some, None, option_map, option_and_then, Result, Ok, Err, if◌then◌else◌, ok_or}
+use Rattle.std.specs.Prelude.{ℕ, ◌-◌, ◌*◌, ◌^◌, nat_lt, List, [], ◌∷◌, ◌++◌, codes, length, replicate, Option, Some, None, option_map, option_and_then, Result, Ok, Err, if◌then◌else◌, ok_or}
 use Rattle.std.specs.Str.{bytes_eq}
 use Rattle.toml.specs.Data.{Data, Members, get_member}
 use Rattle.tl_ops.specs.Store.{Store}

@@ -1,5 +1,5 @@
 -- What stands at the keys of a table of a script: of its type, and in its range. This project's own.
-use Rattle.std.specs.Prelude.{ℕ, Bool, ◌&&◌, ℤ, pos, negsuc, nat_le, List, [], ◌∷◌, length, Result, Ok, Err, if◌then◌else◌, ok_or}
+use Rattle.std.specs.Prelude.{ℕ, ◌&&◌, ℤ, pos, negsuc, nat_le, List, [], ◌∷◌, length, Result, Ok, Err, if◌then◌else◌, ok_or}
 use Rattle.toml.specs.Data.{Data, Items, no_items, item, Members, get_member, as_integer, as_str, as_table, as_array}
 use Rattle.tl_script.specs.Key.{key_name}
 use Rattle.tl_script.specs.Reading.{◌>>=◌, each}

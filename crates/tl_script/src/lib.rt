@@ -1,11 +1,14 @@
-//! The texts of tlx: operations as scripts spell them, and the lines of traces.
+//! The texts of tlx: scripts, the operations in them, and the lines of traces, histories and accounts.
 //!
-//! [`read_operation`] answers the one [`Job`] that a line spells, by the definition `operation_of`
-//! (`specs/Operation.antt`), and nothing for every other line. [`write_trace`] gives exactly `trace_text`
-//! (`specs/Trace.antt`): one line for each entry, master 0 first. Both use one table of the names of operations
-//! (`specs/Name.antt`).
+//! [`read_system`] answers the [`System`] that a script describes, or the first of its faults in the order of the checks
+//! (`specs/Script.antt`, with the tables of the keys in `specs/Port.antt` and `specs/Master.antt`). Beside that only want
+//! of memory is answered. [`read_operation`] answers the one [`Job`] that a line spells, and nothing for every other line
+//! (`specs/Operation.antt`). [`write_trace`], [`write_history`] and [`write_account`] give exactly the texts of
+//! `specs/Trace.antt` and `specs/History.antt`. Reading and writing use one table of names (`specs/Name.antt`).
 //!
-//! Read on in `docs/FORMATS.md`, which has the formats with examples.
+//! What is a TOML document, and what its table is, is the crate `toml`'s own definition, `parse_document`.
+//!
+//! Read on in `docs/FORMATS.md`, which has the formats with examples, and in `docs/MODEL.md`, "Scripts and texts".
 #![tactic(auto)]
 
 mod data;

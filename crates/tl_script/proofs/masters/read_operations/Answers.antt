@@ -1,5 +1,5 @@
 -- One more operation is read.
-use Rattle.std.proofs.Common.{arith, rules}
+use Rattle.std.proofs.Common.{arith}
 use Rattle.std.proofs.lemmas.Grind.{common_steps}
 use Rattle.tl_script.proofs.Jobs.{sends-push}
 use Rattle.tl_script.proofs.masters.read_operations.Goals as goal

@@ -3,7 +3,7 @@ use Rattle.std.proofs.Common.{◌≡◌, ◌≢◌, ◌∙◌, List, length, map
 use Rattle.std.proofs.lemmas.List.{length-map}
 use Rattle.tl_map.specs.Map.{IsLawfulMap}
 use Rattle.tl_map.specs.Sources.{AreLawfulCounts, IsFirstSourceFault}
-use Rattle.tl_script.specs.Master.{Master, LawfulSoFar, jobs_from, master_view}
+use Rattle.tl_script.specs.Master.{Master, LawfulSoFar, master_view}
 use Rattle.tl_script.specs.Script.{IsFirstFaultOf, counts_of, parts_view, ranges_of}
 use Rattle.tl_script.specs.System.{lists_of, range_of, store_of}
 use Rattle.tl_script.specs.Reading.{source_fault}
