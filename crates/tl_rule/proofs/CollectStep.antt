@@ -27,7 +27,7 @@ use Rattle.tl_rule.specs.Moves.{Tried, Collects, entry}
 use Rattle.tl_rule.proofs.Tables.{of_get}
 use Rattle.tl_rule.proofs.Lists.{at_end, before_end, below_length, ended, first_of}
 use Rattle.tl_rule.proofs.MasterFrame.{master_moves, MasterStep, moved, held_here, got_here, got_elim, phase_here, phase_else}
-use Rattle.tl_rule.proofs.Facts.{Known, known, shown, in_hand_of, not_left, some_list, low_master, low_port, in_ports, one_named}
+use Rattle.tl_rule.proofs.Facts.{Known, known, shown, in_hand_of, not_left, some_list, low_master, low_port, one_named, sent_port}
 use Rattle.tl_rule.proofs.Own.{just_own, seen_fit, answered_inside, got_back}
 use Rattle.tl_rule.proofs.Allowing.{fits_after, found, there, present, master_step, tries}
 
@@ -204,13 +204,13 @@ module _ (a : About) (c : Parts) (L : Lawful a c) (id i : ℕ) (v : Hands) (K : 
         own = subst (λ (w : Hands). JustOwn (desk c.ports p).list (Owns w.about w.number) (at_port p w.got) (sent_at p w.hand)) hands_is own;
       }
 
-pub collects : (a : About) (slots id : ℕ) (v : Hands) (carried : List (ℕ × SlotRecord)) (i from new : ℕ) (said : maybe.Option SlotRecord) (ask : Request) (p since : ℕ) → get_or v.hand i Nothing ≡ Sent ask p since → p < v.about.ports
+pub collects : (a : About) (slots id : ℕ) (v : Hands) (carried : List (ℕ × SlotRecord)) (i from new : ℕ) (said : maybe.Option SlotRecord) (ask : Request) (p since : ℕ) → get_or v.hand i Nothing ≡ Sent ask p since
     → from ≡ word (Answered v.number p) → new ≡ word (Taking v.number p)
     → Allows (Fits a) slots id (Master v, carried) i (λ n. either (eqb n from) new n) (Tried Collects (step slots i from new said) (Master v, carried))
-collects a slots id v carried i from new said ask p since sent_is to from_is is = let m = v.number in
+collects a slots id v carried i from new said ask p since sent_is from_is is = let m = v.number in
     tries a slots id (Master v, carried) i from new said Collects (λ c L wide at hit. let K = known a c L id v at in
     let lt : i < a.slots = (let z = in_hand_of v.hand i (λ e. absurd (cc)) in let w = K.wide in omega arith) in
-    let ph = shown a c L i (Answered m p) lt (record { owner = (low_master a c L m K.near).1; port = in_ports a c L p (subst (λ (z : About). p < z.ports) K.about to) }) (hit ∙ from_is) in
+    let ph = shown a c L i (Answered m p) lt (record { owner = (low_master a c L m K.near).1; port = sent_port a c L m i ask p since lt (ap (λ (x : Hands). get_or x.hand i Nothing) K.is ∙ sent_is) }) (hit ∙ from_is) in
     let A = subst (InPhase a c i) ph (L.slots i lt) in
     let E = collect_event a c L id i v K carried ask p since lt sent_is ph A in
     let view = Master (with_hand v i (Taken p) (v.got ++ entry p A.home.letter.index ask A.answer ∷ [])) in (

@@ -165,6 +165,18 @@ module _ (a : About) (c : Parts) (L : Lawful a c) (m i : ℕ) where
   in_hand (Answered o p) n h e = let s = subst (λ (z : ℕ). held c.masters z i ≡ Sent h.asked.ask p h.asked.known) (one_named (Answered o p) o m refl n) h.asked.sent in absurd (cc)
   in_hand (Taking o p) n h e = let s = subst (λ (z : ℕ). held c.masters z i ≡ Taken p) (one_named (Taking o p) o m refl n) h.taken in absurd (cc)
 
+  -- what was sent was sent to a port that fits in a word
+  sent_fits : (f : Phase) (ask : Request) (p since : ℕ) → Names f m → InPhase a c i f → held c.masters m i ≡ Sent ask p since → p ≤ MAX_AGENT
+  sent_fits Free ask p since n h e = absurd (cc)
+  sent_fits (Filling o) ask p since n h e = let s = subst (λ (z : ℕ). held c.masters z i ≡ Filled) (one_named (Filling o) o m refl n) h in absurd (cc)
+  sent_fits (Posted o q) ask p since n h e = let s = subst (λ (z : ℕ). held c.masters z i ≡ Sent h.asked.ask q h.asked.known) (one_named (Posted o q) o m refl n) h.asked.sent in let same : q ≡ p = cc in let k = (fits_word a c L i (Posted o q) h).port in subst (λ (z : ℕ). z ≤ MAX_AGENT) same k
+  sent_fits (Serving o q) ask p since n h e = let s = subst (λ (z : ℕ). held c.masters z i ≡ Sent h.asked.ask q h.asked.known) (one_named (Serving o q) o m refl n) h.asked.sent in let same : q ≡ p = cc in let k = (fits_word a c L i (Serving o q) h).port in subst (λ (z : ℕ). z ≤ MAX_AGENT) same k
+  sent_fits (Answered o q) ask p since n h e = let s = subst (λ (z : ℕ). held c.masters z i ≡ Sent h.asked.ask q h.asked.known) (one_named (Answered o q) o m refl n) h.asked.sent in let same : q ≡ p = cc in let k = (fits_word a c L i (Answered o q) h).port in subst (λ (z : ℕ). z ≤ MAX_AGENT) same k
+  sent_fits (Taking o q) ask p since n h e = let s = subst (λ (z : ℕ). held c.masters z i ≡ Taken q) (one_named (Taking o q) o m refl n) h.taken in absurd (cc)
+
+  pub sent_port : (ask : Request) (p since : ℕ) → i < a.slots → held c.masters m i ≡ Sent ask p since → p ≤ MAX_AGENT
+  sent_port ask p since lt e = sent_fits (phase c i) ask p since (L.hand m i (λ z. absurd (cc))) (L.slots i lt) e
+
   pub filled_phase : i < a.slots → held c.masters m i ≡ Filled → phase c i ≡ Filling m
   filled_phase lt e = filled_is (phase c i) (L.hand m i (λ z. absurd (cc))) (L.slots i lt) e
 

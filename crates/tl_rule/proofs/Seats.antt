@@ -59,11 +59,11 @@ pub accepts_at : (a : About) (slots id : ℕ) (m : Seat) (i old new owner : ℕ)
 accepts_at a slots id m i old new owner said is inside small old_is new_is =
     subst (λ (y : Seat). Allows (Fits a) slots id y i (λ n. either (eqb n old) new n) (Tried Accepts (step slots i old new said) y)) (sym (port_seat_is m is)) (accepts a slots id (as_port m.0) m.1 i old new owner said inside small old_is new_is)
 
-pub collects_at : (a : About) (slots id : ℕ) (m : Seat) (i from new : ℕ) (said : maybe.Option SlotRecord) (ask : Request) (p since : ℕ) → is_master m.0 ≡ true → hand_of m i ≡ Sent ask p since → p < (as_master m.0).about.ports
+pub collects_at : (a : About) (slots id : ℕ) (m : Seat) (i from new : ℕ) (said : maybe.Option SlotRecord) (ask : Request) (p since : ℕ) → is_master m.0 ≡ true → hand_of m i ≡ Sent ask p since
     → from ≡ word (Answered (as_master m.0).number p) → new ≡ word (Taking (as_master m.0).number p)
     → Allows (Fits a) slots id m i (λ n. either (eqb n from) new n) (Tried Collects (step slots i from new said) m)
-collects_at a slots id m i from new said ask p since is sent to from_is new_is =
-    subst (λ (y : Seat). Allows (Fits a) slots id y i (λ n. either (eqb n from) new n) (Tried Collects (step slots i from new said) y)) (sym (seat_is m is)) (collects a slots id (as_master m.0) m.1 i from new said ask p since sent to from_is new_is)
+collects_at a slots id m i from new said ask p since is sent from_is new_is =
+    subst (λ (y : Seat). Allows (Fits a) slots id y i (λ n. either (eqb n from) new n) (Tried Collects (step slots i from new said) y)) (sym (seat_is m is)) (collects a slots id (as_master m.0) m.1 i from new said ask p since sent from_is new_is)
 
 -- ---- stores, once the record is written
 

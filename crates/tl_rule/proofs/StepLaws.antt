@@ -23,7 +23,7 @@ use Rattle.tl_slots.proofs.Steps.{look_is_allowed}
 use Rattle.tl_rule.specs.Moves.{entry}
 use Rattle.tl_rule.specs.Laws.{HasView, HasHome, Opens, ClaimIsOneEvent, PostIsOneEvent, LookIsOneEvent, AcceptIsOneEvent, AnswerIsOneEvent, CollectIsOneEvent, ReleaseIsOneEvent, LeaveIsOneEvent}
 use Rattle.tl_rule.proofs.Tables.{at_get}
-use Rattle.tl_rule.proofs.Facts.{Known, known, known_port, shown, in_hand_of, low_master, low_port, in_ports, spells_one, answers_one}
+use Rattle.tl_rule.proofs.Facts.{Known, known, known_port, shown, in_hand_of, low_master, low_port, spells_one, answers_one, sent_port}
 use Rattle.tl_rule.proofs.Allowing.{by_parts, unmoved}
 use Rattle.tl_rule.proofs.MasterSteps.{claim_event, post_event, release_event}
 use Rattle.tl_rule.proofs.PortSteps.{accept_event}
@@ -85,11 +85,11 @@ answer_law a s id i u carried letter ask reply owner F seat serves own spells an
     (λ c L seat. (answer_event a c L id i owner u (known_port a c L id u seat) carried letter ask reply serves own spells answer last right).0) s F seat
 
 pub collect_law : CollectIsOneEvent
-collect_law a s id i v carried letter ask reply p since F seat sent to at home answer =
+collect_law a s id i v carried letter ask reply p since F seat sent at home answer =
     by_parts a (λ s. HasView s id (Master v) → get_or s.words i 0 ≡ word (Answered v.number p) → HasHome s i letter
     → IsOneEvent a (Collect i v.number p) s (stepped s i (word (Taking v.number p)) id carried (Master (with_hand v i (Taken p) (v.got ++ entry p letter.index ask reply ∷ []))) (takes i letter)))
     (λ c L seat at home. let K = known a c L id v seat in let lt = held_inside a c L id i v K (λ e. absurd (cc)) in
-    let fits : FitsWord (Answered v.number p) = record { owner = (low_master a c L v.number K.near).1; port = in_ports a c L p (subst (λ (z : About). p < z.ports) K.about to) } in
+    let fits : FitsWord (Answered v.number p) = record { owner = (low_master a c L v.number K.near).1; port = sent_port a c L v.number i ask p since lt (ap (λ (x : Hands). get_or x.hand i Nothing) K.is ∙ sent) } in
     let ph = shown a c L i (Answered v.number p) lt fits at in let A = subst (InPhase a c i) ph (L.slots i lt) in
     let E = collect_event a c L id i v K carried ask p since lt sent ph A in
     let same = one_letter c.homes i A.home.letter letter A.home.at (home_as c i letter home) in

@@ -94,7 +94,7 @@ AnswerIsOneEvent = (a : About) (s : Table) (id i : ℕ) (u : Desk) (carried : Li
 -- a master finds the slot of a request that it has sent Answered, and takes the record with the reply
 abbrev pub CollectIsOneEvent : Type 0
 CollectIsOneEvent = (a : About) (s : Table) (id i : ℕ) (v : Hands) (carried : List (ℕ × SlotRecord)) (letter : SlotRecord) (ask : Request) (reply : Response) (p known : ℕ) → Fits a s → HasView s id (Master v)
-    → in_hand v i ≡ Sent ask p known → p < v.about.ports → slice_index s.words i ≡ word (Answered v.number p) → HasHome s i letter → SpellsAnswer letter ask.address reply
+    → in_hand v i ≡ Sent ask p known → slice_index s.words i ≡ word (Answered v.number p) → HasHome s i letter → SpellsAnswer letter ask.address reply
     → IsOneEvent a (Collect i v.number p) s (stepped s i (word (Taking v.number p)) id carried (Master (with_hand v i (Taken p) (v.got ++ entry p letter.index ask reply ∷ []))) (takes i letter))
 
 -- a slot whose reply was collected gets a record, whatever it is, and is free
