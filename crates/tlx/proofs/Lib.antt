@@ -1,3 +1,3 @@
-pub mod Lines
+pub mod Scripts
 pub mod Sending
 pub mod Serving

@@ -1,5 +1,5 @@
 pub mod Streams
 pub mod Serial
 pub mod Slave
-pub mod Plain
 pub mod Fault
+pub mod Run

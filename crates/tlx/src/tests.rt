@@ -1,17 +1,28 @@
 ghost use Rattle.std.specs.Prelude.{Some, ◌<◌};
 
-use crate::plain::{PlainFault, SCRIPT_LIMIT, plain_engine};
+use crate::engine::serial_engine;
+use crate::fault::RunFault;
 use crate::streams::TURNS;
 use std::alloc::Global;
 use std::io;
 use std::io::{ErrorKind, Read, Write};
 use std::test::Fail;
+use tl_script::{Key, SCRIPT_LIMIT, ScriptFault};
 
 /// The first example, and what it must print.
-const FIRST: &[u8] = b"0 putfull 0x1000 2 11223344\n0 get 0x1000 2\n";
+const FIRST: &[u8] =
+    b"slots = 4\n[[port]]\nkind = \"ram\"\nbase = 0x1000\nlength = 64\n[[master]]\nsources = 16\nops = [\"0 putfull 0x1000 2 11223344\", \"0 get 0x1000 2\"]\n";
 
 const FIRST_TRACE: &[u8] =
     b"m0 s0 putfull 0x1000 2 11223344 -> AccessAck p0 #0\nm0 s0 get 0x1000 2 -> AccessAckData 11223344 p0 #1\n";
+
+/// The same with the histories.
+const FIRST_WITH_HISTORY: &[u8] =
+    b"m0 s0 putfull 0x1000 2 11223344 -> AccessAck p0 #0\nm0 s0 get 0x1000 2 -> AccessAckData 11223344 p0 #1\np0 #0 w0 putfull 0x1000 2 11223344 -> AccessAck\np0 #1 w0 get 0x1000 2 -> AccessAckData 11223344\n";
+
+/// A RAM, a ROM and registers, and one master whose operations follow.
+const SYSTEM: &str =
+    "slots = 4\nport = [{ kind = 'ram', base = 0x1000, length = 64 }, { kind = 'rom', base = 0x2000, length = 32, reset = '00010203' }, { kind = 'regs', base = 0x3000, length = 16 }]\nmaster = [{ sources = 16, ops = [";
 
 /// What a stream does at a call, in place of its work.
 #[derive(Clone, Copy)]
@@ -111,110 +122,124 @@ fn writer_with(alloc: Global, step: usize, trouble: Trouble) -> Drips {
 }
 
 /// What a script prints.
-fn printed(alloc: Global, script: &[u8]) -> Result<Vec<u8>, PlainFault> {
+fn printed(alloc: Global, script: &[u8], history: bool) -> Result<Vec<u8>, RunFault> {
     let mut reader = script;
     let mut writer = Vec::new(alloc);
-    plain_engine(alloc, &mut reader, &mut writer)?;
+    serial_engine(alloc, &mut reader, &mut writer, history)?;
     Ok(writer)
 }
 
 #[test]
 fn first_run(rt: HostRuntime) -> Result<(), Fail> {
-    assert_eq!(rt; printed(rt.alloc(), FIRST)?.as_slice(), FIRST_TRACE);
+    assert_eq!(rt; printed(rt.alloc(), FIRST, false)?.as_slice(), FIRST_TRACE);
+    let with_history = printed(rt.alloc(), FIRST, true)?;
+    assert_eq!(rt; with_history.as_slice(), FIRST_WITH_HISTORY);
     Ok(())
 }
 
 #[test]
-fn scripts_print_their_traces(rt: HostRuntime) -> Result<(), Fail> {
-    let rows: [(&[u8], &[u8]); 9] = [
-        (b"", b""),
-        (b"wait", b""),
+fn operations_are_answered_by_their_ports(rt: HostRuntime) -> Result<(), Fail> {
+    let rows = [
+        ("", ""),
         (
-            b"0 get 0x2000 2",
-            b"m0 s0 get 0x2000 2 -> AccessAckData denied 00000000 p1 #0\n",
+            "'0 get 0x103f 0', '0 get 0x103f 1', '0 get 0x1001 1'",
+            "m0 s0 get 0x103f 0 -> AccessAckData 00 p0 #0\nm0 s0 get 0x103f 1 -> AccessAckData denied 0000 p3 #0\nm0 s0 get 0x1001 1 -> AccessAckData denied 0000 p0 #1\n",
         ),
         (
-            b"0 get 0x1002 2",
-            b"m0 s0 get 0x1002 2 -> AccessAckData denied 00000000 p0 #0\n",
+            "'0 get 0x2000 6'",
+            "m0 s0 get 0x2000 6 -> AccessAckData denied 00000000000000000000000000000000000000000000000000000000000000000000000000000000000000000000000000000000000000000000000000000000 p3 #0\n",
         ),
         (
-            b"0 putfull 0x1000 2 11223344\n0 putpart 0x1000 2 aa--cc--\n0 get 0x1000 2\n",
-            b"m0 s0 putfull 0x1000 2 11223344 -> AccessAck p0 #0\nm0 s0 putpart 0x1000 2 aa--cc-- -> AccessAck p0 #1\nm0 s0 get 0x1000 2 -> AccessAckData aa22cc44 p0 #2\n",
+            "'0 putfull 0x2000 2 11223344', '0 prefetchr 0x2000 2', '0 get 0x2000 2', '0 get 0x3000 1'",
+            "m0 s0 putfull 0x2000 2 11223344 -> AccessAck denied p1 #0\nm0 s0 prefetchr 0x2000 2 -> HintAck p1 #1\nm0 s0 get 0x2000 2 -> AccessAckData 00010203 p1 #2\nm0 s0 get 0x3000 1 -> AccessAckData denied 0000 p2 #0\n",
         ),
         (
-            b"0 putfull 0x1000 2 00000080\n0 max 0x1000 2 01000000\n0 maxu 0x1000 2 00000080\n0 get 0x1000 2",
-            b"m0 s0 putfull 0x1000 2 00000080 -> AccessAck p0 #0\nm0 s0 max 0x1000 2 01000000 -> AccessAckData 00000080 p0 #1\nm0 s0 maxu 0x1000 2 00000080 -> AccessAckData 01000000 p0 #2\nm0 s0 get 0x1000 2 -> AccessAckData 00000080 p0 #3\n",
+            "'0 get 0x9000 3', '0 prefetchw 0x9000 3', '0 get 18446744073709551615 0'",
+            "m0 s0 get 0x9000 3 -> AccessAckData denied 0000000000000000 p3 #0\nm0 s0 prefetchw 0x9000 3 -> HintAck denied p3 #1\nm0 s0 get 0xffffffffffffffff 0 -> AccessAckData denied 00 p3 #2\n",
         ),
         (
-            b"0 putfull 0x1000 2 FFFFFFFF\n0 min 0x1000 2 01000000\n0 minu 0x1000 2 01000000\n0 get 4096 2",
-            b"m0 s0 putfull 0x1000 2 ffffffff -> AccessAck p0 #0\nm0 s0 min 0x1000 2 01000000 -> AccessAckData ffffffff p0 #1\nm0 s0 minu 0x1000 2 01000000 -> AccessAckData ffffffff p0 #2\nm0 s0 get 0x1000 2 -> AccessAckData 01000000 p0 #3\n",
+            "'0 putfull 0x1000 2 00000080', '0 max 0x1000 2 01000000', 'wait', '0 maxu 0x1000 2 00000080', '0 get 0x1000 2'",
+            "m0 s0 putfull 0x1000 2 00000080 -> AccessAck p0 #0\nm0 s0 max 0x1000 2 01000000 -> AccessAckData 00000080 p0 #1\nm0 s0 maxu 0x1000 2 00000080 -> AccessAckData 01000000 p0 #2\nm0 s0 get 0x1000 2 -> AccessAckData 00000080 p0 #3\n",
         ),
         (
-            b"15 add 0x1000 1 0100\n\t 3  swap\t0x1000 4 00112233445566778899aabbccddeeff ",
-            b"m0 s15 add 0x1000 1 0100 -> AccessAckData denied 0000 p0 #0\nm0 s3 swap 0x1000 4 00112233445566778899aabbccddeeff -> AccessAckData denied 00000000000000000000000000000000 p0 #1\n",
-        ),
-        (
-            b"0 prefetchr 0x1000 6\n0 prefetchw 0x9000 3\n0 get 18446744073709551615 0",
-            b"m0 s0 prefetchr 0x1000 6 -> HintAck p0 #0\nm0 s0 prefetchw 0x9000 3 -> HintAck denied p1 #0\nm0 s0 get 0xffffffffffffffff 0 -> AccessAckData denied 00 p1 #1\n",
+            "'0 swap 0x1000 4 00112233445566778899aabbccddeeff', '15 add 0x1000 1 0100'",
+            "m0 s0 swap 0x1000 4 00112233445566778899aabbccddeeff -> AccessAckData denied 00000000000000000000000000000000 p0 #0\nm0 s15 add 0x1000 1 0100 -> AccessAckData denied 0000 p0 #1\n",
         ),
     ];
-    for (script, trace) in rows {
-        assert_eq!(rt; printed(rt.alloc(), script)?.as_slice(), trace);
+    for (operations, trace) in rows {
+        let script = format!(in rt.alloc(); "{SYSTEM}{operations}] }}]")?;
+        let text = printed(rt.alloc(), script.as_bytes(), false)?;
+        assert_eq!(rt; text.as_slice(), trace.as_bytes());
     }
     Ok(())
 }
 
 #[test]
-fn the_lowest_bad_line_is_named(rt: HostRuntime) -> Result<(), Fail> {
-    let rows: [(&[u8], usize); 10] = [
-        (b"wait\n0 gett 0x1000 2", 2),
-        (b"\n", 1),
-        (b"wait\n\nwait", 2),
-        (b"16 get 0x1000 2", 1),
-        (b"wait\n0 get 0x1000 7\n0 gett 0x1000 2", 2),
-        (b"0 get 0x1000", 1),
-        (b"0 get 0x1000 2 00", 1),
-        (b"0 putfull 0x1000 2 112233--", 1),
-        (b"0 get 18446744073709551616 0", 1),
-        (b"wait\xff", 1),
-    ];
-    for (script, number) in rows {
-        let Err(fault) = printed(rt.alloc(), script) else {
-            return Err(Fail::from("no fault"));
-        };
-        assert!(rt;
-            matches!(&fault, PlainFault::Line(n) if *n == number),
-            "{fault}"
-        );
-        assert_eq!(rt; fault.status(), 1);
-        let line = format!(in rt.alloc(); "script: line {number}: bad operation")?;
-        assert_eq!(rt; format!(in rt.alloc(); "{fault}")?.as_str(), line.as_str());
-    }
-    Ok(())
-}
-
-#[test]
-fn limits_on_lines_and_bytes(rt: HostRuntime) -> Result<(), Fail> {
-    let mut script = Vec::new(rt.alloc());
-    for _ in 0..4096 {
-        script.extend_from_slice(b"wait\n")?;
-    }
-    assert_eq!(rt; printed(rt.alloc(), &script)?.len(), 0);
-    script.extend_from_slice(b"wait")?;
-    let fault = printed(rt.alloc(), &script);
-    assert!(rt; matches!(&fault, Err(PlainFault::Line(4097))));
-
-    let mut script = vec![in rt.alloc(); b' '; SCRIPT_LIMIT]?;
-    assert!(rt; matches!(&printed(rt.alloc(), &script), Err(PlainFault::Line(1))));
-    script.push(b' ')?;
-    let Err(fault) = printed(rt.alloc(), &script) else {
-        return Err(Fail::from("no fault"));
-    };
+fn histories_have_wide_sources(rt: HostRuntime) -> Result<(), Fail> {
+    let script =
+        b"slots = 1\nport = [{ kind = 'ram', base = 0x1000, length = 64 }]\nmaster = [{ sources = 3, ops = ['2 putfull 0x1000 2 11223344', 'wait'] }, { sources = 5, ops = ['4 get 0x1000 2', '1 get 0x0 0'] }]\n";
+    let text = printed(rt.alloc(), script, true)?;
     assert_eq!(rt;
-        format!(in rt.alloc(); "{fault}")?.as_str(),
-        "script: longer than 1048576 bytes"
+        text.as_slice(),
+        b"m0 s2 putfull 0x1000 2 11223344 -> AccessAck p0 #0\nm1 s4 get 0x1000 2 -> AccessAckData 11223344 p0 #1\nm1 s1 get 0x0 0 -> AccessAckData denied 00 p1 #0\np0 #0 w2 putfull 0x1000 2 11223344 -> AccessAck\np0 #1 w12 get 0x1000 2 -> AccessAckData 11223344\np1 #0 w9 get 0x0 0 -> AccessAckData denied 00\n".as_slice()
     );
-    assert_eq!(rt; fault.status(), 1);
+    Ok(())
+}
+
+#[test]
+fn faults_have_their_lines_and_statuses(rt: HostRuntime) -> Result<(), Fail> {
+    let rows: [(RunFault, &str, u8); 5] = [
+        (
+            RunFault::Script(ScriptFault::BadOp(0, 2)),
+            "script: master 0 operation 2: bad operation",
+            1,
+        ),
+        (
+            RunFault::Script(ScriptFault::Missing(Key::Slots)),
+            "script: missing slots",
+            1,
+        ),
+        (RunFault::Memory, "memory refused", 4),
+        (RunFault::Read, "read failed", 5),
+        (RunFault::Write, "write failed", 5),
+    ];
+    for (fault, line, status) in &rows {
+        assert_eq!(rt; format!(in rt.alloc(); "{fault}")?.as_str(), *line);
+        assert_eq!(rt; fault.status(), *status);
+    }
+    Ok(())
+}
+
+#[test]
+fn a_script_without_a_system_prints_nothing(rt: HostRuntime) -> Result<(), Fail> {
+    let mut writer = Vec::new(rt.alloc());
+    let cut = &FIRST[..FIRST.len() - 50];
+    let outcome = serial_engine(rt.alloc(), &mut &cut[..], &mut writer, false);
+    assert!(rt; matches!(&outcome, Err(RunFault::Script(ScriptFault::NotToml))));
+    let outcome = serial_engine(rt.alloc(), &mut b"".as_slice(), &mut writer, false);
+    assert!(rt;
+        matches!(
+            &outcome,
+            Err(RunFault::Script(ScriptFault::Missing(Key::Slots)))
+        )
+    );
+    assert!(rt; writer.is_empty());
+    Ok(())
+}
+
+#[test]
+fn the_limit_on_bytes(rt: HostRuntime) -> Result<(), Fail> {
+    let mut script = vec![in rt.alloc(); b'#'; SCRIPT_LIMIT]?;
+    let fault = printed(rt.alloc(), &script, false);
+    assert!(rt;
+        matches!(
+            &fault,
+            Err(RunFault::Script(ScriptFault::Missing(Key::Slots)))
+        )
+    );
+    script.push(b'#')?;
+    let fault = printed(rt.alloc(), &script, false);
+    assert!(rt; matches!(&fault, Err(RunFault::Script(ScriptFault::TooLong))));
     Ok(())
 }
 
@@ -223,7 +248,7 @@ fn pieces_change_nothing(rt: HostRuntime) -> Result<(), Fail> {
     for trouble in [Trouble::Never, Trouble::Between(2), Trouble::Between(3)] {
         let mut reader = reader_of(FIRST, 1, trouble);
         let mut writer = writer_with(rt.alloc(), 1, trouble);
-        plain_engine(rt.alloc(), &mut reader, &mut writer)?;
+        serial_engine(rt.alloc(), &mut reader, &mut writer, false)?;
         assert_eq!(rt; writer.held.as_slice(), FIRST_TRACE);
     }
     Ok(())
@@ -234,13 +259,13 @@ fn a_failed_read_is_read(rt: HostRuntime) -> Result<(), Fail> {
     for k in 0..=FIRST.len() {
         let mut reader = reader_of(FIRST, 1, Trouble::At(k as u32, ErrorKind::BrokenPipe));
         let mut writer = writer_with(rt.alloc(), 64, Trouble::Never);
-        let outcome = plain_engine(rt.alloc(), &mut reader, &mut writer);
-        assert!(rt; matches!(&outcome, Err(PlainFault::Read)), "at {k}");
+        let outcome = serial_engine(rt.alloc(), &mut reader, &mut writer, false);
+        assert!(rt; matches!(&outcome, Err(RunFault::Read)), "at {k}");
         assert!(rt; writer.held.is_empty());
     }
     let mut reader = reader_of(FIRST, 1, Trouble::Always(ErrorKind::Interrupted));
     let mut writer = writer_with(rt.alloc(), 64, Trouble::Never);
-    let Err(fault) = plain_engine(rt.alloc(), &mut reader, &mut writer) else {
+    let Err(fault) = serial_engine(rt.alloc(), &mut reader, &mut writer, false) else {
         return Err(Fail::from("no fault"));
     };
     assert_eq!(rt; reader.reads, TURNS);
@@ -256,30 +281,20 @@ fn a_failed_write_is_write(rt: HostRuntime) -> Result<(), Fail> {
     for k in 0..FIRST_TRACE.len() {
         let mut reader = FIRST;
         let mut writer = writer_with(rt.alloc(), 1, Trouble::At(k as u32, ErrorKind::BrokenPipe));
-        let outcome = plain_engine(rt.alloc(), &mut reader, &mut writer);
-        assert!(rt; matches!(&outcome, Err(PlainFault::Write)), "at {k}");
+        let outcome = serial_engine(rt.alloc(), &mut reader, &mut writer, false);
+        assert!(rt; matches!(&outcome, Err(RunFault::Write)), "at {k}");
     }
     let mut writer = writer_with(rt.alloc(), 0, Trouble::Never);
-    let outcome = plain_engine(rt.alloc(), &mut FIRST, &mut writer);
-    assert!(rt; matches!(&outcome, Err(PlainFault::Write)));
+    let outcome = serial_engine(rt.alloc(), &mut FIRST, &mut writer, false);
+    assert!(rt; matches!(&outcome, Err(RunFault::Write)));
     let mut writer = writer_with(rt.alloc(), 64, Trouble::Always(ErrorKind::Interrupted));
-    let Err(fault) = plain_engine(rt.alloc(), &mut FIRST, &mut writer) else {
+    let Err(fault) = serial_engine(rt.alloc(), &mut FIRST, &mut writer, false) else {
         return Err(Fail::from("no fault"));
     };
     assert_eq!(rt; writer.writes, TURNS + 1);
     assert_eq!(rt;
         (format!(in rt.alloc(); "{fault}")?.as_str(), fault.status()),
         ("write failed", 5)
-    );
-    Ok(())
-}
-
-#[test]
-fn want_of_memory_has_its_line(rt: HostRuntime) -> Result<(), Fail> {
-    let fault = PlainFault::Memory;
-    assert_eq!(rt;
-        (format!(in rt.alloc(); "{fault}")?.as_str(), fault.status()),
-        ("memory refused", 4)
     );
     Ok(())
 }

@@ -1,0 +1,76 @@
+//! Why a run has no text.
+ghost use Rattle.std.specs.Prelude.{◌≡◌};
+ghost use Rattle.tlx.specs.Fault.{of_script, of_read, status_of};
+ghost use Rattle.tlx.specs.declared.fault.RunFault.TheVariants.{Write, Memory as WantOfMemory};
+
+use crate::streams::{ReadFault, WriteFault};
+use thiserror::Error;
+use tl_script::ScriptFault;
+use tl_types::Memory;
+
+/// Why a run has no text. The text of each is one line for standard error.
+#[derive(Debug, Drop, Error)]
+pub enum RunFault {
+    /// The script's first fault, but for want of memory.
+    #[error("{0}")]
+    Script(ScriptFault),
+    #[error("read failed")]
+    Read,
+    /// Nothing is said of how much went out.
+    #[error("write failed")]
+    Write,
+    /// Want of memory, in whichever layer it was met.
+    #[error("memory refused")]
+    Memory,
+}
+
+impl RunFault {
+    /// The status that the program ends with.
+    pub fn status(&self) -> u8
+        ensures { result ≡ status_of self.now }
+    {
+        match self {
+            RunFault::Script(_) => 1,
+            RunFault::Memory => 4,
+            RunFault::Read | RunFault::Write => 5,
+        }
+    }
+}
+
+impl From<ScriptFault> for RunFault {
+    ghost from_gives = { λ fault e. e ≡ of_script fault };
+
+    fn from(fault: ScriptFault) -> RunFault {
+        match fault {
+            ScriptFault::Memory => RunFault::Memory,
+            other => RunFault::Script(other),
+        }
+    }
+}
+
+impl From<ReadFault> for RunFault {
+    ghost from_gives = { λ fault e. e ≡ of_read fault };
+
+    fn from(fault: ReadFault) -> RunFault {
+        match fault {
+            ReadFault::Memory => RunFault::Memory,
+            ReadFault::Read => RunFault::Read,
+        }
+    }
+}
+
+impl From<WriteFault> for RunFault {
+    ghost from_gives = { λ _ e. e ≡ Write };
+
+    fn from(_: WriteFault) -> RunFault {
+        RunFault::Write
+    }
+}
+
+impl From<Memory> for RunFault {
+    ghost from_gives = { λ _ e. e ≡ WantOfMemory };
+
+    fn from(_: Memory) -> RunFault {
+        RunFault::Memory
+    }
+}
