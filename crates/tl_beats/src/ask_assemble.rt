@@ -127,5 +127,5 @@ pub fn assemble_ask(beats: &[ABeat]) -> Result<Ask, BeatFault>
         Ok(bytes) => bytes,
         Err(fault) => return Err(fault),
     };
-    Ok(Ask::new(op, first.size, first.source, first.address, &bytes).unwrap())
+    Ok(Ask::from_parts(op, first.size, first.source, first.address, bytes))
 }

@@ -112,5 +112,5 @@ pub fn assemble_reply(beats: &[DBeat], address: u64) -> Result<Reply, BeatFault>
         Ok(bytes) => bytes,
         Err(fault) => return Err(fault),
     };
-    Ok(Reply::new(op, first.size, first.source, first.denied, &bytes).unwrap())
+    Ok(Reply::from_parts(op, first.size, first.source, first.denied, bytes))
 }

@@ -70,6 +70,26 @@ impl Reply {
         })
     }
 
+    /// The reply of these parts, which make one.
+    pub fn from_parts(
+        op: ReplyOp,
+        size: u8,
+        source: u16,
+        denied: bool,
+        bytes: ArrayVec<u8, MAX_BYTES>,
+    ) -> Reply
+        requires { IsLawfulResponse op size denied bytes.items }
+        ensures { result ≡ record { op = op; size = size; source = source; denied = denied; bytes = bytes.items } }
+    {
+        Reply {
+            op,
+            size,
+            source,
+            denied,
+            bytes,
+        }
+    }
+
     /// The opcode.
     pub fn op(&self) -> ReplyOp
         ensures { result ≡ self.now.op }

@@ -71,6 +71,26 @@ impl Ask {
         })
     }
 
+    /// The request of these parts, which make one.
+    pub fn from_parts(
+        op: AskOp,
+        size: u8,
+        source: u16,
+        address: u64,
+        bytes: ArrayVec<Option<u8>, MAX_BYTES>,
+    ) -> Ask
+        requires { IsLawfulRequest op size bytes.items }
+        ensures { result ≡ record { op = op; size = size; source = source; address = address; bytes = bytes.items } }
+    {
+        Ask {
+            op,
+            size,
+            source,
+            address,
+            bytes,
+        }
+    }
+
     /// The operation.
     pub fn op(&self) -> AskOp
         ensures { result ≡ self.now.op }

@@ -46,8 +46,8 @@ returns-in-Err-read_beats-clause-fault c =
     } in
     first_of_beats c.args.beats.now c.in-Some.first.now c.in-Ok.op begun c.in-Err-read_beats.fault c.in-Err-read_beats.ensures.fault
 
-pub unwrap-requires : goal.unwrap-requires
-unwrap-requires c =
+pub from_parts-requires : goal.from_parts-requires
+from_parts-requires c =
     let first = c.in-Some.first.now in
     let op = c.in-Ok.op in
     let bytes = c.in-Ok-read_beats.bytes.items in
@@ -57,9 +57,7 @@ unwrap-requires c =
       in_limit = c.if-first-gt-LARGEST_SIZE.false;
       count = search rules;
     } in
-    let passed : c.deref.result.now ≡ bytes = search rules in
-    let lawful : IsLawfulRequest op first.size c.deref.result.now = rw passed (read_lawful c.args.beats.now first op begun bytes c.in-Ok-read_beats.ensures.ok) in
-    c.new.ensures.ok.1 lawful
+    read_lawful c.args.beats.now first op begun bytes c.in-Ok-read_beats.ensures.ok
 
 pub returns-clause-ok : goal.returns-clause-ok
 returns-clause-ok c =
@@ -72,7 +70,7 @@ returns-clause-ok c =
       in_limit = c.if-first-gt-LARGEST_SIZE.false;
       count = search rules;
     } in
-    let is : c.unwrap.result ≡ read_request first op bytes = search rules in
+    let is : c.from_parts.result ≡ read_request first op bytes = search rules in
     rw is (read_spells c.args.beats.now first op begun bytes c.in-Ok-read_beats.ensures.ok)
 
 pub returns-clause-all : goal.returns-clause-all
@@ -86,5 +84,5 @@ returns-clause-all c ask lawful spells =
       in_limit = c.if-first-gt-LARGEST_SIZE.false;
       count = search rules;
     } in
-    let is : c.unwrap.result ≡ read_request first op bytes = search rules in
+    let is : c.from_parts.result ≡ read_request first op bytes = search rules in
     ap Ok (is ∙ read_only c.args.beats.now first op begun bytes c.in-Ok-read_beats.ensures.ok ask lawful spells)

@@ -48,8 +48,8 @@ returns-in-Err-read_reply_beats-clause-fault c =
     } in
     first_of_reply_beats c.args.beats.now c.in-Some.first.now c.in-Ok.op begun c.in-Err-read_reply_beats.fault c.in-Err-read_reply_beats.ensures.fault
 
-pub unwrap-requires : goal.unwrap-requires
-unwrap-requires c =
+pub from_parts-requires : goal.from_parts-requires
+from_parts-requires c =
     let first = c.in-Some.first.now in
     let op = c.in-Ok.op in
     let bytes = c.in-Ok-read_reply_beats.bytes.items in
@@ -59,9 +59,7 @@ unwrap-requires c =
       in_limit = c.if-first-gt-LARGEST_SIZE.false;
       count = search rules;
     } in
-    let passed : c.deref.result.now ≡ bytes = search rules in
-    let lawful : IsLawfulResponse op first.size first.denied c.deref.result.now = rw passed (reply_read_lawful c.args.beats.now first op c.args.address begun bytes c.in-Ok-read_reply_beats.ensures.ok) in
-    c.new.ensures.ok.1 lawful
+    reply_read_lawful c.args.beats.now first op c.args.address begun bytes c.in-Ok-read_reply_beats.ensures.ok
 
 pub returns-clause-ok : goal.returns-clause-ok
 returns-clause-ok c =
@@ -74,7 +72,7 @@ returns-clause-ok c =
       in_limit = c.if-first-gt-LARGEST_SIZE.false;
       count = search rules;
     } in
-    let is : c.unwrap.result ≡ read_reply first op bytes = search rules in
+    let is : c.from_parts.result ≡ read_reply first op bytes = search rules in
     rw is (reply_read_spells c.args.beats.now first op c.args.address begun bytes c.in-Ok-read_reply_beats.ensures.ok)
 
 pub returns-clause-all : goal.returns-clause-all
@@ -88,5 +86,5 @@ returns-clause-all c reply lawful spells =
       in_limit = c.if-first-gt-LARGEST_SIZE.false;
       count = search rules;
     } in
-    let is : c.unwrap.result ≡ read_reply first op bytes = search rules in
+    let is : c.from_parts.result ≡ read_reply first op bytes = search rules in
     ap Ok (is ∙ reply_read_only c.args.beats.now first op c.args.address begun bytes c.in-Ok-read_reply_beats.ensures.ok reply lawful spells)
