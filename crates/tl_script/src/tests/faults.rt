@@ -1,0 +1,250 @@
+//! Scripts with faults: the line of each, and which of two faults is told.
+use crate::{ScriptFault, read_system};
+use std::alloc::{AllocError, Global};
+use std::test::Fail;
+use tl_map::{MapFault, SourceFault};
+
+/// A part of a script, and the line of the script's fault.
+type Row = (&'static str, &'static str);
+
+/// The line of a script's fault, and nothing where it has none.
+fn fault_line(alloc: Global, script: &str) -> Result<String, AllocError> {
+    match read_system(alloc, script.as_bytes()) {
+        Ok(_) => Ok(String::new(alloc)),
+        Err(fault) => format!(in alloc; "{fault}"),
+    }
+}
+
+/// The first part that makes a script with another line than its row has. The part stands behind the head.
+fn first_other(
+    alloc: Global,
+    head: &str,
+    rows: &[Row],
+) -> Result<Option<&'static str>, AllocError> {
+    for (part, line) in rows {
+        let script = format!(in alloc; "{head}{part}\n")?;
+        if fault_line(alloc, &script)?.as_str() != *line {
+            return Ok(Some(*part));
+        }
+    }
+    Ok(None)
+}
+
+const DOCUMENTS: [Row; 18] = [
+    ("", "script: missing slots"),
+    ("slots", "script: not TOML"),
+    ("slots = 1\nslots = 1", "script: not TOML"),
+    ("slots = \"4\"", "script: wrong type of slots"),
+    ("slots = 1.0", "script: wrong type of slots"),
+    ("slots = 0", "script: slots out of range"),
+    ("slots = 257", "script: slots out of range"),
+    ("slots = -1", "script: slots out of range"),
+    ("slots = 4\nport = 1", "script: wrong type of port"),
+    ("slots = 4\nport = [{}, 1]", "script: wrong type of port"),
+    ("slots = 4", "script: missing master"),
+    ("slots = 4\nmaster = {}", "script: wrong type of master"),
+    (
+        "slots = 4\nmaster = [{}, 1]",
+        "script: wrong type of master",
+    ),
+    ("slots = 4\nmaster = []", "script: master out of range"),
+    // Of two faults the first is answered.
+    ("slots = 257\nport = 1", "script: slots out of range"),
+    ("port = 1", "script: missing slots"),
+    (
+        "slots = 4\nport = 1\nmaster = []",
+        "script: wrong type of port",
+    ),
+    ("slots = 4\nport = [{}]\nmaster = 1", "script: missing kind"),
+];
+
+#[test]
+fn documents_have_faults(rt: HostRuntime) -> Result<(), Fail> {
+    assert_eq!(rt; first_other(rt.alloc(), "", &DOCUMENTS)?, None);
+    Ok(())
+}
+
+const PORTS: [Row; 16] = [
+    ("base = 0\nlength = 1", "script: missing kind"),
+    ("kind = 1", "script: wrong type of kind"),
+    ("kind = 'RAM'", "script: kind out of range"),
+    ("kind = 'ram'\nlength = -1", "script: missing base"),
+    ("kind = 'ram'\nbase = '0'", "script: wrong type of base"),
+    (
+        "kind = 'ram'\nbase = -1\nlength = -1",
+        "script: base out of range",
+    ),
+    (
+        "kind = 'ram'\nbase = 0\nreset = 1",
+        "script: missing length",
+    ),
+    (
+        "kind = 'ram'\nbase = 0\nlength = true",
+        "script: wrong type of length",
+    ),
+    (
+        "kind = 'ram'\nbase = 0\nlength = 65537",
+        "script: length out of range",
+    ),
+    (
+        "kind = 'ram'\nbase = 0\nlength = 4\nreset = 1",
+        "script: wrong type of reset",
+    ),
+    (
+        "kind = 'ram'\nbase = 0\nlength = 4\nreset = '0'",
+        "script: reset out of range",
+    ),
+    (
+        "kind = 'ram'\nbase = 0\nlength = 4\nreset = '0g'",
+        "script: reset out of range",
+    ),
+    (
+        "kind = 'ram'\nbase = 0\nlength = 4\nreset = '--'",
+        "script: reset out of range",
+    ),
+    (
+        "kind = 'ram'\nbase = 0\nlength = 1\nreset = '0000'",
+        "script: reset out of range",
+    ),
+    // The first port's last key is before the second port's first.
+    (
+        "kind = 'ram'\nbase = 0\nlength = 0\n[[port]]",
+        "script: missing kind",
+    ),
+    (
+        "kind = 'ram'\nbase = 0\nlength = 0\n[[master]]",
+        "script: missing sources",
+    ),
+];
+
+#[test]
+fn ports_have_faults(rt: HostRuntime) -> Result<(), Fail> {
+    let other = first_other(rt.alloc(), "slots = 4\n[[port]]\n", &PORTS)?;
+    assert_eq!(rt; other, None);
+    Ok(())
+}
+
+const MASTERS: [Row; 13] = [
+    ("ops = 1", "script: missing sources"),
+    ("sources = 'x'\nops = 1", "script: wrong type of sources"),
+    ("sources = 65536\nops = 1", "script: sources out of range"),
+    ("sources = -1", "script: sources out of range"),
+    ("sources = 1", "script: missing ops"),
+    ("sources = 1\nops = 'wait'", "script: wrong type of ops"),
+    (
+        "sources = 1\nops = ['wait', 1]",
+        "script: wrong type of ops",
+    ),
+    ("sources = 0\nops = ['none']", "script: master 0: no source"),
+    (
+        "sources = 257\nops = ['none']",
+        "script: too many masters or sources",
+    ),
+    (
+        "sources = 16\nops = ['wait', '16 get 0x1000 2']",
+        "script: master 0 operation 1: bad operation",
+    ),
+    (
+        "sources = 16\nops = ['wait', 'wait', '0 get 0x1000 7']",
+        "script: master 0 operation 2: bad operation",
+    ),
+    (
+        "sources = 16\nops = ['0 putfull 0x1000 2 112233--']",
+        "script: master 0 operation 0: bad operation",
+    ),
+    (
+        "sources = 16\nops = ['0 get 18446744073709551616 0']",
+        "script: master 0 operation 0: bad operation",
+    ),
+];
+
+#[test]
+fn masters_have_faults(rt: HostRuntime) -> Result<(), Fail> {
+    let other = first_other(rt.alloc(), "slots = 4\n[[master]]\n", &MASTERS)?;
+    assert_eq!(rt; other, None);
+    Ok(())
+}
+
+/// Of two faults the first is answered.
+const TWO_MASTERS: [Row; 5] = [
+    (
+        "sources = 1\nops = ['none']\n[[master]]",
+        "script: missing sources",
+    ),
+    (
+        "sources = 1\nops = ['none']\n[[master]]\nsources = 0\nops = []",
+        "script: master 1: no source",
+    ),
+    (
+        "sources = 0\nops = []\n[[master]]\nsources = 257\nops = []",
+        "script: too many masters or sources",
+    ),
+    (
+        "sources = 1\nops = []\n[[master]]\nsources = 1\nops = ['1 get 0 0', 'none']",
+        "script: master 1 operation 0: bad operation",
+    ),
+    (
+        "sources = 1\nops = ['wait', 'none', '']\n[[master]]\nsources = 1\nops = ['none']",
+        "script: master 0 operation 1: bad operation",
+    ),
+];
+
+#[test]
+fn two_masters_have_faults(rt: HostRuntime) -> Result<(), Fail> {
+    let other = first_other(rt.alloc(), "slots = 4\n[[master]]\n", &TWO_MASTERS)?;
+    assert_eq!(rt; other, None);
+    Ok(())
+}
+
+/// What stands before two ports of RAM: a master with a fault of its count of sources and one of its operations. The
+/// ranges are tried before either.
+const BEFORE_RANGES: &str = "slots = 4\nmaster = [{ sources = 0, ops = ['none'] }]\n";
+
+const RANGES: [Row; 3] = [
+    (
+        "[[port]]\nkind = 'ram'\nbase = 0x1000\nlength = 64\n[[port]]\nkind = 'ram'\nbase = 0x103f\nlength = 1",
+        "script: ports 0 and 1 overlap",
+    ),
+    (
+        "[[port]]\nkind = 'ram'\nbase = 0x1000\nlength = 64\n[[port]]\nkind = 'ram'\nbase = 0x1040\nlength = 0",
+        "script: port 1: empty range",
+    ),
+    (
+        "[[port]]\nkind = 'ram'\nbase = 0x1000\nlength = 0\n[[port]]\nkind = 'ram'\nbase = 0x1000\nlength = 1",
+        "script: port 0: empty range",
+    ),
+];
+
+#[test]
+fn ranges_have_faults(rt: HostRuntime) -> Result<(), Fail> {
+    assert_eq!(rt; first_other(rt.alloc(), BEFORE_RANGES, &RANGES)?, None);
+    Ok(())
+}
+
+/// Lines that no script above is told.
+const LINES: [(ScriptFault, &str); 4] = [
+    (ScriptFault::TooLong, "script: longer than 1048576 bytes"),
+    (
+        ScriptFault::Map(MapFault::TooMany),
+        "script: too many ports",
+    ),
+    (
+        ScriptFault::Map(MapFault::PastEnd(3)),
+        "script: port 3: past the end",
+    ),
+    (ScriptFault::Memory, "memory refused"),
+];
+
+#[test]
+fn the_other_faults_have_lines(rt: HostRuntime) -> Result<(), Fail> {
+    for (fault, line) in &LINES {
+        assert_eq!(rt; format!(in rt.alloc(); "{fault}")?.as_str(), *line);
+    }
+    Ok(())
+}
+
+#[test]
+fn want_of_memory_is_one_fault(rt: HostRuntime) {
+    assert_eq!(rt; ScriptFault::from(MapFault::Memory), ScriptFault::Memory);
+    assert_eq!(rt; ScriptFault::from(SourceFault::Memory), ScriptFault::Memory);
+}

@@ -1,0 +1,155 @@
+//! The systems that scripts describe.
+use crate::{Job, ScriptFault, System, read_system};
+use std::alloc::Global;
+use std::test::Fail;
+use tl_ops::Kind;
+use tl_types::AskOp;
+
+pub const FIRST: &str = "slots = 4
+[[port]]
+kind = \"ram\"
+base = 0x1000
+length = 64
+[[master]]
+sources = 16
+ops = [\"0 putfull 0x1000 2 11223344\", \"0 get 0x1000 2\"]
+";
+
+/// Three ports and two masters, with keys that are nothing to a script.
+const SEVERAL: &str = "title = 'three slaves'
+slots = 256
+[[port]]
+base = 0x2000
+kind = 'rom'
+length = 5
+reset = '00aBCd'
+colour = 'red'
+[[port]]
+kind = 'regs'
+base = 9_223_372_036_854_775_807
+length = 1
+reset = 'FF'
+[[port]]
+kind = 'ram'
+base = 0x100000
+length = 65536
+[[master]]
+sources = 256
+ops = []
+[[master]]
+name = { first = 1 }
+sources = 1
+ops = ['wait', '0 get 0 0', 'wait']
+[extra]
+";
+
+fn system_of(alloc: Global, script: &str) -> Result<System, ScriptFault> {
+    read_system(alloc, script.as_bytes())
+}
+
+/// Whether the system has this many slots, ports, masters and devices.
+fn has_counts(system: &System, slots: usize, ports: usize, masters: usize, devices: usize) -> bool {
+    system.slots() == slots
+        && system.map().ports() == ports
+        && system.sources().masters() == masters
+        && system.devices().len() == devices
+}
+
+/// Whether the port has a device of this kind, base and reset.
+fn has_device(system: &System, port: usize, kind: Kind, base: u64, reset: &[u8]) -> bool {
+    match system.devices().get(port) {
+        Some(device) => {
+            device.kind == kind && device.base == base && device.reset.as_slice() == reset
+        }
+        None => false,
+    }
+}
+
+/// Whether the port has a device of this many bytes.
+fn has_length(system: &System, port: usize, length: usize) -> bool {
+    match system.devices().get(port) {
+        Some(device) => device.reset.len() == length,
+        None => false,
+    }
+}
+
+/// Whether the master has this many sources.
+fn has_sources(system: &System, master: usize, sources: u16) -> bool {
+    system.sources().count(master) == Some(sources)
+}
+
+/// Whether the master has this many operations.
+fn has_operations(system: &System, master: usize, operations: usize) -> bool {
+    match system.jobs().get(master) {
+        Some(jobs) => jobs.len() == operations,
+        None => false,
+    }
+}
+
+fn job(system: &System, master: usize, operation: usize) -> Option<&Job> {
+    system.jobs().get(master)?.get(operation)
+}
+
+fn is_wait(system: &System, master: usize, operation: usize) -> bool {
+    matches!(job(system, master, operation), Some(Job::Wait))
+}
+
+/// Whether a master's operation sends a request of these parts.
+fn sends(
+    system: &System,
+    master: usize,
+    operation: usize,
+    op: AskOp,
+    address: u64,
+    bytes: &[Option<u8>],
+) -> bool {
+    match job(system, master, operation) {
+        Some(Job::Send(ask)) => ask.op() == op && ask.address() == address && ask.bytes() == bytes,
+        _ => false,
+    }
+}
+
+const PUT: [Option<u8>; 4] = [Some(0x11), Some(0x22), Some(0x33), Some(0x44)];
+
+#[test]
+fn the_first_script_is_read(rt: HostRuntime) -> Result<(), Fail> {
+    let system = system_of(rt.alloc(), FIRST)?;
+    assert!(rt; has_counts(&system, 4, 2, 1, 1));
+    assert!(rt; has_device(&system, 0, Kind::Ram, 0x1000, &[0; 64]));
+    assert!(rt; has_sources(&system, 0, 16));
+    assert!(rt; has_operations(&system, 0, 2));
+    assert!(rt; sends(&system, 0, 0, AskOp::PutFull, 0x1000, &PUT));
+    assert!(rt; sends(&system, 0, 1, AskOp::Get, 0x1000, &[]));
+    Ok(())
+}
+
+#[test]
+fn ports_keep_their_order(rt: HostRuntime) -> Result<(), Fail> {
+    let system = system_of(rt.alloc(), SEVERAL)?;
+    assert!(rt; has_counts(&system, 256, 4, 2, 3));
+    assert!(rt; has_device(&system, 0, Kind::Rom, 0x2000, &[0, 0xab, 0xcd, 0, 0]));
+    assert!(rt; has_device(&system, 1, Kind::Regs, 0x7fff_ffff_ffff_ffff, &[0xff]));
+    assert!(rt; has_length(&system, 2, 65536));
+    Ok(())
+}
+
+#[test]
+fn masters_keep_their_order(rt: HostRuntime) -> Result<(), Fail> {
+    let system = system_of(rt.alloc(), SEVERAL)?;
+    assert!(rt; has_sources(&system, 0, 256));
+    assert!(rt; has_operations(&system, 0, 0));
+    assert!(rt; has_sources(&system, 1, 1));
+    assert!(rt; has_operations(&system, 1, 3));
+    assert!(rt; is_wait(&system, 1, 0));
+    assert!(rt; sends(&system, 1, 1, AskOp::Get, 0, &[]));
+    assert!(rt; is_wait(&system, 1, 2));
+    Ok(())
+}
+
+#[test]
+fn a_script_may_have_no_port(rt: HostRuntime) -> Result<(), Fail> {
+    let script = "slots = 1\n[[master]]\nsources = 1\nops = []\n";
+    let system = system_of(rt.alloc(), script)?;
+    assert!(rt; has_counts(&system, 1, 1, 1, 0));
+    Ok(())
+}
