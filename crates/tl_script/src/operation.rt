@@ -50,7 +50,7 @@ fn read_request(words: &[&[u8]], sources: u16) -> Option<Ask>
     let address = read_address(address)?;
     let size = read_size(size)?;
     let bytes = read_bytes(op, size, more)?;
-    Some(Ask::new(op, size, source, address, &bytes).unwrap())
+    Some(Ask::from_parts(op, size, source, address, bytes))
 }
 
 #[tactic(auto, unfolding(crate::specs::Operation::source_of))]

@@ -1,5 +1,6 @@
 -- Where the slaves of a system stand after a list of entries.
-use Rattle.std.specs.Prelude.{◌≡◌, ℕ, ◌+◌, List, length, Some, slice_get, IsSomeAnd}
+use Rattle.std.specs.Prelude.{◌≡◌, ℕ, ◌+◌, Bool, true, List, [], ◌∷◌, length, Option, Some, option_map, unwrap_or, slice_get, IsSomeAnd}
+use Rattle.tl_map.specs.Block.{IsWide}
 use Rattle.tl_types.specs.declared.trace.Entry.{Entry}
 use Rattle.tl_types.specs.Request.{Request}
 use Rattle.tl_types.specs.Response.{Response}
@@ -13,17 +14,34 @@ use Rattle.tlx.specs.declared.serial.Slave.{Slave}
 abbrev pub bank_of : Slave → Store
 bank_of slave = slave.bank
 
--- what a slave port has served
-abbrev pub history_of : Slave → List (Request × Response)
-history_of slave = slave.history.items
+-- what a slave port has served, where it keeps that
+abbrev pub kept_by : Slave → Option (List (Request × Response))
+kept_by slave = option_map (λ history. history.items) slave.history
 
--- the slave of a port after these entries: its bank has replayed the requests there, and its history is those entries
-pub record HasServed (s : System) (log : List (ℕ × Entry)) (port : ℕ) (slave : Slave) : Type 0 where
+-- what a slave port has served, or nothing where it does not keep that
+abbrev pub history_of : Slave → List (Request × Response)
+history_of slave = unwrap_or (kept_by slave) []
+
+-- nothing was served yet, and what is served is kept or not
+pub record IsFresh (keeps : Bool) (slave : Slave) : Type 0 where
+  pub served : slave.served ≡ 0
+  pub kept : keeps ≡ true → kept_by slave ≡ Some []
+
+-- the slave of a port after these entries: its bank has replayed the requests there, it has counted them, and where
+-- histories are kept its own is those entries
+pub record HasServed (s : System) (keeps : Bool) (log : List (ℕ × Entry)) (port : ℕ) (slave : Slave) : Type 0 where
   pub bank : IsSomeAnd (slice_get (resets s) port) (λ reset. slave.bank ≡ replay reset (requests_at port log))
-  pub history : IsHistoryOf s.counts (at_port port log) slave.history.items
+  pub served : slave.served ≡ length (at_port port log)
+  pub history : keeps ≡ true → IsSomeAnd (kept_by slave) (IsHistoryOf s.counts (at_port port log))
+
+-- each entry's source has a wide one
+abbrev pub HaveWide : List ℕ → List (ℕ × Entry) → Type 0
+HaveWide counts [] = Unit {0}
+HaveWide counts (e ∷ log) = ((wide : ℕ) × IsWide counts e.0 e.1.ask.source wide) × HaveWide counts log
 
 -- the slaves of a system after these entries, which were served in turn
-pub record Stand (s : System) (log : List (ℕ × Entry)) (slaves : List Slave) : Type 0 where
+pub record Stand (s : System) (keeps : Bool) (log : List (ℕ × Entry)) (slaves : List Slave) : Type 0 where
   pub ports : length slaves ≡ length s.ranges + 1
   pub served : AreServedInTurn s log
-  pub each : (port : ℕ) (slave : Slave) → slice_get slaves port ≡ Some slave → HasServed s log port slave
+  pub wide : HaveWide s.counts log
+  pub each : (port : ℕ) (slave : Slave) → slice_get slaves port ≡ Some slave → HasServed s keeps log port slave

@@ -1,10 +1,10 @@
 //! The run of a system by one thread.
-ghost use Rattle.std.specs.Prelude.{◌≡◌, ◌++◌, ◌∷◌, [], ◌+◌, ◌<◌, ℕ, List, length, map, replicate, IfOk, OnOk, Some, slice_get, IsSomeAnd, All};
+ghost use Rattle.std.specs.Prelude.{◌≡◌, ◌++◌, ◌∷◌, [], ◌+◌, ◌<◌, ℕ, Bool, List, length, map, option_map, replicate, IfOk, OnOk, Some, slice_get, IsSomeAnd, All};
 ghost use Rattle.tl_types.specs.declared.trace.Entry.{Entry};
 ghost use Rattle.tl_ops.specs.Store.{after, reply};
 ghost use Rattle.tl_script.specs.System.{System, sends, lists_of, store_of};
-ghost use Rattle.tlx.specs.Serial.{IsSerialRun, numbered, asks_in, log_of, error_store};
-ghost use Rattle.tlx.specs.Slave.{Stand, bank_of, history_of};
+ghost use Rattle.tlx.specs.Serial.{IsSerialRun, AreSerialTraces, numbered, asks_in, log_of, error_store};
+ghost use Rattle.tlx.specs.Slave.{Stand, IsFresh, bank_of, history_of, kept_by};
 
 use std::alloc::Global;
 use tl_ops::{Bank, Kind};
@@ -25,22 +25,29 @@ pub struct SerialRun {
 #[derive(Drop)]
 struct Slave {
     bank: Bank,
-    history: History,
+    /// How many requests it has served.
+    served: usize,
+    /// These, where histories are kept.
+    history: Option<History>,
 }
 
 impl Slave {
-    /// Serves a request, and puts it into the history with its wide source. The answer is its place there and the reply.
+    /// Serves a request, and puts it into the history with its wide source, where that is kept. The answer is how many
+    /// were served before it, and the reply.
     fn serve(&mut self, ask: &Ask, wide: u16) -> Result<(usize, Reply), Memory>
         ensures bank { OnOk result (self.new.bank ≡ after self.old.bank ask.now) }
-        ensures index { IfOk result (λ served. served.0 ≡ length self.old.history.items) }
+        ensures index { IfOk result (λ served. served.0 ≡ self.old.served) }
+        ensures counted { OnOk result (self.new.served ≡ self.old.served + 1) }
         ensures reply { IfOk result (λ served. served.1 ≡ reply self.old.bank ask.now) }
-        ensures history { IfOk result (λ served. self.new.history.items
-            ≡ self.old.history.items ++ (record ask.now { source = wide }, record served.1 { source = wide }) ∷ []) }
+        ensures history { IfOk result (λ served. kept_by self.new
+            ≡ option_map (λ h. h ++ (record ask.now { source = wide }, record served.1 { source = wide }) ∷ []) (kept_by self.old)) }
     {
-        let index = self.history.len();
+        let index = self.served;
         let reply = self.bank.serve(ask);
-        self.history
-            .push((ask.with_source(wide), reply.with_source(wide)))?;
+        if let Some(history) = &mut self.history {
+            history.push((ask.with_source(wide), reply.with_source(wide)))?;
+        }
+        self.served = index.checked_add(1).ok_or(Memory)?;
         Ok((index, reply))
     }
 }
@@ -50,8 +57,8 @@ fn send(slaves: &mut [Slave], system: &System, master: usize, ask: &Ask) -> Resu
     requires ready { length slaves.old ≡ length system.now.ranges + 1 }
     requires source { IsSomeAnd (slice_get system.now.counts master) (λ count. ask.now.source < count) }
     ensures asked { IfOk result (λ entry. entry.ask ≡ ask.now) }
-    ensures stands { IfOk result (λ entry. (log : List (ℕ × Entry)) → Stand system.now log slaves.old
-        → Stand system.now (log ++ (master, entry) ∷ []) slaves.new) }
+    ensures stands { IfOk result (λ entry. (keeps : Bool) (log : List (ℕ × Entry)) → Stand system.now keeps log slaves.old
+        → Stand system.now keeps (log ++ (master, entry) ∷ []) slaves.new) }
 {
     let port = system.map().route(ask);
     let wide = system.sources().widen(master, ask.source()).unwrap();
@@ -75,8 +82,8 @@ fn run_master(
     requires ready { length slaves.old ≡ length system.now.ranges + 1 }
     requires source { IsSomeAnd (slice_get system.now.counts master) (λ count. All (λ ask. ask.source < count) (sends jobs.now)) }
     ensures asked { IfOk result (λ trace. asks_in trace.items ≡ sends jobs.now) }
-    ensures stands { IfOk result (λ trace. (log : List (ℕ × Entry)) → Stand system.now log slaves.old
-        → Stand system.now (log ++ numbered master trace.items) slaves.new) }
+    ensures stands { IfOk result (λ trace. (keeps : Bool) (log : List (ℕ × Entry)) → Stand system.now keeps log slaves.old
+        → Stand system.now keeps (log ++ numbered master trace.items) slaves.new) }
 {
     let mut trace = Trace::with_capacity(alloc, jobs.len())?;
     for job in jobs {
@@ -92,39 +99,46 @@ fn run_master(
 }
 
 /// A slave port at reset.
-fn slave_of(alloc: Global, kind: Kind, base: u64, reset: &[u8]) -> Result<Slave, Memory>
+fn slave_of(
+    alloc: Global,
+    kind: Kind,
+    base: u64,
+    reset: &[u8],
+    keeps: bool,
+) -> Result<Slave, Memory>
     ensures bank { IfOk result (λ slave. slave.bank ≡ record { kind = kind; base = base; bytes = reset.now }) }
-    ensures history { IfOk result (λ slave. slave.history.items ≡ []) }
+    ensures fresh { IfOk result (IsFresh keeps) }
 {
     let bank = Bank::new(alloc, kind, base, reset).map_err(|_| Memory)?;
     Ok(Slave {
         bank,
-        history: History::new(alloc),
+        served: 0,
+        history: keeps.then(|| History::new(alloc)),
     })
 }
 
-/// The slave ports of these devices at reset, and the error port behind them.
-fn slaves_of(alloc: Global, devices: &[Device]) -> Result<Vec<Slave>, Memory>
+/// The slave ports of these devices at reset, and the error port behind them. They keep histories or not.
+fn slaves_of(alloc: Global, devices: &[Device], keeps: bool) -> Result<Vec<Slave>, Memory>
     ensures banks { IfOk result (λ slaves. map bank_of slaves.items ≡ map store_of devices.now ++ error_store ∷ []) }
-    ensures histories { IfOk result (λ slaves. All (λ slave. slave.history.items ≡ []) slaves.items) }
+    ensures fresh { IfOk result (λ slaves. All (IsFresh keeps) slaves.items) }
 {
     let mut slaves = Vec::with_capacity(alloc, devices.len() + 1)?;
     for device in devices {
-        let slave = slave_of(alloc, device.kind, device.base, &device.reset)?;
+        let slave = slave_of(alloc, device.kind, device.base, &device.reset, keeps)?;
         slaves.push(slave)?;
     }
-    let error_port = slave_of(alloc, Kind::NoDevice, 0, &[])?;
+    let error_port = slave_of(alloc, Kind::NoDevice, 0, &[], keeps)?;
     slaves.push(error_port)?;
     Ok(slaves)
 }
 
-/// The histories of slave ports.
+/// The histories that slave ports keep, and an empty one of each that keeps none.
 fn histories_of(alloc: Global, slaves: Vec<Slave>) -> Result<Vec<History>, Memory>
     ensures { IfOk result (λ histories. lists_of histories.items ≡ map history_of slaves.items) }
 {
     let mut histories = Vec::with_capacity(alloc, slaves.len())?;
     for slave in slaves {
-        histories.push(slave.history)?;
+        histories.push(slave.history.unwrap_or(History::new(alloc)))?;
     }
     Ok(histories)
 }
@@ -133,8 +147,8 @@ fn histories_of(alloc: Global, slaves: Vec<Slave>) -> Result<Vec<History>, Memor
 fn run_masters(alloc: Global, slaves: &mut [Slave], system: &System) -> Result<Vec<Trace>, Memory>
     requires { length slaves.old ≡ length system.now.ranges + 1 }
     ensures asked { IfOk result (λ traces. map asks_in (lists_of traces.items) ≡ map sends system.now.jobs) }
-    ensures stands { IfOk result (λ traces. Stand system.now [] slaves.old
-        → Stand system.now (log_of (lists_of traces.items)) slaves.new) }
+    ensures stands { IfOk result (λ traces. (keeps : Bool) → Stand system.now keeps [] slaves.old
+        → Stand system.now keeps (log_of (lists_of traces.items)) slaves.new) }
 {
     let jobs = system.jobs();
     let mut traces = Vec::with_capacity(alloc, jobs.len())?;
@@ -149,8 +163,17 @@ fn run_masters(alloc: Global, slaves: &mut [Slave], system: &System) -> Result<V
 pub fn run_serial(alloc: Global, system: &System) -> Result<SerialRun, Memory>
     ensures { IfOk result (λ run. IsSerialRun system.now (lists_of run.traces.items) (lists_of run.histories.items)) }
 {
-    let mut slaves = slaves_of(alloc, system.devices())?;
+    let mut slaves = slaves_of(alloc, system.devices(), true)?;
     let traces = run_masters(alloc, &mut slaves, system)?;
     let histories = histories_of(alloc, slaves)?;
     Ok(SerialRun { traces, histories })
+}
+
+/// The traces of the same run. No history takes memory.
+pub fn run_traces(alloc: Global, system: &System) -> Result<Vec<Trace>, Memory>
+    ensures { IfOk result (λ traces. AreSerialTraces system.now (lists_of traces.items)) }
+{
+    let mut slaves = slaves_of(alloc, system.devices(), false)?;
+    let traces = run_masters(alloc, &mut slaves, system)?;
+    Ok(traces)
 }

@@ -24,7 +24,7 @@ loop-job-preserved c =
     elim c.match-job.branch [
       | in-Wait w ↦ record {
         asked = rw w.trace-is (c.loop-job.invariant.asked ∙ sym (sends-wait jobs i (here ∙ ap (λ (j : Job). Some j) w.in-Wait.is)));
-        stands = λ log stand. rw (w.trace-is, w.slaves-is) (c.loop-job.invariant.stands log stand);
+        stands = λ keeps log stand. rw (w.trace-is, w.slaves-is) (c.loop-job.invariant.stands keeps log stand);
       }
       | in-Send+in_ok-entry-in-Send+in_ok-push-in-Send w ↦
           let ask = w.in-Send.ask in
@@ -36,7 +36,7 @@ loop-job-preserved c =
           record {
             asked = ap asks_in pushed ∙ asks_in-push before entry ∙ ap (λ (asks : List Request). asks ++ entry.ask ∷ []) c.loop-job.invariant.asked
                 ∙ ap (λ (a : Request). sends (take i jobs) ++ a ∷ []) same ∙ sym (sends-send jobs i ask at);
-            stands = λ log stand. rw (pushed, w.slaves-is, numbered-push log c.args.master before entry)
-                (w.in_ok-entry-in-Send.ensures.stands (log ++ numbered c.args.master before) (c.loop-job.invariant.stands log stand));
+            stands = λ keeps log stand. rw (pushed, w.slaves-is, numbered-push log c.args.master before entry)
+                (w.in_ok-entry-in-Send.ensures.stands keeps (log ++ numbered c.args.master before) (c.loop-job.invariant.stands keeps log stand));
           }
     ]

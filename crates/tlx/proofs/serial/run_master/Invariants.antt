@@ -1,5 +1,5 @@
 -- The requests so far are served.
-use Rattle.std.proofs.Common.{◌≡◌, ◌++◌, ℕ, List, take}
+use Rattle.std.proofs.Common.{◌≡◌, ◌++◌, ℕ, Bool, List, take}
 use Rattle.tl_types.specs.declared.trace.Entry.{Entry}
 use Rattle.tl_script.specs.System.{sends}
 use Rattle.tlx.specs.Serial.{asks_in, numbered}
@@ -9,5 +9,5 @@ use Rattle.tlx.proofs.serial.run_master.Given as goal
 abbrev pub invariant-loop-job : goal.invariant-loop-job
 invariant-loop-job l = record {
   asked : asks_in l.trace.items ≡ sends (take l.job-index l.jobs);
-  stands : (log : List (ℕ × Entry)) → Stand l.system log l.initial.slaves → Stand l.system (log ++ numbered l.master l.trace.items) l.slaves;
+  stands : (keeps : Bool) (log : List (ℕ × Entry)) → Stand l.system keeps log l.initial.slaves → Stand l.system keeps (log ++ numbered l.master l.trace.items) l.slaves;
 }

@@ -26,5 +26,5 @@ loop-master-preserved c =
     record {
       asked = ap (map asks_in) lists ∙ asked_more (lists_of traces) trace.items c.args.system.now.jobs m jobs.items at c.loop-master.invariant.asked last;
       counted = ap length pushed ∙ length-append traces (trace ∷ []) ∙ ap (λ (n : ℕ). n + 1) c.loop-master.invariant.counted;
-      stands = λ fresh. rw (lists, log_of-push (lists_of traces) trace.items, counted) (c.in_ok-trace.ensures.stands (log_of (lists_of traces)) (c.loop-master.invariant.stands fresh));
+      stands = λ keeps fresh. rw (lists, log_of-push (lists_of traces) trace.items, counted) (c.in_ok-trace.ensures.stands keeps (log_of (lists_of traces)) (c.loop-master.invariant.stands keeps fresh));
     }

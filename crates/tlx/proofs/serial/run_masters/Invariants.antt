@@ -1,5 +1,5 @@
 -- The masters so far have run.
-use Rattle.std.proofs.Common.{◌≡◌, [], map, take, length}
+use Rattle.std.proofs.Common.{◌≡◌, Bool, [], map, take, length}
 use Rattle.tl_script.specs.System.{lists_of, sends}
 use Rattle.tlx.specs.Serial.{asks_in, log_of}
 use Rattle.tlx.specs.Slave.{Stand}
@@ -9,5 +9,5 @@ abbrev pub invariant-loop-master : goal.invariant-loop-master
 invariant-loop-master l = record {
   asked : map asks_in (lists_of l.traces.items) ≡ map sends (take l.master l.system.jobs);
   counted : length l.traces.items ≡ l.master;
-  stands : Stand l.system [] l.initial.slaves → Stand l.system (log_of (lists_of l.traces.items)) l.slaves;
+  stands : (keeps : Bool) → Stand l.system keeps [] l.initial.slaves → Stand l.system keeps (log_of (lists_of l.traces.items)) l.slaves;
 }

@@ -1,4 +1,4 @@
-use Rattle.std.proofs.Common.{rules, ◌≡◌, ◌∙◌, ◌++◌, ◌∷◌, [], List, length, map, ap, take, drop}
+use Rattle.std.proofs.Common.{rules, ◌≡◌, ◌∙◌, ◌++◌, ◌∷◌, [], true, List, length, map, ap, take, drop}
 use Rattle.std.proofs.lemmas.List.{length-map, take_at}
 use Rattle.tl_ops.specs.Store.{Store}
 use Rattle.tl_script.specs.System.{lists_of}
@@ -12,8 +12,8 @@ returns c =
     let system = c.args.system.now in
     let fresh = c.in_ok-slaves.slaves.items in
     let banks : map bank_of fresh ≡ resets system = c.in_ok-slaves.ensures.banks ∙ ap (λ (stores : List Store). stores ++ error_store ∷ []) c.devices.ensures.value in
-    let start : Stand system [] c.deref_mut.result.now = rw c.deref_mut.ensures.value (stand_fresh system fresh c.devices.ensures.lawful banks c.in_ok-slaves.ensures.histories) in
-    let stand = c.in_ok-traces.ensures.stands start in
+    let start : Stand system true [] c.deref_mut.result.now = rw c.deref_mut.ensures.value (stand_fresh system true fresh c.devices.ensures.lawful banks c.in_ok-slaves.ensures.fresh) in
+    let stand = c.in_ok-traces.ensures.stands true start in
     let whole : take c.in_ok-slaves.slaves.len (c.run_masters.new.slaves ++ drop (length c.run_masters.new.slaves) fresh) ≡ c.run_masters.new.slaves =
     let long : length c.run_masters.new.slaves ≡ c.in_ok-slaves.slaves.len = search rules in
     take_at c.run_masters.new.slaves (drop (length c.run_masters.new.slaves) fresh) c.in_ok-slaves.slaves.len long in

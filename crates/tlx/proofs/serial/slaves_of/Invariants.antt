@@ -1,12 +1,12 @@
 -- The devices so far are slaves at reset.
-use Rattle.std.proofs.Common.{◌≡◌, [], map, take}
+use Rattle.std.proofs.Common.{◌≡◌, map, take}
 use Rattle.std.specs.Prelude.{All}
 use Rattle.tl_script.specs.System.{store_of}
-use Rattle.tlx.specs.Slave.{bank_of}
+use Rattle.tlx.specs.Slave.{IsFresh, bank_of}
 use Rattle.tlx.proofs.serial.slaves_of.Given as goal
 
 abbrev pub invariant-loop-device : goal.invariant-loop-device
 invariant-loop-device l = record {
   banks : map bank_of l.slaves.items ≡ map store_of (take l.device-index l.devices);
-  histories : All (λ slave. slave.history.items ≡ []) l.slaves.items;
+  fresh : All (IsFresh l.keeps) l.slaves.items;
 }
