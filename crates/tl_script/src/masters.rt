@@ -74,7 +74,7 @@ fn read_operations(alloc: Global, m: usize, master: &Master<'_>) -> Result<Vec<J
     ensures lawful { IfOk result (λ jobs. AreLawfulJobs master.now.sources jobs.items) }
     ensures bad { IfErr result IsOfJobs }
 {
-    let mut jobs = Vec::new(alloc);
+    let mut jobs = Vec::with_capacity(alloc, master.lines.len())?;
     for (n, line) in master.lines.iter().enumerate() {
         match read_operation(alloc, line.as_bytes(), master.sources)? {
             Some(job) => jobs.push(job)?,
@@ -90,7 +90,7 @@ pub fn read_jobs(alloc: Global, masters: &[Master<'_>]) -> Result<Vec<Vec<Job>>,
     ensures lawful { IfOk result (λ jobs. LawfulSoFar (map (λ master. master.sources) (map master_view masters.now)) (lists_of jobs.items) (length masters.now)) }
     ensures bad { IfErr result IsOfJobs }
 {
-    let mut jobs = Vec::new(alloc);
+    let mut jobs = Vec::with_capacity(alloc, masters.len())?;
     for (m, master) in masters.iter().enumerate() {
         jobs.push(read_operations(alloc, m, master)?)?;
     }

@@ -71,7 +71,7 @@ pub fn tables_of<'a>(
 ) -> Result<Vec<&'a Table>, ScriptFault>
     ensures { Gives (λ tables. map (λ table. table_view table.now) tables.items) result (each (table_of_value key) (map view values.now)) }
 {
-    let mut tables = Vec::new(alloc);
+    let mut tables = Vec::with_capacity(alloc, values.len())?;
     for value in values {
         match value.as_table() {
             Some(table) => tables.push(table)?,
@@ -89,7 +89,7 @@ pub fn texts_of<'a>(
 ) -> Result<Vec<&'a str>, ScriptFault>
     ensures { Gives (λ texts. map (λ text. text.now) texts.items) result (each (text_of_value key) (map view values.now)) }
 {
-    let mut texts = Vec::new(alloc);
+    let mut texts = Vec::with_capacity(alloc, values.len())?;
     for value in values {
         texts.push(text_of(value, key)?)?;
     }

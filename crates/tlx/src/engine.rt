@@ -99,6 +99,7 @@ pub fn counted_serial_engine<R: Read, W: Write, L: Ledger>(
 {
     let script = read_up_to(alloc, reader, SCRIPT_LIMIT + 1, steps)?;
     let system = read_system(alloc, &script)?;
+    drop(script);
     let text = serial_text(alloc, &system, history)?;
     write_all(writer, &text, steps)?;
     Ok(())
