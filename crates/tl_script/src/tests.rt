@@ -7,3 +7,11 @@ mod limits;
 mod operations;
 mod systems;
 mod texts;
+
+use crate::{ScriptFault, read_system};
+use std::alloc::Global;
+
+/// The fault of a script, if it has one.
+fn fault_of(alloc: Global, script: &[u8]) -> Option<ScriptFault> {
+    read_system(alloc, script).err()
+}

@@ -1,5 +1,6 @@
 //! Scripts with faults: the line of each, and which of two faults is told.
-use crate::{ScriptFault, read_system};
+use crate::ScriptFault;
+use crate::tests::fault_of;
 use std::alloc::{AllocError, Global};
 use std::test::Fail;
 use tl_map::{MapFault, SourceFault};
@@ -9,9 +10,9 @@ type Row = (&'static str, &'static str);
 
 /// The line of a script's fault, and nothing where it has none.
 fn fault_line(alloc: Global, script: &str) -> Result<String, AllocError> {
-    match read_system(alloc, script.as_bytes()) {
-        Ok(_) => Ok(String::new(alloc)),
-        Err(fault) => format!(in alloc; "{fault}"),
+    match fault_of(alloc, script.as_bytes()) {
+        Some(fault) => format!(in alloc; "{fault}"),
+        None => Ok(String::new(alloc)),
     }
 }
 

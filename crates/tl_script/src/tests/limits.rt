@@ -1,14 +1,10 @@
 //! How long a script may be, and how many ports, masters and operations it may have.
+use crate::tests::fault_of;
 use crate::tests::systems::FIRST;
-use crate::{Key, SCRIPT_LIMIT, ScriptFault, read_system};
+use crate::{Key, SCRIPT_LIMIT, ScriptFault};
 use std::alloc::{AllocError, Global};
 use std::test::Fail;
 use tl_map::{MapFault, SourceFault};
-
-/// The fault of a script, if it has one.
-fn fault_of(alloc: Global, script: &[u8]) -> Option<ScriptFault> {
-    read_system(alloc, script).err()
-}
 
 /// A script that says a part many times: its head, the part, how often, and its tail; and its fault.
 type Row = (

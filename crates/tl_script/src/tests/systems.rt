@@ -3,7 +3,7 @@ use crate::{Job, ScriptFault, System, read_system};
 use std::alloc::Global;
 use std::test::Fail;
 use tl_ops::Kind;
-use tl_types::AskOp;
+use tl_types::{Ask, AskOp};
 
 pub const FIRST: &str = "slots = 4
 [[port]]
@@ -94,18 +94,19 @@ fn is_wait(system: &System, master: usize, operation: usize) -> bool {
     matches!(job(system, master, operation), Some(Job::Wait))
 }
 
-/// Whether a master's operation sends a request of these parts.
-fn sends(
-    system: &System,
-    master: usize,
-    operation: usize,
-    op: AskOp,
-    address: u64,
-    bytes: &[Option<u8>],
-) -> bool {
+/// The request that a master's operation sends; none where it sends none.
+fn sent(system: &System, master: usize, operation: usize) -> Option<&Ask> {
     match job(system, master, operation) {
-        Some(Job::Send(ask)) => ask.op() == op && ask.address() == address && ask.bytes() == bytes,
-        _ => false,
+        Some(Job::Send(ask)) => Some(ask),
+        _ => None,
+    }
+}
+
+/// Whether there is a request, and it has these parts.
+fn has_parts(ask: Option<&Ask>, op: AskOp, address: u64, bytes: &[Option<u8>]) -> bool {
+    match ask {
+        Some(ask) => ask.op() == op && ask.address() == address && ask.bytes() == bytes,
+        None => false,
     }
 }
 
@@ -118,8 +119,8 @@ fn the_first_script_is_read(rt: HostRuntime) -> Result<(), Fail> {
     assert!(rt; has_device(&system, 0, Kind::Ram, 0x1000, &[0; 64]));
     assert!(rt; has_sources(&system, 0, 16));
     assert!(rt; has_operations(&system, 0, 2));
-    assert!(rt; sends(&system, 0, 0, AskOp::PutFull, 0x1000, &PUT));
-    assert!(rt; sends(&system, 0, 1, AskOp::Get, 0x1000, &[]));
+    assert!(rt; has_parts(sent(&system, 0, 0), AskOp::PutFull, 0x1000, &PUT));
+    assert!(rt; has_parts(sent(&system, 0, 1), AskOp::Get, 0x1000, &[]));
     Ok(())
 }
 
@@ -141,7 +142,7 @@ fn masters_keep_their_order(rt: HostRuntime) -> Result<(), Fail> {
     assert!(rt; has_sources(&system, 1, 1));
     assert!(rt; has_operations(&system, 1, 3));
     assert!(rt; is_wait(&system, 1, 0));
-    assert!(rt; sends(&system, 1, 1, AskOp::Get, 0, &[]));
+    assert!(rt; has_parts(sent(&system, 1, 1), AskOp::Get, 0, &[]));
     assert!(rt; is_wait(&system, 1, 2));
     Ok(())
 }
