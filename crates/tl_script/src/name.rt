@@ -2,6 +2,7 @@
 ghost use Rattle.std.specs.Prelude.{◌≡◌, find};
 ghost use Rattle.std.specs.Str.{bytes_eq};
 ghost use Rattle.tl_script.specs.Name.{name_of, word_of, reply_word_of};
+ghost use Rattle.tl_types.specs.declared.operation.AskOp.TheVariants.{Arithmetic, Logical, Intent};
 
 use tl_types::{Arith, AskOp, Hint, Logic, ReplyOp};
 
@@ -31,17 +32,41 @@ pub fn word(op: AskOp) -> &'static str
         AskOp::Get => "get",
         AskOp::PutFull => "putfull",
         AskOp::PutPartial => "putpart",
-        AskOp::Arithmetic(Arith::Min) => "min",
-        AskOp::Arithmetic(Arith::Max) => "max",
-        AskOp::Arithmetic(Arith::MinU) => "minu",
-        AskOp::Arithmetic(Arith::MaxU) => "maxu",
-        AskOp::Arithmetic(Arith::Add) => "add",
-        AskOp::Logical(Logic::Xor) => "xor",
-        AskOp::Logical(Logic::Or) => "or",
-        AskOp::Logical(Logic::And) => "and",
-        AskOp::Logical(Logic::Swap) => "swap",
-        AskOp::Intent(Hint::PrefetchRead) => "prefetchr",
-        AskOp::Intent(Hint::PrefetchWrite) => "prefetchw",
+        AskOp::Arithmetic(arith) => arith_word(arith),
+        AskOp::Logical(logic) => logic_word(logic),
+        AskOp::Intent(hint) => hint_word(hint),
+    }
+}
+
+fn arith_word(arith: Arith) -> &'static str
+    ensures { result.now ≡ word_of (Arithmetic arith) }
+{
+    match arith {
+        Arith::Min => "min",
+        Arith::Max => "max",
+        Arith::MinU => "minu",
+        Arith::MaxU => "maxu",
+        Arith::Add => "add",
+    }
+}
+
+fn logic_word(logic: Logic) -> &'static str
+    ensures { result.now ≡ word_of (Logical logic) }
+{
+    match logic {
+        Logic::Xor => "xor",
+        Logic::Or => "or",
+        Logic::And => "and",
+        Logic::Swap => "swap",
+    }
+}
+
+fn hint_word(hint: Hint) -> &'static str
+    ensures { result.now ≡ word_of (Intent hint) }
+{
+    match hint {
+        Hint::PrefetchRead => "prefetchr",
+        Hint::PrefetchWrite => "prefetchw",
     }
 }
 
