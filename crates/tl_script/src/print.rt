@@ -93,7 +93,8 @@ fn push_line(text: &mut String, master: usize, entry: &Entry) -> Result<(), Allo
     Ok(())
 }
 
-fn push_lines(text: &mut String, master: usize, entries: &[Entry]) -> Result<(), AllocError>
+/// Appends the lines of a master's trace.
+pub fn push_trace(text: &mut String, master: usize, entries: &[Entry]) -> Result<(), AllocError>
     ensures { OnOk result (string_bytes text.new ≡ string_bytes text.old ++ lines_of master entries.now) }
 {
     for entry in entries {
@@ -108,7 +109,7 @@ pub fn write_trace(alloc: Global, traces: &[Trace]) -> Result<Vec<u8>, Memory>
 {
     let mut text = String::new(alloc);
     for (master, entries) in traces.iter().enumerate() {
-        push_lines(&mut text, master, entries)?;
+        push_trace(&mut text, master, entries)?;
     }
     Ok(text.into_bytes())
 }

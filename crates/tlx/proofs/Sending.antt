@@ -9,6 +9,7 @@ use Rattle.tl_types.specs.declared.trace.Entry.{Entry}
 use Rattle.tl_script.specs.System.{sent_by, sends}
 use Rattle.tl_script.specs.declared.operation.Job.{Job}
 use Rattle.tl_script.specs.declared.operation.Job.TheVariants.{Wait, Send}
+use Rattle.tl_script.specs.Trace.{lines_of, traces_from, trace_text}
 use Rattle.tlx.specs.Serial.{asks_in, numbered, log_from, log_of}
 
 pub take_next : {A : Type 0} (xs : List A) (i : ℕ) (x : A) → slice_get xs i ≡ Some x → take (i + 1) xs ≡ take i xs ++ x ∷ []
@@ -65,3 +66,14 @@ asked_more traces entries lists m jobs at before last =
     map-append asks_in traces (entries ∷ []) ∙ ap (λ (asks : List (List Request)). asks ++ asks_in entries ∷ []) before
     ∙ ap (λ (asks : List Request). map sends (take m lists) ++ asks ∷ []) last
     ∙ sym (ap (map sends) (take_next lists m jobs at) ∙ map-append sends (take m lists) (jobs ∷ []))
+
+-- a master's lines more
+traces_from-push : (master : ℕ) (traces : List (List Entry)) (entries : List Entry) → traces_from master (traces ++ entries ∷ []) ≡ traces_from master traces ++ lines_of (master + length traces) entries
+traces_from-push master [] entries = append-nil (lines_of master entries) ∙ ap (λ (m : ℕ). lines_of m entries) (omega arith)
+traces_from-push master (first ∷ traces) entries =
+    ap (λ (text : List ℕ). lines_of master first ++ text) (traces_from-push (master + 1) traces entries)
+    ∙ sym (append_assoc (lines_of master first) (traces_from (master + 1) traces) (lines_of ((master + 1) + length traces) entries))
+    ∙ ap (λ (m : ℕ). (lines_of master first ++ traces_from (master + 1) traces) ++ lines_of m entries) (omega arith)
+
+pub trace_text-push : (traces : List (List Entry)) (entries : List Entry) → trace_text (traces ++ entries ∷ []) ≡ trace_text traces ++ lines_of (length traces) entries
+trace_text-push traces entries = traces_from-push 0 traces entries ∙ ap (λ (m : ℕ). trace_text traces ++ lines_of m entries) (omega arith)

@@ -1,5 +1,5 @@
 -- A request more is served: what the entries, the banks and the histories are then.
-use Rattle.std.proofs.Common.{◌≡◌, ◌∙◌, ℕ, zero, suc, ◌+◌, ◌<◌, inl, inr, ⊎_elim, Bool, true, false, cond, eqb, List, [], ◌∷◌, ◌++◌, length, take, map, set, Option, Some, None, option_map, unwrap_or, All, length-append, IsSomeAnd, slice_get, refl, ap, sym, arith}
+use Rattle.std.proofs.Common.{◌≡◌, ◌∙◌, ℕ, zero, suc, ◌+◌, ◌<◌, inl, inr, ⊎_elim, Bool, true, false, cond, eqb, List, [], ◌∷◌, ◌++◌, length, take, take_all, map, set, Option, Some, None, option_map, unwrap_or, All, length-append, IsSomeAnd, slice_get, refl, ap, sym, arith}
 use Rattle.std.proofs.lemmas.Bool.{eq-eqb}
 use Rattle.std.proofs.lemmas.Bool.Decides.{eqb_tells}
 use Rattle.std.proofs.lemmas.List.{append-nil, take-append-le, take_at, length-set, length-map, map-append}
@@ -17,8 +17,10 @@ use Rattle.tl_map.specs.Range.{HoldsAsk}
 use Rattle.tl_map.specs.declared.map.Range.{Range}
 use Rattle.tl_map.specs.Block.{IsWide}
 use Rattle.tl_script.specs.System.{System, IsLawfulSystem, range_of, sends}
-use Rattle.tlx.specs.Serial.{error_store, at_port, requests_at, resets, asks_in, log_of, IsServedAfter, AreServedInTurn, AreSerialTraces, IsWidened, IsHistoryOf}
-use Rattle.tlx.specs.Slave.{HasServed, HaveWide, IsFresh, Stand, bank_of, history_of, kept_by}
+use Rattle.tl_script.specs.Trace.{trace_text}
+use Rattle.tlx.specs.Serial.{error_store, at_port, requests_at, resets, asks_in, log_of, IsServedAfter, AreServedInTurn, IsWidened, IsHistoryOf}
+use Rattle.tlx.specs.Run.{IsSerialText}
+use Rattle.tlx.specs.Slave.{AreWritten, HasServed, HaveWide, IsFresh, Stand, bank_of, history_of, kept_by}
 use Rattle.tlx.specs.declared.serial.Slave.{Slave}
 
 -- what holds of a value that is there, from what else does
@@ -214,11 +216,19 @@ histories_there counts log (suc ports) have =
           (slice_get-push before.histories last.0 history p at);
     }
 
--- traces that were served in turn are those of the serial run
-pub serial_traces : (s : System) (keeps : Bool) (traces : List (List Entry)) (slaves : List Slave) → map asks_in traces ≡ map sends s.jobs → Stand s keeps (log_of traces) slaves → AreSerialTraces s traces
-serial_traces s keeps traces slaves asked stand =
-    let there = histories_there s.counts (log_of traces) (length s.ranges + 1) stand.wide in
+-- the text of traces that were served in turn is that of the serial run
+pub serial_text_is : (s : System) (keeps : Bool) (old new : List Slave) (text : List ℕ) → Stand s keeps [] old → AreWritten s old new text (length s.jobs) → IsSerialText false s text
+serial_text_is s keeps old new text start written =
+    let stand = written.stands keeps start in
+    let there = histories_there s.counts (log_of written.traces) (length s.ranges + 1) stand.wide in
     record {
+      traces = written.traces;
       histories = there.histories;
-      run = record { asked = asked; served = stand.served; ports = there.counted; recorded = there.each };
+      run = record {
+        asked = written.asked ∙ ap (map sends) (take_all (length s.jobs) s.jobs (omega arith));
+        served = stand.served;
+        ports = there.counted;
+        recorded = there.each;
+      };
+      is = written.is ∙ sym (append-nil (trace_text written.traces));
     }

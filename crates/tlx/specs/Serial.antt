@@ -83,8 +83,3 @@ pub record IsSerialRun (s : System) (traces : List (List Entry)) (histories : Li
   pub served : AreServedInTurn s (log_of traces)
   pub ports : length histories ≡ length s.ranges + 1
   pub recorded : (p : ℕ) (history : List (Request × Response)) → slice_get histories p ≡ Some history → IsHistoryOf s.counts (at_port p (log_of traces)) history
-
--- the traces are those of the run, whose histories are there too, kept or not
-pub record AreSerialTraces (s : System) (traces : List (List Entry)) : Type 0 where
-  pub histories : List (List (Request × Response))
-  pub run : IsSerialRun s traces histories

@@ -1,13 +1,14 @@
 -- Where the slaves of a system stand after a list of entries.
-use Rattle.std.specs.Prelude.{◌≡◌, ℕ, ◌+◌, Bool, true, List, [], ◌∷◌, length, Option, Some, option_map, unwrap_or, slice_get, IsSomeAnd}
+use Rattle.std.specs.Prelude.{◌≡◌, ℕ, ◌+◌, Bool, true, List, [], ◌∷◌, length, Option, Some, option_map, unwrap_or, slice_get, IsSomeAnd, map, take}
 use Rattle.tl_map.specs.Block.{IsWide}
 use Rattle.tl_types.specs.declared.trace.Entry.{Entry}
 use Rattle.tl_types.specs.Request.{Request}
 use Rattle.tl_types.specs.Response.{Response}
 use Rattle.tl_ops.specs.Store.{Store}
 use Rattle.tl_ops.specs.History.{replay}
-use Rattle.tl_script.specs.System.{System}
-use Rattle.tlx.specs.Serial.{resets, requests_at, at_port, AreServedInTurn, IsHistoryOf}
+use Rattle.tl_script.specs.System.{System, sends}
+use Rattle.tl_script.specs.Trace.{trace_text}
+use Rattle.tlx.specs.Serial.{resets, requests_at, at_port, asks_in, log_of, AreServedInTurn, IsHistoryOf}
 use Rattle.tlx.specs.declared.serial.Slave.{Slave}
 
 -- what a slave port holds
@@ -45,3 +46,11 @@ pub record Stand (s : System) (keeps : Bool) (log : List (ℕ × Entry)) (slaves
   pub served : AreServedInTurn s log
   pub wide : HaveWide s.counts log
   pub each : (port : ℕ) (slave : Slave) → slice_get slaves port ≡ Some slave → HasServed s keeps log port slave
+
+-- the text is that of the traces of the first `masters` masters, whose requests took the slaves from the ones to the others
+pub record AreWritten (s : System) (old new : List Slave) (text : List ℕ) (masters : ℕ) : Type 0 where
+  pub traces : List (List Entry)
+  pub counted : length traces ≡ masters
+  pub asked : map asks_in traces ≡ map sends (take masters s.jobs)
+  pub stands : (keeps : Bool) → Stand s keeps [] old → Stand s keeps (log_of traces) new
+  pub is : text ≡ trace_text traces

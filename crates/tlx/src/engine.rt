@@ -6,7 +6,7 @@ ghost use Rattle.tl_script.specs.declared.fault.ScriptFault.{ScriptFault};
 ghost use Rattle.tlx.specs.Run.{histories_text, IsSerialText, AnswersSerially, HasScriptFault};
 
 use crate::fault::RunFault;
-use crate::serial::{History, run_serial, run_traces};
+use crate::serial::{History, run_serial, write_serial};
 use crate::steps::Steps;
 use crate::streams::{TURNS, read_up_to, write_all};
 use std::alloc::Global;
@@ -32,7 +32,7 @@ fn serial_text(alloc: Global, system: &System, history: bool) -> Result<Vec<u8>,
     ensures { IfOk result (λ text. IsSerialText history system.now text.items) }
 {
     if !history {
-        return write_trace(alloc, &run_traces(alloc, system)?);
+        return write_serial(alloc, system);
     }
     let run = run_serial(alloc, system)?;
     let mut text = write_trace(alloc, &run.traces)?;

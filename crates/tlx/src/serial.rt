@@ -1,14 +1,15 @@
 //! The run of a system by one thread.
-ghost use Rattle.std.specs.Prelude.{◌≡◌, ◌++◌, ◌∷◌, [], ◌+◌, ◌<◌, ℕ, Bool, List, length, map, option_map, replicate, IfOk, OnOk, Some, slice_get, IsSomeAnd, All};
+ghost use Rattle.std.specs.Prelude.{◌≡◌, ◌++◌, ◌∷◌, [], ◌+◌, ◌<◌, ℕ, Bool, List, length, map, option_map, replicate, IfOk, OnOk, Some, slice_get, IsSomeAnd, All, false, string_bytes};
 ghost use Rattle.tl_types.specs.declared.trace.Entry.{Entry};
 ghost use Rattle.tl_ops.specs.Store.{after, reply};
 ghost use Rattle.tl_script.specs.System.{System, sends, lists_of, store_of};
-ghost use Rattle.tlx.specs.Serial.{IsSerialRun, AreSerialTraces, numbered, asks_in, log_of, error_store};
-ghost use Rattle.tlx.specs.Slave.{Stand, IsFresh, bank_of, history_of, kept_by};
+ghost use Rattle.tlx.specs.Serial.{IsSerialRun, numbered, asks_in, log_of, error_store};
+ghost use Rattle.tlx.specs.Run.{IsSerialText};
+ghost use Rattle.tlx.specs.Slave.{AreWritten, Stand, IsFresh, bank_of, history_of, kept_by};
 
 use std::alloc::Global;
 use tl_ops::{Bank, Kind};
-use tl_script::{Device, Job, System};
+use tl_script::{Device, Job, System, push_trace};
 use tl_types::{Ask, Entry, Memory, Reply, Trace};
 
 /// The requests that one port served and their replies, in order, with wide sources.
@@ -169,11 +170,25 @@ pub fn run_serial(alloc: Global, system: &System) -> Result<SerialRun, Memory>
     Ok(SerialRun { traces, histories })
 }
 
-/// The traces of the same run. No history takes memory.
-pub fn run_traces(alloc: Global, system: &System) -> Result<Vec<Trace>, Memory>
-    ensures { IfOk result (λ traces. AreSerialTraces system.now (lists_of traces.items)) }
+/// Serves the masters of a system, one after the other, and gives the lines of their traces.
+fn write_masters(alloc: Global, slaves: &mut [Slave], system: &System) -> Result<String, Memory>
+    requires { length slaves.old ≡ length system.now.ranges + 1 }
+    ensures { IfOk result (λ text. AreWritten system.now slaves.old slaves.new (string_bytes text) (length system.now.jobs)) }
+{
+    let jobs = system.jobs();
+    let mut text = String::new(alloc);
+    for (master, jobs) in jobs.iter().enumerate() {
+        let trace = run_master(alloc, slaves, system, master, jobs)?;
+        push_trace(&mut text, master, &trace)?;
+    }
+    Ok(text)
+}
+
+/// The text of the traces of the same run. No history takes memory, and one master's trace at a time.
+pub fn write_serial(alloc: Global, system: &System) -> Result<Vec<u8>, Memory>
+    ensures { IfOk result (λ text. IsSerialText false system.now text.items) }
 {
     let mut slaves = slaves_of(alloc, system.devices(), false)?;
-    let traces = run_masters(alloc, &mut slaves, system)?;
-    Ok(traces)
+    let text = write_masters(alloc, &mut slaves, system)?;
+    Ok(text.into_bytes())
 }

@@ -1,11 +1,11 @@
 -- The slaves keep no histories, and there are histories all the same.
-use Rattle.std.proofs.Common.{◌≡◌, ◌∙◌, ◌++◌, ◌∷◌, [], false, List, map, ap}
+use Rattle.std.proofs.Common.{rules, ◌≡◌, ◌∙◌, ◌++◌, ◌∷◌, [], false, List, length, map, string_bytes, ap}
 use Rattle.tl_ops.specs.Store.{Store}
-use Rattle.tl_script.specs.System.{lists_of}
+use Rattle.tlx.specs.Run.{IsSerialText}
 use Rattle.tlx.specs.Serial.{resets, error_store}
 use Rattle.tlx.specs.Slave.{Stand, bank_of}
-use Rattle.tlx.proofs.Serving.{serial_traces, stand_fresh}
-use Rattle.tlx.proofs.serial.run_traces.Goals as goal
+use Rattle.tlx.proofs.Serving.{serial_text_is, stand_fresh}
+use Rattle.tlx.proofs.serial.write_serial.Goals as goal
 
 pub returns : goal.returns
 returns c =
@@ -13,4 +13,5 @@ returns c =
     let fresh = c.in_ok-slaves.slaves.items in
     let banks : map bank_of fresh ≡ resets system = c.in_ok-slaves.ensures.banks ∙ ap (λ (stores : List Store). stores ++ error_store ∷ []) c.devices.ensures.value in
     let start : Stand system false [] c.deref_mut.result.now = rw c.deref_mut.ensures.value (stand_fresh system false fresh c.devices.ensures.lawful banks c.in_ok-slaves.ensures.fresh) in
-    serial_traces system false (lists_of c.in_ok-traces.traces.items) c.run_masters.new.slaves c.in_ok-traces.ensures.asked (c.in_ok-traces.ensures.stands false start)
+    let text : IsSerialText false system (string_bytes c.in_ok-text.text) = serial_text_is system false c.deref_mut.result.now c.write_masters.new.slaves (string_bytes c.in_ok-text.text) start c.in_ok-text.ensures in
+    rw c.into_bytes.ensures.value text
