@@ -1,5 +1,6 @@
 //! The lines of traces.
-ghost use Rattle.std.specs.Prelude.{◌≡◌, ◌++◌, IfOk, OnOk, map, string_bytes, Some};
+ghost use Rattle.std.specs.Prelude.{◌≡◌, ◌<◌, ◌++◌, false, IfOk, OnOk, map, string_bytes, Some};
+ghost use Rattle.std.specs.Fmt.{digit_glyph};
 ghost use Rattle.tl_script.specs.Data.{byte_text};
 ghost use Rattle.tl_script.specs.Trace.{ask_text, bytes_part, denied_text, lines_of, message_text, reply_text, trace_line, trace_text};
 
@@ -7,12 +8,28 @@ use crate::name::{reply_word, word};
 use std::alloc::{AllocError, Global};
 use tl_types::{Ask, Entry, Memory, Reply, Trace};
 
-#[tactic(auto, using(std::proofs::lemmas::Fmt::hex_byte))]
+/// The character of a hexadecimal digit.
+fn hex_digit(digit: u8) -> char
+    requires { digit < 16 }
+    ensures value { result ≡ digit_glyph false digit }
+    ensures ascii { result < 128 }
+{
+    if digit < 10 {
+        char::from(b'0' + digit)
+    } else {
+        char::from(b'a' - 10 + digit)
+    }
+}
+
+#[tactic(auto, using(std::proofs::lemmas::Str::encode_ascii))]
 fn push_byte(text: &mut String, byte: Option<u8>) -> Result<(), AllocError>
     ensures { OnOk result (string_bytes text.new ≡ string_bytes text.old ++ byte_text byte) }
 {
     match byte {
-        Some(byte) => write!(text, "{byte:02x}"),
+        Some(byte) => {
+            text.push(hex_digit(byte / 16))?;
+            text.push(hex_digit(byte % 16))
+        }
         None => text.push_str("--"),
     }
 }
