@@ -1,5 +1,5 @@
 -- A master's lines more.
-use Rattle.std.proofs.Common.{rules, ◌≡◌, ◌∙◌, ◌++◌, ◌∷◌, [], ◌+◌, ℕ, List, length, option_map, Some, slice_get, string_bytes, sym, ap, length-append, Vec}
+use Rattle.std.proofs.Common.{◌≡◌, ◌∙◌, ◌++◌, ◌∷◌, [], ◌+◌, ℕ, List, option_map, Some, slice_get, string_bytes, sym, ap, length-append, Vec}
 use Rattle.std.specs.Global.{Global}
 use Rattle.std.proofs.lemmas.Option.{slice_get-get_or, slice_get-map}
 use Rattle.tl_types.specs.declared.trace.Entry.{Entry}

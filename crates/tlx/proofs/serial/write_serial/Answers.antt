@@ -1,5 +1,5 @@
 -- The slaves keep no histories, and there are histories all the same.
-use Rattle.std.proofs.Common.{rules, ◌≡◌, ◌∙◌, ◌++◌, ◌∷◌, [], false, List, length, map, string_bytes, ap}
+use Rattle.std.proofs.Common.{◌≡◌, ◌∙◌, ◌++◌, ◌∷◌, [], false, List, map, string_bytes, ap}
 use Rattle.tl_ops.specs.Store.{Store}
 use Rattle.tlx.specs.Run.{IsSerialText}
 use Rattle.tlx.specs.Serial.{resets, error_store}
