@@ -1,0 +1,3 @@
+pub mod Views
+pub mod Promises
+pub mod Account
