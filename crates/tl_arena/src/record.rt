@@ -6,9 +6,7 @@ ghost use Rattle.tl_rule.specs.Record.{Spells, SpellsAnswer};
 
 use arrayvec::ArrayVec;
 use std::marker::Model;
-use tl_beats::{
-    ABeat, DBeat, MAX_BEATS, assemble_ask, assemble_reply, pack_ask, pack_reply,
-};
+use tl_beats::{ABeat, DBeat, MAX_BEATS, assemble_ask, assemble_reply, pack_ask, pack_reply};
 use tl_types::{Ask, Reply};
 
 /// What a slot holds: the beats of a request, its port, and the place and the beats of its reply.
