@@ -1,9 +1,16 @@
-//! A shared arena of transaction slots (stub: the public face, with bodies that refuse).
+//! The running arena: a table of transaction slots that masters and ports share.
 #![tactic(auto)]
 
 mod account;
 mod arena;
 mod calls;
+mod carried;
+mod key;
+pub mod laws;
+mod master;
+mod plays;
+mod port;
+mod record;
 mod seats;
 mod turn;
 

@@ -3,33 +3,38 @@ ghost use Rattle.std.specs.Prelude.{◌≡◌, ◌<◌, length};
 ghost use Rattle.tl_arena.specs.Views.{owned_of};
 ghost use Rattle.tl_arena.specs.Promises.{IsLawfulPort};
 
-use atomic_table::Seat;
+use crate::record::Record;
+use std::collections::VecDeque;
 use std::marker::Model;
-use std::snapshot::Snapshot;
-use tl_rule::{Desk, Hands};
+use tl_rule::View;
+
+pub(crate) type TableSeat = atomic_table::Seat<Record, View>;
 
 /// A master's seat.
 #[derive(Drop)]
 pub struct MasterSeat {
+    pub(crate) seat: TableSeat,
+    // the slots whose records are out with the seat, in the seat's order
+    pub(crate) order: VecDeque<usize>,
     pub(crate) number: usize,
-    pub(crate) seat: Snapshot<Seat<u8, ()>>,
-    pub(crate) known: Snapshot<Hands>,
+    pub(crate) owned: usize,
+    pub(crate) collected: usize,
 }
 
 impl Model for MasterSeat {
+    ghost use Rattle.std.specs.VecDeque.{deque_capacity};
     ghost use Rattle.tl_arena.specs.Views.{MasterView};
-    ghost use Rattle.tl_arena.specs.Stuck.{Stuck};
+    ghost use Rattle.tl_arena.specs.Kept.{master_view, IsMasterKept};
 
     ghost Value = { MasterView };
 
-    ghost view = { λ s. record { arena = record { table = s.seat.value.table_id; about = s.known.value.about }; number = s.number; hand = s.known.value.hand; got = s.known.value.got } };
+    ghost view = { λ s. master_view s.seat.table_id s.seat.me.0 };
 
-    ghost invariant = { λ s. Stuck };
+    ghost invariant = { λ s. IsMasterKept s.seat.me s.order.items (deque_capacity s.order) s.number s.owned s.collected };
 }
 
 impl MasterSeat {
     /// The master's number.
-    #[tactic(auto, unfolding(crate::specs::Stuck::Stuck))]
     pub fn number(&self) -> usize
         ensures value { result ≡ self.now.number }
         ensures known { result < self.now.arena.about.masters }
@@ -38,44 +43,46 @@ impl MasterSeat {
     }
 
     /// How many slots it owns.
-    #[tactic(auto, unfolding(crate::specs::Stuck::Stuck))]
     pub fn owned(&self) -> usize
         ensures { result ≡ owned_of self.now }
     {
-        self.number
+        self.owned
     }
 
     /// How many replies it has collected.
-    #[tactic(auto, unfolding(crate::specs::Stuck::Stuck))]
     pub fn collected(&self) -> usize
         ensures { result ≡ length self.now.got }
     {
-        self.number
+        self.collected
     }
 }
 
 /// A port's seat.
 #[derive(Drop)]
 pub struct PortSeat {
+    pub(crate) seat: TableSeat,
+    // the slots whose records are out with the seat, in the seat's order
+    pub(crate) order: VecDeque<usize>,
+    // the master whose request is served at each slot
+    pub(crate) owners: Vec<usize>,
     pub(crate) number: usize,
-    pub(crate) seat: Snapshot<Seat<u8, ()>>,
-    pub(crate) known: Snapshot<Desk>,
+    pub(crate) served: usize,
 }
 
 impl Model for PortSeat {
+    ghost use Rattle.std.specs.VecDeque.{deque_capacity};
     ghost use Rattle.tl_arena.specs.Views.{PortView};
-    ghost use Rattle.tl_arena.specs.Stuck.{Stuck};
+    ghost use Rattle.tl_arena.specs.Kept.{port_view, IsPortKept};
 
     ghost Value = { PortView };
 
-    ghost view = { λ s. record { arena = record { table = s.seat.value.table_id; about = s.known.value.about }; number = s.number; list = s.known.value.list; serving = s.known.value.serving } };
+    ghost view = { λ s. port_view s.seat.table_id s.seat.me.0 };
 
-    ghost invariant = { λ s. Stuck };
+    ghost invariant = { λ s. IsPortKept s.seat.me s.order.items (deque_capacity s.order) s.owners.items s.number s.served };
 }
 
 impl PortSeat {
     /// The port's number.
-    #[tactic(auto, unfolding(crate::specs::Stuck::Stuck))]
     pub fn number(&self) -> usize
         ensures value { result ≡ self.now.number }
         ensures law { IsLawfulPort self.now }
@@ -84,20 +91,18 @@ impl PortSeat {
     }
 
     /// The length of its list of entries.
-    #[tactic(auto, unfolding(crate::specs::Stuck::Stuck))]
     pub fn served(&self) -> usize
         ensures value { result ≡ length self.now.list }
         ensures law { IsLawfulPort self.now }
     {
-        self.number
+        self.served
     }
 
     /// How many slots it has accepted and not answered.
-    #[tactic(auto, unfolding(crate::specs::Stuck::Stuck))]
     pub fn serving(&self) -> usize
         ensures value { result ≡ length self.now.serving }
         ensures law { IsLawfulPort self.now }
     {
-        self.number
+        self.order.len()
     }
 }

@@ -11,13 +11,10 @@ pub struct Claim {
 
 impl Model for Claim {
     ghost use Rattle.std.specs.Prelude.{ℕ};
-    ghost use Rattle.tl_arena.specs.Stuck.{Stuck};
 
     ghost Value = { ℕ };
 
     ghost view = { λ c. c.slot };
-
-    ghost invariant = { λ c. Stuck };
 }
 
 impl Claim {
@@ -39,14 +36,15 @@ pub struct Ticket {
 }
 
 impl Model for Ticket {
+    ghost use Rattle.std.specs.Prelude.{◌≤◌};
+    ghost use Rattle.tl_slots.specs.declared.word.TheConstants.{MAX_AGENT};
     ghost use Rattle.tl_arena.specs.Views.{TicketView};
-    ghost use Rattle.tl_arena.specs.Stuck.{Stuck};
 
     ghost Value = { TicketView };
 
     ghost view = { λ t. record { slot = t.slot; ask = t.ask; port = t.port; known = t.known } };
 
-    ghost invariant = { λ t. Stuck };
+    ghost invariant = { λ t. t.port ≤ MAX_AGENT };
 }
 
 impl Ticket {
@@ -69,13 +67,10 @@ pub struct Served {
 
 impl Model for Served {
     ghost use Rattle.tl_arena.specs.Views.{ServedView};
-    ghost use Rattle.tl_arena.specs.Stuck.{Stuck};
 
     ghost Value = { ServedView };
 
     ghost view = { λ s. record { slot = s.slot; ask = s.ask; port = s.port; index = s.index; reply = s.reply } };
-
-    ghost invariant = { λ s. Stuck };
 }
 
 impl Served {
@@ -125,13 +120,10 @@ pub struct Accepted {
 impl Model for Accepted {
     ghost use Rattle.std.specs.Prelude.{ℕ};
     ghost use Rattle.tl_types.specs.Request.{Request};
-    ghost use Rattle.tl_arena.specs.Stuck.{Stuck};
 
     ghost Value = { ℕ × Request };
 
     ghost view = { λ a. (a.slot, a.ask) };
-
-    ghost invariant = { λ a. Stuck };
 }
 
 impl Accepted {
