@@ -1,5 +1,5 @@
 -- New seats: what they keep, and lists of them.
-use Rattle.std.proofs.Common.{◌≡◌, ℕ, ◌+◌, ◌<◌, ◌≤◌, List, [], ◌∷◌, ◌++◌, length, replicate, get_or, sym, refl, ap, subst, ◌∙◌, arith, length-append, Some, slice_get}
+use Rattle.std.proofs.Common.{◌≡◌, ℕ, ◌+◌, ◌<◌, ◌≤◌, List, [], ◌∷◌, ◌++◌, length, replicate, get_or, sym, refl, ap, subst, ◌∙◌, arith, length-append, Some, slice_get, inl, inr}
 use Rattle.std.proofs.lemmas.List.{length-replicate}
 use Rattle.tl_types.specs.declared.limits.TheConstants.{MAX_MASTERS, MAX_PORTS}
 use Rattle.tl_types.proofs.Lists.{slice_get-push}

@@ -18,6 +18,10 @@ use Rattle.tl_arena.specs.Kept.{master_view, port_view}
 pub sent_in : (v w : MasterView) (t u : TicketView) → v ≡ w → t ≡ u → in_hand w u.slot ≡ Sent u.ask u.port u.known → in_hand v t.slot ≡ Sent t.ask t.port t.known
 sent_in v w t u e f h = subst (λ (x : MasterView). in_hand x t.slot ≡ Sent t.ask t.port t.known) (sym e) (subst (λ (x : TicketView). in_hand w x.slot ≡ Sent x.ask x.port x.known) (sym f) h)
 
+-- what is served at the slot of a request that was accepted
+pub served_in : (v w : PortView) (f g : ℕ × Request) → v ≡ w → f ≡ g → ask_at w.serving g.0 ≡ Some g.1 → ask_at v.serving f.0 ≡ Some f.1
+served_in v w f g d e h = subst (λ (x : PortView). ask_at x.serving f.0 ≡ Some f.1) (sym d) (subst (λ (x : ℕ × Request). ask_at w.serving x.0 ≡ Some x.1) (sym e) h)
+
 module _ (st : Step SlotRecord) (m n : Seat) (C : Collects st m n) where
   collected_told : (table : TableId) → IsCollected (master_view table m.0) (record { slot = st.word; ask = C.ask; port = C.port; known = C.known }) (record { slot = st.word; ask = C.ask; port = C.port; index = C.letter.index; reply = C.reply }) (master_view table n.0)
   collected_told table = record {

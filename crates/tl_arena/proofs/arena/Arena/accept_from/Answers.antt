@@ -8,7 +8,7 @@ use Rattle.tl_slots.specs.Word.{word, FitsWord}
 use Rattle.tl_slots.proofs.Words.{word-master}
 use Rattle.tl_rule.specs.declared.view.About.{About}
 use Rattle.tl_rule.specs.Views.{Owns}
-use Rattle.tl_rule.specs.Moves.{Seat, as_port, IsLawfulDesk}
+use Rattle.tl_rule.specs.Moves.{Seat, top, as_port, IsLawfulDesk}
 use Rattle.tl_rule.proofs.Seats.{accepts_at}
 use Rattle.tl_arena.specs.Views.{ArenaId, PortView, with_accepted}
 use Rattle.tl_arena.specs.Key.{about_in}
@@ -44,7 +44,7 @@ invariant_of-port-2 c =
     let lt : i < (as_port me.0).about.slots = subst (λ (a : About). i < a.slots) (sym arena.1) (subst (λ (a : ArenaId). i < a.about.slots) (sym c.self.view_is) c.requires.slot) in
     let now = c.exchange-record.ensures.3 ∙ ap (λ (y : Seat). (y.0, (i, c.blank.result) ∷ rest y.1)) t.seat in
     let law = subst (λ (y : Seat). IsLawfulDesk (as_port y.0)) (sym c.exchange-record.ensures.3) t.law in
-    let fits : FitsWord (Posted c.args.owner c.port.inside.number) = ? in
+    let fits : FitsWord (Posted c.args.owner c.port.inside.number) = record { owner = c.requires.small; port = let below = p.law.number in let few = p.in_limit in let is = p.numbered in omega arith } in
     let named : c.word_of-from.result / 8 % 256 ≡ c.args.owner = ap (λ (n : ℕ). n / 8 % 256) c.word_of-from.ensures ∙ word-master (Posted c.args.owner c.port.inside.number) fits in
     let own : IsOwner (as_port me.0).about c.args.owner t.ask.source = record { owns = subst (λ (o : ℕ). Owns (as_port me.0).about o t.ask.source) named t.owner; small = c.requires.small } in
     port_recounted c.exchange-record.new.seat.me _ _ _ _ _ c.port.inside.number c.port.inside.served c.push_front_reserved.ensures.items c.push_front_reserved.ensures.capacity
@@ -54,7 +54,7 @@ pub returns-clause-some : goal.returns-clause-some
 returns-clause-some c =
     let t = c.compare_exchange.ensures.2.0 c.if-compare_exchange-from.false in
     let x = c.exchange-record.ensures in
-    let letter : c.exchange-record.result ≡ t.letter = ? in
+    let letter : c.exchange-record.result ≡ t.letter = ap top (sym x.2 ∙ ap (λ (y : Seat). y.1) t.seat) in
     let told = accepted _ c.port.inside.seat.me c.compare_exchange.new.seat.me t c.port.inside.seat.table_id c.exchange-record.new.seat.table_id c.exchange-record.new.seat.me.0 c.args.port.now c.args.slot c.ask.result c.exchange-record.result
         (x.0 ∙ c.compare_exchange.ensures.0) (ap (λ (y : Seat). y.0) x.3) c.port.view_is refl letter c.ask.ensures in
     (refl, told.0, told.1)

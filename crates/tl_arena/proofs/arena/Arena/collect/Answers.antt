@@ -6,7 +6,8 @@ use Rattle.tl_slots.specs.declared.phase.Phase.TheVariants.{Answered, Taking}
 use Rattle.tl_slots.specs.Word.{word}
 use Rattle.tl_rule.specs.declared.view.About.{About}
 use Rattle.tl_rule.specs.declared.view.Held.TheVariants.{Nothing, Sent, Taken}
-use Rattle.tl_rule.specs.Moves.{Seat, as_master, hand_of, entry}
+use Rattle.tl_rule.specs.Moves.{Seat, top, as_master, hand_of, entry}
+use Rattle.tl_rule.specs.Record.{SpellsAnswer}
 use Rattle.tl_rule.specs.Carried.{is_carried}
 use Rattle.tl_rule.proofs.Seats.{collects_at}
 use Rattle.tl_rule.proofs.Facts.{in_hand_of}
@@ -65,7 +66,10 @@ returns-clause-ok c =
     let x = c.exchange-record.ensures in
     let ticket : TicketView = record { slot = k.slot; ask = k.ask; port = k.port; known = k.known } in
     let sent = sent_in (master_view z me.0) c.args.master.now ticket c.args.ticket c.master.view_is c.ticket.view_is c.requires.ticket in
-    let letter : c.exchange-record.result ≡ t.letter = ? in
+    let letter : c.exchange-record.result ≡ t.letter = ap top (sym x.2 ∙ ap (λ (y : Seat). y.1) t.seat) in
     let told = collected _ me c.compare_exchange.new.seat.me t z c.exchange-record.new.seat.table_id c.exchange-record.new.seat.me.0 ticket c.index.result c.reply-reply.result c.exchange-record.result
-        (x.0 ∙ c.compare_exchange.ensures.0) (ap (λ (y : Seat). y.0) x.3) refl sent letter c.index.ensures ? in
-    ?
+        (x.0 ∙ c.compare_exchange.ensures.0) (ap (λ (y : Seat). y.0) x.3) refl sent letter c.index.ensures
+        (subst (λ (n : ℕ). SpellsAnswer c.exchange-record.result n c.reply-reply.result) c.address.ensures c.reply-reply.ensures) in
+    let served : ServedView = record { slot = k.slot; ask = k.ask; port = k.port; index = c.index.result; reply = c.reply-reply.result } in
+    let seat = master_view c.exchange-record.new.seat.table_id c.exchange-record.new.seat.me.0 in
+    subst (λ (v : MasterView). IsCollected v c.args.ticket served seat) c.master.view_is (subst (λ (u : TicketView). IsCollected (master_view z me.0) u served seat) c.ticket.view_is told)
