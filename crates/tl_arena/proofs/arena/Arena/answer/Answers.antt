@@ -13,7 +13,7 @@ use Rattle.tl_rule.specs.Serving.{ask_at}
 use Rattle.tl_rule.specs.Views.{Owns}
 use Rattle.tl_rule.specs.Moves.{Seat, as_port, service_of}
 use Rattle.tl_rule.proofs.Seats.{written, answers_at, told_answered}
-use Rattle.tl_arena.specs.Views.{ArenaId, PortView}
+use Rattle.tl_arena.specs.Views.{ArenaId, PortView, with_answered}
 use Rattle.tl_arena.specs.Key.{about_in}
 use Rattle.tl_arena.specs.Kept.{port_view}
 use Rattle.tl_arena.specs.Promises.{memory_of}
@@ -78,7 +78,28 @@ overflow_add-port c =
     omega arith
 
 pub invariant_of-port : goal.invariant_of-port
-invariant_of-port c = ?
+invariant_of-port c =
+    let p = c.port.invariant in
+    let k = c.accepted.inside in
+    let me = c.port.inside.seat.me in
+    let order = c.port.inside.order in
+    let accepted : ℕ × Request = (k.slot, k.ask) in
+    let serves = served_in (port_view c.port.inside.seat.table_id me.0) c.args.port.now accepted c.args.accepted c.port.view_is c.accepted.view_is c.requires.accepted in
+    let now = written me c.bring.new.seat.me c.exchange.new.seat.me k.slot c.answered-record.result c.bring.ensures.brought.view c.exchange.ensures.3 in
+    let answers = subst (λ (a : ℕ). SpellsAnswer c.answered-record.result a c.args.reply.now) c.address.ensures c.answered-record.ensures.answers in
+    let told = told_answered _ me c.exchange.new.seat.me c.store.new.seat.me k.slot _ c.answered-record.result (rest c.bring.new.seat.me.1) k.ask c.args.reply.now now serves answers c.store.ensures.2 in
+    port_recounted c.store.new.seat.me _ _ _ _ c.port.inside.owners.items c.port.inside.number _ refl (c.pop_front.ensures.capacity ∙ c.bring.ensures.capacity)
+    (answer_kept me order.items (deque_capacity order) c.port.inside.owners.items c.port.inside.number c.port.inside.served p
+        c.bring.new.seat.me c.store.new.seat.me c.bring.new.order.items c.pop_front.new.self.items k.slot k.ask c.args.reply.now c.bring.ensures.brought c.pop_front.ensures.rest told.0 serves told.1)
 
 pub returns-clause-seat : goal.returns-clause-seat
-returns-clause-seat c = ?
+returns-clause-seat c =
+    let k = c.accepted.inside in
+    let me = c.port.inside.seat.me in
+    let accepted : ℕ × Request = (k.slot, k.ask) in
+    let serves = served_in (port_view c.port.inside.seat.table_id me.0) c.args.port.now accepted c.args.accepted c.port.view_is c.accepted.view_is c.requires.accepted in
+    let now = written me c.bring.new.seat.me c.exchange.new.seat.me k.slot c.answered-record.result c.bring.ensures.brought.view c.exchange.ensures.3 in
+    let answers = subst (λ (a : ℕ). SpellsAnswer c.answered-record.result a c.args.reply.now) c.address.ensures c.answered-record.ensures.answers in
+    let told = told_answered _ me c.exchange.new.seat.me c.store.new.seat.me k.slot _ c.answered-record.result (rest c.bring.new.seat.me.1) k.ask c.args.reply.now now serves answers c.store.ensures.2 in
+    let table = c.store.ensures.0 ∙ c.exchange.ensures.0 ∙ c.bring.ensures.table in
+    (λ t. port_view (table t) (told.0 t).0) ∙ (λ t. with_answered (c.port.view_is t) (c.accepted.view_is t) c.args.reply.now)

@@ -11,7 +11,7 @@ use Rattle.tl_rule.specs.Record.{SlotRecord}
 use Rattle.tl_rule.specs.Views.{Owns}
 use Rattle.tl_rule.specs.Moves.{Seat, Sends, as_master, hand_of, handed, IsNew}
 use Rattle.tl_rule.proofs.Seats.{written, posts_at, told_sent}
-use Rattle.tl_arena.specs.Views.{ArenaId, MasterView, in_hand}
+use Rattle.tl_arena.specs.Views.{ArenaId, MasterView, in_hand, with_held}
 use Rattle.tl_arena.specs.Key.{about_in}
 use Rattle.tl_arena.specs.Kept.{master_view}
 use Rattle.tl_arena.specs.Promises.{IsUnsent}
@@ -40,7 +40,18 @@ store-requires c =
         (c.word_of-new.ensures ∙ ap (λ (k : ℕ). word (Posted k c.args.port)) (sym m.numbered)) c.posted.ensures.spells to owns unsent)
 
 pub returns-clause-seat : goal.returns-clause-seat
-returns-clause-seat c = ?
-
-pub invariant_of-master : goal.invariant_of-master
-invariant_of-master c = ?
+returns-clause-seat c =
+    let m = c.master.invariant in
+    let i = c.claim.inside.slot in
+    let me = c.master.inside.seat.me in
+    let ask = c.args.ask.now in
+    let port = c.args.port in
+    let now = written me c.bring.new.seat.me c.exchange.new.seat.me i c.posted.result c.bring.ensures.brought.view c.exchange.ensures.3 in
+    let fits : FitsWord (Posted c.master.inside.number port) = record {
+      owner = let below = m.in_range in let few = m.in_limit in omega arith;
+      port = let s = c.self.invariant in let few = s.limits.ports_in_limit in let is = s.ports_are in let seen = ap (λ (a : ArenaId). a.about.ports) c.self.view_is in let below = c.requires.port in omega arith;
+    } in
+    let named : c.word_of-new.result / 2048 ≡ port = ap (λ (n : ℕ). n / 2048) c.word_of-new.ensures ∙ word-port (Posted c.master.inside.number port) fits in
+    let told = told_sent _ me c.exchange.new.seat.me c.store.new.seat.me i _ c.posted.result (rest c.bring.new.seat.me.1) ask port now c.posted.ensures.spells named c.store.ensures.2 in
+    let table = c.store.ensures.0 ∙ c.exchange.ensures.0 ∙ c.bring.ensures.table in
+    (λ k. master_view (table k) (told k).0) ∙ (λ k. with_held (c.master.view_is k) (c.claim.view_is k) (Sent ask port (length (c.master.view_is k).got)))
