@@ -1,7 +1,9 @@
 -- The account of the words of a table that fits.
-use Rattle.std.proofs.Common.{◌≡◌, ℕ, ◌+◌, ◌<◌, ◌⊎◌, ⊎_elim, inl, inr, List, [], ◌∷◌, ◌++◌, length, get_or, slice_get, Contains, Some, refl, sym, ap, subst, ◌∙◌, arith}
+use Rattle.std.proofs.Common.{◌≡◌, ℕ, ◌+◌, ◌<◌, ◌⊎◌, ⊎_elim, inl, inr, List, [], ◌∷◌, ◌++◌, length, take, drop, ◌≤◌, get_or, slice_get, Contains, Some, refl, sym, ap, subst, ◌∙◌, arith}
 use Rattle.std.proofs.lemmas.Option.{slice_get-get_or, slice_get_within, get_or_from_slice_get}
-use Rattle.std.proofs.lemmas.List.{get_or-append-add, get_or_append_left}
+use Rattle.std.proofs.lemmas.List.{get_or-append-add, get_or_append_left, get_or-drop, length-drop, take-append-drop, take_more, take_all, length-take-le}
+use mathlib.Core.Option as maybe
+use lib.ListN.{get_elem?}
 use Rattle.atomic_table.specs.Table.{State}
 use Rattle.tl_slots.specs.declared.phase.Phase.{Phase}
 use Rattle.tl_slots.specs.declared.phase.Phase.TheVariants.{Free}
@@ -13,6 +15,7 @@ use Rattle.tl_rule.specs.Record.{SlotRecord}
 use Rattle.tl_rule.specs.Rule.{Fits, Names}
 use Rattle.tl_rule.specs.Laws.{AreArenaWords}
 use Rattle.tl_rule.proofs.Facts.{free_names_none}
+use Rattle.tl_rule.proofs.Tables.{at_get}
 use Rattle.tl_rule.proofs.FitsLaws.{words_law, free_or}
 use Rattle.tl_arena.specs.declared.account.Held.{Held}
 use Rattle.tl_arena.specs.Account.{IsAccountOf, IsClosing}
@@ -90,3 +93,25 @@ closing a s slots leaves free held left F words many_slots many_leaves account =
   present = present a slots leaves W many_slots many_leaves free held left account;
   all_free = all_free a slots leaves W many_slots many_leaves free held left account;
 }
+
+-- ---- the words of a table, from a place on
+
+pub word_next : (ws : List ℕ) (from k w : ℕ) → get_elem? ws (from + k) ≡ maybe.some w → take (k + 1) (drop from ws) ≡ take k (drop from ws) ++ w ∷ []
+word_next ws from k w at =
+    let t = at_get ws (from + k) w 0 at in
+    let inside = t.0 in
+    let long = length-drop from ws in
+    let is : get_or (drop from ws) k 0 ≡ w = get_or-drop from ws k 0 ∙ t.1 in
+    take_more (drop from ws) k 0 (omega arith) ∙ ap (λ (x : ℕ). take k (drop from ws) ++ x ∷ []) is
+
+-- the words of the slots, and then the leave words, are all
+pub words_split : (ws : List ℕ) (n m : ℕ) → length ws ≡ n + m → ws ≡ take n ws ++ take m (drop n ws)
+words_split ws n m long =
+    let rest = length-drop n ws in
+    sym (take-append-drop n ws) ∙ ap (λ (xs : List ℕ). take n ws ++ xs) (sym (take_all m (drop n ws) (omega arith)))
+
+pub taken_length : (ws : List ℕ) (n : ℕ) → n ≤ length ws → length (take n ws) ≡ n
+taken_length ws n lt = length-take-le n ws lt
+
+pub dropped_length : (ws : List ℕ) (n m : ℕ) → length ws ≡ n + m → length (take m (drop n ws)) ≡ m
+dropped_length ws n m long = let rest = length-drop n ws in taken_length (drop n ws) m (omega arith)
