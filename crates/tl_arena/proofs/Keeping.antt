@@ -146,10 +146,10 @@ module _ (m : Seat) (order : List ℕ) (capacity : ℕ) (owners : List ℕ) (num
         wide = length-set owners i owner ∙ K.wide;
         owned = λ j other there. dite (ℕ_discrete j i)
             (λ same.
-                let here : ask ≡ other = (let p = push_here u.serving i ask free in let q = subst (λ (k : ℕ). ask_at v.serving k ≡ Some other) same there in cc) in
-                let w = get_or-set_same owners i owner 0 (let w = K.wide in omega arith) in
-                subst (λ (k : ℕ). IsOwner u.about (get_or (set owners i owner) k 0) other.source) (sym same)
-                (subst (λ (o : ℕ). IsOwner u.about o other.source) (sym w) (subst (λ (q : Request). IsOwner u.about owner q.source) here own)))
+            let here : ask ≡ other = (let p = push_here u.serving i ask free in let q = subst (λ (k : ℕ). ask_at v.serving k ≡ Some other) same there in cc) in
+            let w = get_or-set_same owners i owner 0 (let w = K.wide in omega arith) in
+            subst (λ (k : ℕ). IsOwner u.about (get_or (set owners i owner) k 0) other.source) (sym same)
+            (subst (λ (o : ℕ). IsOwner u.about o other.source) (sym w) (subst (λ (q : Request). IsOwner u.about owner q.source) here own)))
             (λ ne. subst (λ (o : ℕ). IsOwner u.about o other.source) (sym (get_or-set_other owners i j owner 0 ne)) (K.owned j other (sym (push_else u.serving i j ask ne) ∙ there)));
       })
 

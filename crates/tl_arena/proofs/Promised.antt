@@ -61,6 +61,7 @@ module _ (st : Step SlotRecord) (m n : Seat) (A : Accepts st m n) where
   pub accepted : (table now : TableId) (w : View) (v : PortView) (i : ℕ) (ask : Request) (letter : SlotRecord) → now ≡ table → w ≡ n.0 → port_view table m.0 ≡ v → i ≡ st.word → letter ≡ A.letter → Spells letter ask
       → (ask_at v.serving i ≡ None) × (port_view now w ≡ with_accepted v (i, ask))
   accepted table now w v i ask letter same view seen at is spells =
-      let asks : A.ask ≡ ask = spells_one A.letter A.ask ask A.spells (subst (λ (l : SlotRecord). Spells l ask) is spells) in
-      (subst (λ (x : PortView). ask_at x.serving i ≡ None) seen (subst (λ (k : ℕ). ask_at (port_view table m.0).serving k ≡ None) (sym at) A.free),
-      (λ k. port_view (same k) (view k)) ∙ ap (λ (x : Seat). port_view table x.0) A.seat ∙ (λ k. with_accepted (seen k) (sym at k, asks k)))
+      let asks : A.ask ≡ ask = spells_one A.letter A.ask ask A.spells (subst (λ (l : SlotRecord). Spells l ask) is spells) in (
+        subst (λ (x : PortView). ask_at x.serving i ≡ None) seen (subst (λ (k : ℕ). ask_at (port_view table m.0).serving k ≡ None) (sym at) A.free),
+        (λ k. port_view (same k) (view k)) ∙ ap (λ (x : Seat). port_view table x.0) A.seat ∙ (λ k. with_accepted (seen k) (sym at k, asks k)),
+      )

@@ -30,7 +30,6 @@ pub trait ArenaName {
 
 impl ArenaName for Brand {
     ghost use Rattle.std.specs.Prelude.{[]};
-
     ghost use Rattle.tl_rule.specs.Views.{no_about};
 
     ghost arena = { record { table = record { words = 0; slots = 0; views_name = 0; atom = 0; block = 0; offset = 0; slot_names = [] }; about = no_about } };
@@ -212,11 +211,7 @@ impl Arena {
     }
 
     /// The seats of all ports, once all masters have theirs.
-    fn deal_ports(
-        &self,
-        alloc: Global,
-        dealer: &mut TableSeat,
-    ) -> Result<Vec<PortSeat>, AllocError>
+    fn deal_ports(&self, alloc: Global, dealer: &mut TableSeat) -> Result<Vec<PortSeat>, AllocError>
         requires table { dealer.old.table_id ≡ self.now.table }
         requires first { dealer.old.me ≡ (Dealer self.now.about self.now.about.masters 0, []) }
         ensures seats { IfOk result (λ seats. AreNewPorts self.now self.now.about.ports seats.items) }

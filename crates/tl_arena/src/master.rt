@@ -14,6 +14,12 @@ use crate::turn::{Claim, Served, Ticket};
 use tl_slots::{Phase, word_of};
 use tl_types::Ask;
 
+/// The word of a free slot.
+const FREE: u64 = 0;
+
+/// The leave word of a master that has left.
+const LEFT: u64 = 1;
+
 impl Arena {
     /// A free slot, by one pass from slot 0 upward.
     pub fn claim(&self, master: &mut MasterSeat) -> Option<Claim>
@@ -38,7 +44,7 @@ impl Arena {
     {
         let words = &self.table.shared;
         let new = word_of(Phase::Filling(master.number));
-        if words.compare_exchange::<Claims>(&mut master.seat, slot, 0, new) != 0 {
+        if words.compare_exchange::<Claims>(&mut master.seat, slot, FREE, new) != FREE {
             return false;
         }
         master.order.push_front_reserved(slot);
@@ -118,7 +124,9 @@ impl Arena {
             reply: _,
         } = served;
         bring(&mut master.seat, &mut master.order, slot);
-        self.table.shared.store::<Releases>(&mut master.seat, slot, 0);
+        self.table
+            .shared
+            .store::<Releases>(&mut master.seat, slot, FREE);
         let _ = master.order.pop_front();
         master.owned -= 1;
     }
@@ -137,6 +145,6 @@ impl Arena {
             collected: _,
         } = master;
         let word = self.slots + number;
-        self.table.shared.store::<Leaves>(&mut seat, word, 1);
+        self.table.shared.store::<Leaves>(&mut seat, word, LEFT);
     }
 }

@@ -9,7 +9,7 @@ loop-first-smaller c =
     let x = c.in-Some.first in
     let items : c.loop-first.order.items ≡ x ∷ xs = c.in-Some.ensures.items in
     let there = subst (λ l. has l c.args.slot ≡ true) items c.loop-first.invariant.there in
-    subst (λ l. place l c.args.slot < place c.loop-first.order.items c.args.slot) (sym c.push_back_reserved.ensures.items)
+    subst (λ l. place l c.args.slot < place c.loop-first.order.items c.args.slot) (sym {A = List ℕ} c.push_back_reserved.ensures.items)
     (subst (λ l. place (xs ++ x ∷ []) c.args.slot < place l c.args.slot) (sym items) (nearer x xs c.args.slot c.if-first-slot.false there))
 
 pub loop-first-preserved : goal.loop-first-preserved

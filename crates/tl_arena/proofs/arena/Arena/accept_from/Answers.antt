@@ -24,10 +24,12 @@ compare_exchange-requires c =
     let key = c.self.inside.table.shared.key in
     let me = c.port.inside.seat.me in
     let arena = port_arena c.port.inside.seat.table_id me.0 c.args.port.now c.args.self.now c.self.inside.table.shared.table_id (about_in key) c.port.view_is c.requires.arena c.self.view_is in
-    let lt = subst (λ (a : ArenaId). c.args.slot < a.about.slots) (sym c.self.view_is) c.requires.slot in
-    (arena.0, omega arith,
-        accepts_at (about_in key) _ _ me c.args.slot _ _ c.args.owner none p.is (omega arith) c.requires.small
-        (c.word_of-from.ensures ∙ ap (λ (k : ℕ). word (Posted c.args.owner k)) (sym p.numbered)) (c.word_of-new.ensures ∙ ap (λ (k : ℕ). word (Serving c.args.owner k)) (sym p.numbered)))
+    let lt = subst (λ (a : ArenaId). c.args.slot < a.about.slots) (sym c.self.view_is) c.requires.slot in (
+      arena.0,
+      omega arith,
+      accepts_at (about_in key) _ _ me c.args.slot _ _ c.args.owner none p.is (omega arith) c.requires.small
+          (c.word_of-from.ensures ∙ ap (λ (k : ℕ). word (Posted c.args.owner k)) (sym p.numbered)) (c.word_of-new.ensures ∙ ap (λ (k : ℕ). word (Serving c.args.owner k)) (sym p.numbered)),
+    )
 
 pub returns-then-compare_exchange-from-clause-law : goal.returns-then-compare_exchange-from-clause-law
 returns-then-compare_exchange-from-clause-law c = subst (λ (k : Seat). IsLawfulDesk (as_port k.0)) (sym (c.compare_exchange.ensures.2.1 c.if-compare_exchange-from.true)) c.port.invariant.law
@@ -56,5 +58,5 @@ returns-clause-some c =
     let x = c.exchange-record.ensures in
     let letter : c.exchange-record.result ≡ t.letter = ap top (sym x.2 ∙ ap (λ (y : Seat). y.1) t.seat) in
     let told = accepted _ c.port.inside.seat.me c.compare_exchange.new.seat.me t c.port.inside.seat.table_id c.exchange-record.new.seat.table_id c.exchange-record.new.seat.me.0 c.args.port.now c.args.slot c.ask.result c.exchange-record.result
-        (x.0 ∙ c.compare_exchange.ensures.0) (ap (λ (y : Seat). y.0) x.3) c.port.view_is refl letter c.ask.ensures in
+    (x.0 ∙ c.compare_exchange.ensures.0) (ap (λ (y : Seat). y.0) x.3) c.port.view_is refl letter c.ask.ensures in
     (refl, told.0, told.1)

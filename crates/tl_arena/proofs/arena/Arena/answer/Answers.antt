@@ -65,10 +65,12 @@ store-requires c =
     let owns = subst (λ (o : ℕ). Owns (as_port me.0).about o k.ask.source) is (p.owned i k.ask serves).owns in
     let now = written me c.bring.new.seat.me c.exchange.new.seat.me i c.answered-record.result c.bring.ensures.brought.view c.exchange.ensures.3 in
     let right = subst (λ (v : PortView). c.args.reply.now ≡ store.reply (memory_of v) k.ask) (sym c.port.view_is) (subst (λ (f : ℕ × Request). c.args.reply.now ≡ store.reply (memory_of c.args.port.now) f.1) (sym c.accepted.view_is) c.requires.reply) in
-    let answers = subst (λ (a : ℕ). SpellsAnswer c.answered-record.result a c.args.reply.now) c.address.ensures c.answered-record.ensures.answers in
-    (c.exchange.ensures.0 ∙ c.bring.ensures.table ∙ arena.0, omega arith,
-        answers_at (about_in key) _ _ me c.exchange.new.seat.me i _ owner c.answered-record.result (rest c.bring.new.seat.me.1) k.ask c.args.reply.now now p.is serves
-        (c.word_of-new.ensures ∙ ap (λ (n : ℕ). word (Answered owner n)) (sym p.numbered)) owns (c.answered-record.ensures.asks k.ask c.posted.ensures.spells) answers (c.answered-record.ensures.index ∙ sym p.listed) right)
+    let answers = subst (λ (a : ℕ). SpellsAnswer c.answered-record.result a c.args.reply.now) c.address.ensures c.answered-record.ensures.answers in (
+      c.exchange.ensures.0 ∙ c.bring.ensures.table ∙ arena.0,
+      omega arith,
+      answers_at (about_in key) _ _ me c.exchange.new.seat.me i _ owner c.answered-record.result (rest c.bring.new.seat.me.1) k.ask c.args.reply.now now p.is serves
+          (c.word_of-new.ensures ∙ ap (λ (n : ℕ). word (Answered owner n)) (sym p.numbered)) owns (c.answered-record.ensures.asks k.ask c.posted.ensures.spells) answers (c.answered-record.ensures.index ∙ sym p.listed) right,
+    )
 
 pub overflow_add-port : goal.overflow_add-port
 overflow_add-port c =
@@ -90,7 +92,7 @@ invariant_of-port c =
     let told = told_answered _ me c.exchange.new.seat.me c.store.new.seat.me k.slot _ c.answered-record.result (rest c.bring.new.seat.me.1) k.ask c.args.reply.now now serves answers c.store.ensures.2 in
     port_recounted c.store.new.seat.me _ _ _ _ c.port.inside.owners.items c.port.inside.number _ refl (c.pop_front.ensures.capacity ∙ c.bring.ensures.capacity)
     (answer_kept me order.items (deque_capacity order) c.port.inside.owners.items c.port.inside.number c.port.inside.served p
-        c.bring.new.seat.me c.store.new.seat.me c.bring.new.order.items c.pop_front.new.self.items k.slot k.ask c.args.reply.now c.bring.ensures.brought c.pop_front.ensures.rest told.0 serves told.1)
+    c.bring.new.seat.me c.store.new.seat.me c.bring.new.order.items c.pop_front.new.self.items k.slot k.ask c.args.reply.now c.bring.ensures.brought c.pop_front.ensures.rest told.0 serves told.1)
 
 pub returns-clause-seat : goal.returns-clause-seat
 returns-clause-seat c =

@@ -30,10 +30,12 @@ compare_exchange-requires c =
     let slots = ap (λ (a : About). a.slots) arena.1 in
     let ticket : TicketView = record { slot = t.slot; ask = t.ask; port = t.port; known = t.known } in
     let sent = sent_in (master_view c.master.inside.seat.table_id me.0) c.args.master.now ticket c.args.ticket c.master.view_is c.ticket.view_is c.requires.ticket in
-    let lt = held_inside me c.master.inside.order.items (deque_capacity c.master.inside.order) c.master.inside.number c.master.inside.owned c.master.inside.collected m t.slot (λ z. absurd (cc)) in
-    (arena.0, omega arith,
-        collects_at (about_in key) _ _ me t.slot _ _ none t.ask t.port t.known m.is sent
-        (c.word_of-from.ensures ∙ ap (λ (k : ℕ). word (Answered k t.port)) (sym m.numbered)) (c.word_of-new.ensures ∙ ap (λ (k : ℕ). word (Taking k t.port)) (sym m.numbered)))
+    let lt = held_inside me c.master.inside.order.items (deque_capacity c.master.inside.order) c.master.inside.number c.master.inside.owned c.master.inside.collected m t.slot (λ z. absurd (cc)) in (
+      arena.0,
+      omega arith,
+      collects_at (about_in key) _ _ me t.slot _ _ none t.ask t.port t.known m.is sent
+          (c.word_of-from.ensures ∙ ap (λ (k : ℕ). word (Answered k t.port)) (sym m.numbered)) (c.word_of-new.ensures ∙ ap (λ (k : ℕ). word (Taking k t.port)) (sym m.numbered)),
+    )
 
 pub push_front_reserved-requires : goal.push_front_reserved-requires
 push_front_reserved-requires c =
@@ -55,7 +57,7 @@ invariant_of-master-2 c =
     let now = c.exchange-record.ensures.3 ∙ ap (λ (y : Seat). (y.0, (i, c.blank.result) ∷ rest y.1)) t.seat in
     master_recounted c.exchange-record.new.seat.me _ _ _ _ c.master.inside.number c.master.inside.owned _ c.push_front_reserved.ensures.items c.push_front_reserved.ensures.capacity
     (collect_kept me order.items (deque_capacity order) c.master.inside.number c.master.inside.owned c.master.inside.collected c.master.invariant
-        c.exchange-record.new.seat.me i c.blank.result t.ask t.port t.known (entry t.port t.letter.index t.ask t.reply) now t.was lt)
+    c.exchange-record.new.seat.me i c.blank.result t.ask t.port t.known (entry t.port t.letter.index t.ask t.reply) now t.was lt)
 
 pub returns-clause-ok : goal.returns-clause-ok
 returns-clause-ok c =
@@ -68,8 +70,8 @@ returns-clause-ok c =
     let sent = sent_in (master_view z me.0) c.args.master.now ticket c.args.ticket c.master.view_is c.ticket.view_is c.requires.ticket in
     let letter : c.exchange-record.result ≡ t.letter = ap top (sym x.2 ∙ ap (λ (y : Seat). y.1) t.seat) in
     let told = collected _ me c.compare_exchange.new.seat.me t z c.exchange-record.new.seat.table_id c.exchange-record.new.seat.me.0 ticket c.index.result c.reply-reply.result c.exchange-record.result
-        (x.0 ∙ c.compare_exchange.ensures.0) (ap (λ (y : Seat). y.0) x.3) refl sent letter c.index.ensures
-        (subst (λ (n : ℕ). SpellsAnswer c.exchange-record.result n c.reply-reply.result) c.address.ensures c.reply-reply.ensures) in
+    (x.0 ∙ c.compare_exchange.ensures.0) (ap (λ (y : Seat). y.0) x.3) refl sent letter c.index.ensures
+    (subst (λ (n : ℕ). SpellsAnswer c.exchange-record.result n c.reply-reply.result) c.address.ensures c.reply-reply.ensures) in
     let served : ServedView = record { slot = k.slot; ask = k.ask; port = k.port; index = c.index.result; reply = c.reply-reply.result } in
     let seat = master_view c.exchange-record.new.seat.table_id c.exchange-record.new.seat.me.0 in
     subst (λ (v : MasterView). IsCollected v c.args.ticket served seat) c.master.view_is (subst (λ (u : TicketView). IsCollected (master_view z me.0) u served seat) c.ticket.view_is told)

@@ -13,9 +13,11 @@ split_seat-seat-requires c =
     let s = c.self.invariant in
     let about = ap (λ (a : ArenaId). a.about) c.self.view_is in
     let limits = s.limits in
-    let view = ap (λ (m : Seat). m.0) c.requires.next ∙ ap (λ (a : About). Dealer a a.masters c.args.number) (sym about) in
-    (c.requires.table ∙ ap (λ (a : ArenaId). a.table) (sym c.self.view_is), omega arith,
-        deals_port_at (about_in c.self.inside.table.shared.key) _ (about_in c.self.inside.table.shared.key).masters c.args.number _ view refl (subst (λ (a : About). c.args.number < a.ports) (sym about) c.requires.more))
+    let view = ap (λ (m : Seat). m.0) c.requires.next ∙ ap (λ (a : About). Dealer a a.masters c.args.number) (sym about) in (
+      c.requires.table ∙ ap (λ (a : ArenaId). a.table) (sym c.self.view_is),
+      omega arith,
+      deals_port_at (about_in c.self.inside.table.shared.key) _ (about_in c.self.inside.table.shared.key).masters c.args.number _ view refl (subst (λ (a : About). c.args.number < a.ports) (sym about) c.requires.more),
+    )
 
 pub invariant_of-result : goal.invariant_of-result
 invariant_of-result c =

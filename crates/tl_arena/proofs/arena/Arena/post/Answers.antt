@@ -34,10 +34,12 @@ store-requires c =
     let now = written me c.bring.new.seat.me c.exchange.new.seat.me i c.posted.result c.bring.ensures.brought.view c.exchange.ensures.3 in
     let to : c.args.port < (as_master me.0).about.ports = subst (λ (v : MasterView). c.args.port < v.arena.about.ports) (sym c.master.view_is) (subst (λ (a : ArenaId). c.args.port < a.about.ports) (sym c.requires.arena) c.requires.port) in
     let owns : Owns (as_master me.0).about (as_master me.0).number source = subst (λ (v : MasterView). Owns v.arena.about v.number source) (sym c.master.view_is) (subst (λ (a : ArenaId). Owns a.about c.args.master.now.number source) (sym c.requires.arena) c.requires.source) in
-    let unsent : IsNew me source = subst (λ (v : MasterView). IsUnsent v source) (sym c.master.view_is) c.requires.unsent in
-    (c.exchange.ensures.0 ∙ c.bring.ensures.table ∙ arena.0, omega arith,
-        posts_at (about_in key) _ _ me c.exchange.new.seat.me i _ c.posted.result (rest c.bring.new.seat.me.1) c.args.ask.now c.args.port now m.is filled
-        (c.word_of-new.ensures ∙ ap (λ (k : ℕ). word (Posted k c.args.port)) (sym m.numbered)) c.posted.ensures.spells to owns unsent)
+    let unsent : IsNew me source = subst (λ (v : MasterView). IsUnsent v source) (sym c.master.view_is) c.requires.unsent in (
+      c.exchange.ensures.0 ∙ c.bring.ensures.table ∙ arena.0,
+      omega arith,
+      posts_at (about_in key) _ _ me c.exchange.new.seat.me i _ c.posted.result (rest c.bring.new.seat.me.1) c.args.ask.now c.args.port now m.is filled
+          (c.word_of-new.ensures ∙ ap (λ (k : ℕ). word (Posted k c.args.port)) (sym m.numbered)) c.posted.ensures.spells to owns unsent,
+    )
 
 pub returns-clause-seat : goal.returns-clause-seat
 returns-clause-seat c =

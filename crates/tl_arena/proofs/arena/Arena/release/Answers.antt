@@ -28,6 +28,8 @@ store-requires c =
     let taken : hand_of me i ≡ Taken k.port = subst (λ (v : MasterView). in_hand v i ≡ Taken k.port) (sym c.master.view_is) (subst (λ (x : ServedView). in_hand c.args.master.now x.slot ≡ Taken x.port) (sym c.served.view_is) c.requires.taken) in
     let lt = held_inside me c.master.inside.order.items (deque_capacity c.master.inside.order) c.master.inside.number c.master.inside.owned c.master.inside.collected m i (λ e. absurd (cc)) in
     let top = c.bring.ensures.brought.top in
-    let now : c.bring.new.seat.me ≡ (me.0, (i, top.0) ∷ rest c.bring.new.seat.me.1) = (λ t. (c.bring.ensures.brought.view t, top.1 t)) in
-    (c.bring.ensures.table ∙ arena.0, omega arith,
-        releases_at (about_in key) _ _ me c.bring.new.seat.me i top.0 (rest c.bring.new.seat.me.1) k.port now m.is taken)
+    let now : c.bring.new.seat.me ≡ (me.0, (i, top.0) ∷ rest c.bring.new.seat.me.1) = (λ t. (c.bring.ensures.brought.view t, top.1 t)) in (
+      c.bring.ensures.table ∙ arena.0,
+      omega arith,
+      releases_at (about_in key) _ _ me c.bring.new.seat.me i top.0 (rest c.bring.new.seat.me.1) k.port now m.is taken,
+    )
