@@ -96,7 +96,7 @@ words_law a s F = by_parts a (λ s. AreArenaWords a s.words) (λ c L. let n = L.
     }) s F
 
 -- a phase is Free, or names a master
-free_or : (f : Phase) → (f ≡ Free) ⊎ ((m : ℕ) × Names f m)
+pub free_or : (f : Phase) → (f ≡ Free) ⊎ ((m : ℕ) × Names f m)
 free_or Free = inl refl
 free_or (Filling m) = inr (m, refl)
 free_or (Posted m p) = inr (m, refl)

@@ -1,0 +1,5 @@
+pub mod Chosen
+pub mod Closing
+pub mod Dealt
+pub mod Keeping
+pub mod Promised

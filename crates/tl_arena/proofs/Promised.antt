@@ -1,0 +1,67 @@
+-- What the calls promise, from what the steps tell.
+use Rattle.std.proofs.Common.{◌≡◌, ℕ, List, [], ◌∷◌, ◌++◌, sym, refl, ap, subst, ◌∙◌, Some, None}
+use Rattle.atomic_table.specs.Table.{Step, rest}
+use Rattle.atomic_table.specs.Seated.{TableId}
+use Rattle.tl_types.specs.Request.{Request}
+use Rattle.tl_types.specs.Response.{Response}
+use Rattle.tl_rule.specs.declared.view.View.{View}
+use Rattle.tl_rule.specs.declared.view.Held.TheVariants.{Sent}
+use Rattle.tl_rule.specs.Record.{SlotRecord, Spells, SpellsAnswer}
+use Rattle.tl_rule.specs.Serving.{ask_at}
+use Rattle.tl_rule.specs.Moves.{Seat, Collects, Accepts, hand_of, as_master}
+use Rattle.tl_rule.proofs.Facts.{spells_one, answers_one}
+use Rattle.tl_arena.specs.Views.{MasterView, PortView, TicketView, ServedView, in_hand, with_accepted}
+use Rattle.tl_arena.specs.Promises.{IsCollected}
+use Rattle.tl_arena.specs.Kept.{master_view, port_view}
+
+-- what the hand has of a ticket's slot
+pub sent_in : (v w : MasterView) (t u : TicketView) → v ≡ w → t ≡ u → in_hand w u.slot ≡ Sent u.ask u.port u.known → in_hand v t.slot ≡ Sent t.ask t.port t.known
+sent_in v w t u e f h = subst (λ (x : MasterView). in_hand x t.slot ≡ Sent t.ask t.port t.known) (sym e) (subst (λ (x : TicketView). in_hand w x.slot ≡ Sent x.ask x.port x.known) (sym f) h)
+
+-- what is served at the slot of a request that was accepted
+pub served_in : (v w : PortView) (f g : ℕ × Request) → v ≡ w → f ≡ g → ask_at w.serving g.0 ≡ Some g.1 → ask_at v.serving f.0 ≡ Some f.1
+served_in v w f g d e h = subst (λ (x : PortView). ask_at x.serving f.0 ≡ Some f.1) (sym d) (subst (λ (x : ℕ × Request). ask_at w.serving x.0 ≡ Some x.1) (sym e) h)
+
+module _ (st : Step SlotRecord) (m n : Seat) (C : Collects st m n) where
+  collected_told : (table : TableId) → IsCollected (master_view table m.0) (record { slot = st.word; ask = C.ask; port = C.port; known = C.known }) (record { slot = st.word; ask = C.ask; port = C.port; index = C.letter.index; reply = C.reply }) (master_view table n.0)
+  collected_told table = record {
+    slot = refl;
+    ask = refl;
+    port = refl;
+    seat = ap (λ (k : Seat). master_view table k.0) C.seat;
+    above = C.above;
+    fresh = C.fresh;
+    history = C.history;
+    lawful = C.lawful;
+    seen = C.seen;
+    own = C.own;
+  }
+
+  pub collected : (table now : TableId) (w : View) (t : TicketView) (index : ℕ) (reply : Response) (letter : SlotRecord) → now ≡ table → w ≡ n.0 → t.slot ≡ st.word → hand_of m st.word ≡ Sent t.ask t.port t.known
+      → letter ≡ C.letter → index ≡ letter.index → SpellsAnswer letter t.ask.address reply
+      → IsCollected (master_view table m.0) t (record { slot = t.slot; ask = t.ask; port = t.port; index = index; reply = reply }) (master_view now w)
+  collected table now w t index reply letter same view at sent is place answers =
+      let asks : C.ask ≡ t.ask = (let z = C.was in cc) in
+      let ports : C.port ≡ t.port = (let z = C.was in cc) in
+      let knows : C.known ≡ t.known = (let z = C.was in cc) in
+      let mine = subst (λ (q : Request). SpellsAnswer C.letter q.address C.reply) asks C.answer in
+      let replies : C.reply ≡ reply = answers_one C.letter t.ask.address C.reply reply mine (subst (λ (l : SlotRecord). SpellsAnswer l t.ask.address reply) is answers) in
+      let indexes : C.letter.index ≡ index = sym (place ∙ ap (λ (l : SlotRecord). l.index) is) in
+      let ticket : TicketView = record { slot = st.word; ask = C.ask; port = C.port; known = C.known } in
+      let ticket_is : ticket ≡ t = λ i. record { slot = sym at i; ask = asks i; port = ports i; known = knows i } in
+      let served : ServedView = record { slot = st.word; ask = C.ask; port = C.port; index = C.letter.index; reply = C.reply } in
+      let other : ServedView = record { slot = t.slot; ask = t.ask; port = t.port; index = index; reply = reply } in
+      let served_is : served ≡ other = λ i. record { slot = sym at i; ask = asks i; port = ports i; index = indexes i; reply = replies i } in
+      let seat_is : master_view table n.0 ≡ master_view now w = λ i. master_view (sym same i) (sym view i) in
+      subst (λ (x : MasterView). IsCollected (master_view table m.0) t other x) seat_is
+      (subst (λ (x : ServedView). IsCollected (master_view table m.0) t x (master_view table n.0)) served_is
+      (subst (λ (x : TicketView). IsCollected (master_view table m.0) x served (master_view table n.0)) ticket_is (collected_told table)))
+
+module _ (st : Step SlotRecord) (m n : Seat) (A : Accepts st m n) where
+  pub accepted : (table now : TableId) (w : View) (v : PortView) (i : ℕ) (ask : Request) (letter : SlotRecord) → now ≡ table → w ≡ n.0 → port_view table m.0 ≡ v → i ≡ st.word → letter ≡ A.letter → Spells letter ask
+      → (ask_at v.serving i ≡ None) × (port_view now w ≡ with_accepted v (i, ask))
+  accepted table now w v i ask letter same view seen at is spells =
+      let asks : A.ask ≡ ask = spells_one A.letter A.ask ask A.spells (subst (λ (l : SlotRecord). Spells l ask) is spells) in (
+        subst (λ (x : PortView). ask_at x.serving i ≡ None) seen (subst (λ (k : ℕ). ask_at (port_view table m.0).serving k ≡ None) (sym at) A.free),
+        (λ k. port_view (same k) (view k)) ∙ ap (λ (x : Seat). port_view table x.0) A.seat ∙ (λ k. with_accepted (seen k) (sym at k, asks k)),
+      )

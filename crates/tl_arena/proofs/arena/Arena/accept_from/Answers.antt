@@ -1,0 +1,62 @@
+use Rattle.std.proofs.Common.{rules, arith, sym, ap, subst, ◌∙◌, ◌≡◌, ◌<◌, ◌≤◌, ◌∷◌, ◌/◌, ◌%◌, ℕ, length, refl}
+use mathlib.Core.Option.{none}
+use Rattle.std.specs.VecDeque.{deque_capacity}
+use Rattle.atomic_table.specs.Table.{rest}
+use Rattle.tl_slots.specs.declared.phase.Phase.TheVariants.{Posted, Serving}
+use Rattle.tl_slots.specs.declared.word.TheConstants.{MAX_AGENT}
+use Rattle.tl_slots.specs.Word.{word, FitsWord}
+use Rattle.tl_slots.proofs.Words.{word-master}
+use Rattle.tl_rule.specs.declared.view.About.{About}
+use Rattle.tl_rule.specs.Views.{Owns}
+use Rattle.tl_rule.specs.Moves.{Seat, top, as_port, IsLawfulDesk}
+use Rattle.tl_rule.proofs.Seats.{accepts_at}
+use Rattle.tl_arena.specs.Views.{ArenaId, PortView, with_accepted}
+use Rattle.tl_arena.specs.Key.{about_in}
+use Rattle.tl_arena.specs.Kept.{port_view, IsOwner}
+use Rattle.tl_arena.proofs.Keeping.{port_arena, port_recounted, accept_kept}
+use Rattle.tl_arena.proofs.Promised.{accepted}
+use Rattle.tl_arena.proofs.arena.Arena.accept_from.Goals as goal
+
+pub compare_exchange-requires : goal.compare_exchange-requires
+compare_exchange-requires c =
+    let s = c.self.invariant in
+    let p = c.port.invariant in
+    let key = c.self.inside.table.shared.key in
+    let me = c.port.inside.seat.me in
+    let arena = port_arena c.port.inside.seat.table_id me.0 c.args.port.now c.args.self.now c.self.inside.table.shared.table_id (about_in key) c.port.view_is c.requires.arena c.self.view_is in
+    let lt = subst (λ (a : ArenaId). c.args.slot < a.about.slots) (sym c.self.view_is) c.requires.slot in (
+      arena.0,
+      omega arith,
+      accepts_at (about_in key) _ _ me c.args.slot _ _ c.args.owner none p.is (omega arith) c.requires.small
+          (c.word_of-from.ensures ∙ ap (λ (k : ℕ). word (Posted c.args.owner k)) (sym p.numbered)) (c.word_of-new.ensures ∙ ap (λ (k : ℕ). word (Serving c.args.owner k)) (sym p.numbered)),
+    )
+
+pub returns-then-compare_exchange-from-clause-law : goal.returns-then-compare_exchange-from-clause-law
+returns-then-compare_exchange-from-clause-law c = subst (λ (k : Seat). IsLawfulDesk (as_port k.0)) (sym (c.compare_exchange.ensures.2.1 c.if-compare_exchange-from.true)) c.port.invariant.law
+
+pub invariant_of-port-2 : goal.invariant_of-port-2
+invariant_of-port-2 c =
+    let t = c.compare_exchange.ensures.2.0 c.if-compare_exchange-from.false in
+    let i = c.args.slot in
+    let s = c.self.invariant in
+    let p = c.port.invariant in
+    let order = c.port.inside.order in
+    let me = c.port.inside.seat.me in
+    let arena = port_arena c.port.inside.seat.table_id me.0 c.args.port.now c.args.self.now c.self.inside.table.shared.table_id (about_in c.self.inside.table.shared.key) c.port.view_is c.requires.arena c.self.view_is in
+    let lt : i < (as_port me.0).about.slots = subst (λ (a : About). i < a.slots) (sym arena.1) (subst (λ (a : ArenaId). i < a.about.slots) (sym c.self.view_is) c.requires.slot) in
+    let now = c.exchange-record.ensures.3 ∙ ap (λ (y : Seat). (y.0, (i, c.blank.result) ∷ rest y.1)) t.seat in
+    let law = subst (λ (y : Seat). IsLawfulDesk (as_port y.0)) (sym c.exchange-record.ensures.3) t.law in
+    let fits : FitsWord (Posted c.args.owner c.port.inside.number) = record { owner = c.requires.small; port = let below = p.law.number in let few = p.in_limit in let is = p.numbered in omega arith } in
+    let named : c.word_of-from.result / 8 % 256 ≡ c.args.owner = ap (λ (n : ℕ). n / 8 % 256) c.word_of-from.ensures ∙ word-master (Posted c.args.owner c.port.inside.number) fits in
+    let own : IsOwner (as_port me.0).about c.args.owner t.ask.source = record { owns = subst (λ (o : ℕ). Owns (as_port me.0).about o t.ask.source) named t.owner; small = c.requires.small } in
+    port_recounted c.exchange-record.new.seat.me _ _ _ _ _ c.port.inside.number c.port.inside.served c.push_front_reserved.ensures.items c.push_front_reserved.ensures.capacity
+    (accept_kept me order.items (deque_capacity order) c.port.inside.owners.items c.port.inside.number c.port.inside.served p c.exchange-record.new.seat.me i c.args.owner t.ask c.blank.result now t.free law lt own)
+
+pub returns-clause-some : goal.returns-clause-some
+returns-clause-some c =
+    let t = c.compare_exchange.ensures.2.0 c.if-compare_exchange-from.false in
+    let x = c.exchange-record.ensures in
+    let letter : c.exchange-record.result ≡ t.letter = ap top (sym x.2 ∙ ap (λ (y : Seat). y.1) t.seat) in
+    let told = accepted _ c.port.inside.seat.me c.compare_exchange.new.seat.me t c.port.inside.seat.table_id c.exchange-record.new.seat.table_id c.exchange-record.new.seat.me.0 c.args.port.now c.args.slot c.ask.result c.exchange-record.result
+    (x.0 ∙ c.compare_exchange.ensures.0) (ap (λ (y : Seat). y.0) x.3) c.port.view_is refl letter c.ask.ensures in
+    (refl, told.0, told.1)

@@ -1,0 +1,32 @@
+use Rattle.std.proofs.Common.{rules, arith, sym, ap, subst, ◌∙◌, ◌≡◌, ℕ, [], ◌<◌}
+use Rattle.tl_rule.specs.declared.view.View.TheVariants.{Dealer, Master}
+use Rattle.tl_rule.specs.declared.view.About.{About}
+use Rattle.tl_rule.specs.Views.{new_hands}
+use Rattle.tl_rule.specs.Moves.{Seat, next_master}
+use Rattle.tl_rule.proofs.Seats.{deals_master_at}
+use Rattle.tl_arena.specs.Views.{ArenaId}
+use Rattle.tl_arena.specs.Key.{about_in}
+use Rattle.tl_arena.proofs.Dealt.{new_master_kept}
+use Rattle.tl_arena.proofs.arena.Arena.deal_master.Goals as goal
+
+pub split_seat-seat-requires : goal.split_seat-seat-requires
+split_seat-seat-requires c =
+    let s = c.self.invariant in
+    let about = ap (λ (a : ArenaId). a.about) c.self.view_is in
+    let limits = s.limits in
+    let view = ap (λ (m : Seat). m.0) c.requires.next ∙ ap (λ (a : About). Dealer a c.args.number 0) (sym about) in (
+      c.requires.table ∙ ap (λ (a : ArenaId). a.table) (sym c.self.view_is),
+      omega arith,
+      deals_master_at (about_in c.self.inside.table.shared.key) _ c.args.number 0 _ view (subst (λ (a : About). c.args.number < a.masters) (sym about) c.requires.more),
+    )
+
+pub invariant_of-result : goal.invariant_of-result
+invariant_of-result c =
+    let s = c.self.invariant in
+    let limits = s.limits in
+    let about = ap (λ (a : ArenaId). a.about) c.self.view_is in
+    let more = subst (λ (a : About). c.args.number < a.masters) (sym about) c.requires.more in
+    let dealer = ap (λ (m : Seat). m.0) c.requires.next ∙ ap (λ (a : About). Dealer a c.args.number 0) (sym about) in
+    new_master_kept (about_in c.self.inside.table.shared.key) _ _ _ c.args.number
+    (c.split_seat-seat.ensures.4 ∙ ap (λ v. (next_master v, [])) dealer) c.in_ok-order.ensures.items more (omega arith)
+    (let r = c.in_ok-order.ensures.capacity in omega arith)

@@ -1,0 +1,150 @@
+//! The calls of a master.
+ghost use Rattle.std.specs.Prelude.{◌≡◌, ◌<◌, length, true, false, IfOk, IfErr, IfSome, IfNone};
+ghost use Rattle.tl_rule.specs.declared.view.Held.TheVariants.{Nothing, Filled, Sent, Taken};
+ghost use Rattle.tl_rule.specs.Views.{Owns};
+ghost use Rattle.tl_arena.specs.Views.{in_hand, owned_of, with_held};
+ghost use Rattle.tl_arena.specs.Promises.{IsUnsent, IsCollected, OwnsHistories};
+
+use crate::arena::Arena;
+use crate::carried::bring;
+use crate::plays::{Claims, Collects, Leaves, Releases, Sends};
+use crate::record::Record;
+use crate::seats::MasterSeat;
+use crate::turn::{Claim, Served, Ticket};
+use tl_slots::{Phase, word_of};
+use tl_types::Ask;
+
+/// The word of a free slot.
+const FREE: u64 = 0;
+
+/// The leave word of a master that has left.
+const LEFT: u64 = 1;
+
+impl Arena {
+    /// A free slot, by one pass from slot 0 upward.
+    pub fn claim(&self, master: &mut MasterSeat) -> Option<Claim>
+        requires arena { master.old.arena ≡ self.now }
+        ensures some { IfSome result (λ i. (i < length master.old.hand) × (in_hand master.old i ≡ Nothing) × (master.new ≡ with_held master.old i Filled)) }
+        ensures none { IfNone result (master.new ≡ master.old) }
+    {
+        for slot in 0..self.slots {
+            if self.claim_at(master, slot) {
+                return Some(Claim { slot });
+            }
+        }
+        None
+    }
+
+    /// Claims the slot, where it is free.
+    fn claim_at(&self, master: &mut MasterSeat, slot: usize) -> bool
+        requires arena { master.old.arena ≡ self.now }
+        requires slot { slot < self.now.about.slots }
+        ensures claimed { result ≡ true → (slot < length master.old.hand) × (in_hand master.old slot ≡ Nothing) × (master.new ≡ with_held master.old slot Filled) }
+        ensures refused { result ≡ false → master.new ≡ master.old }
+    {
+        let words = &self.table.shared;
+        let new = word_of(Phase::Filling(master.number));
+        if words.compare_exchange::<Claims>(&mut master.seat, slot, FREE, new) != FREE {
+            return false;
+        }
+        master.order.push_front_reserved(slot);
+        master.owned += 1;
+        true
+    }
+
+    /// Posts a request of the master's own source to a port.
+    pub fn post(&self, master: &mut MasterSeat, claim: Claim, ask: &Ask, port: usize) -> Ticket
+        requires arena { master.old.arena ≡ self.now }
+        requires claim { in_hand master.old claim ≡ Filled }
+        requires source { Owns self.now.about master.old.number ask.now.source }
+        requires unsent { IsUnsent master.old ask.now.source }
+        requires port { port < self.now.about.ports }
+        ensures ticket { result ≡ record { slot = claim; ask = ask.now; port = port; known = length master.old.got } }
+        ensures seat { master.new ≡ with_held master.old claim (Sent ask.now port (length master.old.got)) }
+    {
+        let Claim { slot } = claim;
+        let words = &self.table.shared;
+        bring(&mut master.seat, &mut master.order, slot);
+        let _ = words.exchange(&mut master.seat, slot, Record::posted(ask, port));
+        let new = word_of(Phase::Posted(master.number, port));
+        words.store::<Sends>(&mut master.seat, slot, new);
+        let _ = master.order.pop_front();
+        Ticket {
+            slot,
+            ask: ask.copy(),
+            port,
+            known: master.collected,
+        }
+    }
+
+    /// Collects the reply to what was posted, where it is there.
+    pub fn collect(&self, master: &mut MasterSeat, ticket: Ticket) -> Result<Served, Ticket>
+        requires arena { master.old.arena ≡ self.now }
+        requires ticket { in_hand master.old ticket.slot ≡ Sent ticket.ask ticket.port ticket.known }
+        requires room { length master.old.got < usize.MAX }
+        ensures ok { IfOk result (λ s. IsCollected master.old ticket s master.new) }
+        ensures err { IfErr result (λ t. (t ≡ ticket) × (master.new ≡ master.old)) }
+    {
+        let words = &self.table.shared;
+        let from = word_of(Phase::Answered(master.number, ticket.port));
+        let new = word_of(Phase::Taking(master.number, ticket.port));
+        if words.compare_exchange::<Collects>(&mut master.seat, ticket.slot, from, new) != from {
+            return Err(ticket);
+        }
+        let Ticket {
+            slot,
+            ask,
+            port,
+            known: _,
+        } = ticket;
+        master.order.push_front_reserved(slot);
+        master.collected += 1;
+        let record = words.exchange(&mut master.seat, slot, Record::blank());
+        let reply = record.reply(ask.address());
+        Ok(Served {
+            slot,
+            ask,
+            port,
+            index: record.index(),
+            reply,
+        })
+    }
+
+    /// Frees the slot of a reply that was collected.
+    pub fn release(&self, master: &mut MasterSeat, served: Served)
+        requires arena { master.old.arena ≡ self.now }
+        requires taken { in_hand master.old served.slot ≡ Taken served.port }
+        ensures seat { master.new ≡ with_held master.old served.slot Nothing }
+    {
+        let Served {
+            slot,
+            ask: _,
+            port: _,
+            index: _,
+            reply: _,
+        } = served;
+        bring(&mut master.seat, &mut master.order, slot);
+        self.table
+            .shared
+            .store::<Releases>(&mut master.seat, slot, FREE);
+        let _ = master.order.pop_front();
+        master.owned -= 1;
+    }
+
+    /// The master makes no further step.
+    pub fn leave(&self, master: MasterSeat)
+        requires arena { master.arena ≡ self.now }
+        requires empty { owned_of master ≡ 0 }
+        ensures own { OwnsHistories master }
+    {
+        let MasterSeat {
+            mut seat,
+            order: _,
+            number,
+            owned: _,
+            collected: _,
+        } = master;
+        let word = self.slots + number;
+        self.table.shared.store::<Leaves>(&mut seat, word, LEFT);
+    }
+}

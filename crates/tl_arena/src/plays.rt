@@ -1,0 +1,64 @@
+//! The names of the steps: what each tells is the rule's.
+ghost use Rattle.tl_rule.specs.Moves as moves;
+
+use crate::record::Record;
+use atomic_table::{Play, Split};
+use tl_rule::View;
+
+pub(crate) struct Claims;
+
+impl Play<Record, View> for Claims {
+    ghost then = { moves.Tried moves.Claims };
+}
+
+pub(crate) struct Sends;
+
+impl Play<Record, View> for Sends {
+    ghost then = { moves.Sends };
+}
+
+pub(crate) struct Accepts;
+
+impl Play<Record, View> for Accepts {
+    ghost then = { moves.Tried moves.Accepts };
+}
+
+pub(crate) struct Answers;
+
+impl Play<Record, View> for Answers {
+    ghost then = { moves.Answers };
+}
+
+pub(crate) struct Collects;
+
+impl Play<Record, View> for Collects {
+    ghost then = { moves.Tried moves.Collects };
+}
+
+pub(crate) struct Releases;
+
+impl Play<Record, View> for Releases {
+    ghost then = { moves.Releases };
+}
+
+pub(crate) struct Leaves;
+
+impl Play<Record, View> for Leaves {
+    ghost then = { moves.Leaves };
+}
+
+pub(crate) struct DealsMaster;
+
+impl Split<View> for DealsMaster {
+    ghost left = { moves.after_master };
+
+    ghost right = { moves.next_master };
+}
+
+pub(crate) struct DealsPort;
+
+impl Split<View> for DealsPort {
+    ghost left = { moves.after_port };
+
+    ghost right = { moves.next_port };
+}

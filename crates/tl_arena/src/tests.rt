@@ -1,0 +1,6 @@
+//! Tests of what no clause says: that calls succeed, the worked values, and threads.
+mod client;
+mod floor;
+mod shop;
+mod threads;
+mod turns;

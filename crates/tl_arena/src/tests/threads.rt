@@ -1,0 +1,105 @@
+//! Masters and ports on threads of their own.
+use super::client::Client;
+use super::floor::{BASE, Floor, client, open_floor, shop};
+use super::turns::read;
+use std::test::Fail;
+use std::thread::join;
+use tl_types::{Ask, AskFault, AskOp, Reply, ReplyOp};
+
+/// How many turns each of two masters makes, half of them at each of two ports.
+const TURNS: usize = 5_000;
+
+/// The address of a master's own byte.
+fn home(master: u16) -> u64 {
+    BASE + u64::from(master % 16)
+}
+
+/// The byte that is written in a turn and read in the next.
+fn value(turn: usize) -> u8 {
+    (turn / 2 % 251) as u8
+}
+
+/// A write in each even turn, and a read of what was written in each odd one.
+fn ask_of(master: u16, turn: usize) -> Result<Ask, AskFault> {
+    if turn % 2 == 1 {
+        return read(home(master));
+    }
+    let bytes = [Some(value(turn))];
+    Ask::new(AskOp::PutFull, 0, 0, home(master), &bytes)
+}
+
+/// Whether it is the reply to the request of this turn.
+fn is_right(reply: &Reply, master: u16, turn: usize) -> bool {
+    let mine = reply.source() == master && reply.size() == 0 && !reply.denied();
+    if turn % 2 == 1 {
+        mine && reply.op() == ReplyOp::AccessAckData && reply.bytes() == [value(turn)].as_slice()
+    } else {
+        mine && reply.op() == ReplyOp::AccessAck
+    }
+}
+
+/// How many turns of a master had the right reply.
+fn work(client: &mut Client, master: u16) -> usize {
+    let mut right = 0;
+    for turn in 0..TURNS {
+        let Ok(ask) = ask_of(master, turn) else {
+            return right;
+        };
+        match client.turn(&ask, turn / 2 % 2) {
+            Some(reply) if is_right(&reply, master, turn) => right += 1,
+            _ => return right,
+        }
+    }
+    right
+}
+
+#[test]
+fn every_reply_of_two_masters_at_two_ports_is_right(rt: HostRuntime) -> Result<(), Fail> {
+    let Floor {
+        arena,
+        sources,
+        mut masters,
+        mut ports,
+        mut banks,
+    } = open_floor(rt.alloc(), 3)?;
+    let mut second = client(&arena, &sources, &mut masters)?;
+    let mut first = client(&arena, &sources, &mut masters)?;
+    let mut far = shop(&arena, &mut ports, &mut banks)?;
+    let mut near = shop(&arena, &mut ports, &mut banks)?;
+    let (one, (two, _)) = join(
+        &rt,
+        || work(&mut first, 0),
+        || {
+            join(
+                &rt,
+                || work(&mut second, 1),
+                || join(&rt, || near.serve(TURNS), || far.serve(TURNS)),
+            )
+        },
+    );
+    assert_eq!(rt; (one, two), (TURNS, TURNS));
+    Ok(())
+}
+
+#[test]
+fn claims_of_two_threads_are_of_four_slots(rt: HostRuntime) -> Result<(), Fail> {
+    let Floor {
+        arena,
+        sources,
+        mut masters,
+        ports: _,
+        banks: _,
+    } = open_floor(rt.alloc(), 4)?;
+    let mut second = client(&arena, &sources, &mut masters)?;
+    let mut first = client(&arena, &sources, &mut masters)?;
+    let (one, two) = join(&rt, || first.claim_two(), || second.claim_two());
+    for slot in 0..4 {
+        let times = one
+            .iter()
+            .chain(two.iter())
+            .filter(|s| **s == Some(slot))
+            .count();
+        assert_eq!(rt; times, 1);
+    }
+    Ok(())
+}

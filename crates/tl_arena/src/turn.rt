@@ -1,0 +1,143 @@
+//! The values of a turn: each is moved on by the next call of its turn.
+ghost use Rattle.std.specs.Prelude.{◌≡◌};
+
+use std::marker::Model;
+use tl_types::{Ask, Reply};
+
+/// A slot that is to be filled. It has no `Drop`: it must be posted.
+pub struct Claim {
+    pub(crate) slot: usize,
+}
+
+impl Model for Claim {
+    ghost use Rattle.std.specs.Prelude.{ℕ};
+
+    ghost Value = { ℕ };
+
+    ghost view = { λ c. c.slot };
+}
+
+impl Claim {
+    /// The slot's number.
+    pub fn slot(&self) -> usize
+        ensures { result ≡ self.now }
+    {
+        self.slot
+    }
+}
+
+/// A request that was posted.
+#[derive(Drop)]
+pub struct Ticket {
+    pub(crate) slot: usize,
+    pub(crate) ask: Ask,
+    pub(crate) port: usize,
+    pub(crate) known: usize,
+}
+
+impl Model for Ticket {
+    ghost use Rattle.std.specs.Prelude.{◌≤◌};
+    ghost use Rattle.tl_slots.specs.declared.word.TheConstants.{MAX_AGENT};
+    ghost use Rattle.tl_arena.specs.Views.{TicketView};
+
+    ghost Value = { TicketView };
+
+    ghost view = { λ t. record { slot = t.slot; ask = t.ask; port = t.port; known = t.known } };
+
+    ghost invariant = { λ t. t.port ≤ MAX_AGENT };
+}
+
+impl Ticket {
+    /// The slot's number.
+    pub fn slot(&self) -> usize
+        ensures { result ≡ self.now.slot }
+    {
+        self.slot
+    }
+}
+
+/// A reply that was collected. It has no `Drop`: its slot must be released.
+pub struct Served {
+    pub(crate) slot: usize,
+    pub(crate) ask: Ask,
+    pub(crate) port: usize,
+    pub(crate) index: usize,
+    pub(crate) reply: Reply,
+}
+
+impl Model for Served {
+    ghost use Rattle.tl_arena.specs.Views.{ServedView};
+
+    ghost Value = { ServedView };
+
+    ghost view = { λ s. record { slot = s.slot; ask = s.ask; port = s.port; index = s.index; reply = s.reply } };
+}
+
+impl Served {
+    /// The slot's number.
+    pub fn slot(&self) -> usize
+        ensures { result ≡ self.now.slot }
+    {
+        self.slot
+    }
+
+    /// The request, with its wide source.
+    pub fn ask(&self) -> &Ask
+        ensures { result.now ≡ self.now.ask }
+    {
+        &self.ask
+    }
+
+    /// The reply, with the wide source.
+    pub fn reply(&self) -> &Reply
+        ensures { result.now ≡ self.now.reply }
+    {
+        &self.reply
+    }
+
+    /// The port that served it.
+    pub fn port(&self) -> usize
+        ensures { result ≡ self.now.port }
+    {
+        self.port
+    }
+
+    /// The reply's place in the port's list.
+    pub fn index(&self) -> usize
+        ensures { result ≡ self.now.index }
+    {
+        self.index
+    }
+}
+
+/// A request that a port has accepted.
+#[derive(Drop)]
+pub struct Accepted {
+    pub(crate) slot: usize,
+    pub(crate) ask: Ask,
+}
+
+impl Model for Accepted {
+    ghost use Rattle.std.specs.Prelude.{ℕ};
+    ghost use Rattle.tl_types.specs.Request.{Request};
+
+    ghost Value = { ℕ × Request };
+
+    ghost view = { λ a. (a.slot, a.ask) };
+}
+
+impl Accepted {
+    /// The slot's number.
+    pub fn slot(&self) -> usize
+        ensures { result ≡ self.now.0 }
+    {
+        self.slot
+    }
+
+    /// The request, with its wide source.
+    pub fn ask(&self) -> &Ask
+        ensures { result.now ≡ self.now.1 }
+    {
+        &self.ask
+    }
+}
