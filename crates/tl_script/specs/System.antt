@@ -1,10 +1,11 @@
 -- What a script describes.
-use Rattle.std.specs.Prelude.{◌≡◌, ℕ, ◌<◌, ◌≤◌, List, map, length, All, Option, Some, None, Vec, slice_get}
+use Rattle.std.specs.Prelude.{◌≡◌, ℕ, ◌<◌, ◌≤◌, List, [], ◌∷◌, ◌++◌, map, length, All, Option, Some, None, Vec, slice_get}
 use Rattle.std.specs.List.{filter_map}
 use Rattle.std.specs.Global.{Global}
 use Rattle.tl_types.specs.Request.{Request}
 use Rattle.tl_types.specs.declared.limits.TheConstants.{MAX_SLOTS}
 use Rattle.tl_ops.specs.Store.{Store}
+use Rattle.tl_ops.specs.declared.kind.Kind.TheVariants.{NoDevice}
 use Rattle.tl_ops.specs.declared.bank.TheConstants.{MAX_LENGTH}
 use Rattle.tl_map.specs.declared.map.Range.{Range}
 use Rattle.tl_script.specs.declared.operation.Job.{Job}
@@ -33,6 +34,14 @@ lists_of vectors = map (λ vector. vector.items) vectors
 abbrev pub described : ℕ → List Device → List ℕ → List Range → List (Vec Job Global) → System
 described slots devices counts ranges jobs =
     record { slots = slots; stores = map store_of devices; counts = counts; ranges = ranges; jobs = lists_of jobs }
+
+-- the slave behind the error port: it holds nothing and denies everything
+abbrev pub error_store : Store
+error_store = record { kind = NoDevice; base = 0; bytes = [] }
+
+-- the slave of each port at reset, the error port last
+abbrev pub resets : System → List Store
+resets s = s.stores ++ error_store ∷ []
 
 -- the addresses of a slave's bytes
 abbrev pub range_of : Store → Range

@@ -18,7 +18,8 @@ use Rattle.tl_map.specs.declared.map.Range.{Range}
 use Rattle.tl_map.specs.Block.{IsWide}
 use Rattle.tl_script.specs.System.{System, IsLawfulSystem, range_of, sends}
 use Rattle.tl_script.specs.Trace.{trace_text}
-use Rattle.tlx.specs.Serial.{error_store, at_port, requests_at, resets, log_of, IsServedAfter, AreServedInTurn, IsWidened, IsHistoryOf}
+use Rattle.tlx.specs.Serial.{at_port, requests_at, log_of, IsServedAfter, AreServedInTurn, IsWidened, IsHistoryOf}
+use Rattle.tl_script.specs.System.{error_store, resets}
 use Rattle.tlx.specs.Run.{IsSerialText}
 use Rattle.tlx.specs.Slave.{AreWritten, HasServed, HaveWide, IsFresh, Stand, bank_of, history_of, kept_by}
 use Rattle.tlx.specs.declared.serial.Slave.{Slave}

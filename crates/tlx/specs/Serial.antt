@@ -5,10 +5,9 @@ use Rattle.tl_types.specs.Response.{Response}
 use Rattle.tl_types.specs.declared.trace.Entry.{Entry}
 use Rattle.tl_ops.specs.Store.{Store, reply}
 use Rattle.tl_ops.specs.History.{replay}
-use Rattle.tl_ops.specs.declared.kind.Kind.TheVariants.{NoDevice}
 use Rattle.tl_map.specs.Map.{Routes}
 use Rattle.tl_map.specs.Block.{IsWide}
-use Rattle.tl_script.specs.System.{System, sends}
+use Rattle.tl_script.specs.System.{System, sends, resets}
 
 -- ---- the entries of a run, in the order served
 
@@ -34,14 +33,6 @@ abbrev pub requests_at : ℕ → List (ℕ × Entry) → List Request
 requests_at port log = map (λ (e : ℕ × Entry). e.1.ask) (at_port port log)
 
 -- ---- what each entry is
-
--- the slave behind the error port: it holds nothing and denies everything
-abbrev pub error_store : Store
-error_store = record { kind = NoDevice; base = 0; bytes = [] }
-
--- the slave of each port at reset, the error port last
-abbrev pub resets : System → List Store
-resets s = s.stores ++ error_store ∷ []
 
 -- the entry is what a request gets after these: at the port that it is routed to, with the number of entries there as
 -- its index, the reply of that port's memory after the requests there

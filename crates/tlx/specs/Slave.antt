@@ -8,7 +8,8 @@ use Rattle.tl_ops.specs.Store.{Store}
 use Rattle.tl_ops.specs.History.{replay}
 use Rattle.tl_script.specs.System.{System, sends}
 use Rattle.tl_script.specs.Trace.{trace_text}
-use Rattle.tlx.specs.Serial.{resets, requests_at, at_port, asks_in, log_of, AreServedInTurn, IsHistoryOf}
+use Rattle.tlx.specs.Serial.{requests_at, at_port, asks_in, log_of, AreServedInTurn, IsHistoryOf}
+use Rattle.tl_script.specs.System.{resets}
 use Rattle.tlx.specs.declared.serial.Slave.{Slave}
 
 -- what a slave port holds

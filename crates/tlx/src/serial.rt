@@ -3,7 +3,8 @@ ghost use Rattle.std.specs.Prelude.{◌≡◌, ◌++◌, ◌∷◌, [], ◌+◌,
 ghost use Rattle.tl_types.specs.declared.trace.Entry.{Entry};
 ghost use Rattle.tl_ops.specs.Store.{after, reply};
 ghost use Rattle.tl_script.specs.System.{System, sends, lists_of, store_of};
-ghost use Rattle.tlx.specs.Serial.{IsSerialRun, numbered, asks_in, log_of, error_store};
+ghost use Rattle.tlx.specs.Serial.{IsSerialRun, numbered, asks_in, log_of};
+ghost use Rattle.tl_script.specs.System.{error_store};
 ghost use Rattle.tlx.specs.Run.{IsSerialText};
 ghost use Rattle.tlx.specs.Slave.{AreWritten, Stand, IsFresh, bank_of, history_of, kept_by};
 

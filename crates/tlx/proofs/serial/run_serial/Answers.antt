@@ -2,7 +2,8 @@ use Rattle.std.proofs.Common.{rules, ◌≡◌, ◌∙◌, ◌++◌, ◌∷◌, 
 use Rattle.std.proofs.lemmas.List.{length-map, take_at}
 use Rattle.tl_ops.specs.Store.{Store}
 use Rattle.tl_script.specs.System.{lists_of}
-use Rattle.tlx.specs.Serial.{log_of, resets, error_store}
+use Rattle.tlx.specs.Serial.{log_of}
+use Rattle.tl_script.specs.System.{resets, error_store}
 use Rattle.tlx.specs.Slave.{Stand, bank_of, history_of}
 use Rattle.tlx.proofs.Serving.{stand_fresh, histories_are}
 use Rattle.tlx.proofs.serial.run_serial.Goals as goal

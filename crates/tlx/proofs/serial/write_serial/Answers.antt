@@ -2,7 +2,7 @@
 use Rattle.std.proofs.Common.{◌≡◌, ◌∙◌, ◌++◌, ◌∷◌, [], false, List, map, string_bytes, ap}
 use Rattle.tl_ops.specs.Store.{Store}
 use Rattle.tlx.specs.Run.{IsSerialText}
-use Rattle.tlx.specs.Serial.{resets, error_store}
+use Rattle.tl_script.specs.System.{resets, error_store}
 use Rattle.tlx.specs.Slave.{Stand, bank_of}
 use Rattle.tlx.proofs.Serving.{serial_text_is, stand_fresh}
 use Rattle.tlx.proofs.serial.write_serial.Goals as goal

@@ -1,0 +1,4 @@
+pub mod Hands
+pub mod Keeping
+pub mod Turns
+pub mod Starting

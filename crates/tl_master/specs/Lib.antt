@@ -1,0 +1,3 @@
+pub mod Master
+pub mod Steps
+pub mod Kept

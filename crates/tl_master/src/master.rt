@@ -1,0 +1,271 @@
+//! One master.
+ghost use Rattle.std.specs.Prelude.{◌≡◌, ◌+◌, ◌<◌, ◌≤◌, [], length, IfOk, IfErr, replicate};
+ghost use Rattle.std.specs.Prelude as std;
+ghost use Rattle.tl_rule.specs.declared.view.Held.TheVariants.{Filled, Sent};
+ghost use Rattle.tl_rule.specs.Views.{Owns};
+ghost use Rattle.tl_arena.specs.Views.{owned_of, in_hand, with_held};
+ghost use Rattle.tl_arena.specs.Promises.{IsUnsent, OwnsHistories};
+ghost use Rattle.tl_master.specs.Master.{new_state, count_of, out_of, IsInOrder, AreWidened, asks_of, of_source, asked};
+ghost use Rattle.tl_master.specs.Steps.{IsPosted, IsReply, Issues, Polls, AsksMore, AsksSame};
+
+use std::alloc::{AllocError, Global};
+use std::marker::Model;
+use thiserror::Error;
+use tl_arena::{Arena, Claim, MasterSeat, Ticket};
+use tl_map::{Map, Sources};
+use tl_types::{Ask, Entry, Trace};
+
+/// Where a request was posted: its slot, and the port that the map gives it.
+#[derive(Debug, Clone, Copy, PartialEq, Eq)]
+pub struct Issued {
+    pub slot: usize,
+    pub port: usize,
+}
+
+/// Why a request was not issued, in the order in which the refusals are tried.
+#[derive(Debug, Clone, Copy, PartialEq, Eq, Error)]
+pub enum IssueFault {
+    #[error("the master has no such source")]
+    NoSuchSource,
+    #[error("a request of this source is out")]
+    SourceBusy,
+    #[error("entries and requests out fill the trace")]
+    TraceFull,
+    #[error("no slot was found free")]
+    NoSlot,
+}
+
+/// What a poll found.
+#[derive(Debug, Clone, Copy, PartialEq, Eq)]
+pub enum Polled {
+    /// Nothing is out for the source.
+    Idle,
+    /// What is out for the source is not answered yet.
+    NotYet,
+    /// The reply is in the trace, at this place.
+    Done(usize),
+}
+
+/// A master: its seat, the start of its wide sources, what is out for each of its sources, and its trace.
+#[derive(Drop)]
+pub struct Master {
+    seat: MasterSeat,
+    start: u16,
+    out: Vec<Option<Ticket>>,
+    count: usize,
+    limit: usize,
+    trace: Trace,
+}
+
+impl Model for Master {
+    ghost use Rattle.std.specs.Prelude.{◌≡◌, ◌≤◌, vec_capacity};
+    ghost use Rattle.tl_master.specs.Master.{MasterState};
+    ghost use Rattle.tl_master.specs.Kept.{IsKeptMaster};
+
+    ghost Value = { MasterState };
+
+    ghost view = { λ m. record { seat = m.seat; out = m.out.items; trace = m.trace.items; limit = m.limit } };
+
+    ghost invariant = { λ m. IsKeptMaster (record { seat = m.seat; out = m.out.items; trace = m.trace.items; limit = m.limit }) m.start m.count × (m.limit ≤ vec_capacity m.trace) };
+}
+
+impl Master {
+    /// A master with nothing out and an empty trace, with room for `limit` entries and for one request out a source.
+    /// Where memory is refused the seat comes back.
+    pub fn new(
+        alloc: Global,
+        seat: MasterSeat,
+        sources: &Sources,
+        limit: usize,
+    ) -> Result<Master, MasterSeat>
+        requires owned { owned_of seat ≡ 0 }
+        requires collected { seat.got ≡ [] }
+        requires sources { sources.now ≡ seat.arena.about.counts }
+        ensures ok { IfOk result (λ master. master ≡ new_state seat limit) }
+        ensures err { IfErr result (λ back. back ≡ seat) }
+    {
+        let number = seat.number();
+        let sources_own = sources.count(number).unwrap_or(0);
+        let start = sources.widen(number, 0).unwrap_or(0);
+        let Ok(out) = nothing_out(alloc, sources_own as usize) else {
+            return Err(seat);
+        };
+        let Ok(trace) = Vec::with_capacity(alloc, limit) else {
+            return Err(seat);
+        };
+        Ok(Master {
+            seat,
+            start,
+            out,
+            count: 0,
+            limit,
+            trace,
+        })
+    }
+
+    /// Posts a request of one of the master's sources, with its source widened, to the port that the map gives it.
+    pub fn issue(&mut self, arena: &Arena, map: &Map, ask: &Ask) -> Result<Issued, IssueFault>
+        requires arena { self.old.seat.arena ≡ arena.now }
+        requires ports { length map.now + 1 ≤ arena.now.about.ports }
+        ensures issues { Issues map.now self.old ask.now result self.new }
+        ensures asked { IfOk result (λ _. AsksMore self.old ask.now self.new) }
+    {
+        let source = ask.source() as usize;
+        if source >= self.out.len() {
+            return Err(IssueFault::NoSuchSource);
+        }
+        if self.out[source].is_some() {
+            return Err(IssueFault::SourceBusy);
+        }
+        if self.trace.len() + self.count == self.limit {
+            return Err(IssueFault::TraceFull);
+        }
+        let Some(claim) = arena.claim(&mut self.seat) else {
+            return Err(IssueFault::NoSlot);
+        };
+        let wide = self.start + ask.source();
+        let (ticket, issued) = post_routed(arena, &mut self.seat, claim, map, ask, wide);
+        self.out[source] = Some(ticket);
+        self.count += 1;
+        Ok(issued)
+    }
+
+    /// Collects the reply to what is out for a source, where it is there: appends its entry, with the master's own
+    /// source, and releases its slot.
+    pub fn poll(&mut self, arena: &Arena, source: u16) -> Polled
+        requires arena { self.old.seat.arena ≡ arena.now }
+        ensures polls { Polls self.old source result self.new }
+        ensures asked { AsksSame self.old self.new }
+    {
+        let at = source as usize;
+        if at >= self.out.len() {
+            return Polled::Idle;
+        }
+        let Some(ticket) = self.out[at].take() else {
+            return Polled::Idle;
+        };
+        match collect_entry(arena, &mut self.seat, ticket, source) {
+            Err(ticket) => {
+                self.out[at] = Some(ticket);
+                Polled::NotYet
+            }
+            Ok(entry) => {
+                let place = self.trace.len();
+                self.trace.push_reserved(entry);
+                self.count -= 1;
+                Polled::Done(place)
+            }
+        }
+    }
+
+    /// How many requests are out.
+    pub fn out(&self) -> usize
+        ensures { result ≡ out_of self.now.out }
+    {
+        self.count
+    }
+
+    /// How many sources the master has.
+    pub fn sources(&self) -> usize
+        ensures value { result ≡ length self.now.out }
+        ensures counted { result ≡ count_of self.now.seat.arena.about.counts self.now.seat.number }
+    {
+        self.out.len()
+    }
+
+    /// How many entries the trace has.
+    pub fn trace_len(&self) -> usize
+        ensures value { result ≡ length self.now.trace }
+        ensures room { result + out_of self.now.out ≤ self.now.limit }
+    {
+        self.trace.len()
+    }
+
+    /// The master's number.
+    pub fn number(&self) -> usize
+        ensures value { result ≡ self.now.seat.number }
+        ensures known { result < self.now.seat.arena.about.masters }
+    {
+        self.seat.number()
+    }
+
+    /// Leaves the arena, and gives the trace: the entries in the order collected.
+    pub fn finish(self, arena: &Arena) -> Trace
+        requires arena { self.seat.arena ≡ arena.now }
+        requires none { out_of self.out ≡ 0 }
+        ensures trace { result.items ≡ self.trace }
+        ensures order { IsInOrder result.items }
+        ensures widened { AreWidened self.seat.arena.about.counts self.seat.number result.items self.seat.got }
+        ensures own { OwnsHistories self.seat }
+    {
+        let Master {
+            seat,
+            start: _,
+            out: _,
+            count: _,
+            limit: _,
+            trace,
+        } = self;
+        arena.leave(seat);
+        trace
+    }
+}
+
+/// Posts a request from a wide source to the port that the map gives it.
+fn post_routed(
+    arena: &Arena,
+    seat: &mut MasterSeat,
+    claim: Claim,
+    map: &Map,
+    ask: &Ask,
+    wide: u16,
+) -> (Ticket, Issued)
+    requires arena { seat.old.arena ≡ arena.now }
+    requires claim { in_hand seat.old claim ≡ Filled }
+    requires source { Owns arena.now.about seat.old.number wide }
+    requires unsent { IsUnsent seat.old wide }
+    requires ports { length map.now + 1 ≤ arena.now.about.ports }
+    ensures posted { IsPosted map.now ask.now wide seat.old claim result.0 result.1 }
+    ensures seat { seat.new ≡ with_held seat.old claim (Sent result.0.ask result.0.port result.0.known) }
+{
+    let port = map.route(ask);
+    let ticket = arena.post(seat, claim, &ask.with_source(wide), port);
+    let slot = ticket.slot();
+    (ticket, Issued { slot, port })
+}
+
+/// Collects the reply to what was posted, where it is there, and releases its slot. The entry has the master's own
+/// source.
+fn collect_entry(
+    arena: &Arena,
+    seat: &mut MasterSeat,
+    ticket: Ticket,
+    source: u16,
+) -> Result<Entry, Ticket>
+    requires arena { seat.old.arena ≡ arena.now }
+    requires ticket { in_hand seat.old ticket.slot ≡ Sent ticket.ask ticket.port ticket.known }
+    requires room { length seat.old.got < usize.MAX }
+    ensures ok { IfOk result (λ entry. IsReply seat.old ticket source entry seat.new) }
+    ensures err { IfErr result (λ back. (back ≡ ticket) × (seat.new ≡ seat.old)) }
+{
+    let served = arena.collect(seat, ticket)?;
+    let entry = Entry {
+        ask: served.ask().with_source(source),
+        reply: served.reply().with_source(source),
+        port: served.port(),
+        index: served.index(),
+    };
+    arena.release(seat, served);
+    Ok(entry)
+}
+
+/// Nothing out, for each of these sources.
+fn nothing_out(alloc: Global, sources: usize) -> Result<Vec<Option<Ticket>>, AllocError>
+    ensures { IfOk result (λ out. out.items ≡ replicate sources std.None) }
+{
+    let mut out = Vec::with_capacity(alloc, sources)?;
+    for _ in 0..sources {
+        out.push(None)?;
+    }
+    Ok(out)
+}

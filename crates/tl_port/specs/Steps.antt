@@ -1,0 +1,83 @@
+-- What the calls of a book do to it. All of it is this project's own.
+use Rattle.std.specs.Prelude.{◌≡◌, ℕ, ◌++◌, List, [], ◌∷◌, length, Option, Some, None}
+use Rattle.tl_types.specs.Request.{Request}
+use Rattle.tl_ops.specs.Store.{after, reply}
+use Rattle.tl_arena.specs.Views.{PortView, with_accepted, with_answered}
+use Rattle.tl_port.specs.declared.book.Intake.{Intake}
+use Rattle.tl_port.specs.declared.book.Intake.TheVariants.{Taken, Nothing, JournalFull}
+use Rattle.tl_port.specs.declared.book.Step.{Step}
+use Rattle.tl_port.specs.Book.{BookView}
+
+-- ---- intake
+
+-- these are the slots to look at, and all else is as it was
+abbrev pub with_waiting : BookView → List ℕ → BookView
+with_waiting b waiting = record { seat = b.seat; store = b.store; history = b.history; flights = b.flights; waiting = waiting; journal = b.journal }
+
+-- the slot with its request is the last in flight, these slots are left to look at, and all else is as it was
+abbrev pub with_flight : BookView → ℕ × Request → List ℕ → BookView
+with_flight b f waiting = record { seat = with_accepted b.seat f; store = b.store; history = b.history; flights = b.flights ++ f ∷ []; waiting = waiting; journal = b.journal }
+
+-- of the slots to look at the oldest were tried, up to the one whose request was accepted, and these are left
+pub record IsTried (waiting : List ℕ) (slot : ℕ) (left : List ℕ) : Type 0 where
+  pub before : List ℕ
+  pub is : waiting ≡ before ++ slot ∷ left
+
+-- one request of this source is accepted, from one of the slots to look at, and joins the end of what is in flight
+pub record AcceptsOne (u : PortView) (waiting : List ℕ) (flights : List (ℕ × Request)) (source : ℕ) (v : PortView) (left : List ℕ) (more : List (ℕ × Request)) : Type 0 where
+  pub flight : ℕ × Request
+  pub source_is : flight.1.source ≡ source
+  pub tried : IsTried waiting flight.0 left
+  pub seat : v ≡ with_accepted u flight
+  pub pushed : more ≡ flights ++ flight ∷ []
+
+-- one request of this source is taken, from one of the slots to look at
+pub record TakesOne (b : BookView) (source : ℕ) (c : BookView) : Type 0 where
+  pub flight : ℕ × Request
+  pub source_is : flight.1.source ≡ source
+  pub tried : IsTried b.waiting flight.0 c.waiting
+  pub book : c ≡ with_flight b flight c.waiting
+
+abbrev pub Takes : BookView → Intake → BookView → Type 0
+Takes b (Taken source) c = TakesOne b source c
+Takes b Nothing c = c ≡ with_waiting b []
+Takes b JournalFull c = c ≡ b
+
+-- ---- service
+
+-- the request in flight is answered by the memory and is the last of the history, these are left in flight, and all
+-- else is as it was
+abbrev pub with_served : BookView → ℕ × Request → List (ℕ × Request) → BookView
+with_served b f left = record {
+  seat = with_answered b.seat f (reply b.store f.1);
+  store = after b.store f.1;
+  history = b.history ++ (f.1, reply b.store f.1) ∷ [];
+  flights = left;
+  waiting = b.waiting;
+  journal = b.journal;
+}
+
+-- the oldest request in flight is served, and this is its place in the history
+pub record ServesOne (b : BookView) (place : ℕ) (c : BookView) : Type 0 where
+  pub flight : ℕ × Request
+  pub oldest : b.flights ≡ flight ∷ c.flights
+  pub place_is : place ≡ length b.history
+  pub book : c ≡ with_served b flight c.flights
+
+abbrev pub Serves : BookView → Option ℕ → BookView → Type 0
+Serves b None c = (b.flights ≡ []) × (c ≡ b)
+Serves b (Some place) c = ServesOne b place c
+
+-- ---- both
+
+-- the source of the oldest request in flight
+abbrev pub oldest_source : List (ℕ × Request) → Option ℕ
+oldest_source [] = None
+oldest_source (f ∷ fs) = Some f.1.source
+
+-- an intake, and then a service
+pub record TakesAndServes (b : BookView) (step : Step) (c : BookView) : Type 0 where
+  pub between : BookView
+  pub takes : Takes b step.intake between
+  pub serves : Serves between step.index c
+  pub source : step.source ≡ oldest_source between.flights

@@ -1,0 +1,304 @@
+//! What a port has served, and what it is serving.
+ghost use Rattle.std.specs.Prelude.{◌≡◌, ◌+◌, ◌-◌, ◌<◌, ◌≤◌, ◌↔◌, ◌++◌, ◌∷◌, [], length, vec_len, vec_capacity, IsTrue, IfOk, IfErr, IfSome, IfNone, slice_get, option_map};
+ghost use Rattle.std.specs.Prelude as std;
+ghost use Rattle.std.specs.VecDeque.{deque_capacity};
+ghost use Rattle.tl_ops.specs.Store.{after, reply};
+ghost use Rattle.tl_rule.specs.Serving.{ask_at};
+ghost use Rattle.tl_rule.specs.Views.{reset_of};
+ghost use Rattle.tl_arena.specs.Views.{with_accepted, with_answered};
+ghost use Rattle.tl_arena.specs.Promises.{IsLawfulPort, memory_of};
+ghost use Rattle.tl_port.specs.declared.book.Intake.TheVariants.{JournalFull};
+ghost use Rattle.tl_port.specs.Book.{IsLawfulBook, new_book};
+ghost use Rattle.tl_port.specs.Steps.{IsTried, AcceptsOne, Takes, Serves, TakesAndServes, with_waiting};
+
+use std::alloc::Global;
+use std::collections::VecDeque;
+use std::marker::Model;
+use tl_arena::{Accepted, Arena, PortSeat};
+use tl_ops::Bank;
+use tl_types::{Ask, Reply};
+
+/// What an intake found.
+#[derive(Debug, Clone, Copy, PartialEq, Eq)]
+pub enum Intake {
+    /// A request of this wide source is in flight now.
+    Taken(u16),
+    /// None of the slots to look at had a request for the port.
+    Nothing,
+    /// There is no room for the entry of one more request.
+    JournalFull,
+}
+
+/// A request in flight: its wide source, and the slot that it owns.
+#[derive(Debug, Clone, Copy, PartialEq, Eq)]
+pub struct Flight {
+    pub source: u16,
+    pub slot: usize,
+}
+
+/// What one step did: its intake, and the place in the history and the wide source of the request that it served.
+#[derive(Debug, Clone, Copy, PartialEq, Eq)]
+pub struct Step {
+    pub intake: Intake,
+    pub index: Option<usize>,
+    pub source: Option<u16>,
+}
+
+/// There was no memory for a book: its bank and its seat.
+#[derive(Drop)]
+pub struct NoBook {
+    pub bank: Bank,
+    pub seat: PortSeat,
+}
+
+/// One port's memory, all that it has served, what it is serving, and the slots to look at.
+#[derive(Drop)]
+pub struct Book {
+    bank: Bank,
+    seat: PortSeat,
+    slots: usize,
+    journal: usize,
+    history: Vec<(Ask, Reply)>,
+    flights: VecDeque<Accepted>,
+    waiting: VecDeque<usize>,
+}
+
+impl Model for Book {
+    ghost use Rattle.std.specs.Prelude.{◌≡◌, ◌≤◌, length, vec_capacity};
+    ghost use Rattle.std.specs.VecDeque.{deque_capacity};
+    ghost use Rattle.tl_port.specs.Book.{BookView};
+    ghost use Rattle.tl_port.specs.Kept.{IsKeptBook};
+
+    ghost Value = { BookView };
+
+    ghost view = { λ b. record { seat = b.seat; store = b.bank; history = b.history.items; flights = b.flights.items; waiting = b.waiting.items; journal = b.journal } };
+
+    ghost invariant = { λ b. IsKeptBook (record { seat = b.seat; store = b.bank; history = b.history.items; flights = b.flights.items; waiting = b.waiting.items; journal = b.journal }) b.slots (vec_capacity b.history) (deque_capacity b.flights) (deque_capacity b.waiting) };
+}
+
+impl Book {
+    /// A book with nothing served, with room for `journal` entries and, of each, for `slots` requests in flight and
+    /// slots to look at. Where memory is refused, bank and seat come back.
+    pub fn new(
+        alloc: Global,
+        bank: Bank,
+        seat: PortSeat,
+        slots: usize,
+        journal: usize,
+    ) -> Result<Book, NoBook>
+        requires reset { bank ≡ reset_of seat.arena.about seat.number }
+        requires served { seat.list ≡ [] }
+        requires serving { seat.serving ≡ [] }
+        requires slots { slots ≡ seat.arena.about.slots }
+        ensures ok { IfOk result (λ book. book ≡ new_book seat bank journal) }
+        ensures err { IfErr result (λ e. (e.bank ≡ bank) × (e.seat ≡ seat)) }
+    {
+        let Ok(history) = Vec::with_capacity(alloc, journal) else {
+            return Err(NoBook { bank, seat });
+        };
+        let Ok(flights) = VecDeque::with_capacity(alloc, slots) else {
+            return Err(NoBook { bank, seat });
+        };
+        let Ok(waiting) = VecDeque::with_capacity(alloc, slots) else {
+            return Err(NoBook { bank, seat });
+        };
+        Ok(Book {
+            bank,
+            seat,
+            slots,
+            journal,
+            history,
+            flights,
+            waiting,
+        })
+    }
+
+    /// Puts a slot at the end of those to look at. False, with nothing changed, where there are as many as slots.
+    pub fn hint(&mut self, slot: usize) -> bool
+        ensures room { IsTrue result ↔ (length self.old.waiting < self.old.seat.arena.about.slots) }
+        ensures hinted { IsTrue result → self.new ≡ with_waiting self.old (self.old.waiting ++ slot ∷ []) }
+        ensures refused { result ≡ std.false → self.new ≡ self.old }
+    {
+        if self.waiting.len() == self.slots {
+            return false;
+        }
+        self.waiting.push_back_reserved(slot);
+        true
+    }
+
+    /// Takes one request that is posted to this port: it tries the oldest slots to look at, and drops each that it
+    /// tried, until a request is accepted or no slot is left. Where the journal is full it looks at none.
+    pub fn intake(&mut self, arena: &Arena) -> Intake
+        requires arena { self.old.seat.arena ≡ arena.now }
+        ensures takes { Takes self.old result self.new }
+        ensures full { (result ≡ JournalFull) ↔ (length self.old.history + length self.old.flights ≡ self.old.journal) }
+    {
+        if self.history.len() + self.flights.len() == self.journal {
+            return Intake::JournalFull;
+        }
+        let Some(source) = take_hinted(arena, &mut self.seat, &mut self.waiting, &mut self.flights)
+        else {
+            return Intake::Nothing;
+        };
+        Intake::Taken(source)
+    }
+
+    /// Serves the oldest request in flight and answers its slot. The answer is its place in the history; None where
+    /// nothing is in flight.
+    pub fn serve(&mut self, arena: &Arena) -> Option<usize>
+        requires arena { self.old.seat.arena ≡ arena.now }
+        ensures { Serves self.old result self.new }
+    {
+        let Some(accepted) = self.flights.pop_front() else {
+            return None;
+        };
+        let place = self.history.len();
+        answer_by(
+            arena,
+            &mut self.seat,
+            &mut self.bank,
+            &mut self.history,
+            accepted,
+        );
+        Some(place)
+    }
+
+    /// An intake, and then a service.
+    pub(crate) fn step(&mut self, arena: &Arena) -> Step
+        requires arena { self.old.seat.arena ≡ arena.now }
+        ensures { TakesAndServes self.old result self.new }
+    {
+        let intake = self.intake(arena);
+        let source = self.in_flight(0).map(|flight| flight.source);
+        let index = self.serve(arena);
+        Step {
+            intake,
+            index,
+            source,
+        }
+    }
+
+    /// How many requests are in flight.
+    pub fn in_flight_len(&self) -> usize
+        ensures value { result ≡ length self.now.flights }
+        ensures lawful { IsLawfulBook self.now }
+    {
+        self.flights.len()
+    }
+
+    /// The request in flight at a place, the oldest first.
+    pub fn in_flight(&self, place: usize) -> Option<Flight>
+        ensures value { result ≡ option_map (λ f. record { source = f.1.source; slot = f.0 }) (slice_get self.now.flights place) }
+        ensures lawful { IsLawfulBook self.now }
+    {
+        let accepted = self.flights.get(place)?;
+        Some(Flight {
+            source: accepted.ask().source(),
+            slot: accepted.slot(),
+        })
+    }
+
+    /// How many requests were served.
+    pub fn history_len(&self) -> usize
+        ensures value { result ≡ length self.now.history }
+        ensures lawful { IsLawfulBook self.now }
+    {
+        self.history.len()
+    }
+
+    /// The request that was served at a place, with its wide source, and its reply.
+    pub fn entry(&self, place: usize) -> Option<(&Ask, &Reply)>
+        ensures some { IfSome result (λ e. slice_get self.now.history place ≡ std.Some (e.0.now, e.1.now)) }
+        ensures none { IfNone result (length self.now.history ≤ place) }
+        ensures lawful { IsLawfulBook self.now }
+    {
+        let (ask, reply) = self.history.get(place)?;
+        Some((ask, reply))
+    }
+
+    /// The port's number.
+    pub fn number(&self) -> usize
+        ensures value { result ≡ self.now.seat.number }
+        ensures known { result < self.now.seat.arena.about.ports }
+        ensures lawful { IsLawfulBook self.now }
+    {
+        self.seat.number()
+    }
+
+    /// The byte of the port's memory at an address, where there is one.
+    pub fn byte(&self, address: u64) -> Option<u8>
+        ensures inside { self.now.store.base ≤ address → result ≡ slice_get self.now.store.bytes (address - self.now.store.base) }
+        ensures below { address < self.now.store.base → result ≡ std.None }
+        ensures lawful { IsLawfulBook self.now }
+    {
+        self.bank.byte(address)
+    }
+}
+
+/// Accepts the request in the oldest of these slots that has one for the port. The slots that were tried go.
+fn accept_hinted(
+    arena: &Arena,
+    seat: &mut PortSeat,
+    waiting: &mut VecDeque<usize>,
+) -> Option<Accepted>
+    requires arena { seat.old.arena ≡ arena.now }
+    ensures some { IfSome result (λ a. (seat.new ≡ with_accepted seat.old a) × IsTried waiting.old.items a.0 waiting.new.items) }
+    ensures none { IfNone result ((seat.new ≡ seat.old) × (waiting.new.items ≡ [])) }
+    ensures law { IsLawfulPort seat.new }
+    ensures capacity { deque_capacity waiting.new ≡ deque_capacity waiting.old }
+{
+    let _number = seat.number();
+    while let Some(slot) = waiting.pop_front() {
+        if let Some(accepted) = arena.accept_at(seat, slot) {
+            return Some(accepted);
+        }
+    }
+    None
+}
+
+/// Accepts the request in the oldest of these slots that has one for the port, puts it at the end of what is in
+/// flight, and answers its wide source. The slots that were tried go.
+fn take_hinted(
+    arena: &Arena,
+    seat: &mut PortSeat,
+    waiting: &mut VecDeque<usize>,
+    flights: &mut VecDeque<Accepted>,
+) -> Option<u16>
+    requires arena { seat.old.arena ≡ arena.now }
+    requires serving { flights.old.items ≡ seat.old.serving }
+    requires room { seat.old.arena.about.slots ≤ deque_capacity flights.old }
+    ensures some { IfSome result (λ source. AcceptsOne seat.old waiting.old.items flights.old.items source seat.new waiting.new.items flights.new.items) }
+    ensures none { IfNone result ((seat.new ≡ seat.old) × (waiting.new.items ≡ []) × (flights.new.items ≡ flights.old.items)) }
+    ensures law { IsLawfulPort seat.new }
+    ensures capacity { (deque_capacity waiting.new ≡ deque_capacity waiting.old) × (deque_capacity flights.new ≡ deque_capacity flights.old) }
+{
+    let accepted = accept_hinted(arena, seat, waiting)?;
+    let source = accepted.ask().source();
+    flights.push_back_reserved(accepted);
+    Some(source)
+}
+
+/// Answers a request by the bank, and puts it with its reply at the end of the history.
+fn answer_by(
+    arena: &Arena,
+    seat: &mut PortSeat,
+    bank: &mut Bank,
+    history: &mut Vec<(Ask, Reply)>,
+    accepted: Accepted,
+)
+    requires arena { seat.old.arena ≡ arena.now }
+    requires accepted { ask_at seat.old.serving accepted.0 ≡ std.Some accepted.1 }
+    requires list { length seat.old.list < usize.MAX }
+    requires memory { bank.old ≡ memory_of seat.old }
+    requires room { vec_len history.old < vec_capacity history.old }
+    ensures seat { seat.new ≡ with_answered seat.old accepted (reply bank.old accepted.1) }
+    ensures law { IsLawfulPort seat.new }
+    ensures bank { bank.new ≡ after bank.old accepted.1 }
+    ensures history { history.new.items ≡ history.old.items ++ (accepted.1, reply bank.old accepted.1) ∷ [] }
+    ensures capacity { vec_capacity history.new ≡ vec_capacity history.old }
+{
+    let ask = accepted.ask().copy();
+    let reply = bank.serve(&ask);
+    arena.answer(seat, accepted, &reply);
+    history.push_reserved((ask, reply));
+}

@@ -1,0 +1,106 @@
+//! A book behind a lock.
+ghost use Rattle.std.specs.Prelude.{◌≡◌};
+ghost use Rattle.tl_port.specs.Book.{IsLawfulBook};
+
+use crate::book::{Book, Intake, Step};
+use std::marker::PhantomData;
+use std::sync::{Mutex, Wait};
+use tl_arena::{Arena, ArenaName};
+
+/// A book of the arena that N names.
+#[derive(Drop)]
+struct Named<N: ArenaName> {
+    book: Book,
+    of: PhantomData<N>,
+    ghost named: { book.seat.arena ≡ N.arena },
+}
+
+impl<N: ArenaName> Named<N> {
+    fn hint(&mut self, slot: usize) -> bool {
+        self.book.hint(slot)
+    }
+
+    fn intake(&mut self, arena: &Arena) -> Intake
+        requires { arena.now ≡ N.arena }
+    {
+        self.book.intake(arena)
+    }
+
+    fn serve(&mut self, arena: &Arena) -> Option<usize>
+        requires { arena.now ≡ N.arena }
+    {
+        self.book.serve(arena)
+    }
+
+    fn step(&mut self, arena: &Arena) -> Step
+        requires { arena.now ≡ N.arena }
+    {
+        self.book.step(arena)
+    }
+}
+
+/// A slave port of the arena that N names. Whenever its lock is free its book is lawful and of that arena.
+///
+/// The calls that take `rt` wait for the lock, and do what the book's calls of the same name do. Once they have given
+/// the lock back nothing is said of what they did: only what the lock keeps is known.
+#[derive(Drop)]
+pub struct Port<N: ArenaName> {
+    lock: Mutex<Named<N>>,
+}
+
+impl<N: ArenaName> Port<N> {
+    /// Puts a book behind a lock.
+    pub fn new(book: Book) -> Port<N>
+        requires { book.seat.arena ≡ N.arena }
+    {
+        Port {
+            lock: Mutex::new(Named {
+                book,
+                of: PhantomData,
+            }),
+        }
+    }
+
+    /// Puts a slot at the end of those that intakes look at. False, with nothing changed, where there are as many as
+    /// slots.
+    pub fn submit(&self, rt: &impl Wait, slot: usize) -> bool {
+        self.lock.lock(rt).hint(slot)
+    }
+
+    /// Takes one request that is posted to the port.
+    pub fn intake(&self, rt: &impl Wait, arena: &Arena) -> Intake
+        requires { arena.now ≡ N.arena }
+    {
+        self.lock.lock(rt).intake(arena)
+    }
+
+    /// Serves the oldest request in flight. The answer is its place in the history.
+    pub fn serve(&self, rt: &impl Wait, arena: &Arena) -> Option<usize>
+        requires { arena.now ≡ N.arena }
+    {
+        self.lock.lock(rt).serve(arena)
+    }
+
+    /// An intake and then a service, under one lock.
+    pub fn step(&self, rt: &impl Wait, arena: &Arena) -> Step
+        requires { arena.now ≡ N.arena }
+    {
+        self.lock.lock(rt).step(arena)
+    }
+
+    /// How many requests are in flight.
+    pub fn in_flight_len(&self, rt: &impl Wait) -> usize {
+        self.lock.lock(rt).book.in_flight_len()
+    }
+
+    /// The book, without its lock.
+    pub fn into_book(self) -> Book
+        ensures named { result.seat.arena ≡ N.arena }
+        ensures lawful { IsLawfulBook result }
+    {
+        let Port { lock } = self;
+        let Named { book, of: _ } = lock.into_inner();
+        let _number = book.number();
+        book
+    }
+}

@@ -1,0 +1,27 @@
+use Rattle.std.proofs.Common.{◌≡◌, ℕ, ◌+◌, length, arith, rules, subst}
+use Rattle.std.proofs.lemmas.Grind.{common_steps}
+use Rattle.tl_threads.specs.Start.{IsNewMaster, IsNewDriver}
+use Rattle.tl_threads.proofs.Rows.{row_head, row_tail, row_more, length_more}
+use Rattle.tl_threads.proofs.setup.drivers_of.Goals as goal
+
+pub driver_of-requires-clause-seat : goal.driver_of-requires-clause-seat
+driver_of-requires-clause-seat c =
+    let num : length c.loop-seat.drivers.items ≡ c.len-in-loop-seat.result = grind (arith, common_steps) in
+    subst (λ (n : ℕ). IsNewMaster c.args.arena.now n c.in-Some.seat) num (row_head (IsNewMaster c.args.arena.now) (length c.loop-seat.drivers.items) c.in-Some.seat _ _ c.in-Some.ensures.steps.0 c.loop-seat.invariant.seats)
+
+pub loop-seat-preserved : goal.loop-seat-preserved
+loop-seat-preserved c =
+    let a = c.args.arena.now in
+    let was = c.loop-seat.invariant in
+    let step = c.in-Some.ensures.steps in
+    let push = c.push_reserved.ensures in
+    let done = c.loop-seat.drivers.items in
+    let after = c.push_reserved.new.self.items in
+    let num : c.len-in-loop-seat.result ≡ length done = grind (arith, common_steps) in
+    let more = length_more done after c.in_ok-driver.driver push.items in
+    record {
+      count = omega (arith, step.1, push.len, was.count);
+      room = rw push.capacity was.room;
+      seats = row_tail (IsNewMaster a) (length done) (length after) c.in-Some.seat _ _ step.0 more was.seats;
+      drivers = row_more (IsNewDriver a) done after c.in_ok-driver.driver push.items was.drivers (subst (λ (n : ℕ). IsNewDriver a n c.in_ok-driver.driver) num c.in_ok-driver.ensures);
+    }

@@ -1,0 +1,5 @@
+use Rattle.tl_threads.proofs.threads.run_threads.Given as goal
+
+-- the arena that was made
+abbrev pub ghosts-run_named : goal.ghosts-run_named
+ghosts-run_named g a = record { arena = a.arena }

@@ -1,0 +1,3 @@
+pub mod Trace
+pub mod Run
+pub mod Start

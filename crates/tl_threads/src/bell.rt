@@ -1,0 +1,102 @@
+//! Doorbells: channels under a rule that any message keeps. Nothing is claimed of them: a ring says that a look may be
+//! worth while, and no more.
+ghost use Rattle.crossbeam_channel.specs.Claims.{IsSeatAt};
+ghost use Rattle.crossbeam_channel.specs.Ends.{sends_on, receives_on};
+
+use crossbeam_channel::protocol::{Free, Split};
+use crossbeam_channel::{Pass, RuledReceiver, RuledSender, bounded_with};
+use std::alloc::Global;
+use std::sync::Wait;
+use tl_types::Memory;
+
+/// What a bell says.
+#[derive(Debug, Clone, Copy, PartialEq, Eq)]
+pub(crate) enum Ring {
+    /// Something was posted, or answered.
+    Look,
+    /// The run is over.
+    Stop,
+}
+
+/// The two halves of a pass that knows nothing.
+struct Halves;
+
+impl Split<()> for Halves {
+    ghost left = { λ v. v };
+
+    ghost right = { λ v. v };
+}
+
+/// The end of a bell that rings it.
+#[derive(Drop)]
+pub(crate) struct Ringer {
+    sender: RuledSender<Ring, (), Free>,
+    pass: Pass<Ring, ()>,
+    ghost seated: { IsSeatAt (sends_on sender) pass },
+}
+
+/// The end of a bell that hears it.
+#[derive(Drop)]
+pub(crate) struct Listener {
+    receiver: RuledReceiver<Ring, (), Free>,
+    pass: Pass<Ring, ()>,
+    ghost seated: { IsSeatAt (receives_on receiver) pass },
+}
+
+/// The bell that a thread listens to, and those that it rings.
+#[derive(Drop)]
+pub(crate) struct Bells {
+    pub(crate) own: Listener,
+    pub(crate) others: Vec<Ringer>,
+}
+
+/// A bell with room for so many rings that nobody has heard yet, and for one at least, that so many hear: each ring is
+/// heard by one of them.
+pub(crate) fn bell(
+    alloc: Global,
+    room: usize,
+    listeners: usize,
+) -> Result<(Ringer, Vec<Listener>), Memory> {
+    let (sender, receiver, mut pass) = bounded_with::<Ring, (), Free, Global>(alloc, room.max(1))?;
+    let mut made = Vec::with_capacity(alloc, listeners)?;
+    for _ in 0..listeners {
+        let listener = Listener {
+            receiver: receiver.try_clone()?,
+            pass: sender.another::<Halves>(&mut pass),
+        };
+        made.push(listener)?;
+    }
+    Ok((Ringer { sender, pass }, made))
+}
+
+impl Ringer {
+    /// Another end that rings the same bell.
+    pub(crate) fn again(&mut self) -> Result<Ringer, Memory> {
+        let sender = self.sender.try_clone()?;
+        let pass = self.sender.another::<Halves>(&mut self.pass);
+        Ok(Ringer { sender, pass })
+    }
+
+    /// Rings. A ring is lost where nobody listens any more.
+    pub(crate) fn ring(&mut self, rt: &impl Wait, ring: Ring) {
+        let _ = self.sender.send_as::<Free, _>(rt, &mut self.pass, ring);
+    }
+}
+
+impl Listener {
+    /// Waits for a ring. A bell that nobody can ring any more says stop.
+    pub(crate) fn hear(&mut self, rt: &impl Wait) -> Ring {
+        match self.receiver.recv_as::<Free, _>(rt, &mut self.pass) {
+            Ok(ring) => ring,
+            Err(_) => Ring::Stop,
+        }
+    }
+}
+
+/// Rings the bell of this number, where there is one.
+pub(crate) fn ring_at(rt: &impl Wait, bells: &mut [Ringer], number: usize) {
+    if number < bells.len() {
+        let bell = &mut bells[number];
+        bell.ring(rt, Ring::Look);
+    }
+}

@@ -1,0 +1,146 @@
+//! What a master's thread does.
+ghost use Rattle.std.specs.Prelude.{◌≡◌, ◌+◌, ◌≤◌, length};
+ghost use Rattle.tl_master.specs.Master.{out_of};
+ghost use Rattle.tl_threads.specs.Trace.{IsTrace, IsSame, HasAsked, HasDone, IsIdle};
+
+use crate::bell::{Bells, Listener, Ringer, ring_at};
+use crate::gate::Gate;
+use std::sync::Wait;
+use tl_arena::{Arena, ArenaName};
+use tl_map::Map;
+use tl_master::{Issued, Master, Polled};
+use tl_port::Port;
+use tl_script::Job;
+use tl_types::{Ask, Trace};
+
+/// Looks once at each source, the lowest first.
+#[tactic(auto, using(crate::proofs::Asking::same_then))]
+fn look_at_all<G: Gate>(master: &mut Master, arena: &Arena, gate: &G)
+    requires { master.old.seat.arena ≡ arena.now }
+    ensures { IsSame master.old master.new }
+{
+    for source in 0..master.sources() {
+        if let Ok(source) = u16::try_from(source) {
+            look_at(master, arena, source, gate);
+        }
+    }
+}
+
+/// Collects the reply to what is out for a source, where it is there.
+fn look_at<G: Gate>(master: &mut Master, arena: &Arena, source: u16, gate: &G)
+    requires { master.old.seat.arena ≡ arena.now }
+    ensures { IsSame master.old master.new }
+{
+    if let Polled::Done(place) = master.poll(arena, source) {
+        if let Some(entry) = master.entry(place) {
+            gate.collected(master.number(), entry.port);
+        }
+    }
+}
+
+/// Collects all that is out.
+#[tactic(auto, using(crate::proofs::Asking::same_then))]
+fn collect_all<R: Wait, G: Gate>(
+    rt: &R,
+    master: &mut Master,
+    arena: &Arena,
+    bell: &mut Listener,
+    gate: &G,
+)
+    requires { master.old.seat.arena ≡ arena.now }
+    ensures same { IsSame master.old master.new }
+    ensures none { out_of master.new.out ≡ 0 }
+{
+    for _ in rt.forever() {
+        look_at_all(master, arena, gate);
+        if master.out() == 0 {
+            return;
+        }
+        bell.hear(rt);
+    }
+    unreachable!()
+}
+
+/// Issues a request, as soon as its source is idle and a slot is free.
+#[tactic(auto, using(crate::proofs::Asking::same_then, crate::proofs::Asking::same_asked, crate::proofs::Asking::issue_asks))]
+fn issue<R: Wait, G: Gate>(
+    rt: &R,
+    master: &mut Master,
+    arena: &Arena,
+    map: &Map,
+    ask: &Ask,
+    bell: &mut Listener,
+    gate: &G,
+) -> Issued
+    requires arena { master.old.seat.arena ≡ arena.now }
+    requires ports { length map.now + 1 ≤ arena.now.about.ports }
+    ensures { HasAsked master.old ask.now master.new }
+{
+    for _ in rt.forever() {
+        if let Ok(issued) = master.issue(arena, map, ask) {
+            return issued;
+        }
+        bell.hear(rt);
+        look_at_all(master, arena, gate);
+    }
+    unreachable!()
+}
+
+/// Tells a port's book where to look until it takes the hint, and rings the port.
+fn tell<N: ArenaName, R: Wait>(rt: &R, ports: &[Port<N>], issued: Issued, bells: &mut [Ringer]) {
+    if let Some(port) = ports.get(issued.port) {
+        for _ in rt.forever() {
+            if port.submit(rt, issued.slot) {
+                break;
+            }
+        }
+    }
+    ring_at(rt, bells, issued.port);
+}
+
+/// Does one operation.
+fn do_job<N: ArenaName, R: Wait, G: Gate>(
+    rt: &R,
+    master: &mut Master,
+    arena: &Arena,
+    map: &Map,
+    ports: &[Port<N>],
+    job: &Job,
+    bells: &mut Bells,
+    gate: &G,
+)
+    requires arena { master.old.seat.arena ≡ arena.now }
+    requires ports { length map.now + 1 ≤ arena.now.about.ports }
+    ensures { HasDone master.old job.now master.new }
+{
+    match job {
+        Job::Wait => collect_all(rt, master, arena, &mut bells.own, gate),
+        Job::Send(ask) => {
+            let issued = issue(rt, master, arena, map, ask, &mut bells.own, gate);
+            tell(rt, ports, issued, &mut bells.others);
+        }
+    }
+}
+
+/// Does a master's operations in order, collects all that is out, and leaves with the trace.
+pub(crate) fn drive<N: ArenaName, R: Wait, G: Gate>(
+    rt: &R,
+    mut master: Master,
+    arena: &Arena,
+    map: &Map,
+    ports: &[Port<N>],
+    number: usize,
+    jobs: &[Job],
+    mut bells: Bells,
+    gate: &G,
+) -> Trace
+    requires new { IsIdle arena.now number master }
+    requires ports { length map.now + 1 ≤ arena.now.about.ports }
+    ensures { IsTrace arena.now number jobs.now result.items }
+{
+    for job in jobs {
+        do_job(rt, &mut master, arena, map, ports, job, &mut bells, gate);
+    }
+    collect_all(rt, &mut master, arena, &mut bells.own, gate);
+    master.finish(arena)
+}

@@ -1,0 +1,31 @@
+//! Why a run by threads has no end.
+use std::alloc::AllocError;
+use thiserror::Error;
+use tl_types::Memory;
+
+/// Why a run by threads has no end.
+#[derive(Debug, Clone, Copy, PartialEq, Eq, Error)]
+pub enum ThreadFault {
+    #[error("memory refused")]
+    Memory,
+    #[error("thread refused")]
+    NoThread,
+    /// A lock gave back another port's book.
+    #[error("port {0}: stray book")]
+    StrayBook(usize),
+    /// The gate never let a port's worker serve, until that served all the same.
+    #[error("gate of port {0} held")]
+    GateHeld(usize),
+}
+
+impl From<Memory> for ThreadFault {
+    fn from(_: Memory) -> ThreadFault {
+        ThreadFault::Memory
+    }
+}
+
+impl From<AllocError> for ThreadFault {
+    fn from(_: AllocError) -> ThreadFault {
+        ThreadFault::Memory
+    }
+}

@@ -1,0 +1,119 @@
+//! A run over one arena, which the ports' locks name.
+ghost use Rattle.std.specs.Prelude.{◌≡◌, ◌+◌, ◌≤◌, IfOk, vec_len, vec_capacity, length};
+ghost use Rattle.tl_arena.specs.Account.{IsClosing};
+ghost use Rattle.tl_threads.specs.Run.{IsBookOf};
+ghost use Rattle.tl_threads.specs.Start.{AreFrom, IsNewDriver, IsTraceOf, IsBookIn};
+
+use crate::fault::ThreadFault;
+use crate::gate::Gate;
+use crate::run::{Ended, Parts, run_in};
+use std::alloc::Global;
+use std::sync::Wait;
+use std::thread;
+use std::thread::Threads;
+use tl_arena::{Account, Arena, ArenaName};
+use tl_port::{Book, Port};
+use tl_script::System;
+use tl_types::{Memory, Trace};
+
+/// What the threads of a run leave: a trace for each master, the book of each port, and the account of the arena.
+#[derive(Drop)]
+pub struct Run {
+    pub traces: Vec<Trace>,
+    pub books: Vec<Book>,
+    pub account: Account,
+}
+
+/// Puts each book behind a lock.
+fn ports_of<N: ArenaName>(alloc: Global, books: Vec<Book>) -> Result<Vec<Port<N>>, Memory>
+    requires { AreFrom (IsBookIn N.arena) 0 books.items }
+    ensures { IfOk result (λ ports. vec_len ports ≡ vec_len books) }
+{
+    let mut ports = Vec::with_capacity(alloc, books.len())?;
+    for book in books {
+        ports.push_reserved(Port::<N>::new(book));
+    }
+    Ok(ports)
+}
+
+/// The books from behind the locks, each at its number.
+fn books_of<N: ArenaName>(ports: Vec<Port<N>>, room: Vec<Book>) -> Result<Vec<Book>, ThreadFault>
+    requires none { vec_len room ≡ 0 }
+    requires room { vec_len ports ≤ vec_capacity room }
+    ensures many { IfOk result (λ books. vec_len books ≡ vec_len ports) }
+    ensures books { IfOk result (λ books. AreFrom (IsBookOf N.arena) 0 books.items) }
+{
+    let mut books = room;
+    for port in ports {
+        let book = port.into_book();
+        let number = books.len();
+        if book.number() != number {
+            return Err(ThreadFault::StrayBook(number));
+        }
+        books.push_reserved(book);
+    }
+    Ok(books)
+}
+
+/// Runs the threads in a scope, so that all have ended when it does.
+fn run_scope<'x, N: ArenaName + Send + Sync, R: Threads + Wait + Sync, G: Gate + Sync>(
+    rt: &'x R,
+    alloc: Global,
+    arena: &'x Arena,
+    system: &'x System,
+    ports: &'x Vec<Port<N>>,
+    parts: Parts,
+    gate: &'x G,
+) -> Result<Ended, ThreadFault>
+    requires arena { arena.now ≡ N.arena }
+    requires ports { length system.now.ranges + 1 ≤ arena.now.about.ports }
+    requires drivers { AreFrom (IsNewDriver arena.now) 0 parts.drivers.items }
+    requires jobs { vec_len parts.drivers ≡ length system.now.jobs }
+    ensures many { IfOk result (λ ended. vec_len ended.traces ≡ vec_len parts.drivers) }
+    ensures traces { IfOk result (λ ended. AreFrom (IsTraceOf arena.now system.now.jobs) 0 ended.traces.items) }
+{
+    thread::scope(
+        thread::scope_env(),
+        rt,
+        |scope| -> Result<Ended, ThreadFault>
+            requires { (arena.now ≡ N.arena) × (length system.now.ranges + 1 ≤ arena.now.about.ports) × AreFrom (IsNewDriver arena.now) 0 parts.drivers.items × (vec_len parts.drivers ≡ length system.now.jobs) }
+            ensures { IfOk result (λ ended. (vec_len ended.traces ≡ vec_len parts.drivers) × AreFrom (IsTraceOf arena.entry.now system.entry.now.jobs) 0 ended.traces.items) }
+        { run_in(scope, rt, alloc, arena, system, ports, parts, gate) },
+    )
+}
+
+/// A run over the arena that N names.
+pub(crate) fn run_named<'x, N: ArenaName + Send + Sync, R: Threads + Wait + Sync, G: Gate + Sync>(
+    rt: &'x R,
+    alloc: Global,
+    arena: Arena,
+    system: &'x System,
+    books: Vec<Book>,
+    parts: Parts,
+    gate: &'x G,
+) -> Result<Run, ThreadFault>
+    requires name { arena ≡ N.arena }
+    requires ports { length system.now.ranges + 1 ≤ arena.about.ports }
+    requires drivers { AreFrom (IsNewDriver arena) 0 parts.drivers.items }
+    requires jobs { vec_len parts.drivers ≡ length system.now.jobs }
+    requires books { AreFrom (IsBookIn arena) 0 books.items }
+    ensures many { IfOk result (λ run. vec_len run.traces ≡ vec_len parts.drivers) }
+    ensures traces { IfOk result (λ run. AreFrom (IsTraceOf arena system.now.jobs) 0 run.traces.items) }
+    ensures all { IfOk result (λ run. vec_len run.books ≡ vec_len books) }
+    ensures books { IfOk result (λ run. AreFrom (IsBookOf arena) 0 run.books.items) }
+    ensures account { IfOk result (λ run. IsClosing arena.about run.account.free.items run.account.held.items run.account.left.items) }
+{
+    let room = Vec::with_capacity(alloc, books.len())?;
+    let ports = ports_of::<N>(alloc, books)?;
+    let Ended { traces, held } = run_scope(rt, alloc, &arena, system, &ports, parts, gate)?;
+    let account = arena.close(alloc)?;
+    let books = books_of::<N>(ports, room)?;
+    match held {
+        Some(port) => Err(ThreadFault::GateHeld(port)),
+        None => Ok(Run {
+            traces,
+            books,
+            account,
+        }),
+    }
+}

@@ -1,0 +1,71 @@
+//! The run of a system by threads.
+ghost use Rattle.std.specs.Prelude.{◌≡◌, ◌≤◌, length, IfOk};
+ghost use Rattle.tl_script.specs.System.{lists_of, resets};
+ghost use Rattle.tl_arena.specs.Views.{about_of, AreNewMasters, AreNewPorts};
+ghost use Rattle.tl_threads.specs.Run.{IsThreadedRun};
+
+use crate::fault::ThreadFault;
+use crate::gate::Gate;
+use crate::named::{Run, run_named};
+use crate::setup::{banks_of, books_of, journals_of, parts_of};
+use std::alloc::Global;
+use std::marker::Brand;
+use std::sync::Wait;
+use std::thread::Threads;
+use tl_arena::{Arena, ArenaFault, Made};
+use tl_ops::Bank;
+use tl_script::System;
+use tl_types::Memory;
+
+/// The most threads of a port.
+pub const MAX_WORKERS: usize = 4;
+
+/// A new arena for the masters of a system and for ports with these banks.
+fn arena_of(alloc: Global, system: &System, banks: &[Bank]) -> Result<Made, Memory>
+    requires { banks.now ≡ resets system.now }
+    ensures arena { IfOk result (λ made. made.arena.about ≡ about_of system.now.slots system.now.counts (resets system.now)) }
+    ensures masters { IfOk result (λ made. AreNewMasters made.arena (length system.now.jobs) made.masters.items) }
+    ensures ports { IfOk result (λ made. AreNewPorts made.arena (length banks.now) made.ports.items) }
+{
+    let _lawful = system.jobs();
+    let _few_masters = system.sources().masters();
+    let _few_ports = system.map().ports();
+    match Arena::new(alloc, system.slots(), system.sources(), banks) {
+        Ok(made) => Ok(made),
+        Err(ArenaFault::BadCount) => unreachable!(),
+        Err(ArenaFault::Memory) => Err(Memory),
+    }
+}
+
+/// Runs a system: each master is a thread, each port has so many of them, and the masters and ports share one arena.
+///
+/// A master sends its operations in order. Where the source of a request is busy, or no slot is free, it waits for a
+/// reply of its own and tries again; at a wait and at the end it collects all that is out. It returns when all threads
+/// have ended.
+///
+/// Errors, the first that applies: [`ThreadFault::Memory`] where memory is refused; [`ThreadFault::NoThread`] where a
+/// thread is; [`ThreadFault::StrayBook`] where a lock gave back another port's book; and [`ThreadFault::GateHeld`]
+/// where the gate let a worker wait for ever.
+pub fn run_threads<R: Threads + Wait + Sync, G: Gate + Sync>(
+    rt: &R,
+    alloc: Global,
+    system: &System,
+    workers: usize,
+    gate: &G,
+) -> Result<Run, ThreadFault>
+    requires some { 1 ≤ workers }
+    requires few { workers ≤ MAX_WORKERS }
+    ensures { IfOk result (λ run. IsThreadedRun system.now (lists_of run.traces.items) run.books.items run.account.free.items run.account.held.items run.account.left.items) }
+{
+    let banks = banks_of(alloc, system.devices())?;
+    let Made {
+        arena,
+        masters,
+        ports,
+    } = arena_of(alloc, system, &banks)?;
+    let journals = journals_of(alloc, system)?;
+    let parts = parts_of(alloc, &arena, masters, system, &journals, workers)?;
+    let books = books_of(alloc, &arena, ports, banks, &journals)?;
+    let run = run_named::<Brand, R, G>(rt, alloc, arena, system, books, parts, gate)?;
+    Ok(run)
+}
