@@ -100,11 +100,27 @@ pub(super) fn shop<'a>(
     ensures counters { IfOk result (λ _. All (λ u. u.arena ≡ arena.now) ports.new.items) }
     ensures memories { IfOk result (λ _. banks.new.items ≡ map memory_of ports.new.items) }
 {
-    let seat = ports.pop().ok_or("no port is left")?;
-    let memory = banks.pop().ok_or("no bank is left")?;
+    let Some(seat) = ports.pop() else {
+        return Err(Fail::from("no port is left"));
+    };
+    let Some(memory) = banks.pop() else {
+        return Err(Fail::from("no bank is left"));
+    };
     Ok(Shop {
         arena,
         seat,
         memory,
     })
+}
+
+/// The last master, which owns nothing, leaves.
+pub(super) fn leave(arena: &Arena, masters: &mut Vec<MasterSeat>) -> Result<(), Fail>
+    requires seats { All (λ v. v.arena ≡ arena.now) masters.old.items }
+    ensures seats { All (λ v. v.arena ≡ arena.now) masters.new.items }
+{
+    let seat = masters.pop().ok_or("no master is left")?;
+    if seat.owned() == 0 {
+        arena.leave(seat);
+    }
+    Ok(())
 }

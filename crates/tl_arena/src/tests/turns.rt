@@ -1,5 +1,5 @@
 //! Turns on one thread, by the worked values.
-use super::floor::{BASE, Floor, client, fault_of, open_floor, shop};
+use super::floor::{BASE, Floor, client, fault_of, leave, open_floor, shop};
 use crate::{Account, ArenaFault};
 use std::test::Fail;
 use tl_types::{Ask, AskFault, AskOp, ReplyOp};
@@ -88,10 +88,8 @@ fn all_slots_are_free_after_all_have_left(rt: HostRuntime) -> Result<(), Fail> {
         ports: _,
         banks: _,
     } = open_floor(rt.alloc(), 4)?;
-    while let Some(seat) = masters.pop() {
-        assert_eq!(rt; seat.owned(), 0);
-        arena.leave(seat);
-    }
+    leave(&arena, &mut masters)?;
+    leave(&arena, &mut masters)?;
     let Account { free, held, left } = arena.close(rt.alloc())?;
     assert_eq!(rt; free.as_slice(), [0, 1, 2, 3].as_slice());
     assert!(rt; held.is_empty());
