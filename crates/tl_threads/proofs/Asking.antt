@@ -40,10 +40,10 @@ pub poll_same : (m : MasterState) (source : ℕ) (polled : Polled) (n : MasterSt
 poll_same m source Idle n p same = record { arena = ap (λ (x : MasterState). x.seat.arena) p.0; number = ap (λ (x : MasterState). x.seat.number) p.0; asked_is = same }
 poll_same m source NotYet n p same = record { arena = ap (λ (x : MasterState). x.seat.arena) p.0; number = ap (λ (x : MasterState). x.seat.number) p.0; asked_is = same }
 poll_same m source (Done place) n p same = record {
-    arena = ap (λ (x : MasterState). x.seat.arena) p.master ∙ ap (λ (v : MasterView). v.arena) p.collected.seat;
-    number = ap (λ (x : MasterState). x.seat.number) p.master ∙ ap (λ (v : MasterView). v.number) p.collected.seat;
-    asked_is = same;
-  }
+  arena = ap (λ (x : MasterState). x.seat.arena) p.master ∙ ap (λ (v : MasterView). v.arena) p.collected.seat;
+  number = ap (λ (x : MasterState). x.seat.number) p.master ∙ ap (λ (v : MasterView). v.number) p.collected.seat;
+  asked_is = same;
+}
 
 -- whether a ticket is there, as a number
 abbrev bit : Option TicketView → ℕ
@@ -68,15 +68,15 @@ sends_snoc js j = filter_map-append sent_by js (j ∷ [])
 
 pub driven_job : (a : ArenaId) (number : ℕ) (done : List Job) (m n : MasterState) (j : Job) → IsDriven a number done m → HasDone m j n → IsDriven a number (done ++ j ∷ []) n
 driven_job a number done m n Wait d p = record {
-    arena_is = p.arena ∙ d.arena_is;
-    number_is = p.number ∙ d.number_is;
-    asked_is = λ s. p.asked_is s ∙ d.asked_is s ∙ ap (of_source s) (sym (sends_snoc done Wait ∙ append-nil (sends done)));
-  }
+  arena_is = p.arena ∙ d.arena_is;
+  number_is = p.number ∙ d.number_is;
+  asked_is = λ s. p.asked_is s ∙ d.asked_is s ∙ ap (of_source s) (sym (sends_snoc done Wait ∙ append-nil (sends done)));
+}
 driven_job a number done m n (Send q) d p = record {
-    arena_is = p.arena ∙ d.arena_is;
-    number_is = p.number ∙ d.number_is;
-    asked_is = λ s. p.asked_is s ∙ ap (λ (l : List Request). l ++ ask_of s q) (d.asked_is s) ∙ sym (filter-append (λ (x : Request). eqb x.source s) (sends done) (q ∷ [])) ∙ ap (of_source s) (sym (sends_snoc done (Send q)));
-  }
+  arena_is = p.arena ∙ d.arena_is;
+  number_is = p.number ∙ d.number_is;
+  asked_is = λ s. p.asked_is s ∙ ap (λ (l : List Request). l ++ ask_of s q) (d.asked_is s) ∙ sym (filter-append (λ (x : Request). eqb x.source s) (sends done) (q ∷ [])) ∙ ap (of_source s) (sym (sends_snoc done (Send q)));
+}
 
 pub one_more : (a : ArenaId) (number : ℕ) (js : List Job) (k : ℕ) (d : Job) (m n : MasterState) → k < length js → IsDriven a number (take k js) m → HasDone m (get_or js k d) n → IsDriven a number (take (k + 1) js) n
 one_more a number js k d m n lt p q = subst (λ (l : List Job). IsDriven a number l n) (sym (take_more js k d lt)) (driven_job a number (take k js) m n (get_or js k d) p q)
@@ -85,30 +85,30 @@ one_more a number js k d m n lt p q = subst (λ (l : List Job). IsDriven a numbe
 pub traced : (a : ArenaId) (number : ℕ) (js : List Job) (m n : MasterState) (es : List Entry) → IsDriven a number js m → IsSame m n → out_of n.out ≡ 0 → es ≡ n.trace → IsInOrder es
     → AreWidened n.seat.arena.about.counts n.seat.number es n.seat.got → OwnsHistories n.seat → IsTrace a number js es
 traced a number js m n es d p none is order widened own = record {
-    each = λ s. ap (λ (l : List Entry). of_source s (asks_of l)) is ∙ sym (all_asked n none s) ∙ p.asked_is s ∙ d.asked_is s;
-    order = order;
-    seat = n.seat;
-    arena_is = p.arena ∙ d.arena_is;
-    number_is = p.number ∙ d.number_is;
-    widened = subst (λ (k : ℕ). AreWidened a.about.counts k es n.seat.got) (p.number ∙ d.number_is) (subst (λ (b : ArenaId). AreWidened b.about.counts n.seat.number es n.seat.got) (p.arena ∙ d.arena_is) widened);
-    own = own;
-  }
+  each = λ s. ap (λ (l : List Entry). of_source s (asks_of l)) is ∙ sym (all_asked n none s) ∙ p.asked_is s ∙ d.asked_is s;
+  order = order;
+  seat = n.seat;
+  arena_is = p.arena ∙ d.arena_is;
+  number_is = p.number ∙ d.number_is;
+  widened = subst (λ (k : ℕ). AreWidened a.about.counts k es n.seat.got) (p.number ∙ d.number_is) (subst (λ (b : ArenaId). AreWidened b.about.counts n.seat.number es n.seat.got) (p.arena ∙ d.arena_is) widened);
+  own = own;
+}
 
 -- what a promise that was kept says
 pub kept_promise : (a : ArenaId) (jobs : List (List Job)) (k : ℕ) (h : Handle) (t : Vec Entry Global) → IsPromised a jobs k h → IsTrace h.promise.arena.value h.promise.number h.promise.jobs.value.items t.items → IsTraceOf a jobs k t
 kept_promise a jobs k h t is kept = record {
-    its_jobs = h.promise.jobs.value.items;
-    at = is.jobs_are;
-    trace = subst (λ (b : ArenaId). IsTrace b k h.promise.jobs.value.items t.items) is.arena_is (subst (λ (n : ℕ). IsTrace h.promise.arena.value n h.promise.jobs.value.items t.items) is.number_is kept);
-  }
+  its_jobs = h.promise.jobs.value.items;
+  at = is.jobs_are;
+  trace = subst (λ (b : ArenaId). IsTrace b k h.promise.jobs.value.items t.items) is.arena_is (subst (λ (n : ℕ). IsTrace h.promise.arena.value n h.promise.jobs.value.items t.items) is.number_is kept);
+}
 
 -- nothing was asked of a new master
 pub new_idle : (a : ArenaId) (number limit : ℕ) (v : MasterView) (m : MasterState) → v ≡ new_master a number → m ≡ new_state v limit → IsIdle a number m
 new_idle a number limit v m is made = record {
-    arena_is = ap (λ (x : MasterState). x.seat.arena) made ∙ ap (λ (w : MasterView). w.arena) is;
-    number_is = ap (λ (x : MasterState). x.seat.number) made ∙ ap (λ (w : MasterView). w.number) is;
-    none = λ s. ap (λ (x : MasterState). asked x s) made ∙ ap (out_ask s) (blank_out (count_of v.arena.about.counts v.number) s);
-  }
+  arena_is = ap (λ (x : MasterState). x.seat.arena) made ∙ ap (λ (w : MasterView). w.arena) is;
+  number_is = ap (λ (x : MasterState). x.seat.number) made ∙ ap (λ (w : MasterView). w.number) is;
+  none = λ s. ap (λ (x : MasterState). asked x s) made ∙ ap (out_ask s) (blank_out (count_of v.arena.about.counts v.number) s);
+}
   where
     blank_out : (n s : ℕ) → ticket_at (replicate n None) s ≡ None
     blank_out zero s = refl

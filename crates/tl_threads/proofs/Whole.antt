@@ -1,5 +1,5 @@
 -- The parts of a run, put together.
-use Rattle.std.proofs.Common.{◌≡◌, ℕ, ◌+◌, List, [], ◌∷◌, ◌++◌, length, map, slice_get, Option, Some, None, option_map, Vec, refl, sym, ap, subst, ◌∙◌, arith, length-append}
+use Rattle.std.proofs.Common.{◌≡◌, ℕ, ◌+◌, List, [], ◌∷◌, length, slice_get, Option, Some, None, option_map, Vec, refl, sym, ap, subst, ◌∙◌, arith, length-append}
 use Rattle.std.proofs.lemmas.List.{length-map}
 use Rattle.std.specs.Global.{Global}
 use Rattle.std.proofs.lemmas.Option.{slice_get-map}
@@ -18,7 +18,7 @@ use Rattle.tl_threads.specs.Start.{AreFrom, IsTraceOf}
 -- a system has a reset for each range and one for the error port
 pub resets_length : (s : System) → IsLawfulSystem s → length (resets s) ≡ length s.ranges + 1
 resets_length s lawful =
-    let each : length s.stores ≡ length s.ranges = sym (length-map range_of s.stores) ∙ ap (λ (l : List Range). length l) lawful.ranges in
+    let each : length s.stores ≡ length s.ranges = sym (length-map s.stores range_of) ∙ ap (λ (l : List Range). length l) lawful.ranges in
     length-append s.stores (error_store ∷ []) ∙ ap (λ (n : ℕ). n + 1) each
 
 -- one value is at one place
@@ -36,10 +36,10 @@ traced_at a jobs m its_jobs entries (Some t) at is of =
 
 pub traces_of : (a : ArenaId) (jobs : List (List Job)) (ts : List (Vec Entry Global)) → length ts ≡ length jobs → AreFrom (IsTraceOf a jobs) 0 ts → AreTraces a jobs (lists_of ts)
 traces_of a jobs ts many all = record {
-    many = length-map (λ (t : Vec Entry Global). t.items) ts ∙ many;
-    each = λ m its_jobs entries at is. traced_at a jobs m its_jobs entries (slice_get ts m) at (sym (slice_get-map (λ (t : Vec Entry Global). t.items) ts m) ∙ is)
-        (λ t here. let e : 0 + m ≡ m = omega arith in subst (λ (n : ℕ). IsTraceOf a jobs n t) e (all m t here));
-  }
+  many = length-map ts (λ (t : Vec Entry Global). t.items) ∙ many;
+  each = λ m its_jobs entries at is. traced_at a jobs m its_jobs entries (slice_get ts m) at (sym (slice_get-map (λ (t : Vec Entry Global). t.items) ts m) ∙ is)
+      (λ t here. let e : 0 + m ≡ m = omega arith in subst (λ (n : ℕ). IsTraceOf a jobs n t) e (all m t here));
+}
 
 pub books_are : (a : ArenaId) (ports : ℕ) (bs : List BookView) → length bs ≡ ports → AreFrom (IsBookOf a) 0 bs → AreBooks a ports bs
 books_are a ports bs many all = record { many = many; each = λ p b is. let e : 0 + p ≡ p = omega arith in subst (λ (n : ℕ). IsBookOf a n b) e (all p b is) }
@@ -48,9 +48,9 @@ pub threaded : (s : System) (a : ArenaId) (ts : List (Vec Entry Global)) (bs : L
     → length ts ≡ length s.jobs → AreFrom (IsTraceOf a s.jobs) 0 ts → length bs ≡ length s.ranges + 1 → AreFrom (IsBookOf a) 0 bs → IsClosing a.about free held left
     → IsThreadedRun s (lists_of ts) bs free held left
 threaded s a ts bs free held left about many traces ports books account = record {
-    arena = a;
-    about = about;
-    traces_are = traces_of a s.jobs ts many traces;
-    books_are = books_are a (length s.ranges + 1) bs ports books;
-    account = account;
-  }
+  arena = a;
+  about = about;
+  traces_are = traces_of a s.jobs ts many traces;
+  books_are = books_are a (length s.ranges + 1) bs ports books;
+  account = account;
+}

@@ -10,7 +10,6 @@ use Rattle.tl_port.specs.Book.{BookView}
 use Rattle.tl_threads.specs.declared.start.TraceOf.{TraceOf}
 use Rattle.tl_threads.specs.declared.run.Driver.{Driver}
 use Rattle.tl_threads.specs.Trace.{IsTrace, IsIdle}
-use Rattle.tl_threads.specs.Run.{IsBookOf}
 
 -- each thing of the list is this of its number, where the first has the number `from`
 abbrev pub AreFrom : {X : Type 0} → (ℕ → X → Type 0) → ℕ → List X → Type 0

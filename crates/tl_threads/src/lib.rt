@@ -1,4 +1,15 @@
-//! Runs of a system by threads.
+//! The run of a system by threads: each master is a thread, each port has one or more, and all share one arena.
+//!
+//! [`run_threads`] carries the theorem (`IsThreadedRun`, `specs/Run.antt`): where it answers Ok, there is one arena of
+//! the system such that each master's trace has, for each source, the requests of its operations in order, each once,
+//! and of what it collected at a port one lawful history has just the master's own; book p is port p's and lawful; and
+//! the account is that of an arena at its end. That threads run at once no clause says: tests do, through a [`Gate`].
+//!
+//! `drive` is what a master's thread does, `work` what a port's does, `bell` how they wake each other; `setup` makes
+//! what a run needs, `run` starts and joins the threads, `named` puts the books behind locks and takes them out again.
+//! No memory is taken once the threads run.
+//!
+//! Read on in `docs/MODEL.md`, "Runs by threads".
 #![tactic(auto)]
 
 mod bell;
@@ -13,6 +24,6 @@ mod threads;
 mod work;
 
 pub use fault::ThreadFault;
+pub use gate::{Gate, OpenGate};
 pub use named::Run;
 pub use threads::{MAX_WORKERS, run_threads};
-pub use gate::{Gate, OpenGate};

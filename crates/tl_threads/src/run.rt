@@ -137,8 +137,7 @@ fn start_workers<'s, 'e: 's, N: ArenaName + Send + Sync, R: Threads + Wait + Syn
             };
         };
         let sources = system.sources();
-        let Some(handle) = start_worker(scope, rt, port, behind, arena, sources, bells, gate)
-        else {
+        let Some(handle) = start_worker(scope, rt, port, behind, arena, sources, bells, gate) else {
             return Serving {
                 handles,
                 all: false,
@@ -157,10 +156,7 @@ fn stop(rt: &impl Wait, bell: &mut Ringer, workers: usize) {
 }
 
 /// Joins the ports' threads. The answer is the lowest port that the gate held, if there is one.
-fn join_workers<R: Threads>(
-    rt: &R,
-    handles: Vec<JoinHandle<Option<usize>>>,
-) -> Option<usize> {
+fn join_workers<R: Threads>(rt: &R, handles: Vec<JoinHandle<Option<usize>>>) -> Option<usize> {
     let mut held = None;
     for handle in handles {
         let port = handle.join(rt);
@@ -200,7 +196,13 @@ pub(crate) struct Ended {
 }
 
 /// Starts all threads, those of the ports first, and joins them.
-pub(crate) fn run_in<'s, 'e: 's, N: ArenaName + Send + Sync, R: Threads + Wait + Sync, G: Gate + Sync>(
+pub(crate) fn run_in<
+    's,
+    'e: 's,
+    N: ArenaName + Send + Sync,
+    R: Threads + Wait + Sync,
+    G: Gate + Sync,
+>(
     scope: &'s Scope<'s, &'e ()>,
     rt: &'e R,
     alloc: Global,

@@ -1,4 +1,4 @@
-use Rattle.std.proofs.Common.{rules, subst, List}
+use Rattle.std.proofs.Common.{subst, List}
 use Rattle.std.proofs.lemmas.List.{take_all}
 use Rattle.tl_script.specs.declared.operation.Job.{Job}
 use Rattle.tl_threads.specs.Trace.{IsDriven, HasDone}
@@ -13,4 +13,4 @@ pub returns : goal.returns
 returns g c =
     let all = subst (λ (js : List Job). IsDriven c.args.arena.now c.args.number js c.loop-job.master) (take_all c.loop-job.job-index c.args.jobs.now c.loop-job-test.false) c.loop-job.invariant in
     traced c.args.arena.now c.args.number c.args.jobs.now c.loop-job.master c.collect_all.new.master c.finish.result.items all c.collect_all.ensures.same c.collect_all.ensures.none c.finish.ensures.trace c.finish.ensures.order
-      c.finish.ensures.widened c.finish.ensures.own
+    c.finish.ensures.widened c.finish.ensures.own

@@ -1,4 +1,4 @@
-use Rattle.std.proofs.Common.{◌≡◌, ℕ, ◌+◌, arith, rules}
+use Rattle.std.proofs.Common.{arith}
 use Rattle.tl_threads.specs.Start.{IsBookIn}
 use Rattle.tl_threads.proofs.Rows.{row_head, row_rest}
 use Rattle.tl_threads.proofs.named.ports_of.Goals as goal

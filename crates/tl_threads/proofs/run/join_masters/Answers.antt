@@ -1,6 +1,4 @@
-use Rattle.std.proofs.Common.{◌≡◌, ◌+◌, ◌++◌, ◌∷◌, [], length, Vec, arith, sym, ap, ◌∙◌}
-use Rattle.std.specs.Global.{Global}
-use Rattle.tl_types.specs.declared.trace.Entry.{Entry}
+use Rattle.std.proofs.Common.{length, arith}
 use Rattle.tl_threads.specs.Start.{IsPromised, IsTraceOf}
 use Rattle.tl_threads.proofs.Rows.{row_head, row_tail, row_more, length_more}
 use Rattle.tl_threads.proofs.Asking.{kept_promise}

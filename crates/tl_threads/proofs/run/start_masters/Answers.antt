@@ -1,10 +1,9 @@
-use Rattle.std.proofs.Common.{◌≡◌, ℕ, ◌<◌, ◌++◌, ◌∷◌, [], List, length, map, slice_get, Some, Vec, option_map, arith, rules, sym, ap, subst, ◌∙◌}
+use Rattle.std.proofs.Common.{◌≡◌, ℕ, ◌<◌, List, length, slice_get, Some, Vec, option_map, arith, rules, sym, ap, subst, ◌∙◌}
 use Rattle.std.specs.Global.{Global}
 use Rattle.std.specs.Vec.Iter.{into_iter_items}
 use Rattle.std.proofs.lemmas.Grind.{common_steps}
 use Rattle.std.proofs.lemmas.Option.{slice_get-get_or, slice_get-map}
 use Rattle.tl_script.specs.declared.operation.Job.{Job}
-use Rattle.tl_script.specs.System.{lists_of}
 use Rattle.tl_threads.specs.declared.run.Driver.{Driver}
 use Rattle.tl_threads.specs.Start.{AreFrom, IsNewDriver, IsPromised}
 use Rattle.tl_threads.proofs.Rows.{row_head, row_tail, row_more, row_empty, length_more}
@@ -40,9 +39,9 @@ loop-driver-preserved g c =
     let num : c.len-number.result ≡ length c.loop-driver.handles.items = grind (arith, common_steps) in
     let lt : c.len-number.result < length c.jobs.result.now = grind (arith, common_steps) in
     let at : slice_get jobs c.len-number.result ≡ Some h.promise.jobs.value.items =
-        ap (λ (l : List (List Job)). slice_get l c.len-number.result) (sym c.jobs.ensures.value) ∙ slice_get-map (λ (v : Vec Job Global). v.items) c.jobs.result.now c.len-number.result
-        ∙ ap (option_map (λ (v : Vec Job Global). v.items)) (slice_get-get_or c.jobs.result.now c.len-number.result c.index-jobs-number.result lt)
-        ∙ ap (λ (v : Vec Job Global). Some v.items) (sym c.index-jobs-number.is ∙ sym made.2) in
+    ap (λ (l : List (List Job)). slice_get l c.len-number.result) (sym c.jobs.ensures.value) ∙ slice_get-map (λ (v : Vec Job Global). v.items) c.jobs.result.now c.len-number.result
+    ∙ ap (option_map (λ (v : Vec Job Global). v.items)) (slice_get-get_or c.jobs.result.now c.len-number.result c.index-jobs-number.result lt)
+    ∙ ap (λ (v : Vec Job Global). Some v.items) (sym c.index-jobs-number.is ∙ sym made.2) in
     record {
       count = omega (arith, step.1, push.len, was.count);
       room = rw push.capacity was.room;

@@ -1,7 +1,7 @@
-use Rattle.std.proofs.Common.{◌≡◌, ℕ, ◌+◌, length, arith, rules, sym, subst}
+use Rattle.std.proofs.Common.{◌≡◌, ℕ, length, arith, sym, subst}
 use Rattle.std.proofs.lemmas.Grind.{common_steps}
 use Rattle.std.proofs.lemmas.Option.{get_or_from_slice_get}
-use Rattle.tl_rule.specs.Views.{reset_of, no_store}
+use Rattle.tl_rule.specs.Views.{no_store}
 use Rattle.tl_threads.specs.Start.{IsNewPort, IsResetBank, IsBookIn}
 use Rattle.tl_threads.proofs.Rows.{row_head, row_tail, row_more, length_more}
 use Rattle.tl_threads.proofs.setup.books_of.Goals as goal

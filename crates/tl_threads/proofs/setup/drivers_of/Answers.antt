@@ -1,4 +1,4 @@
-use Rattle.std.proofs.Common.{◌≡◌, ℕ, ◌+◌, length, arith, rules, subst}
+use Rattle.std.proofs.Common.{◌≡◌, ℕ, length, arith, subst}
 use Rattle.std.proofs.lemmas.Grind.{common_steps}
 use Rattle.tl_threads.specs.Start.{IsNewMaster, IsNewDriver}
 use Rattle.tl_threads.proofs.Rows.{row_head, row_tail, row_more, length_more}

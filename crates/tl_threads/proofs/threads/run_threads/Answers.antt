@@ -1,7 +1,7 @@
-use Rattle.std.proofs.Common.{◌≡◌, ℕ, ◌+◌, List, length, arith, rules, sym, ap, ◌∙◌}
+use Rattle.std.proofs.Common.{◌≡◌, ◌+◌, List, [], ◌∷◌, ◌++◌, length, arith, ap, ◌∙◌}
 use Rattle.std.proofs.lemmas.Grind.{common_steps}
 use Rattle.tl_ops.specs.Store.{Store}
-use Rattle.tl_script.specs.System.{resets, store_of, error_store}
+use Rattle.tl_script.specs.System.{resets, error_store}
 use Rattle.tl_threads.proofs.Whole.{threaded, resets_length}
 use Rattle.tl_threads.proofs.threads.run_threads.Goals as goal
 
@@ -9,11 +9,11 @@ pub returns : goal.returns
 returns g c =
     let s = c.args.system.now in
     let arena = c.in_ok-arena.ensures in
-    let run = c.in_ok-run.run in
+    let run = c.in_ok-run.run' in
     let ran = c.in_ok-run.ensures in
     let ports = resets_length s c.devices.ensures.lawful in
     let parts = c.in_ok-parts.ensures.many in
-    let banks : length c.in_ok-banks.banks.items ≡ length (resets s) = ? in
+    let banks : length c.in_ok-banks.banks.items ≡ length (resets s) = ap (λ (l : List Store). length l) (c.in_ok-banks.ensures ∙ ap (λ (l : List Store). l ++ error_store ∷ []) c.devices.ensures.value) in
     let traces : length run.traces.items ≡ length s.jobs = grind (arith, common_steps) in
     let books : length run.books.items ≡ length s.ranges + 1 = grind (arith, common_steps) in
-    threaded s c.in_ok-arena.arena run.traces.items run.books.items run.account.free.items run.account.held.items run.account.left.items ? traces ran.traces books ran.books ran.account
+    threaded s c.in_ok-arena.field-0.arena run.traces.items run.books.items run.account.free.items run.account.held.items run.account.left.items arena.arena traces ran.traces books ran.books ran.account
