@@ -20,6 +20,8 @@ mod named;
 mod run;
 mod setup;
 mod start;
+#[cfg(test)]
+mod tests;
 mod threads;
 mod work;
 
