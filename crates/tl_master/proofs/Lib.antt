@@ -2,3 +2,4 @@ pub mod Hands
 pub mod Keeping
 pub mod Turns
 pub mod Starting
+pub mod Ending

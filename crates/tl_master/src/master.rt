@@ -1,5 +1,5 @@
 //! One master.
-ghost use Rattle.std.specs.Prelude.{◌≡◌, ◌+◌, ◌<◌, ◌≤◌, [], length, IfOk, IfErr, replicate};
+ghost use Rattle.std.specs.Prelude.{◌≡◌, ◌+◌, ◌<◌, ◌≤◌, [], length, IfOk, IfErr, replicate, IfSome, IfNone, slice_get};
 ghost use Rattle.std.specs.Prelude as std;
 ghost use Rattle.tl_rule.specs.declared.view.Held.TheVariants.{Filled, Sent};
 ghost use Rattle.tl_rule.specs.Views.{Owns};
@@ -179,6 +179,14 @@ impl Master {
         ensures room { result + out_of self.now.out ≤ self.now.limit }
     {
         self.trace.len()
+    }
+
+    /// The entry at a place of the trace, with the master's own source.
+    pub fn entry(&self, place: usize) -> Option<&Entry>
+        ensures some { IfSome result (λ entry. slice_get self.now.trace place ≡ std.Some entry.now) }
+        ensures none { IfNone result (length self.now.trace ≤ place) }
+    {
+        self.trace.get(place)
     }
 
     /// The master's number.

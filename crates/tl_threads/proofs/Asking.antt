@@ -40,8 +40,8 @@ pub poll_same : (m : MasterState) (source : ℕ) (polled : Polled) (n : MasterSt
 poll_same m source Idle n p same = record { arena = ap (λ (x : MasterState). x.seat.arena) p.0; number = ap (λ (x : MasterState). x.seat.number) p.0; asked_is = same }
 poll_same m source NotYet n p same = record { arena = ap (λ (x : MasterState). x.seat.arena) p.0; number = ap (λ (x : MasterState). x.seat.number) p.0; asked_is = same }
 poll_same m source (Done place) n p same = record {
-  arena = ap (λ (x : MasterState). x.seat.arena) p.master ∙ ap (λ (v : MasterView). v.arena) p.collected.seat;
-  number = ap (λ (x : MasterState). x.seat.number) p.master ∙ ap (λ (v : MasterView). v.number) p.collected.seat;
+  arena = ap (λ (v : MasterView). v.arena) p.reply.seat ∙ ap (λ (v : MasterView). v.arena) p.reply.collected.seat;
+  number = ap (λ (v : MasterView). v.number) p.reply.seat ∙ ap (λ (v : MasterView). v.number) p.reply.collected.seat;
   asked_is = same;
 }
 

@@ -163,7 +163,10 @@ fn master_of(
     requires sources { arena.now.about.counts ≡ system.now.counts }
     ensures { IfOk result (λ master. IsIdle arena.now number master) }
 {
-    Master::new(alloc, seat, system.sources(), limit).map_err(|_| Memory)
+    match Master::new(alloc, seat, system.sources(), limit) {
+        Ok(master) => Ok(master),
+        Err(_) => Err(Memory),
+    }
 }
 
 /// A driver for each new master, and an end of each master's bell.
