@@ -1,11 +1,11 @@
 -- New seats: what they keep, and lists of them.
-use Rattle.std.proofs.Common.{◌≡◌, ℕ, ◌+◌, ◌<◌, ◌≤◌, List, [], ◌∷◌, ◌++◌, length, replicate, get_or, sym, refl, ap, subst, ◌∙◌, arith, length-append, Some, slice_get, inl, inr}
+use Rattle.std.proofs.Common.{◌≡◌, ℕ, ◌+◌, ◌<◌, ◌≤◌, List, [], ◌∷◌, ◌++◌, length, sym, refl, ap, subst, ◌∙◌, arith, length-append, inl, inr}
 use Rattle.std.proofs.lemmas.List.{length-replicate}
 use Rattle.tl_types.specs.declared.limits.TheConstants.{MAX_MASTERS, MAX_PORTS}
 use Rattle.tl_types.proofs.Lists.{slice_get-push}
 use Rattle.tl_rule.specs.declared.view.About.{About}
 use Rattle.tl_rule.specs.declared.view.Held.TheVariants.{Nothing}
-use Rattle.tl_rule.specs.declared.view.View.TheVariants.{Dealer, Master, Port}
+use Rattle.tl_rule.specs.declared.view.View.TheVariants.{Master, Port}
 use Rattle.tl_rule.specs.Views.{new_hands, new_desk}
 use Rattle.tl_rule.specs.Moves.{Seat, IsLawfulDesk}
 use Rattle.tl_rule.proofs.Carried.{fresh_hand, none_yet}

@@ -1,5 +1,5 @@
 -- What the seats keep, after each step.
-use Rattle.std.proofs.Common.{◌≡◌, ◌≢◌, ℕ, ◌+◌, ◌<◌, ◌≤◌, Bool, true, false, List, [], ◌∷◌, ◌++◌, length, get_or, set, drop, sym, refl, ap, subst, ◌∙◌, arith, length-set, length-append, count_by, Some, None}
+use Rattle.std.proofs.Common.{◌≡◌, ◌≢◌, ℕ, ◌+◌, ◌<◌, ◌≤◌, true, false, List, [], ◌∷◌, ◌++◌, length, get_or, set, drop, sym, refl, ap, subst, ◌∙◌, arith, length-set, length-append, count_by, Some, None}
 use Rattle.std.proofs.lemmas.List.{get_or-set_same, get_or-set_other}
 use mathlib.Core.Logic.{dite}
 use native.Mathlib.Decide.{ℕ_discrete}
@@ -15,7 +15,7 @@ use Rattle.tl_rule.specs.Record.{SlotRecord}
 use Rattle.tl_rule.specs.Serving.{ask_at, drop_slot}
 use Rattle.tl_rule.specs.Views.{with_hand, with_serving}
 use Rattle.tl_rule.specs.Moves.{Seat, as_master, as_port, hand_of, handed, service_of, IsLawfulDesk}
-use Rattle.tl_rule.specs.Carried.{firsts, has, is_carried, is_held, CarriesHand, CarriesServed}
+use Rattle.tl_rule.specs.Carried.{firsts, is_carried, is_held, CarriesHand, CarriesServed}
 use Rattle.tl_rule.proofs.Carried.{bit, takes_one, gives_one, has_room, held_set, hand_reordered, serves_one, answers_one, service_reordered}
 use Rattle.tl_rule.proofs.Serving.{push_here, push_else, drop_else, drop_here}
 use Rattle.tl_rule.proofs.Facts.{in_hand_of}

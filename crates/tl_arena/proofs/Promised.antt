@@ -1,6 +1,6 @@
 -- What the calls promise, from what the steps tell.
-use Rattle.std.proofs.Common.{◌≡◌, ℕ, List, [], ◌∷◌, ◌++◌, sym, refl, ap, subst, ◌∙◌, Some, None}
-use Rattle.atomic_table.specs.Table.{Step, rest}
+use Rattle.std.proofs.Common.{◌≡◌, ℕ, sym, refl, ap, subst, ◌∙◌, Some, None}
+use Rattle.atomic_table.specs.Table.{Step}
 use Rattle.atomic_table.specs.Seated.{TableId}
 use Rattle.tl_types.specs.Request.{Request}
 use Rattle.tl_types.specs.Response.{Response}
@@ -8,7 +8,7 @@ use Rattle.tl_rule.specs.declared.view.View.{View}
 use Rattle.tl_rule.specs.declared.view.Held.TheVariants.{Sent}
 use Rattle.tl_rule.specs.Record.{SlotRecord, Spells, SpellsAnswer}
 use Rattle.tl_rule.specs.Serving.{ask_at}
-use Rattle.tl_rule.specs.Moves.{Seat, Collects, Accepts, hand_of, as_master}
+use Rattle.tl_rule.specs.Moves.{Seat, Collects, Accepts, hand_of}
 use Rattle.tl_rule.proofs.Facts.{spells_one, answers_one}
 use Rattle.tl_arena.specs.Views.{MasterView, PortView, TicketView, ServedView, in_hand, with_accepted}
 use Rattle.tl_arena.specs.Promises.{IsCollected}

@@ -1,5 +1,5 @@
 -- What an arena and its seats keep beside the table and the table's seats. All of it is this project's own.
-use Rattle.std.specs.Prelude.{◌≡◌, ℕ, ◌+◌, ◌<◌, ◌≤◌, Bool, true, false, List, length, slice_index, count_by, Some}
+use Rattle.std.specs.Prelude.{◌≡◌, ℕ, ◌+◌, ◌<◌, ◌≤◌, true, false, List, length, slice_index, count_by, Some}
 use Rattle.atomic_table.specs.Seated.{TableId}
 use Rattle.tl_types.specs.Request.{Request}
 use Rattle.tl_types.specs.declared.limits.TheConstants.{MAX_MASTERS, MAX_PORTS}

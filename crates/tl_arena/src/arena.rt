@@ -107,7 +107,8 @@ fn open(alloc: Global, key: &Key) -> Result<(Arena, TableSeat), AllocError>
 }
 
 impl Arena {
-    /// An arena for these masters and ports: what the banks hold now are the ports' resets.
+    /// An arena of so many slots for these masters and one port for each bank: what the banks hold now are the ports'
+    /// resets. It has 1 to 256 slots, 1 to 16 masters and 1 to 16 ports; `BadCount` comes before `Memory`.
     pub fn new(
         alloc: Global,
         slots: usize,

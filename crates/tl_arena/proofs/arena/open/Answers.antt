@@ -1,4 +1,4 @@
-use Rattle.std.proofs.Common.{rules, arith, ◌∙◌}
+use Rattle.std.proofs.Common.{◌∙◌}
 use Rattle.tl_rule.proofs.Dealing.{opens}
 use Rattle.tl_arena.specs.Key.{about_in}
 use Rattle.tl_arena.proofs.arena.open.Goals as goal

@@ -1,6 +1,6 @@
 use Rattle.std.proofs.Common.{rules, arith, ◌≡◌, ◌<◌, ℕ, ◌∷◌, ◌++◌, [], true, subst, sym, ap, ◌∙◌, length, length-append, List}
 use Rattle.tl_rule.specs.Carried.{firsts, has, place}
-use Rattle.tl_rule.proofs.Carried.{firsts_turned, top_of, has_turned, still_there, nearer}
+use Rattle.tl_rule.proofs.Carried.{firsts_turned, top_of, has_turned, nearer}
 use Rattle.tl_arena.proofs.carried.bring.Goals as goal
 
 pub loop-first-smaller : goal.loop-first-smaller

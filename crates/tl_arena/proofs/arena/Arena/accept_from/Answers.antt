@@ -1,18 +1,17 @@
-use Rattle.std.proofs.Common.{rules, arith, sym, ap, subst, ◌∙◌, ◌≡◌, ◌<◌, ◌≤◌, ◌∷◌, ◌/◌, ◌%◌, ℕ, length, refl}
+use Rattle.std.proofs.Common.{arith, sym, ap, subst, ◌∙◌, ◌≡◌, ◌<◌, ◌∷◌, ◌/◌, ◌%◌, ℕ, refl}
 use mathlib.Core.Option.{none}
 use Rattle.std.specs.VecDeque.{deque_capacity}
 use Rattle.atomic_table.specs.Table.{rest}
 use Rattle.tl_slots.specs.declared.phase.Phase.TheVariants.{Posted, Serving}
-use Rattle.tl_slots.specs.declared.word.TheConstants.{MAX_AGENT}
 use Rattle.tl_slots.specs.Word.{word, FitsWord}
 use Rattle.tl_slots.proofs.Words.{word-master}
 use Rattle.tl_rule.specs.declared.view.About.{About}
 use Rattle.tl_rule.specs.Views.{Owns}
 use Rattle.tl_rule.specs.Moves.{Seat, top, as_port, IsLawfulDesk}
 use Rattle.tl_rule.proofs.Seats.{accepts_at}
-use Rattle.tl_arena.specs.Views.{ArenaId, PortView, with_accepted}
+use Rattle.tl_arena.specs.Views.{ArenaId}
 use Rattle.tl_arena.specs.Key.{about_in}
-use Rattle.tl_arena.specs.Kept.{port_view, IsOwner}
+use Rattle.tl_arena.specs.Kept.{IsOwner}
 use Rattle.tl_arena.proofs.Keeping.{port_arena, port_recounted, accept_kept}
 use Rattle.tl_arena.proofs.Promised.{accepted}
 use Rattle.tl_arena.proofs.arena.Arena.accept_from.Goals as goal

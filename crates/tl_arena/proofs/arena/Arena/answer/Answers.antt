@@ -1,19 +1,17 @@
-use Rattle.std.proofs.Common.{rules, arith, sym, ap, subst, ◌∙◌, ◌≡◌, ◌<◌, ◌∷◌, ℕ, length, refl, get_or, Some}
-use mathlib.Core.Option.{none}
+use Rattle.std.proofs.Common.{arith, sym, ap, subst, ◌∙◌, ◌≡◌, ℕ, length, refl, get_or}
 use Rattle.std.specs.VecDeque.{deque_capacity}
 use Rattle.std.proofs.lemmas.List.{get_or_read}
 use Rattle.atomic_table.specs.Table.{rest}
 use Rattle.tl_types.specs.Request.{Request}
 use Rattle.tl_ops.specs.Store as store
 use Rattle.tl_slots.specs.declared.phase.Phase.TheVariants.{Answered}
-use Rattle.tl_slots.specs.Word.{word, FitsWord}
+use Rattle.tl_slots.specs.Word.{word}
 use Rattle.tl_rule.specs.declared.view.About.{About}
-use Rattle.tl_rule.specs.Record.{SlotRecord, SpellsAnswer}
-use Rattle.tl_rule.specs.Serving.{ask_at}
+use Rattle.tl_rule.specs.Record.{SpellsAnswer}
 use Rattle.tl_rule.specs.Views.{Owns}
-use Rattle.tl_rule.specs.Moves.{Seat, as_port, service_of}
+use Rattle.tl_rule.specs.Moves.{as_port}
 use Rattle.tl_rule.proofs.Seats.{written, answers_at, told_answered}
-use Rattle.tl_arena.specs.Views.{ArenaId, PortView, with_answered}
+use Rattle.tl_arena.specs.Views.{PortView, with_answered}
 use Rattle.tl_arena.specs.Key.{about_in}
 use Rattle.tl_arena.specs.Kept.{port_view}
 use Rattle.tl_arena.specs.Promises.{memory_of}

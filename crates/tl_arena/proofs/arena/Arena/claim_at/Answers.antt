@@ -1,4 +1,4 @@
-use Rattle.std.proofs.Common.{rules, arith, sym, ap, ◌∙◌, ◌≡◌, ℕ}
+use Rattle.std.proofs.Common.{arith, sym, ap, ◌∙◌, ℕ}
 use mathlib.Core.Option.{none}
 use Rattle.std.specs.VecDeque.{deque_capacity}
 use Rattle.tl_slots.specs.declared.phase.Phase.TheVariants.{Filling}

@@ -1,17 +1,16 @@
-use Rattle.std.proofs.Common.{rules, arith, sym, ap, subst, ◌∙◌, ◌≡◌, ◌<◌, ◌∷◌, ℕ, length, refl}
+use Rattle.std.proofs.Common.{arith, sym, ap, subst, ◌∙◌, ◌≡◌, ◌∷◌, ℕ, refl}
 use mathlib.Core.Option.{none}
 use Rattle.std.specs.VecDeque.{deque_capacity}
 use Rattle.atomic_table.specs.Table.{rest}
 use Rattle.tl_slots.specs.declared.phase.Phase.TheVariants.{Answered, Taking}
 use Rattle.tl_slots.specs.Word.{word}
 use Rattle.tl_rule.specs.declared.view.About.{About}
-use Rattle.tl_rule.specs.declared.view.Held.TheVariants.{Nothing, Sent, Taken}
-use Rattle.tl_rule.specs.Moves.{Seat, top, as_master, hand_of, entry}
+use Rattle.tl_rule.specs.Moves.{Seat, top, as_master, entry}
 use Rattle.tl_rule.specs.Record.{SpellsAnswer}
 use Rattle.tl_rule.specs.Carried.{is_carried}
 use Rattle.tl_rule.proofs.Seats.{collects_at}
 use Rattle.tl_rule.proofs.Facts.{in_hand_of}
-use Rattle.tl_arena.specs.Views.{ArenaId, MasterView, TicketView, ServedView}
+use Rattle.tl_arena.specs.Views.{MasterView, TicketView, ServedView}
 use Rattle.tl_arena.specs.Key.{about_in}
 use Rattle.tl_arena.specs.Kept.{master_view}
 use Rattle.tl_arena.specs.Promises.{IsCollected}

@@ -1,5 +1,5 @@
-use Rattle.std.proofs.Common.{rules, arith, sym, ap, subst, ◌∙◌, ◌≡◌, ℕ, [], ◌<◌, refl}
-use Rattle.tl_rule.specs.declared.view.View.TheVariants.{Dealer, Port}
+use Rattle.std.proofs.Common.{arith, sym, ap, subst, ◌∙◌, [], ◌<◌, refl}
+use Rattle.tl_rule.specs.declared.view.View.TheVariants.{Dealer}
 use Rattle.tl_rule.specs.declared.view.About.{About}
 use Rattle.tl_rule.specs.Moves.{Seat, next_port}
 use Rattle.tl_rule.proofs.Seats.{deals_port_at}

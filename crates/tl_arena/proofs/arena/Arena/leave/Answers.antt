@@ -1,4 +1,4 @@
-use Rattle.std.proofs.Common.{rules, arith, sym, ap, ◌∙◌, ◌≡◌, ℕ}
+use Rattle.std.proofs.Common.{arith, sym, ap, ◌∙◌}
 use Rattle.tl_rule.specs.Moves.{as_master}
 use Rattle.tl_rule.proofs.Carried.{none_held}
 use Rattle.tl_rule.proofs.Seats.{leaves_at}

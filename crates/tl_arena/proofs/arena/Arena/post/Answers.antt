@@ -1,21 +1,19 @@
-use Rattle.std.proofs.Common.{rules, arith, sym, ap, subst, ◌∙◌, ◌≡◌, ◌<◌, ◌∷◌, ◌/◌, ℕ, length, refl}
-use mathlib.Core.Option.{none}
+use Rattle.std.proofs.Common.{arith, sym, ap, subst, ◌∙◌, ◌≡◌, ◌<◌, ◌/◌, ℕ, length}
 use Rattle.std.specs.VecDeque.{deque_capacity}
-use Rattle.atomic_table.specs.Table.{rest, step}
+use Rattle.atomic_table.specs.Table.{rest}
 use Rattle.tl_slots.specs.declared.phase.Phase.TheVariants.{Posted}
 use Rattle.tl_slots.specs.Word.{word, FitsWord}
 use Rattle.tl_slots.proofs.Words.{word-port}
 use Rattle.tl_rule.specs.declared.view.About.{About}
-use Rattle.tl_rule.specs.declared.view.Held.TheVariants.{Nothing, Filled, Sent}
-use Rattle.tl_rule.specs.Record.{SlotRecord}
+use Rattle.tl_rule.specs.declared.view.Held.TheVariants.{Filled, Sent}
 use Rattle.tl_rule.specs.Views.{Owns}
-use Rattle.tl_rule.specs.Moves.{Seat, Sends, as_master, hand_of, handed, IsNew}
+use Rattle.tl_rule.specs.Moves.{as_master, hand_of, IsNew}
 use Rattle.tl_rule.proofs.Seats.{written, posts_at, told_sent}
 use Rattle.tl_arena.specs.Views.{ArenaId, MasterView, in_hand, with_held}
 use Rattle.tl_arena.specs.Key.{about_in}
 use Rattle.tl_arena.specs.Kept.{master_view}
 use Rattle.tl_arena.specs.Promises.{IsUnsent}
-use Rattle.tl_arena.proofs.Keeping.{master_arena, held_inside, master_recounted, post_kept}
+use Rattle.tl_arena.proofs.Keeping.{master_arena, held_inside}
 use Rattle.tl_arena.proofs.arena.Arena.post.Goals as goal
 
 pub store-requires : goal.store-requires

@@ -1,4 +1,4 @@
-use Rattle.std.proofs.Common.{rules, arith, ◌∙◌, ap, Some}
+use Rattle.std.proofs.Common.{◌∙◌, ap, Some}
 use Rattle.tl_slots.specs.declared.phase.Phase.TheVariants.{Posted}
 use Rattle.tl_arena.proofs.arena.Arena.poster.Goals as goal
 

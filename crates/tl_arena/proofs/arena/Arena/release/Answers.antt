@@ -1,16 +1,13 @@
-use Rattle.std.proofs.Common.{rules, arith, sym, ap, subst, ◌∙◌, ◌≡◌, ◌<◌, ◌∷◌, ℕ, length, refl}
-use mathlib.Core.Option.{none}
+use Rattle.std.proofs.Common.{arith, sym, ap, subst, ◌∙◌, ◌≡◌, ◌∷◌}
 use Rattle.std.specs.VecDeque.{deque_capacity}
 use Rattle.tl_rule.specs.declared.view.About.{About}
-use Rattle.tl_rule.specs.declared.view.Held.TheVariants.{Nothing, Taken}
+use Rattle.tl_rule.specs.declared.view.Held.TheVariants.{Taken}
 use Rattle.atomic_table.specs.Table.{rest}
-use Rattle.tl_rule.specs.Record.{SlotRecord}
-use Rattle.tl_rule.specs.Moves.{Seat, as_master, hand_of}
-use Rattle.tl_rule.proofs.Seats.{releases_at, told_released}
-use Rattle.tl_arena.specs.Views.{ArenaId, MasterView, ServedView, in_hand}
+use Rattle.tl_rule.specs.Moves.{hand_of}
+use Rattle.tl_rule.proofs.Seats.{releases_at}
+use Rattle.tl_arena.specs.Views.{MasterView, ServedView, in_hand}
 use Rattle.tl_arena.specs.Key.{about_in}
-use Rattle.tl_arena.specs.Kept.{master_view}
-use Rattle.tl_arena.proofs.Keeping.{master_arena, held_inside, release_kept, owns_some}
+use Rattle.tl_arena.proofs.Keeping.{master_arena, held_inside}
 use Rattle.tl_arena.proofs.arena.Arena.release.Goals as goal
 
 pub store-requires : goal.store-requires

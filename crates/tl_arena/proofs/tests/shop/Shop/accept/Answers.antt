@@ -1,4 +1,4 @@
-use Rattle.std.proofs.Common.{◌≡◌, ℕ, Some, IfSome, sym, ap, subst, ◌∙◌, Option}
+use Rattle.std.proofs.Common.{◌≡◌, ℕ, Some, IfSome, ap, ◌∙◌, Option}
 use Rattle.std.proofs.Common.{None}
 use Rattle.tl_types.specs.Request.{Request}
 use Rattle.tl_rule.specs.Serving.{ask_at}

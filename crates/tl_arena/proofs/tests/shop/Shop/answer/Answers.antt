@@ -1,8 +1,8 @@
-use Rattle.std.proofs.Common.{◌≡◌, ℕ, ◌∷◌, [], ◌++◌, sym, ap, ◌∙◌}
+use Rattle.std.proofs.Common.{◌≡◌, ℕ, ◌∷◌, [], sym, ap, ◌∙◌}
 use Rattle.std.proofs.lemmas.List.{map-append}
 use Rattle.tl_types.specs.Request.{Request}
 use Rattle.tl_types.specs.Response.{Response}
-use Rattle.tl_ops.specs.Store.{Store, after}
+use Rattle.tl_ops.specs.Store.{after}
 use Rattle.tl_ops.specs.History.{replay, asks_of}
 use Rattle.tl_ops.proofs.Histories.{replay-append}
 use Rattle.tl_rule.specs.Views.{reset_of}
