@@ -1,5 +1,5 @@
 //! One master.
-ghost use Rattle.std.specs.Prelude.{◌≡◌, ◌+◌, ◌<◌, ◌≤◌, [], length, IfOk, IfErr, replicate, IfSome, IfNone, slice_get};
+ghost use Rattle.std.specs.Prelude.{◌≡◌, ◌+◌, ◌<◌, ◌≤◌, [], ◌∷◌, ◌++◌, length, vec_len, vec_capacity, IfOk, IfErr, replicate, IfSome, IfNone, slice_get};
 ghost use Rattle.std.specs.Prelude as std;
 ghost use Rattle.tl_rule.specs.declared.view.Held.TheVariants.{Filled, Sent};
 ghost use Rattle.tl_rule.specs.Views.{Owns};
@@ -150,10 +150,8 @@ impl Master {
                 Polled::NotYet
             }
             Ok(entry) => {
-                let place = self.trace.len();
-                self.trace.push_reserved(entry);
                 self.count -= 1;
-                Polled::Done(place)
+                Polled::Done(append(&mut self.trace, entry))
             }
         }
     }
@@ -265,6 +263,18 @@ fn collect_entry(
     };
     arena.release(seat, served);
     Ok(entry)
+}
+
+/// Puts an entry at the end of a trace that has room for it, and answers its place.
+fn append(trace: &mut Trace, entry: Entry) -> usize
+    requires { vec_len trace.old < vec_capacity trace.old }
+    ensures place { result ≡ length trace.old.items }
+    ensures entry { trace.new.items ≡ trace.old.items ++ entry ∷ [] }
+    ensures capacity { vec_capacity trace.new ≡ vec_capacity trace.old }
+{
+    let place = trace.len();
+    trace.push_reserved(entry);
+    place
 }
 
 /// Nothing out, for each of these sources.

@@ -19,11 +19,11 @@ invariant_of-self-in-Err c =
 pub invariant_of-self-in-Ok : goal.invariant_of-self-in-Ok
 invariant_of-self-in-Ok c =
     let old : MasterState = record { seat = c.self.inside.seat; out = c.self.inside.out.items; trace = c.self.inside.trace.items; limit = c.self.inside.limit } in
-    let new : MasterState = record { seat = c.collect_entry.new.seat; out = slice_set c.self.inside.out.items c.args.source c.take.new.self; trace = c.push_reserved.new.self.items; limit = c.self.inside.limit } in
+    let new : MasterState = record { seat = c.collect_entry.new.seat; out = slice_set c.self.inside.out.items c.args.source c.take.new.self; trace = c.append.new.trace.items; limit = c.self.inside.limit } in
     let within : c.args.source < length old.out = grind (arith, common_steps) in
     let was : ticket_at old.out c.args.source ≡ Some c.in-Some.ticket = shown_at old.out c.args.source c.index_mut.result.now within c.index_mut.ensures.value ∙ (sym c.take.ensures.value ∙ c.in-Some.is) in (
-      collects_on old new _ _ _ c.in-Some.ticket c.in-Ok.entry c.self.invariant.0 was c.in-Ok.ensures.ok (ap (λ (x : Option TicketView). slice_set old.out c.args.source x) c.take.ensures.after) c.push_reserved.ensures.items refl,
-      rw c.push_reserved.ensures.capacity c.self.invariant.1,
+      collects_on old new _ _ _ c.in-Some.ticket c.in-Ok.entry c.self.invariant.0 was c.in-Ok.ensures.ok (ap (λ (x : Option TicketView). slice_set old.out c.args.source x) c.take.ensures.after) c.append.ensures.entry refl,
+      rw c.append.ensures.capacity c.self.invariant.1,
     )
 
 pub returns-in-Err-clause-polls : goal.returns-in-Err-clause-polls
