@@ -42,10 +42,7 @@ impl RunFault {
         match self {
             RunFault::Script(_) => 1,
             RunFault::Memory | RunFault::NoThread => 4,
-            RunFault::Read
-            | RunFault::Write
-            | RunFault::StrayBook(_)
-            | RunFault::GateHeld(_) => 5,
+            RunFault::Read | RunFault::Write | RunFault::StrayBook(_) | RunFault::GateHeld(_) => 5,
         }
     }
 }
