@@ -2,10 +2,12 @@
 use Rattle.std.specs.Prelude.{ℕ}
 use Rattle.tl_script.specs.declared.fault.ScriptFault.{ScriptFault}
 use Rattle.tl_script.specs.declared.fault.ScriptFault.TheVariants as script
+use Rattle.tl_threads.specs.declared.fault.ThreadFault.{ThreadFault}
+use Rattle.tl_threads.specs.declared.fault.ThreadFault.TheVariants as thread
 use Rattle.tlx.specs.declared.streams.ReadFault.{ReadFault}
 use Rattle.tlx.specs.declared.streams.ReadFault.TheVariants as read
 use Rattle.tlx.specs.declared.fault.RunFault.{RunFault}
-use Rattle.tlx.specs.declared.fault.RunFault.TheVariants.{Script, Read, Write, Memory}
+use Rattle.tlx.specs.declared.fault.RunFault.TheVariants.{Script, Read, Write, Memory, NoThread, StrayBook, GateHeld}
 
 -- want of memory is one fault, whichever layer met it
 abbrev pub of_script : ScriptFault → RunFault
@@ -16,9 +18,18 @@ abbrev pub of_read : ReadFault → RunFault
 of_read read.Memory = Memory
 of_read read.Read = Read
 
+abbrev pub of_thread : ThreadFault → RunFault
+of_thread thread.Memory = Memory
+of_thread thread.NoThread = NoThread
+of_thread (thread.StrayBook port) = StrayBook port
+of_thread (thread.GateHeld port) = GateHeld port
+
 -- the status that the program ends with
 abbrev pub status_of : RunFault → ℕ
 status_of (Script _) = 1
 status_of Read = 5
 status_of Write = 5
 status_of Memory = 4
+status_of NoThread = 4
+status_of (StrayBook _) = 5
+status_of (GateHeld _) = 5

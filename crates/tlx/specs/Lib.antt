@@ -3,3 +3,4 @@ pub mod Serial
 pub mod Slave
 pub mod Fault
 pub mod Run
+pub mod Options

@@ -1,15 +1,18 @@
 -- What an engine writes for a script.
-use Rattle.std.specs.Prelude.{◌≡◌, ℕ, ◌+◌, Bool, List, [], ◌∷◌, ◌++◌, Option, if◌then◌else◌}
+use Rattle.std.specs.Prelude.{◌≡◌, ℕ, ◌+◌, Bool, List, [], ◌∷◌, ◌++◌, length, Option, if◌then◌else◌}
 use Rattle.std.specs.Io.KnownBytes.{Appends}
 use Rattle.tl_types.specs.Request.{Request}
 use Rattle.tl_types.specs.Response.{Response}
 use Rattle.tl_types.specs.declared.trace.Entry.{Entry}
-use Rattle.tl_script.specs.History.{history_text}
+use Rattle.tl_arena.specs.declared.account.Held.{Held}
+use Rattle.tl_port.specs.Book.{BookView}
+use Rattle.tl_script.specs.History.{account_text, history_text}
 use Rattle.tl_script.specs.Script.{Spells, IsFirstScriptFault}
 use Rattle.tl_script.specs.System.{System}
 use Rattle.tl_script.specs.Trace.{trace_text}
 use Rattle.tl_script.specs.declared.fault.ScriptFault.{ScriptFault}
 use Rattle.tl_script.specs.declared.script.TheConstants.{SCRIPT_LIMIT}
+use Rattle.tl_threads.specs.Run.{IsThreadedRun}
 use Rattle.tlx.specs.Serial.{IsSerialRun}
 use Rattle.tlx.specs.Streams.{ReadsAll, ReadsUpTo}
 
@@ -33,15 +36,37 @@ pub record IsSerialText (history : Bool) (system : System) (text : List ℕ) : T
   pub run : IsSerialRun system traces histories
   pub is : text ≡ run_text history traces histories
 
--- what was written is the text of the serial run of the system that all of what was read spells
-pub record AnswersSerially (history : Bool) (read_old read_new written_old written_new : Option (List ℕ)) : Type 0 where
+-- the text is that of a run of the system by threads: its traces, and how many slots are free and how many held at its end
+pub record IsThreadedText (system : System) (text : List ℕ) : Type 0 where
+  pub traces : List (List Entry)
+  pub books : List BookView
+  pub free : List ℕ
+  pub held : List Held
+  pub left : List ℕ
+  pub run : IsThreadedRun system traces books free held left
+  pub is : text ≡ trace_text traces ++ account_text (length free) (length held)
+
+-- the reader gave bytes that spell the system, and had no others
+pub record GivesSystem (old new : Option (List ℕ)) (system : System) : Type 0 where
   pub script : List ℕ
+  pub read : ReadsAll old new script
+  pub spelled : Spells script system
+
+-- what was written is such a text of the system that all of what was read spells
+pub record Answers (IsText : System → List ℕ → Type 0) (read_old read_new written_old written_new : Option (List ℕ)) : Type 0 where
   pub system : System
   pub text : List ℕ
-  pub read : ReadsAll read_old read_new script
-  pub spelled : Spells script system
-  pub serial : IsSerialText history system text
+  pub given : GivesSystem read_old read_new system
+  pub of_run : IsText system text
   pub written : Appends written_old written_new text
+
+-- the text is that of the serial run
+abbrev pub AnswersSerially : Bool → Option (List ℕ) → Option (List ℕ) → Option (List ℕ) → Option (List ℕ) → Type 0
+AnswersSerially history = Answers (IsSerialText history)
+
+-- the text is that of a run by threads
+abbrev pub AnswersByThreads : Option (List ℕ) → Option (List ℕ) → Option (List ℕ) → Option (List ℕ) → Type 0
+AnswersByThreads = Answers IsThreadedText
 
 -- the fault is the first of what was read: of all that the reader had, or of a byte more than a script may have
 pub record HasScriptFault (read_old read_new : Option (List ℕ)) (fault : ScriptFault) : Type 0 where

@@ -3,7 +3,7 @@ ghost use Rattle.std.specs.Prelude.{◌≡◌, ◌≢◌, ◌++◌, ◌≤◌, �
 ghost use Rattle.std.specs.Io.KnownBytes.{Keeps};
 ghost use Rattle.tl_script.specs.System.{lists_of};
 ghost use Rattle.tl_script.specs.declared.fault.ScriptFault.{ScriptFault};
-ghost use Rattle.tlx.specs.Run.{histories_text, IsSerialText, AnswersSerially, HasScriptFault};
+ghost use Rattle.tlx.specs.Run.{histories_text, IsSerialText, GivesSystem, AnswersSerially, HasScriptFault};
 
 use crate::fault::RunFault;
 use crate::serial::{History, run_serial, write_serial};
@@ -15,6 +15,22 @@ use std::marker::Brand;
 use std::sync::ledger::{Blank, Ledger};
 use tl_script::{SCRIPT_LIMIT, System, read_system, write_history, write_trace};
 use tl_types::Memory;
+
+/// Reads a script to its end, and the system that it spells.
+pub(crate) fn read_whole_system<R: Read, L: Ledger>(
+    alloc: Global,
+    reader: &mut R,
+    steps: &mut Steps<L>,
+) -> Result<System, RunFault>
+    ensures ok { IfOk result (GivesSystem (R.remaining reader.old) (R.remaining reader.new)) }
+    ensures script { (fault : ScriptFault) → result ≡ Err (RunFault.Script fault)
+        → HasScriptFault (R.remaining reader.old) (R.remaining reader.new) fault }
+    ensures cost { steps.new ≤ steps.old + TURNS }
+{
+    let script = read_up_to(alloc, reader, SCRIPT_LIMIT + 1, steps)?;
+    let system = read_system(alloc, &script)?;
+    Ok(system)
+}
 
 /// Appends the lines of the histories, port 0 first.
 fn push_histories(alloc: Global, text: &mut Vec<u8>, histories: &[History]) -> Result<(), Memory>
@@ -97,9 +113,7 @@ pub fn counted_serial_engine<R: Read, W: Write, L: Ledger>(
     // However the reader and the writer behave: at most this many reads, and as many writes that are tried again.
     ensures cost { steps.new ≤ steps.old + 2 * TURNS }
 {
-    let script = read_up_to(alloc, reader, SCRIPT_LIMIT + 1, steps)?;
-    let system = read_system(alloc, &script)?;
-    drop(script);
+    let system = read_whole_system(alloc, reader, steps)?;
     let text = serial_text(alloc, &system, history)?;
     write_all(writer, &text, steps)?;
     Ok(())

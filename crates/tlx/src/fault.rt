@@ -1,11 +1,12 @@
 //! Why a run has no text.
 ghost use Rattle.std.specs.Prelude.{◌≡◌};
-ghost use Rattle.tlx.specs.Fault.{of_script, of_read, status_of};
+ghost use Rattle.tlx.specs.Fault.{of_script, of_read, of_thread, status_of};
 ghost use Rattle.tlx.specs.declared.fault.RunFault.TheVariants.{Write, Memory as WantOfMemory};
 
 use crate::streams::{ReadFault, WriteFault};
 use thiserror::Error;
 use tl_script::ScriptFault;
+use tl_threads::ThreadFault;
 use tl_types::Memory;
 
 /// Why a run has no text. The text of each is one line for standard error.
@@ -22,6 +23,15 @@ pub enum RunFault {
     /// Want of memory, in whichever layer it was met.
     #[error("memory refused")]
     Memory,
+    /// The system gave no thread.
+    #[error("thread refused")]
+    NoThread,
+    /// The lock of this port gave back another port's book.
+    #[error("port {0}: stray book")]
+    StrayBook(usize),
+    /// The gate of a run never let this port's worker serve.
+    #[error("gate of port {0} held")]
+    GateHeld(usize),
 }
 
 impl RunFault {
@@ -31,8 +41,8 @@ impl RunFault {
     {
         match self {
             RunFault::Script(_) => 1,
-            RunFault::Memory => 4,
-            RunFault::Read | RunFault::Write => 5,
+            RunFault::Memory | RunFault::NoThread => 4,
+            RunFault::Read | RunFault::Write | RunFault::StrayBook(_) | RunFault::GateHeld(_) => 5,
         }
     }
 }
@@ -64,6 +74,19 @@ impl From<WriteFault> for RunFault {
 
     fn from(_: WriteFault) -> RunFault {
         RunFault::Write
+    }
+}
+
+impl From<ThreadFault> for RunFault {
+    ghost from_gives = { λ fault e. e ≡ of_thread fault };
+
+    fn from(fault: ThreadFault) -> RunFault {
+        match fault {
+            ThreadFault::Memory => RunFault::Memory,
+            ThreadFault::NoThread => RunFault::NoThread,
+            ThreadFault::StrayBook(port) => RunFault::StrayBook(port),
+            ThreadFault::GateHeld(port) => RunFault::GateHeld(port),
+        }
     }
 }
 

@@ -1,5 +1,8 @@
 ghost use Rattle.std.specs.Prelude.{Some, ◌<◌};
 
+mod options;
+mod threaded;
+
 use crate::engine::serial_engine;
 use crate::fault::RunFault;
 use crate::streams::TURNS;
@@ -188,7 +191,7 @@ fn histories_have_wide_sources(rt: HostRuntime) -> Result<(), Fail> {
 
 #[test]
 fn faults_have_their_lines_and_statuses(rt: HostRuntime) -> Result<(), Fail> {
-    let rows: [(RunFault, &str, u8); 5] = [
+    let rows: [(RunFault, &str, u8); 8] = [
         (
             RunFault::Script(ScriptFault::BadOp(0, 2)),
             "script: master 0 operation 2: bad operation",
@@ -202,6 +205,9 @@ fn faults_have_their_lines_and_statuses(rt: HostRuntime) -> Result<(), Fail> {
         (RunFault::Memory, "memory refused", 4),
         (RunFault::Read, "read failed", 5),
         (RunFault::Write, "write failed", 5),
+        (RunFault::NoThread, "thread refused", 4),
+        (RunFault::StrayBook(3), "port 3: stray book", 5),
+        (RunFault::GateHeld(2), "gate of port 2 held", 5),
     ];
     for (fault, line, status) in &rows {
         assert_eq!(rt; format!(in rt.alloc(); "{fault}")?.as_str(), *line);

@@ -2,22 +2,17 @@
 use Rattle.std.proofs.Common.{rules, arith}
 use Rattle.tl_script.specs.Script.{Spells}
 use Rattle.tlx.proofs.Scripts.{length-named}
-use Rattle.tlx.proofs.engine.counted_serial_engine.Goals as goal
+use Rattle.tlx.proofs.engine.read_whole_system.Goals as goal
 
 pub returns-clause-ok : goal.returns-clause-ok
 returns-clause-ok g c =
     let script = c.in_ok-script.script.items in
-    let text = c.in_ok-text.text.items in
     let system = c.in_ok-system.system in
     let read = c.in_ok-script.ensures.bytes in
     let spelled : Spells script system = search rules in
     let short = length-named script spelled.parts spelled.named in
     record {
       script = script;
-      system = system;
-      text = text;
       read = record { taken = read.taken; whole = read.whole (omega arith) };
       spelled = spelled;
-      serial = search rules;
-      written = search rules;
     }

@@ -1,0 +1,65 @@
+//! The command line: `tlx [--serial] [--workers N]`.
+ghost use Rattle.std.specs.Prelude.{◌≡◌, ◌≤◌, IfOk};
+ghost use Rattle.clap.specs.Words.{kind_of};
+ghost use Rattle.tlx.specs.Options.{status_of_kind};
+
+use clap::error::ErrorKind;
+use clap::{Arg, ArgAction, Command, Error, value_parser};
+use std::alloc::{AllocError, Global};
+
+/// The most threads of a port that the command line takes.
+pub const MOST_WORKERS: usize = 1;
+
+/// What the command line asks for.
+#[derive(Clone, Copy, Debug, PartialEq, Eq)]
+pub struct Options {
+    /// Runs all masters one after the other, on one thread.
+    pub serial: bool,
+    /// How many threads serve each port, where the masters are threads.
+    pub workers: usize,
+}
+
+/// Reads the command line, whose first word is the program's name.
+///
+/// Errors: help that was asked for, an unknown option, a stray word, or a number of workers that is none or outside its
+/// range; each is clap's own text.
+pub fn read_options(alloc: Global, words: &[&str]) -> Result<Options, Error>
+    ensures some { IfOk result (λ options. 1 ≤ options.workers) }
+    ensures few { IfOk result (λ options. options.workers ≤ MOST_WORKERS) }
+{
+    let matches = command(alloc)?.try_get_matches_from(words)?;
+    Ok(Options {
+        serial: matches.get_flag("serial"),
+        // idle at run time: clap has refused every other number
+        workers: matches
+            .get_one::<usize>("workers")
+            .unwrap_or(1)
+            .clamp(1, MOST_WORKERS),
+    })
+}
+
+/// The options that there are.
+fn command<'a>(alloc: Global) -> Result<Command<'a>, AllocError> {
+    let serial = Arg::new(alloc, "serial")
+        .long("serial")
+        .action(ArgAction::SetTrue)
+        .help("Run the masters one after the other, on one thread");
+    let workers = Arg::new(alloc, "workers")
+        .long("workers")
+        .value_name("N")
+        .value_parser(value_parser!(usize).range(1..=1))
+        .default_value("1")
+        .help("Threads for each port");
+    Command::new(alloc, "tlx").arg(serial)?.arg(workers)
+}
+
+/// The status that the program ends with where there are no options: 0 for help, 4 for want of memory, 2 for a mistake.
+pub fn options_status(error: &Error) -> u8
+    ensures { result ≡ status_of_kind (kind_of error.now) }
+{
+    match error.kind() {
+        ErrorKind::DisplayHelp | ErrorKind::DisplayVersion => 0,
+        ErrorKind::OutOfMemory => 4,
+        _ => 2,
+    }
+}
