@@ -53,7 +53,8 @@ impl Gate for Meeting {
     }
 }
 
-const TWO_PORTS: &[u8] = b"slots = 4\nport = [{ kind = 'ram', base = 0x1000, length = 64 }, { kind = 'ram', base = 0x2000, length = 64 }]\nmaster = [{ sources = 1, ops = ['0 get 0x1000 2'] }, { sources = 1, ops = ['0 get 0x2000 2'] }]\n";
+const TWO_PORTS: &[u8] =
+    b"slots = 4\nport = [{ kind = 'ram', base = 0x1000, length = 64 }, { kind = 'ram', base = 0x2000, length = 64 }]\nmaster = [{ sources = 1, ops = ['0 get 0x1000 2'] }, { sources = 1, ops = ['0 get 0x2000 2'] }]\n";
 
 #[test]
 fn threads_run_at_once(rt: HostRuntime) -> Result<(), Fail> {
@@ -68,7 +69,8 @@ fn threads_run_at_once(rt: HostRuntime) -> Result<(), Fail> {
     Ok(())
 }
 
-const FOUR_MASTERS: &[u8] = b"slots = 2\nport = [{ kind = 'ram', base = 0x1000, length = 64 }]\nmaster = [{ sources = 2, ops = ['0 add 0x1000 2 01000000', '1 get 0x9000 0', '0 add 0x1000 2 01000000'] }, { sources = 1, ops = ['0 add 0x1000 2 01000000', 'wait', '0 get 0x1000 2'] }, { sources = 4, ops = ['3 add 0x1000 2 01000000', '1 add 0x1000 2 01000000', '2 get 0x1004 2'] }, { sources = 1, ops = [] }]\n";
+const FOUR_MASTERS: &[u8] =
+    b"slots = 2\nport = [{ kind = 'ram', base = 0x1000, length = 64 }]\nmaster = [{ sources = 2, ops = ['0 add 0x1000 2 01000000', '1 get 0x9000 0', '0 add 0x1000 2 01000000'] }, { sources = 1, ops = ['0 add 0x1000 2 01000000', 'wait', '0 get 0x1000 2'] }, { sources = 4, ops = ['3 add 0x1000 2 01000000', '1 add 0x1000 2 01000000', '2 get 0x1004 2'] }, { sources = 1, ops = [] }]\n";
 
 #[test]
 fn every_run_ends_with_all_slots_free(rt: HostRuntime) -> Result<(), Fail> {

@@ -70,12 +70,7 @@ fn seats(
 }
 
 /// A master that owns nothing and has collected nothing.
-fn master(
-    alloc: Global,
-    seat: MasterSeat,
-    sources: &Sources,
-    limit: usize,
-) -> Result<Master, Fail>
+fn master(alloc: Global, seat: MasterSeat, sources: &Sources, limit: usize) -> Result<Master, Fail>
     requires new { seat ≡ new_master seat.arena seat.number }
     requires sources { sources.now ≡ seat.arena.about.counts }
     ensures { IfOk result (λ master. master.seat.arena ≡ seat.arena) }

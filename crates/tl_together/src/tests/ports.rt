@@ -33,7 +33,10 @@ fn intake_takes_what_is_posted(rt: HostRuntime) -> Result<(), Fail> {
     let (ask, reply) = board.book.entry(0).ok_or("no entry")?;
     assert_eq!(rt; (ask.source(), reply.source()), (5, 5));
     assert!(rt; reply.bytes() == [0; 4].as_slice());
-    assert_eq!(rt; (board.book.number(), board.book.byte(0x1000)), (0, Some(0)));
+    assert_eq!(rt;
+        (board.book.number(), board.book.byte(0x1000)),
+        (0, Some(0))
+    );
     Ok(())
 }
 
