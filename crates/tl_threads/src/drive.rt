@@ -6,6 +6,7 @@ ghost use Rattle.tl_threads.specs.Trace.{IsTrace, IsSame, HasAsked, HasDone, IsI
 use crate::bell::{Bells, Listener, Ringer, ring_at};
 use crate::gate::Gate;
 use std::sync::Wait;
+use std::thread::yield_now;
 use tl_arena::{Arena, ArenaName};
 use tl_map::Map;
 use tl_master::{Issued, Master, Polled};
@@ -61,6 +62,16 @@ fn collect_all<R: Wait, G: Gate>(
     unreachable!()
 }
 
+/// Waits for a reply to one of the master's own requests. Where none is out, other masters have the slots: nobody rings
+/// this one when they give them back, so it lets other threads run, and looks again.
+fn wait_for_turn<R: Wait>(rt: &R, master: &Master, bell: &mut Listener) {
+    if master.out() > 0 {
+        bell.hear(rt);
+    } else {
+        yield_now();
+    }
+}
+
 /// Issues a request, as soon as its source is idle and a slot is free.
 #[tactic(auto, using(crate::proofs::Asking::same_then, crate::proofs::Asking::same_asked, crate::proofs::Asking::issue_asks))]
 fn issue<R: Wait, G: Gate>(
@@ -80,7 +91,7 @@ fn issue<R: Wait, G: Gate>(
         if let Ok(issued) = master.issue(arena, map, ask) {
             return issued;
         }
-        bell.hear(rt);
+        wait_for_turn(rt, master, bell);
         look_at_all(master, arena, gate);
     }
     unreachable!()
