@@ -1,4 +1,5 @@
 //! Tests of what no clause says: that calls succeed, the worked values, and threads.
+mod account;
 mod client;
 mod floor;
 mod shop;
