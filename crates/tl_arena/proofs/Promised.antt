@@ -33,6 +33,7 @@ module _ (st : Step SlotRecord) (m n : Seat) (C : Collects st m n) where
     fresh = C.fresh;
     history = C.history;
     lawful = C.lawful;
+    masters = C.masters;
     seen = C.seen;
     own = C.own;
   }

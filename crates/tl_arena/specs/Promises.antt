@@ -6,7 +6,7 @@ use Rattle.tl_ops.specs.Store as store
 use Rattle.tl_ops.specs.History.{replay, asks_of, IsLawfulHistory}
 use Rattle.tl_rule.specs.declared.view.Held.TheVariants.{Sent}
 use Rattle.tl_rule.specs.Views.{Owns, reset_of, Above}
-use Rattle.tl_rule.specs.Seen.{SeenFit, JustOwn, IsPlaceOf, at_port, sent_at}
+use Rattle.tl_rule.specs.Seen.{IsOfMasters, SeenFit, JustOwn, IsPlaceOf, at_port, sent_at}
 use Rattle.tl_rule.specs.Moves.{IsLawfulDesk, OwnsAll}
 use Rattle.tl_arena.specs.Views.{MasterView, PortView, TicketView, ServedView, in_hand, with_collected, entry_of, hands_of, desk_of}
 
@@ -22,8 +22,9 @@ IsLawfulPort u = IsLawfulDesk (desk_of u)
 abbrev pub memory_of : PortView → store.Store
 memory_of u = replay (reset_of u.arena.about u.number) (asks_of u.list)
 
--- The reply to what was posted is collected. In one lawful history of the port's reset it stands after all that had been
--- collected there when it was posted, and of the master's own requests that history has just those that it made
+-- The reply to what was posted is collected. In one lawful history of the port's reset, of requests of masters alone, it
+-- stands after all that had been collected there when it was posted, and of the master's own requests that history has
+-- just those that it made
 pub record IsCollected (v : MasterView) (t : TicketView) (s : ServedView) (w : MasterView) : Type 0 where
   pub slot : s.slot ≡ t.slot
   pub ask : s.ask ≡ t.ask
@@ -33,9 +34,12 @@ pub record IsCollected (v : MasterView) (t : TicketView) (s : ServedView) (w : M
   pub fresh : IsPlaceOf (at_port s.port v.got) s.index → ⊥
   pub history : List (Request × Response)
   pub lawful : IsLawfulHistory (reset_of v.arena.about s.port) history
+  -- no request from elsewhere can have changed what was read
+  pub masters : IsOfMasters v.arena.about history
   pub seen : SeenFit history s.index s.ask s.reply (at_port s.port (take t.known v.got))
   pub own : JustOwn history (Owns v.arena.about v.number) (at_port s.port w.got) (sent_at s.port w.hand)
 
--- for each port one lawful history of its reset has all that the master collected there, and no other request of its own
+-- for each port one lawful history of its reset, of requests of masters alone, has all that the master collected there,
+-- and no other request of its own
 abbrev pub OwnsHistories : MasterView → Type 0
 OwnsHistories v = (p : ℕ) → OwnsAll (hands_of v) p

@@ -22,13 +22,13 @@ use Rattle.tl_rule.specs.Record.{SlotRecord, Spells, SpellsAnswer}
 use Rattle.tl_rule.specs.Views.{Owns, reset_of, hands, desk, held, Above, no_hands, with_hand}
 use Rattle.tl_rule.specs.Rule.{Parts, Names, IsHome, HomeAsk, InPhase, IsAnswered, InSlot, InGot, Placed, Places, Lawful, Fits, phase, table_of}
 use Rattle.tl_rule.specs.Events.{state_of, IsOneEvent}
-use Rattle.tl_rule.specs.Seen.{SeenFit, JustOwn, at_port, sent_at}
+use Rattle.tl_rule.specs.Seen.{IsOfMasters, SeenFit, JustOwn, at_port, sent_at}
 use Rattle.tl_rule.specs.Moves.{Tried, Collects, entry}
 use Rattle.tl_rule.proofs.Tables.{of_get}
 use Rattle.tl_rule.proofs.Lists.{at_end, before_end, below_length, ended, first_of}
 use Rattle.tl_rule.proofs.MasterFrame.{master_moves, MasterStep, moved, held_here, got_here, got_elim, phase_here, phase_else}
 use Rattle.tl_rule.proofs.Facts.{Known, known, shown, in_hand_of, not_left, some_list, low_master, low_port, one_named, sent_port}
-use Rattle.tl_rule.proofs.Own.{just_own, seen_fit, answered_inside, got_back}
+use Rattle.tl_rule.proofs.Own.{of_masters, just_own, seen_fit, answered_inside, got_back}
 use Rattle.tl_rule.proofs.Allowing.{fits_after, found, there, present, master_step, tries}
 
 -- the places, once the answer of the slot i is collected
@@ -198,6 +198,7 @@ module _ (a : About) (c : Parts) (L : Lawful a c) (id i : ℕ) (v : Hands) (K : 
         above = subst (λ (k : ℕ). Above v.got k p letter.index) known_is (subst (λ (l : List Entry). Above l A.asked.known p letter.index) got_is A.above);
         history = (desk c.ports p).list;
         lawful = subst (λ (z : About). IsLawfulHistory (reset_of z p) (desk c.ports p).list) (sym K.about) (L.lawful p);
+        masters = subst (λ (z : About). IsOfMasters z (desk c.ports p).list) (sym K.about) (of_masters a c L m p);
         seen = subst (λ (q : Request). SeenFit (desk c.ports p).list letter.index q reply (at_port p (take since v.got))) ask_is
             (subst (λ (k : ℕ). SeenFit (desk c.ports p).list letter.index A.asked.ask reply (at_port p (take k v.got))) known_is
             (subst (λ (w : Hands). SeenFit (desk c.ports p).list letter.index A.asked.ask reply (at_port p (take A.asked.known w.got))) K.is (seen_fit a c L m p i A)));

@@ -17,20 +17,21 @@ use Rattle.tl_rule.specs.Rule.{Parts, Names, IsHome, InPhase, Lawful, phase, tab
 use Rattle.tl_slots.specs.Word.{IsWordOf}
 use Rattle.tl_slots.proofs.Words.{one_phase}
 use Rattle.tl_rule.specs.Rule.{leave_word}
-use Rattle.tl_rule.specs.Seen.{SeenFit, JustOwn, at_port, sent_at}
+use Rattle.tl_rule.specs.Seen.{IsOfMasters, SeenFit, JustOwn, at_port, sent_at}
 use Rattle.tl_rule.specs.Moves.{IsLawfulDesk}
 use Rattle.tl_rule.specs.Laws.{HasView, HasHome, IsSeenAnswer, AreArenaWords, ListsAreJustOwn, AnswersAreSeenFit, NoOwnedSlotIsClaimed, HandsAreApart, DesksAreLawful, WordsFit, AllFreeAfterAllLeft}
 use Rattle.tl_rule.proofs.Tables.{at_get, word_at, leaf_at, leave_at, many_words}
 use Rattle.tl_rule.proofs.Facts.{Known, known, known_port, shown, some_master, low_master, low_port, one_named, owner_holds, not_left, in_hand_of, fits_word, free_names_none}
-use Rattle.tl_rule.proofs.Own.{just_own, seen_fit}
+use Rattle.tl_rule.proofs.Own.{of_masters, just_own, seen_fit}
 use Rattle.tl_rule.proofs.PortSteps.{desk_law}
 use Rattle.tl_rule.proofs.Allowing.{by_parts}
 
 pub lists_law : ListsAreJustOwn
 lists_law a s id at v u F seat desk_seat =
-    by_parts a (λ s. HasView s id (Master v) → HasView s at (Port u) → IsLawfulHistory (reset_of v.about u.number) u.list × JustOwn u.list (Owns v.about v.number) (at_port u.number v.got) (sent_at u.number v.hand))
+    by_parts a (λ s. HasView s id (Master v) → HasView s at (Port u) → IsLawfulHistory (reset_of v.about u.number) u.list × IsOfMasters v.about u.list × JustOwn u.list (Owns v.about v.number) (at_port u.number v.got) (sent_at u.number v.hand))
     (λ c L seat there. let K = known a c L id v seat in let D = known_port a c L at u there in let w = L.shape.master_views v.number K.near in (
       subst (λ (z : About). IsLawfulHistory (reset_of z u.number) u.list) (sym K.about) (subst (λ (d : Desk). IsLawfulHistory (reset_of a u.number) d.list) D.is (L.lawful u.number)),
+      subst (λ (z : About). IsOfMasters z u.list) (sym K.about) (subst (λ (d : Desk). IsOfMasters a d.list) D.is (of_masters a c L v.number u.number)),
       subst (λ (d : Desk). JustOwn d.list (Owns v.about v.number) (at_port u.number v.got) (sent_at u.number v.hand)) D.is
           (subst (λ (x : Hands). JustOwn (desk c.ports u.number).list (Owns x.about x.number) (at_port u.number x.got) (sent_at u.number x.hand)) K.is (just_own a c L v.number u.number w.1 w.0)),
     )) s F seat desk_seat

@@ -16,7 +16,7 @@ use Rattle.tl_rule.specs.Views.{Owns, reset_of, hands, desk, held}
 use Rattle.tl_rule.specs.Rule.{Parts, IsHome, InPhase, IsAnswered, InSlot, InGot, Lawful, phase}
 use Rattle.std.proofs.Common.{cond, eq-eqb, ne_eqb, Contains, take}
 use Rattle.std.proofs.lemmas.List.Elements.{Contains-append_left, Contains-append_right}
-use Rattle.tl_rule.specs.Seen.{SeenFit, JustOwn, IsPlaceOf, at_port, sent_to, sent_at}
+use Rattle.tl_rule.specs.Seen.{IsOfMasters, SeenFit, JustOwn, IsPlaceOf, at_port, sent_to, sent_at}
 use Rattle.tl_rule.specs.Moves.{OwnsAll}
 use Rattle.tl_rule.proofs.Facts.{one_owner, phase_inside}
 
@@ -117,6 +117,10 @@ module _ (a : About) (c : Parts) (L : Lawful a c) (m p : ℕ) where
   one_place k l x y same t u = let one = L.sources m t.slot u.slot p p t.known u.known x.0 y.0 t.sent u.sent same in
       let letters : t.letter ≡ u.letter = (let z = subst (λ (n : ℕ). IsHome c.homes n t.letter) one t.at in let w = u.at in cc) in sym t.index ∙ ap (λ (z : SlotRecord). z.index) letters ∙ u.index
 
+  -- each place is that of some master's slot or reply, whose source it is
+  pub of_masters : IsOfMasters a h
+  of_masters k x at = let t = L.places.placed p k x at in (t.master, t.owns)
+
   pub just_own_at : JustOwn h (Owns a m) mine out
   just_own_at = record {
     stand = stands;
@@ -134,6 +138,7 @@ module _ (a : About) (c : Parts) (L : Lawful a c) (m p : ℕ) where
   all_own about number empty = let own_at = λ (s : ℕ) (o : Owns v.about v.number s). subst (λ (z : About). Owns z m s) about (subst (λ (n : ℕ). Owns v.about n s) number o) in let own = just_own about number in record {
     history = h;
     lawful = subst (λ (z : About). IsLawfulHistory (reset_of z p) h) (sym about) (L.lawful p);
+    masters = subst (λ (z : About). IsOfMasters z h) (sym about) of_masters;
     own = record {
       stand = own.stand;
       others = λ k x at o. ⊎_elim (λ (t : At k x). let e : Nothing ≡ Sent x.0 p t.known = sym (empty t.slot) ∙ t.sent in absurd (cc)) inl (found k x at (own_at x.0.source o));

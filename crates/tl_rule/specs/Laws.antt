@@ -26,7 +26,7 @@ use Rattle.tl_rule.specs.Serving.{ask_at, drop_slot}
 use Rattle.tl_rule.specs.Views.{Owns, reset_of, with_hand, with_serving, gone_hands}
 use Rattle.tl_rule.specs.Rule.{Fits, Names}
 use Rattle.tl_rule.specs.Events.{IsOneEvent}
-use Rattle.tl_rule.specs.Seen.{SeenFit, JustOwn, at_port, sent_at}
+use Rattle.tl_rule.specs.Seen.{IsOfMasters, SeenFit, JustOwn, at_port, sent_at}
 use Rattle.tl_rule.specs.Moves.{IsLawfulDesk, entry, opening_view, after_master, next_master, after_port, next_port}
 
 abbrev pub Table : Type 0
@@ -109,10 +109,11 @@ LeaveIsOneEvent = (a : About) (s : Table) (id : ℕ) (v : Hands) (carried : List
 
 -- ---- what the rule says between two steps
 
--- a master's view and a port's list: what it collected there stands there, and what else there is of its own it has sent there
+-- a master's view and a port's list: the list is of requests of masters alone, what the master collected there stands
+-- there, and what else there is of its own it has sent there
 abbrev pub ListsAreJustOwn : Type 0
 ListsAreJustOwn = (a : About) (s : Table) (id at : ℕ) (v : Hands) (u : Desk) → Fits a s → HasView s id (Master v) → HasView s at (Port u)
-    → IsLawfulHistory (reset_of v.about u.number) u.list × JustOwn u.list (Owns v.about v.number) (at_port u.number v.got) (sent_at u.number v.hand)
+    → IsLawfulHistory (reset_of v.about u.number) u.list × IsOfMasters v.about u.list × JustOwn u.list (Owns v.about v.number) (at_port u.number v.got) (sent_at u.number v.hand)
 
 -- an answered slot: its owner has sent it, its record spells the reply, and that stands in the port's list after all that the owner had seen there
 pub record IsSeenAnswer (v : Hands) (u : Desk) (i : ℕ) (letter : SlotRecord) : Type 0 where

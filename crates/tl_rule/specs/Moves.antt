@@ -16,7 +16,7 @@ use Rattle.tl_rule.specs.declared.view.View.TheVariants.{Dealer, Master, Port}
 use Rattle.tl_rule.specs.Record.{SlotRecord, Spells, SpellsAnswer}
 use Rattle.tl_rule.specs.Serving.{ask_at, drop_slot, HasDistinctSlots}
 use Rattle.tl_rule.specs.Views.{Owns, reset_of, new_hands, new_desk, no_hands, no_desk, Above, with_hand, with_serving, gone_hands}
-use Rattle.tl_rule.specs.Seen.{SeenFit, JustOwn, IsPlaceOf, at_port, sent_at}
+use Rattle.tl_rule.specs.Seen.{IsOfMasters, SeenFit, JustOwn, IsPlaceOf, at_port, sent_at}
 
 -- ---- seats
 
@@ -125,8 +125,8 @@ pub record Answers (st : Step SlotRecord) (m : Seat) (r : ℕ) (n : Seat) : Type
 abbrev pub entry : ℕ → ℕ → Request → Response → Entry
 entry p index ask reply = record { ask = ask; reply = reply; port = p; index = index }
 
--- The reply to what was sent is collected. In one lawful history of the port's reset it stands after all that had been
--- collected there when it was sent, and of the master's own requests are just those that it made
+-- The reply to what was sent is collected. In one lawful history of the port's reset, of requests of masters alone, it
+-- stands after all that had been collected there when it was sent, and of the master's own requests are just those that it made
 pub record Collects (st : Step SlotRecord) (m n : Seat) : Type 0 where
   pub letter : SlotRecord
   pub ask : Request
@@ -141,6 +141,7 @@ pub record Collects (st : Step SlotRecord) (m n : Seat) : Type 0 where
   pub above : Above (as_master m.0).got known port letter.index
   pub history : List (Request × Response)
   pub lawful : IsLawfulHistory (reset_of (as_master m.0).about port) history
+  pub masters : IsOfMasters (as_master m.0).about history
   pub seen : SeenFit history letter.index ask reply (at_port port (take known (as_master m.0).got))
   pub own : JustOwn history (Owns (as_master m.0).about (as_master m.0).number) (at_port port (as_master n.0).got) (sent_at port (as_master n.0).hand)
 
@@ -148,10 +149,12 @@ pub record Collects (st : Step SlotRecord) (m n : Seat) : Type 0 where
 pub record Releases (st : Step SlotRecord) (m : Seat) (r : ℕ) (n : Seat) : Type 0 where
   pub seat : n ≡ (handed m st.word Nothing, rest m.1)
 
--- at the port, one lawful history of its reset has all that the master collected there, and no other request of its own
+-- at the port, one lawful history of its reset, of requests of masters alone, has all that the master collected there,
+-- and no other request of its own
 pub record OwnsAll (v : Hands) (p : ℕ) : Type 0 where
   pub history : List (Request × Response)
   pub lawful : IsLawfulHistory (reset_of v.about p) history
+  pub masters : IsOfMasters v.about history
   pub own : JustOwn history (Owns v.about v.number) (at_port p v.got) []
 
 -- the master has left

@@ -3,8 +3,10 @@ use Rattle.std.specs.Prelude.{◌≡◌, ◌≢◌, ℕ, ◌<◌, ◌++◌, cond
 use Rattle.tl_types.specs.Request.{Request}
 use Rattle.tl_types.specs.Response.{Response}
 use Rattle.tl_types.specs.declared.trace.Entry.{Entry}
+use Rattle.tl_rule.specs.declared.view.About.{About}
 use Rattle.tl_rule.specs.declared.view.Held.{Held}
 use Rattle.tl_rule.specs.declared.view.Held.TheVariants.{Nothing, Filled, Sent, Taken}
+use Rattle.tl_rule.specs.Views.{Owns}
 
 -- ---- a history after what was seen
 
@@ -12,6 +14,12 @@ use Rattle.tl_rule.specs.declared.view.Held.TheVariants.{Nothing, Filled, Sent, 
 pub record SeenFit (h : List (Request × Response)) (index : ℕ) (ask : Request) (reply : Response) (seen : List Entry) : Type 0 where
   pub place : slice_get h index ≡ Some (ask, reply)
   pub before : (e : Entry) → Contains seen e → (e.index < index) × (slice_get h e.index ≡ Some (e.ask, e.reply))
+
+-- ---- a history of masters' requests
+
+-- every request of h is of a wide source of some master: so no other request can have changed what a master reads
+abbrev pub IsOfMasters : About → List (Request × Response) → Type 0
+IsOfMasters about h = (k : ℕ) (x : Request × Response) → slice_get h k ≡ Some x → (master : ℕ) × Owns about master x.0.source
 
 -- ---- a history with just a master's own requests
 

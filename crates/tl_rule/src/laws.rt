@@ -59,7 +59,8 @@ pub fn leave_is_one_event()
     ensures { LeaveIsOneEvent }
 {}
 
-/// A port's list has what a master collected there, and else only what it has sent there.
+/// A port's list has requests of masters alone; of one master's it has what that collected there, and else only what it
+/// has sent there.
 pub fn lists_are_just_own()
     ensures { ListsAreJustOwn }
 {}
