@@ -1,13 +1,17 @@
 //! A book behind a lock.
-ghost use Rattle.std.specs.Prelude.{◌≡◌};
+ghost use Rattle.std.specs.Prelude.{◌≡◌, ◌+◌, ◌<◌, ◌↔◌, ◌++◌, ◌∷◌, [], length, IsTrue};
+ghost use Rattle.std.specs.Prelude as std;
+ghost use Rattle.tl_port.specs.declared.book.Intake.TheVariants.{JournalFull};
 ghost use Rattle.tl_port.specs.Book.{IsLawfulBook};
+ghost use Rattle.tl_port.specs.Steps.{Takes, Serves, TakesAndServes, with_waiting};
 
 use crate::book::{Book, Intake, Step};
 use std::marker::PhantomData;
 use std::sync::{Mutex, Wait};
 use tl_arena::{Arena, ArenaName};
 
-/// A book of the arena that N names.
+/// A book of the arena that N names. Its calls are the book's, to the letter: behind the lock no clause speaks of them,
+/// so they are pinned here.
 #[derive(Drop)]
 struct Named<N: ArenaName> {
     book: Book,
@@ -16,24 +20,32 @@ struct Named<N: ArenaName> {
 }
 
 impl<N: ArenaName> Named<N> {
-    fn hint(&mut self, slot: usize) -> bool {
+    fn hint(&mut self, slot: usize) -> bool
+        ensures room { IsTrue result ↔ (length self.old.book.waiting < self.old.book.seat.arena.about.slots) }
+        ensures hinted { IsTrue result → self.new.book ≡ with_waiting self.old.book (self.old.book.waiting ++ slot ∷ []) }
+        ensures refused { result ≡ std.false → self.new.book ≡ self.old.book }
+    {
         self.book.hint(slot)
     }
 
     fn intake(&mut self, arena: &Arena) -> Intake
-        requires { arena.now ≡ N.arena }
+        requires arena { arena.now ≡ N.arena }
+        ensures takes { Takes self.old.book result self.new.book }
+        ensures full { (result ≡ JournalFull) ↔ (length self.old.book.history + length self.old.book.flights ≡ self.old.book.journal) }
     {
         self.book.intake(arena)
     }
 
     fn serve(&mut self, arena: &Arena) -> Option<usize>
-        requires { arena.now ≡ N.arena }
+        requires arena { arena.now ≡ N.arena }
+        ensures { Serves self.old.book result self.new.book }
     {
         self.book.serve(arena)
     }
 
     fn step(&mut self, arena: &Arena) -> Step
-        requires { arena.now ≡ N.arena }
+        requires arena { arena.now ≡ N.arena }
+        ensures { TakesAndServes self.old.book result self.new.book }
     {
         self.book.step(arena)
     }
