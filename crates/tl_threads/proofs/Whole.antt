@@ -26,31 +26,31 @@ one_some : {X : Type 0} (o : Option X) (x y : X) → o ≡ Some x → o ≡ Some
 one_some o x y p q = cc
 
 -- whose trace a list is
-traced_at : (a : ArenaId) (jobs : List (List Job)) (m : ℕ) (its_jobs : List Job) (entries : List Entry) (o : Option (Vec Entry Global)) → slice_get jobs m ≡ Some its_jobs
-    → option_map (λ (t : Vec Entry Global). t.items) o ≡ Some entries → ((t : Vec Entry Global) → o ≡ Some t → IsTraceOf a jobs m t) → IsTrace a m its_jobs entries
-traced_at a jobs m its_jobs entries None at is of = absurd cc
-traced_at a jobs m its_jobs entries (Some t) at is of =
+traced_at : (a : ArenaId) (ranges : List Range) (jobs : List (List Job)) (m : ℕ) (its_jobs : List Job) (entries : List Entry) (o : Option (Vec Entry Global)) → slice_get jobs m ≡ Some its_jobs
+    → option_map (λ (t : Vec Entry Global). t.items) o ≡ Some entries → ((t : Vec Entry Global) → o ≡ Some t → IsTraceOf a ranges jobs m t) → IsTrace a ranges m its_jobs entries
+traced_at a ranges jobs m its_jobs entries None at is of = absurd cc
+traced_at a ranges jobs m its_jobs entries (Some t) at is of =
     let own = of t refl in
     let items : t.items ≡ entries = cc in
-    subst (λ (es : List Entry). IsTrace a m its_jobs es) items (subst (λ (js : List Job). IsTrace a m js t.items) (one_some (slice_get jobs m) own.its_jobs its_jobs own.at at) own.trace)
+    subst (λ (es : List Entry). IsTrace a ranges m its_jobs es) items (subst (λ (js : List Job). IsTrace a ranges m js t.items) (one_some (slice_get jobs m) own.its_jobs its_jobs own.at at) own.trace)
 
-pub traces_of : (a : ArenaId) (jobs : List (List Job)) (ts : List (Vec Entry Global)) → length ts ≡ length jobs → AreFrom (IsTraceOf a jobs) 0 ts → AreTraces a jobs (lists_of ts)
-traces_of a jobs ts many all = record {
+pub traces_of : (a : ArenaId) (ranges : List Range) (jobs : List (List Job)) (ts : List (Vec Entry Global)) → length ts ≡ length jobs → AreFrom (IsTraceOf a ranges jobs) 0 ts → AreTraces a ranges jobs (lists_of ts)
+traces_of a ranges jobs ts many all = record {
   many = length-map ts (λ (t : Vec Entry Global). t.items) ∙ many;
-  each = λ m its_jobs entries at is. traced_at a jobs m its_jobs entries (slice_get ts m) at (sym (slice_get-map (λ (t : Vec Entry Global). t.items) ts m) ∙ is)
-      (λ t here. let e : 0 + m ≡ m = omega arith in subst (λ (n : ℕ). IsTraceOf a jobs n t) e (all m t here));
+  each = λ m its_jobs entries at is. traced_at a ranges jobs m its_jobs entries (slice_get ts m) at (sym (slice_get-map (λ (t : Vec Entry Global). t.items) ts m) ∙ is)
+      (λ t here. let e : 0 + m ≡ m = omega arith in subst (λ (n : ℕ). IsTraceOf a ranges jobs n t) e (all m t here));
 }
 
 pub books_are : (a : ArenaId) (ports : ℕ) (bs : List BookView) → length bs ≡ ports → AreFrom (IsBookOf a) 0 bs → AreBooks a ports bs
 books_are a ports bs many all = record { many = many; each = λ p b is. let e : 0 + p ≡ p = omega arith in subst (λ (n : ℕ). IsBookOf a n b) e (all p b is) }
 
 pub threaded : (s : System) (a : ArenaId) (ts : List (Vec Entry Global)) (bs : List BookView) (free : List ℕ) (held : List Held) (left : List ℕ) → a.about ≡ about_of s.slots s.counts (resets s)
-    → length ts ≡ length s.jobs → AreFrom (IsTraceOf a s.jobs) 0 ts → length bs ≡ length s.ranges + 1 → AreFrom (IsBookOf a) 0 bs → IsClosing a.about free held left
+    → length ts ≡ length s.jobs → AreFrom (IsTraceOf a s.ranges s.jobs) 0 ts → length bs ≡ length s.ranges + 1 → AreFrom (IsBookOf a) 0 bs → IsClosing a.about free held left
     → IsThreadedRun s (lists_of ts) bs free held left
 threaded s a ts bs free held left about many traces ports books account = record {
   arena = a;
   about = about;
-  traces_are = traces_of a s.jobs ts many traces;
+  traces_are = traces_of a s.ranges s.jobs ts many traces;
   books_are = books_are a (length s.ranges + 1) bs ports books;
   account = account;
 }

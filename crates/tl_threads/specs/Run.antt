@@ -1,6 +1,7 @@
 -- What a run of a system by threads gives. All of it is this project's own.
 use Rattle.std.specs.Prelude.{◌≡◌, ℕ, ◌+◌, List, length, slice_get, Some}
 use Rattle.tl_types.specs.declared.trace.Entry.{Entry}
+use Rattle.tl_map.specs.declared.map.Range.{Range}
 use Rattle.tl_script.specs.declared.operation.Job.{Job}
 use Rattle.tl_script.specs.System.{System, resets}
 use Rattle.tl_arena.specs.Views.{ArenaId, about_of}
@@ -16,9 +17,9 @@ pub record IsBookOf (arena : ArenaId) (port : ℕ) (book : BookView) : Type 0 wh
   pub lawful : IsLawfulBook book
 
 -- a trace of each master
-pub record AreTraces (arena : ArenaId) (jobs : List (List Job)) (traces : List (List Entry)) : Type 0 where
+pub record AreTraces (arena : ArenaId) (ranges : List Range) (jobs : List (List Job)) (traces : List (List Entry)) : Type 0 where
   pub many : length traces ≡ length jobs
-  pub each : (m : ℕ) (its_jobs : List Job) (entries : List Entry) → slice_get jobs m ≡ Some its_jobs → slice_get traces m ≡ Some entries → IsTrace arena m its_jobs entries
+  pub each : (m : ℕ) (its_jobs : List Job) (entries : List Entry) → slice_get jobs m ≡ Some its_jobs → slice_get traces m ≡ Some entries → IsTrace arena ranges m its_jobs entries
 
 -- a book of each port
 pub record AreBooks (arena : ArenaId) (ports : ℕ) (books : List BookView) : Type 0 where
@@ -29,6 +30,6 @@ pub record AreBooks (arena : ArenaId) (ports : ℕ) (books : List BookView) : Ty
 pub record IsThreadedRun (s : System) (traces : List (List Entry)) (books : List BookView) (free : List ℕ) (held : List Held) (left : List ℕ) : Type 0 where
   pub arena : ArenaId
   pub about : arena.about ≡ about_of s.slots s.counts (resets s)
-  pub traces_are : AreTraces arena s.jobs traces
+  pub traces_are : AreTraces arena s.ranges s.jobs traces
   pub books_are : AreBooks arena (length s.ranges + 1) books
   pub account : IsClosing arena.about free held left

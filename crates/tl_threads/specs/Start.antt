@@ -3,6 +3,7 @@ use Rattle.std.specs.Prelude.{◌≡◌, ℕ, ◌+◌, List, Vec, slice_get, Som
 use Rattle.std.specs.Global.{Global}
 use Rattle.std.specs.declared.thread.PromisedHandle.{PromisedHandle}
 use Rattle.tl_types.specs.declared.trace.Entry.{Entry}
+use Rattle.tl_map.specs.declared.map.Range.{Range}
 use Rattle.tl_script.specs.declared.operation.Job.{Job}
 use Rattle.tl_ops.specs.Store.{Store}
 use Rattle.tl_arena.specs.Views.{ArenaId, MasterView, PortView, new_master, new_port}
@@ -23,16 +24,17 @@ abbrev pub Handle : Type 0
 Handle = PromisedHandle (Vec Entry Global) TraceOf
 
 -- the thread promised the trace of this master's operations
-pub record IsPromised (arena : ArenaId) (jobs : List (List Job)) (number : ℕ) (h : Handle) : Type 0 where
+pub record IsPromised (arena : ArenaId) (ranges : List Range) (jobs : List (List Job)) (number : ℕ) (h : Handle) : Type 0 where
   pub number_is : h.promise.number ≡ number
   pub arena_is : h.promise.arena.value ≡ arena
+  pub map_is : h.promise.map.value ≡ ranges
   pub jobs_are : slice_get jobs number ≡ Some h.promise.jobs.value.items
 
 -- the trace is that of this master's operations
-pub record IsTraceOf (arena : ArenaId) (jobs : List (List Job)) (number : ℕ) (t : Vec Entry Global) : Type 0 where
+pub record IsTraceOf (arena : ArenaId) (ranges : List Range) (jobs : List (List Job)) (number : ℕ) (t : Vec Entry Global) : Type 0 where
   pub its_jobs : List Job
   pub at : slice_get jobs number ≡ Some its_jobs
-  pub trace : IsTrace arena number its_jobs t.items
+  pub trace : IsTrace arena ranges number its_jobs t.items
 
 -- the book is of the arena
 abbrev pub IsBookIn : ArenaId → ℕ → BookView → Type 0

@@ -15,7 +15,6 @@ use tl_script::Job;
 use tl_types::{Ask, Trace};
 
 /// Looks once at each source, the lowest first.
-#[tactic(auto, using(crate::proofs::Asking::same_then))]
 fn look_at_all<G: Gate>(master: &mut Master, arena: &Arena, gate: &G)
     requires { master.old.seat.arena ≡ arena.now }
     ensures { IsSame master.old master.new }
@@ -40,7 +39,6 @@ fn look_at<G: Gate>(master: &mut Master, arena: &Arena, source: u16, gate: &G)
 }
 
 /// Collects all that is out.
-#[tactic(auto, using(crate::proofs::Asking::same_then))]
 fn collect_all<R: Wait, G: Gate>(
     rt: &R,
     master: &mut Master,
@@ -73,7 +71,6 @@ fn wait_for_turn<R: Wait>(rt: &R, master: &Master, bell: &mut Listener) {
 }
 
 /// Issues a request, as soon as its source is idle and a slot is free.
-#[tactic(auto, using(crate::proofs::Asking::same_then, crate::proofs::Asking::same_asked, crate::proofs::Asking::issue_asks))]
 fn issue<R: Wait, G: Gate>(
     rt: &R,
     master: &mut Master,
@@ -85,7 +82,7 @@ fn issue<R: Wait, G: Gate>(
 ) -> Issued
     requires arena { master.old.seat.arena ≡ arena.now }
     requires ports { length map.now + 1 ≤ arena.now.about.ports }
-    ensures { HasAsked master.old ask.now master.new }
+    ensures { HasAsked map.now master.old ask.now master.new }
 {
     for _ in rt.forever() {
         if let Ok(issued) = master.issue(arena, map, ask) {
@@ -122,7 +119,7 @@ fn do_job<N: ArenaName, R: Wait, G: Gate>(
 )
     requires arena { master.old.seat.arena ≡ arena.now }
     requires ports { length map.now + 1 ≤ arena.now.about.ports }
-    ensures { HasDone master.old job.now master.new }
+    ensures { HasDone map.now master.old job.now master.new }
 {
     match job {
         Job::Wait => collect_all(rt, master, arena, &mut bells.own, gate),
@@ -147,7 +144,7 @@ pub(crate) fn drive<N: ArenaName, R: Wait, G: Gate>(
 ) -> Trace
     requires new { IsIdle arena.now number master }
     requires ports { length map.now + 1 ≤ arena.now.about.ports }
-    ensures { IsTrace arena.now number jobs.now result.items }
+    ensures { IsTrace arena.now map.now number jobs.now result.items }
 {
     for job in jobs {
         do_job(rt, &mut master, arena, map, ports, job, &mut bells, gate);

@@ -70,14 +70,14 @@ fn run_scope<'x, N: ArenaName + Send + Sync, R: Threads + Wait + Sync, G: Gate +
     requires drivers { AreFrom (IsNewDriver arena.now) 0 parts.drivers.items }
     requires jobs { vec_len parts.drivers ≡ length system.now.jobs }
     ensures many { IfOk result (λ ended. vec_len ended.traces ≡ vec_len parts.drivers) }
-    ensures traces { IfOk result (λ ended. AreFrom (IsTraceOf arena.now system.now.jobs) 0 ended.traces.items) }
+    ensures traces { IfOk result (λ ended. AreFrom (IsTraceOf arena.now system.now.ranges system.now.jobs) 0 ended.traces.items) }
 {
     thread::scope(
         thread::scope_env(),
         rt,
         |scope| -> Result<Ended, ThreadFault>
             requires { (arena.now ≡ N.arena) × (length system.now.ranges + 1 ≤ arena.now.about.ports) × AreFrom (IsNewDriver arena.now) 0 parts.drivers.items × (vec_len parts.drivers ≡ length system.now.jobs) }
-            ensures { IfOk result (λ ended. (vec_len ended.traces ≡ vec_len parts.drivers) × AreFrom (IsTraceOf arena.entry.now system.entry.now.jobs) 0 ended.traces.items) }
+            ensures { IfOk result (λ ended. (vec_len ended.traces ≡ vec_len parts.drivers) × AreFrom (IsTraceOf arena.entry.now system.entry.now.ranges system.entry.now.jobs) 0 ended.traces.items) }
         { run_in(scope, rt, alloc, arena, system, ports, parts, gate) },
     )
 }
@@ -98,7 +98,7 @@ pub(crate) fn run_named<'x, N: ArenaName + Send + Sync, R: Threads + Wait + Sync
     requires jobs { vec_len parts.drivers ≡ length system.now.jobs }
     requires books { AreFrom (IsBookIn arena) 0 books.items }
     ensures many { IfOk result (λ run. vec_len run.traces ≡ vec_len parts.drivers) }
-    ensures traces { IfOk result (λ run. AreFrom (IsTraceOf arena system.now.jobs) 0 run.traces.items) }
+    ensures traces { IfOk result (λ run. AreFrom (IsTraceOf arena system.now.ranges system.now.jobs) 0 run.traces.items) }
     ensures all { IfOk result (λ run. vec_len run.books ≡ vec_len books) }
     ensures books { IfOk result (λ run. AreFrom (IsBookOf arena) 0 run.books.items) }
     ensures account { IfOk result (λ run. IsClosing arena.about run.account.free.items run.account.held.items run.account.left.items) }

@@ -53,7 +53,7 @@ fn start_masters<'s, 'e: 's, N: ArenaName + Send + Sync, R: Threads + Wait + Syn
     requires jobs { vec_len drivers ≡ length system.now.jobs }
     requires none { vec_len handles ≡ 0 }
     requires room { vec_len drivers ≤ vec_capacity handles }
-    ensures promised { AreFrom (IsPromised arena.now system.now.jobs) 0 result.handles.items }
+    ensures promised { AreFrom (IsPromised arena.now system.now.ranges system.now.jobs) 0 result.handles.items }
     ensures few { vec_len result.handles ≤ vec_len drivers }
     ensures all { IsTrue result.all → vec_len result.handles ≡ vec_len drivers }
 {
@@ -92,11 +92,11 @@ fn join_masters<R: Threads>(
     handles: Vec<PromisedHandle<Trace, TraceOf>>,
     traces: Vec<Trace>,
 ) -> Vec<Trace>
-    requires promised { AreFrom (IsPromised arena.now system.now.jobs) 0 handles.items }
+    requires promised { AreFrom (IsPromised arena.now system.now.ranges system.now.jobs) 0 handles.items }
     requires none { vec_len traces ≡ 0 }
     requires room { vec_len handles ≤ vec_capacity traces }
     ensures many { vec_len result ≡ vec_len handles }
-    ensures traces { AreFrom (IsTraceOf arena.now system.now.jobs) 0 result.items }
+    ensures traces { AreFrom (IsTraceOf arena.now system.now.ranges system.now.jobs) 0 result.items }
 {
     let mut traces = traces;
     for handle in handles {
@@ -217,7 +217,7 @@ pub(crate) fn run_in<
     requires drivers { AreFrom (IsNewDriver arena.now) 0 parts.drivers.items }
     requires jobs { vec_len parts.drivers ≡ length system.now.jobs }
     ensures many { IfOk result (λ ended. vec_len ended.traces ≡ vec_len parts.drivers) }
-    ensures traces { IfOk result (λ ended. AreFrom (IsTraceOf arena.now system.now.jobs) 0 ended.traces.items) }
+    ensures traces { IfOk result (λ ended. AreFrom (IsTraceOf arena.now system.now.ranges system.now.jobs) 0 ended.traces.items) }
 {
     let Parts {
         drivers,

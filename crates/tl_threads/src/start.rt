@@ -22,12 +22,13 @@ pub(crate) struct TraceOf {
     pub(crate) number: usize,
     pub(crate) jobs: Snapshot<Vec<Job>>,
     pub(crate) arena: Snapshot<Arena>,
+    pub(crate) map: Snapshot<Map>,
 }
 
 impl Promise<Trace> for TraceOf {
     ghost use Rattle.tl_threads.specs.Trace.{IsTrace};
 
-    ghost kept_by = { λ p r. IsTrace p.arena.value p.number p.jobs.value.items r.items };
+    ghost kept_by = { λ p r. IsTrace p.arena.value p.map.value p.number p.jobs.value.items r.items };
 }
 
 /// Starts a master's thread. None where there is no thread to be had.
@@ -45,16 +46,17 @@ pub(crate) fn start_master<'s, 'e: 's, N: ArenaName + Send + Sync, R: Wait + Syn
 ) -> Option<PromisedHandle<Trace, TraceOf>>
     requires new { IsIdle arena.now number master }
     requires ports { length map.now + 1 ≤ arena.now.about.ports }
-    ensures { IfSome result (λ h. (h.promise.number ≡ number) × (h.promise.arena.value ≡ arena.now) × (h.promise.jobs.value ≡ jobs.now)) }
+    ensures { IfSome result (λ h. (h.promise.number ≡ number) × (h.promise.arena.value ≡ arena.now) × (h.promise.map.value ≡ map.now) × (h.promise.jobs.value ≡ jobs.now)) }
 {
     let promise = TraceOf {
         number,
         jobs: Snapshot::of(jobs),
         arena: Snapshot::of(arena),
+        map: Snapshot::of(map),
     };
     let run = move || -> Trace
         requires { IsIdle arena.now number master × (length map.now + 1 ≤ arena.now.about.ports) }
-        ensures { IsTrace arena.entry.now number jobs.entry.now.items result.items }
+        ensures { IsTrace arena.entry.now map.entry.now number jobs.entry.now.items result.items }
     { drive(rt, master, arena, map, ports, number, jobs, bells, gate) };
     scope.spawn_with(promise, run).ok()
 }

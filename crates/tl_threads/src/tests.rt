@@ -1,4 +1,6 @@
-use crate::{Gate, OpenGate, Run, run_threads};
+ghost use Rattle.std.specs.Prelude.{◌≤◌};
+
+use crate::{Gate, OpenGate, Run, ThreadFault, run_threads};
 use std::alloc::Global;
 use std::sync::Wait;
 use std::sync::atomic::AtomicUsize;
@@ -7,15 +9,19 @@ use std::test::Fail;
 use std::thread::Threads;
 use tl_script::read_system;
 
-/// Runs a script with one thread a port.
+/// Runs a script with so many threads a port.
 fn run<R: Threads + Wait + Sync, G: Gate + Sync>(
     rt: &R,
     alloc: Global,
     script: &[u8],
+    workers: usize,
     gate: &G,
-) -> Result<Run, Fail> {
+) -> Result<Run, Fail>
+    requires some { 1 ≤ workers }
+    requires few { workers ≤ 4 }
+{
     let system = read_system(alloc, script)?;
-    Ok(run_threads(rt, alloc, &system, 1, gate)?)
+    Ok(run_threads(rt, alloc, &system, workers, gate)?)
 }
 
 /// The places at which two threads of a kind meet, and how many saw the other there.
@@ -63,19 +69,140 @@ fn threads_run_at_once(rt: HostRuntime) -> Result<(), Fail> {
         masters: [AtomicUsize::new(0), AtomicUsize::new(0)],
         met: AtomicUsize::new(0),
     };
-    let run = run(&rt, rt.alloc(), TWO_PORTS, &gate)?;
+    let run = run(&rt, rt.alloc(), TWO_PORTS, 1, &gate)?;
     assert_eq!(rt; gate.met.load(SeqCst), 4);
     assert_eq!(rt; (run.account.free.len(), run.account.held.len()), (4, 0));
     Ok(())
 }
 
+/// The places at which two threads of one port meet, and how many saw the other there.
+#[derive(Drop)]
+struct Pair {
+    came: AtomicUsize,
+    places: [AtomicUsize; 2],
+    met: AtomicUsize,
+}
+
+impl Gate for Pair {
+    fn may_serve(&self, _port: usize) -> bool {
+        let who = self.came.fetch_add(1, SeqCst);
+        meet(&self.places, who, &self.met);
+        true
+    }
+
+    fn collected(&self, _master: usize, _port: usize) {}
+}
+
+const ONE_PORT: &[u8] =
+    b"slots = 4\nport = [{ kind = 'ram', base = 0x1000, length = 64 }]\nmaster = [{ sources = 1, ops = ['0 get 0x1000 2'] }, { sources = 1, ops = ['0 get 0x1004 2'] }]\n";
+
+#[test]
+fn workers_of_a_port_run_at_once(rt: HostRuntime) -> Result<(), Fail> {
+    let gate = Pair {
+        came: AtomicUsize::new(0),
+        places: [AtomicUsize::new(0), AtomicUsize::new(0)],
+        met: AtomicUsize::new(0),
+    };
+    let run = run(&rt, rt.alloc(), ONE_PORT, 2, &gate)?;
+    assert_eq!(rt; gate.met.load(SeqCst), 2);
+    assert_eq!(rt; run.account.free.len(), 4);
+    Ok(())
+}
+
+/// Says no so many times at each of three ports, and counts how often it is asked there and, for each of two masters,
+/// how many replies it collects of them.
+#[derive(Drop)]
+struct Shut {
+    noes: [usize; 3],
+    asked: [AtomicUsize; 3],
+    collected: [[AtomicUsize; 3]; 2],
+}
+
+fn counts() -> [AtomicUsize; 3] {
+    [
+        AtomicUsize::new(0),
+        AtomicUsize::new(0),
+        AtomicUsize::new(0),
+    ]
+}
+
+fn told(counts: &[AtomicUsize; 3]) -> [usize; 3] {
+    [
+        counts[0].load(SeqCst),
+        counts[1].load(SeqCst),
+        counts[2].load(SeqCst),
+    ]
+}
+
+impl Gate for Shut {
+    fn may_serve(&self, port: usize) -> bool {
+        match (self.asked.get(port), self.noes.get(port)) {
+            (Some(asked), Some(noes)) => asked.fetch_add(1, SeqCst) >= *noes,
+            _ => true,
+        }
+    }
+
+    fn collected(&self, master: usize, port: usize) {
+        if let Some(counts) = self.collected.get(master) {
+            if let Some(count) = counts.get(port) {
+                count.fetch_add(1, SeqCst);
+            }
+        }
+    }
+}
+
+/// Master 0 has two replies of port 1 and one of the error port, master 1 one of port 0.
+const CROSSED: &[u8] =
+    b"slots = 4\nport = [{ kind = 'ram', base = 0x1000, length = 64 }, { kind = 'ram', base = 0x2000, length = 64 }]\nmaster = [{ sources = 1, ops = ['0 get 0x2000 2', '0 get 0x2004 2', '0 get 0x9000 0'] }, { sources = 1, ops = ['0 get 0x1000 2'] }]\n";
+
+const EVER: usize = usize::MAX;
+
+#[test]
+fn held_gates_are_told_after_all_was_served(rt: HostRuntime) -> Result<(), Fail> {
+    let system = read_system(rt.alloc(), CROSSED)?;
+    // how often the gate says no at each port, the fault, how often it is asked there
+    let rows: [([usize; 3], Option<ThreadFault>, [usize; 3]); 5] = [
+        ([0, 0, 0], None, [1, 2, 1]),
+        (
+            [EVER, 0, EVER],
+            Some(ThreadFault::GateHeld(0)),
+            [1_000_000, 2, 1_000_000],
+        ),
+        (
+            [0, EVER, EVER],
+            Some(ThreadFault::GateHeld(1)),
+            [1, 1_000_000, 1_000_000],
+        ),
+        (
+            [0, 0, 1_000_000],
+            Some(ThreadFault::GateHeld(2)),
+            [1, 2, 1_000_000],
+        ),
+        ([0, 999_999, 999_999], None, [1, 1_000_001, 1_000_000]),
+    ];
+    for (noes, fault, asked) in rows {
+        let gate = Shut {
+            noes,
+            asked: counts(),
+            collected: [counts(), counts()],
+        };
+        let outcome = run_threads(&rt, rt.alloc(), &system, 1, &gate);
+        assert_eq!(rt; outcome.err(), fault);
+        assert_eq!(rt; told(&gate.asked), asked);
+        assert_eq!(rt; told(&gate.collected[0]), [0, 2, 1]);
+        assert_eq!(rt; told(&gate.collected[1]), [1, 0, 0]);
+    }
+    Ok(())
+}
+
 const FOUR_MASTERS: &[u8] =
-    b"slots = 2\nport = [{ kind = 'ram', base = 0x1000, length = 64 }]\nmaster = [{ sources = 2, ops = ['0 add 0x1000 2 01000000', '1 get 0x9000 0', '0 add 0x1000 2 01000000'] }, { sources = 1, ops = ['0 add 0x1000 2 01000000', 'wait', '0 get 0x1000 2'] }, { sources = 4, ops = ['3 add 0x1000 2 01000000', '1 add 0x1000 2 01000000', '2 get 0x1004 2'] }, { sources = 1, ops = [] }]\n";
+    b"slots = 2\nport = [{ kind = 'ram', base = 0x1000, length = 64 }]\nmaster = [{ sources = 1, ops = [] }, { sources = 2, ops = ['0 add 0x1000 2 01000000', '1 get 0x9000 0', '0 add 0x1000 2 01000000'] }, { sources = 1, ops = ['0 add 0x1000 2 01000000', 'wait', '0 get 0x1000 2'] }, { sources = 4, ops = ['3 add 0x1000 2 01000000', '1 add 0x1000 2 01000000', '2 get 0x1004 2'] }]\n";
 
 #[test]
 fn every_run_ends_with_all_slots_free(rt: HostRuntime) -> Result<(), Fail> {
-    for _ in 0..200u32 {
-        let run = run(&rt, rt.alloc(), FOUR_MASTERS, &OpenGate)?;
+    for k in 0..200u32 {
+        let workers = if k % 2 == 0 { 1 } else { 4 };
+        let run = run(&rt, rt.alloc(), FOUR_MASTERS, workers, &OpenGate)?;
         assert_eq!(rt; run.account.free.as_slice(), [0, 1].as_slice());
         assert_eq!(rt; (run.account.held.len(), run.account.left.len()), (0, 4));
         let book = run.books.first().ok_or("no book")?;

@@ -3,7 +3,7 @@ use Rattle.std.specs.Prelude.{◌≡◌, ℕ, ◌+◌, ◌==◌, List, [], ◌�
 use Rattle.tl_types.specs.Request.{Request}
 use Rattle.tl_types.specs.Response.{Response}
 use Rattle.tl_types.specs.declared.trace.Entry.{Entry}
-use Rattle.tl_ops.specs.Store.{Store, reply}
+use Rattle.tl_ops.specs.Store.{reply}
 use Rattle.tl_ops.specs.History.{replay}
 use Rattle.tl_map.specs.Map.{Routes}
 use Rattle.tl_map.specs.Block.{IsWide}

@@ -21,47 +21,67 @@ pub mod streams;
 mod tests;
 pub mod threaded;
 
-ghost use Rattle.std.specs.Prelude.{◌≡◌, ◌≤◌, true, false, IfOk, OnOk};
-ghost use Rattle.tlx.specs.Run.{AnswersSerially, AnswersByThreads};
+ghost use Rattle.std.specs.Prelude.{◌≡◌, ◌≢◌, ◌≤◌, true, false, Err, IfOk, OnOk, IfErr};
+ghost use Rattle.std.specs.Io.KnownBytes.{Keeps};
+ghost use Rattle.std.specs.Process.{exit_status};
+ghost use Rattle.clap.specs.Words.{kind_of};
+ghost use Rattle.tl_script.specs.declared.fault.ScriptFault.{ScriptFault};
+ghost use Rattle.tlx.specs.Fault.{status_of};
+ghost use Rattle.tlx.specs.Options.{status_of_kind};
+ghost use Rattle.tlx.specs.Run.{AnswersSerially, AnswersByThreads, HasScriptFault};
 
 use crate::engine::serial_engine;
 use crate::fault::RunFault;
 use crate::options::{MOST_WORKERS, Options, options_status, read_options};
 use crate::threaded::threads_engine;
 use std::alloc::Global;
+use std::env;
 use std::io::{Read, Write};
 use std::process::ExitCode;
 use std::sync::Wait;
 use std::thread::Threads;
-use std::{env, io};
 
 /// The status of a command line that is not text.
 const USAGE: u8 = 2;
 
-fn main(rt: HostRuntime) -> io::Result<ExitCode> {
+fn main(rt: HostRuntime) -> ExitCode {
     let Ok(words) = env::args(&rt) else {
-        eprintln!(rt; "arguments are not text")?;
-        return Ok(ExitCode::from(USAGE));
+        let _ = eprintln!(rt; "arguments are not text");
+        return ExitCode::from(USAGE);
     };
     let Ok(words) = words.collect::<Vec<String>>(rt.alloc()) else {
-        return told(&rt, RunFault::Memory);
+        return ended(&rt, Err(RunFault::Memory));
     };
     match options_of(rt.alloc(), &words) {
-        Ok(options) => match run(&rt, rt.alloc(), &mut rt.stdin(), &mut rt.stdout(), options) {
-            Ok(()) => Ok(ExitCode::SUCCESS),
-            Err(fault) => told(&rt, fault),
-        },
-        Err(error) => {
-            error.print(&rt)?;
-            Ok(ExitCode::from(options_status(&error)))
+        Ok(options) => ended(
+            &rt,
+            run(&rt, rt.alloc(), &mut rt.stdin(), &mut rt.stdout(), options),
+        ),
+        Err(error) => refused(&rt, error),
+    }
+}
+
+/// The status of a run. The line of its fault is printed, where there is one: the status is the fault's also where it
+/// can't be.
+fn ended(rt: &HostRuntime, outcome: Result<(), RunFault>) -> ExitCode
+    ensures done { OnOk outcome (exit_status result ≡ 0) }
+    ensures fault { IfErr outcome (λ fault. exit_status result ≡ status_of fault) }
+{
+    match outcome {
+        Ok(()) => ExitCode::from(0),
+        Err(fault) => {
+            let _ = eprintln!(rt; "{fault}");
+            ExitCode::from(fault.status())
         }
     }
 }
 
-/// Prints the fault's line, and answers its status.
-fn told(rt: &HostRuntime, fault: RunFault) -> io::Result<ExitCode> {
-    eprintln!(rt; "{fault}")?;
-    Ok(ExitCode::from(fault.status()))
+/// Prints the help that was asked for, or what is wrong with the command line, and answers its status.
+fn refused(rt: &HostRuntime, error: clap::Error) -> ExitCode
+    ensures { exit_status result ≡ status_of_kind (kind_of error) }
+{
+    let _ = error.print(rt);
+    ExitCode::from(options_status(&error))
 }
 
 fn options_of(alloc: Global, words: &[String]) -> Result<Options, clap::Error>
@@ -82,8 +102,16 @@ fn run<R: Read, W: Write, T: Threads + Wait + Sync>(
 ) -> Result<(), RunFault>
     requires some { 1 ≤ options.workers }
     requires few { options.workers ≤ MOST_WORKERS }
+    // Which of the two texts is written.
     ensures serial { options.serial ≡ true → OnOk result (AnswersSerially false (R.remaining reader.old) (R.remaining reader.new) (W.contents writer.old) (W.contents writer.new)) }
     ensures threads { options.serial ≡ false → OnOk result (AnswersByThreads (R.remaining reader.old) (R.remaining reader.new) (W.contents writer.old) (W.contents writer.new)) }
+
+    // A fault of the script is the first of what was read.
+    ensures script { (fault : ScriptFault) → result ≡ Err (RunFault.Script fault)
+        → HasScriptFault (R.remaining reader.old) (R.remaining reader.new) fault }
+
+    // Nothing is written but by an Ok or before a failed write.
+    ensures quiet { IfErr result (λ e. e ≢ RunFault.Write → Keeps (W.contents writer.old) (W.contents writer.new)) }
 {
     if options.serial {
         serial_engine(alloc, reader, writer, false)

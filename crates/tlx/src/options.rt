@@ -58,7 +58,7 @@ pub fn options_status(error: &Error) -> u8
     ensures { result ≡ status_of_kind (kind_of error.now) }
 {
     match error.kind() {
-        ErrorKind::DisplayHelp | ErrorKind::DisplayVersion => 0,
+        ErrorKind::DisplayHelp => 0,
         ErrorKind::OutOfMemory => 4,
         _ => 2,
     }

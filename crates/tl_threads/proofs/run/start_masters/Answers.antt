@@ -17,7 +17,7 @@ loop-driver-init g c =
       count = search rules;
       room = c.requires.room;
       drivers = subst (λ (n : ℕ). AreFrom (IsNewDriver c.args.arena.now) n (into_iter_items c.into_iter-driver-iterator.result)) (sym none) (subst (λ (ds : List Driver). AreFrom (IsNewDriver c.args.arena.now) 0 ds) (sym given.0) c.requires.drivers);
-      promised = row_empty (IsPromised c.args.arena.now c.args.system.now.jobs) 0 c.args.handles.items none;
+      promised = row_empty (IsPromised c.args.arena.now c.args.system.now.ranges c.args.system.now.jobs) 0 c.args.handles.items none;
     }
 
 pub start_master-requires-clause-new : goal.start_master-requires-clause-new
@@ -29,6 +29,7 @@ start_master-requires-clause-new g c κs within =
 pub loop-driver-preserved : goal.loop-driver-preserved
 loop-driver-preserved g c =
     let a = c.args.arena.now in
+    let ranges = c.args.system.now.ranges in
     let jobs = c.args.system.now.jobs in
     let was = c.loop-driver.invariant in
     let push = c.push_reserved.ensures in
@@ -41,14 +42,15 @@ loop-driver-preserved g c =
     let at : slice_get jobs c.len-number.result ≡ Some h.promise.jobs.value.items =
     ap (λ (l : List (List Job)). slice_get l c.len-number.result) (sym c.jobs.ensures.value) ∙ slice_get-map (λ (v : Vec Job Global). v.items) c.jobs.result.now c.len-number.result
     ∙ ap (option_map (λ (v : Vec Job Global). v.items)) (slice_get-get_or c.jobs.result.now c.len-number.result c.index-jobs-number.result lt)
-    ∙ ap (λ (v : Vec Job Global). Some v.items) (sym c.index-jobs-number.is ∙ sym made.2) in
+    ∙ ap (λ (v : Vec Job Global). Some v.items) (sym c.index-jobs-number.is ∙ sym made.3) in
     record {
       count = omega (arith, step.1, push.len, was.count);
       room = rw push.capacity was.room;
       drivers = row_tail (IsNewDriver a) (length done) (length c.push_reserved.new.self.items) c.in-Some.driver _ _ step.0 (length_more done c.push_reserved.new.self.items h push.items) was.drivers;
-      promised = row_more (IsPromised a jobs) done c.push_reserved.new.self.items h push.items was.promised (record {
+      promised = row_more (IsPromised a ranges jobs) done c.push_reserved.new.self.items h push.items was.promised (record {
         number_is = made.0 ∙ num;
         arena_is = made.1;
+        map_is = made.2 ∙ c.map.ensures;
         jobs_are = subst (λ (n : ℕ). slice_get jobs n ≡ Some h.promise.jobs.value.items) num at;
       });
     }
