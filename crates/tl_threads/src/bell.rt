@@ -4,7 +4,7 @@ ghost use Rattle.crossbeam_channel.specs.Claims.{IsSeatAt};
 ghost use Rattle.crossbeam_channel.specs.Ends.{sends_on, receives_on};
 
 use crossbeam_channel::protocol::{Free, Split};
-use crossbeam_channel::{Pass, RuledReceiver, RuledSender, bounded_with};
+use crossbeam_channel::{Pass, RuledReceiver, RuledSender, TryRecvError, bounded_with};
 use std::alloc::Global;
 use std::sync::Wait;
 use tl_types::Memory;
@@ -84,6 +84,15 @@ impl Ringer {
 }
 
 impl Listener {
+    /// The oldest ring that nobody has heard, where there is one. A bell that nobody can ring any more says stop.
+    pub(crate) fn look(&mut self, rt: &impl Wait) -> Option<Ring> {
+        match self.receiver.try_recv_as::<Free, _>(rt, &mut self.pass) {
+            Ok(ring) => Some(ring),
+            Err(TryRecvError::Empty) => None,
+            Err(TryRecvError::Disconnected) => Some(Ring::Stop),
+        }
+    }
+
     /// Waits for a ring. A bell that nobody can ring any more says stop.
     pub(crate) fn hear(&mut self, rt: &impl Wait) -> Ring {
         match self.receiver.recv_as::<Free, _>(rt, &mut self.pass) {

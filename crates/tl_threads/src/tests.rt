@@ -1,5 +1,7 @@
 ghost use Rattle.std.specs.Prelude.{◌≤◌};
 
+mod scripts;
+
 use crate::{Gate, OpenGate, Run, ThreadFault, run_threads};
 use std::alloc::Global;
 use std::sync::Wait;

@@ -1,12 +1,44 @@
 //! What a port's thread does.
-ghost use Rattle.std.specs.Prelude.{◌≡◌};
+ghost use Rattle.std.specs.Prelude.{◌≡◌, ◌<◌};
+ghost use Rattle.arrayvec.specs.ArrayVec.{array_vec_len};
 
-use crate::bell::{Bells, Ring, ring_at};
+use crate::bell::{Bells, Ring, Ringer, ring_at};
 use crate::gate::{Gate, opens};
+use arrayvec::ArrayVec;
 use std::sync::Wait;
 use tl_arena::{Arena, ArenaName};
 use tl_map::Sources;
 use tl_port::Port;
+
+/// The most rings that a port's thread owes masters.
+const MOST_OWED: usize = 16;
+
+/// The masters whose requests a port's thread has answered and whom it has not rung since.
+type Owed = ArrayVec<usize, MOST_OWED>;
+
+/// Rings each master that is owed a ring.
+fn pay<R: Wait>(rt: &R, masters: &mut [Ringer], owed: &mut Owed)
+    ensures { array_vec_len owed.new ≡ 0 }
+{
+    for master in owed.iter() {
+        ring_at(rt, masters, *master);
+    }
+    owed.clear();
+}
+
+/// The next ring of a port's bell. Before it waits for one it pays the rings that it owes, and not as long as others are
+/// there: waking a thread costs more than serving a request, and a master that waits for several replies wakes once.
+fn next_ring<R: Wait>(rt: &R, bells: &mut Bells, owed: &mut Owed) -> Ring
+    ensures { array_vec_len owed.new < MOST_OWED }
+{
+    if !owed.is_full() {
+        if let Some(ring) = bells.own.look(rt) {
+            return ring;
+        }
+    }
+    pay(rt, &mut bells.others, owed);
+    bells.own.hear(rt)
+}
 
 /// Serves a request at each ring, and rings its master, until it hears a stop. The answer is the port's number where
 /// the gate held it: then it served all the same, and asked no more.
@@ -22,8 +54,9 @@ pub(crate) fn work<N: ArenaName, R: Wait, G: Gate>(
     requires { arena.now ≡ N.arena }
 {
     let mut held = false;
+    let mut owed = Owed::new();
     for _ in rt.forever() {
-        if bells.own.hear(rt) == Ring::Stop {
+        if next_ring(rt, &mut bells, &mut owed) == Ring::Stop {
             break;
         }
         if !held {
@@ -31,7 +64,7 @@ pub(crate) fn work<N: ArenaName, R: Wait, G: Gate>(
         }
         let step = port.step(rt, arena);
         if let Some((master, _)) = step.source.and_then(|wide| sources.owner(wide)) {
-            ring_at(rt, &mut bells.others, master);
+            owed.push(master);
         }
     }
     held.then_some(number)
