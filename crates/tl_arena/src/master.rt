@@ -35,7 +35,7 @@ impl Arena {
         None
     }
 
-    /// Claims the slot, where it is free.
+    /// Claims the slot, where it is free. It looks first: an exchange takes the word's cache line from its owner.
     fn claim_at(&self, master: &mut MasterSeat, slot: usize) -> bool
         requires arena { master.old.arena ≡ self.now }
         requires slot { slot < self.now.about.slots }
@@ -43,6 +43,9 @@ impl Arena {
         ensures refused { result ≡ false → master.new ≡ master.old }
     {
         let words = &self.table.shared;
+        if words.peek(slot) != FREE {
+            return false;
+        }
         let new = word_of(Phase::Filling(master.number));
         if words.compare_exchange::<Claims>(&mut master.seat, slot, FREE, new) != FREE {
             return false;
