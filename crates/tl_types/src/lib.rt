@@ -12,6 +12,7 @@
 #![tactic(auto)]
 
 mod fault;
+pub mod laws;
 mod limits;
 mod operation;
 mod reply;

@@ -1,4 +1,4 @@
-//! The limits of the crossbar that several crates share, each written here alone.
+//! The limits of the crossbar that several crates share. Code and contracts name them; `laws` says them in numbers.
 
 /// The largest size of a message, as the base-2 logarithm of its bytes.
 pub const LARGEST_SIZE: u8 = 6;
