@@ -1,5 +1,13 @@
 //! Laws of spelling, each on a function that does nothing but carry it.
+ghost use Rattle.std.specs.Prelude.{◌≡◌};
 ghost use Rattle.tl_beats.specs.Laws.{AtMostOneAsk, AtMostOneReply};
+ghost use Rattle.tl_beats.specs.declared.beat.TheConstants.{BUS_BYTES, MAX_BEATS};
+
+/// The bus in numbers: contracts name the constants, and only this law would refuse a wrong one.
+pub fn bus_in_numbers()
+    ensures lanes { BUS_BYTES ≡ 8 }
+    ensures beats { MAX_BEATS ≡ 8 }
+{}
 
 /// Beats spell at most one request.
 pub fn beats_spell_one_ask()
