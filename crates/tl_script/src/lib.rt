@@ -14,6 +14,7 @@
 mod data;
 mod fault;
 mod history;
+pub mod laws;
 mod masters;
 mod name;
 mod number;

@@ -16,6 +16,7 @@ mod bell;
 mod drive;
 mod fault;
 mod gate;
+pub mod laws;
 mod named;
 mod run;
 mod setup;

@@ -5,7 +5,6 @@ mod threaded;
 
 use crate::engine::serial_engine;
 use crate::fault::RunFault;
-use crate::streams::TURNS;
 use std::alloc::Global;
 use std::io;
 use std::io::{ErrorKind, Read, Write};
@@ -274,7 +273,7 @@ fn a_failed_read_is_read(rt: HostRuntime) -> Result<(), Fail> {
     let Err(fault) = serial_engine(rt.alloc(), &mut reader, &mut writer, false) else {
         return Err(Fail::from("no fault"));
     };
-    assert_eq!(rt; reader.reads, TURNS);
+    assert_eq!(rt; reader.reads, 2_097_154);
     assert_eq!(rt;
         (format!(in rt.alloc(); "{fault}")?.as_str(), fault.status()),
         ("read failed", 5)
@@ -297,7 +296,7 @@ fn a_failed_write_is_write(rt: HostRuntime) -> Result<(), Fail> {
     let Err(fault) = serial_engine(rt.alloc(), &mut FIRST, &mut writer, false) else {
         return Err(Fail::from("no fault"));
     };
-    assert_eq!(rt; writer.writes, TURNS + 1);
+    assert_eq!(rt; writer.writes, 2_097_155);
     assert_eq!(rt;
         (format!(in rt.alloc(); "{fault}")?.as_str(), fault.status()),
         ("write failed", 5)
