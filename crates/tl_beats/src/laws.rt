@@ -3,7 +3,7 @@ ghost use Rattle.std.specs.Prelude.{◌≡◌};
 ghost use Rattle.tl_beats.specs.Laws.{AtMostOneAsk, AtMostOneReply};
 ghost use Rattle.tl_beats.specs.declared.beat.TheConstants.{BUS_BYTES, MAX_BEATS};
 
-/// The bus in numbers: contracts name the constants, and only this law would refuse a wrong one.
+/// The bus in numbers: contracts name the constants, so a wrong one would change what they promise.
 pub fn bus_in_numbers()
     ensures lanes { BUS_BYTES ≡ 8 }
     ensures beats { MAX_BEATS ≡ 8 }

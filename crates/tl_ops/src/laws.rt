@@ -6,7 +6,7 @@ ghost use Rattle.tl_ops.specs.Store.{Store, after, reply};
 ghost use Rattle.tl_ops.specs.History.{replay, asks_of, IsLawfulHistory};
 ghost use Rattle.tl_ops.specs.declared.bank.TheConstants.{MAX_LENGTH};
 
-/// The limit of this crate in a number: contracts name the constant, and only this law would refuse a wrong one.
+/// The limit of this crate in a number: contracts name the constant, so a wrong one would change what they promise.
 pub fn limit_in_numbers()
     ensures { MAX_LENGTH ≡ 65536 }
 {}

@@ -2,7 +2,7 @@
 ghost use Rattle.std.specs.Prelude.{◌≡◌};
 ghost use Rattle.tl_threads.specs.declared.threads.TheConstants.{MAX_WORKERS};
 
-/// The limit of this crate in a number: contracts name the constant, and only this law would refuse a wrong one.
+/// The limit of this crate in a number: contracts name the constant, so a wrong one would change what they promise.
 pub fn limit_in_numbers()
     ensures { MAX_WORKERS ≡ 4 }
 {}

@@ -2,8 +2,8 @@
 ghost use Rattle.std.specs.Prelude.{◌≡◌};
 ghost use Rattle.tl_types.specs.declared.limits.TheConstants.{LARGEST_SIZE, MAX_BYTES, MAX_MASTERS, MAX_PORTS, MAX_SLOTS};
 
-/// The limits in numbers. Contracts name the constants, so a wrong constant would change what they promise, and only
-/// this law would refuse it.
+/// The limits in numbers. Contracts name the constants, so without this law a wrong constant would change what they
+/// promise.
 pub fn limits_in_numbers()
     ensures size { LARGEST_SIZE ≡ 6 }
     ensures bytes { MAX_BYTES ≡ 64 }
