@@ -79,6 +79,61 @@ fn hints_that_were_tried_go(rt: HostRuntime) -> Result<(), Fail> {
     Ok(())
 }
 
+/// An intake tries each hint in turn: one that finds nothing costs no other.
+#[test]
+fn an_intake_passes_over_hints_that_find_nothing(rt: HostRuntime) -> Result<(), Fail> {
+    let mut board = set_up(rt.alloc(), 4, 3)?;
+    assert_eq!(rt; post(&rt, &mut board, 7)?, 0);
+    assert_eq!(rt; post(&rt, &mut board, 8)?, 1);
+    for slot in [3, 0, 1] {
+        assert!(rt; board.hint(slot));
+    }
+    assert_eq!(rt; board.intake(), Intake::Taken(7));
+    assert_eq!(rt; board.intake(), Intake::Taken(8));
+    assert_eq!(rt; board.intake(), Intake::Nothing);
+    Ok(())
+}
+
+/// Each call of a port, by one thread: it does what the book's call of that name does.
+fn through_the_lock<N: ArenaName, R: Abort + Wait>(
+    rt: &R,
+    arena: &Arena,
+    book: Book,
+    slot: usize,
+) -> Book
+    requires arena { arena.now ≡ N.arena }
+    requires book { book.seat.arena ≡ N.arena }
+{
+    let port = Port::<N>::new(book);
+    assert_eq!(rt; port.intake(rt, arena), Intake::Nothing);
+    assert!(rt; port.submit(rt, slot));
+    assert_eq!(rt; port.intake(rt, arena), Intake::Taken(5));
+    assert_eq!(rt; port.in_flight_len(rt), 1);
+    assert_eq!(rt; port.serve(rt, arena), Some(0));
+    assert_eq!(rt; port.in_flight_len(rt), 0);
+    assert_eq!(rt; port.serve(rt, arena), None);
+    for hint in [slot, 0, 1, 2] {
+        assert!(rt; port.submit(rt, hint));
+    }
+    assert!(rt; !port.submit(rt, slot));
+    let step = port.step(rt, arena);
+    assert_eq!(rt;
+        (step.intake, step.index, step.source),
+        (Intake::Nothing, None, None)
+    );
+    port.into_book()
+}
+
+#[test]
+fn a_port_does_what_its_book_does(rt: HostRuntime) -> Result<(), Fail> {
+    let mut board = set_up(rt.alloc(), 4, 3)?;
+    let slot = post(&rt, &mut board, 5)?;
+    let Board { arena, book, .. } = board;
+    let book = through_the_lock::<Brand, HostRuntime>(&rt, &arena, book, slot);
+    assert_eq!(rt; (book.history_len(), book.in_flight_len()), (1, 0));
+    Ok(())
+}
+
 /// Three steps of a worker.
 fn steps<N: ArenaName>(rt: &impl Wait, port: &Port<N>, arena: &Arena)
     requires { arena.now ≡ N.arena }
