@@ -10,7 +10,7 @@ use tl_arena::{Arena, ArenaName};
 use tl_map::Sources;
 use tl_port::Port;
 
-/// The most rings that a port's thread owes masters.
+/// The most rings that a port's thread owes masters at a time.
 const MOST_OWED: usize = 16;
 
 /// The masters whose requests a port's thread has answered and whom it has not rung since.
@@ -26,8 +26,8 @@ fn pay<R: Wait>(rt: &R, masters: &mut [Ringer], owed: &mut Owed)
     owed.clear();
 }
 
-/// The next ring of a port's bell. Before it waits for one it pays the rings that it owes, and not as long as others are
-/// there: waking a thread costs more than serving a request, and a master that waits for several replies wakes once.
+/// The next ring of a port's bell. Where there is none it first pays the rings that it owes, and then waits for one. So it
+/// wakes a master once for several replies: waking a thread costs more than serving a request.
 fn next_ring<R: Wait>(rt: &R, bells: &mut Bells, owed: &mut Owed) -> Ring
     ensures { array_vec_len owed.new < MOST_OWED }
 {
