@@ -40,6 +40,7 @@ pub(crate) struct Ringer {
 pub(crate) struct Listener {
     receiver: RuledReceiver<Ring, (), Free>,
     pass: Pass<Ring, ()>,
+    heard: usize,
     ghost seated: { IsSeatAt (receives_on receiver) pass },
 }
 
@@ -63,6 +64,7 @@ pub(crate) fn bell(
         let listener = Listener {
             receiver: receiver.try_clone()?,
             pass: sender.another::<Halves>(&mut pass),
+            heard: 0,
         };
         made.push(listener)?;
     }
@@ -95,10 +97,16 @@ impl Listener {
 
     /// Waits for a ring. A bell that nobody can ring any more says stop.
     pub(crate) fn hear(&mut self, rt: &impl Wait) -> Ring {
+        self.heard = usize::saturating_add(self.heard, 1);
         match self.receiver.recv_as::<Free, _>(rt, &mut self.pass) {
             Ok(ring) => ring,
             Err(_) => Ring::Stop,
         }
+    }
+
+    /// How often it waited for a ring.
+    pub(crate) fn heard(&self) -> usize {
+        self.heard
     }
 }
 

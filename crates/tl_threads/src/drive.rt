@@ -38,6 +38,17 @@ fn look_at<G: Gate>(master: &mut Master, arena: &Arena, source: u16, gate: &G)
     }
 }
 
+/// Waits for the ring of a reply that is not collected yet. Each reply has one ring, so as many rings as there are entries
+/// tell nothing new.
+fn hear_news<R: Wait>(rt: &R, master: &Master, bell: &mut Listener) {
+    for _ in rt.forever() {
+        bell.hear(rt);
+        if bell.heard() > master.trace_len() {
+            break;
+        }
+    }
+}
+
 /// Collects all that is out.
 fn collect_all<R: Wait, G: Gate>(
     rt: &R,
@@ -55,7 +66,7 @@ fn collect_all<R: Wait, G: Gate>(
         if master.out() == 0 {
             return;
         }
-        bell.hear(rt);
+        hear_news(rt, master, bell);
     }
     unreachable!()
 }
@@ -64,7 +75,7 @@ fn collect_all<R: Wait, G: Gate>(
 /// this one when they give them back, so it lets other threads run, and looks again.
 fn wait_for_turn<R: Wait>(rt: &R, master: &Master, bell: &mut Listener) {
     if master.out() > 0 {
-        bell.hear(rt);
+        hear_news(rt, master, bell);
     } else {
         yield_now();
     }
