@@ -1,0 +1,3 @@
+mod board;
+mod masters;
+mod ports;

@@ -1,0 +1,89 @@
+//! What a master issues and collects.
+ghost use Rattle.std.specs.Prelude.{◌≡◌};
+
+use super::board::{Board, set_up};
+use std::alloc::Global;
+use std::process::Abort;
+use std::test::Fail;
+use tl_arena::Arena;
+use tl_master::{IssueFault, Issued, Master, Polled};
+use tl_port::Intake;
+
+/// The port takes what is posted in the slot, and answers it.
+fn answer(rt: &impl Abort, board: &mut Board, slot: usize) {
+    assert!(rt; board.hint(slot));
+    assert!(rt; matches!(board.intake(), Intake::Taken(_)));
+    assert!(rt; board.serve().is_some());
+}
+
+#[test]
+fn a_source_waits_for_its_reply(rt: HostRuntime) -> Result<(), Fail> {
+    let mut board = set_up(rt.alloc(), 4, 2)?;
+    assert_eq!(rt; board.first.sources(), 16);
+    assert_eq!(rt; board.issue(16)?, Err(IssueFault::NoSuchSource));
+    assert_eq!(rt; board.issue(0)?, Ok(Issued { slot: 0, port: 0 }));
+    assert_eq!(rt; board.issue(0)?, Err(IssueFault::SourceBusy));
+    assert_eq!(rt; board.first.out(), 1);
+    assert_eq!(rt; board.issue(1)?, Ok(Issued { slot: 1, port: 0 }));
+    assert_eq!(rt; board.issue(0)?, Err(IssueFault::SourceBusy));
+    assert_eq!(rt; board.issue(2)?, Err(IssueFault::TraceFull));
+    Ok(())
+}
+
+#[test]
+fn poll_finds_answer(rt: HostRuntime) -> Result<(), Fail> {
+    let mut board = set_up(rt.alloc(), 4, 4)?;
+    assert_eq!(rt; board.poll(3), Polled::Idle);
+    assert_eq!(rt; board.issue(3)?, Ok(Issued { slot: 0, port: 0 }));
+    assert_eq!(rt; board.poll(3), Polled::NotYet);
+    answer(&rt, &mut board, 0);
+    assert_eq!(rt; board.poll(3), Polled::Done(0));
+    assert_eq!(rt; board.poll(3), Polled::Idle);
+    assert_eq!(rt; (board.first.out(), board.first.trace_len()), (0, 1));
+    Ok(())
+}
+
+/// Ends a master that has one entry, at this place of the port's history.
+fn finish(rt: &impl Abort, arena: &Arena, master: Master, index: usize) -> Result<(), Fail>
+    requires { master.seat.arena ≡ arena.now }
+{
+    assert!(rt; master.out() == 0);
+    let trace = master.finish(arena);
+    let entry = trace.first().ok_or("no entry")?;
+    assert_eq!(rt; (entry.ask.source(), entry.reply.source()), (0, 0));
+    assert_eq!(rt; (entry.port, entry.index), (0, index));
+    Ok(())
+}
+
+/// Ends both masters and the arena.
+fn end(rt: &impl Abort, alloc: Global, board: Board) -> Result<(), Fail> {
+    let Board {
+        arena,
+        map: _,
+        first,
+        second,
+        book,
+    } = board;
+    assert_eq!(rt; book.history_len(), 2);
+    assert_eq!(rt; (first.number(), second.number()), (0, 1));
+    finish(rt, &arena, first, 0)?;
+    finish(rt, &arena, second, 1)?;
+    let account = arena.close(alloc)?;
+    assert!(rt; account.free.as_slice() == [0].as_slice());
+    assert_eq!(rt; (account.held.len(), account.left.len()), (0, 2));
+    Ok(())
+}
+
+#[test]
+fn issue_finds_free_slot(rt: HostRuntime) -> Result<(), Fail> {
+    let mut board = set_up(rt.alloc(), 1, 4)?;
+    assert_eq!(rt; board.issue(0)?, Ok(Issued { slot: 0, port: 0 }));
+    assert_eq!(rt; board.issue_second(0)?, Err(IssueFault::NoSlot));
+    assert_eq!(rt; (board.second.out(), board.second.trace_len()), (0, 0));
+    answer(&rt, &mut board, 0);
+    assert_eq!(rt; board.poll(0), Polled::Done(0));
+    assert_eq!(rt; board.issue_second(0)?, Ok(Issued { slot: 0, port: 0 }));
+    answer(&rt, &mut board, 0);
+    assert_eq!(rt; board.poll_second(0), Polled::Done(0));
+    end(&rt, rt.alloc(), board)
+}
