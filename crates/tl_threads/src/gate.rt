@@ -24,7 +24,7 @@ impl Gate for OpenGate {
 /// How often a gate is asked at one ring.
 const MOST_ASKED: u32 = 1_000_000;
 
-/// Asks until the gate says yes. False where it never did.
+/// Asks a gate that has said no, until it says yes. False where it never did.
 pub(crate) fn opens<G: Gate>(gate: &G, port: usize) -> bool {
-    (0..MOST_ASKED).any(|_| gate.may_serve(port))
+    (1..MOST_ASKED).any(|_| gate.may_serve(port))
 }

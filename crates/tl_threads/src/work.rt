@@ -40,6 +40,24 @@ fn next_ring<R: Wait>(rt: &R, bells: &mut Bells, owed: &mut Owed) -> Ring
     bells.own.hear(rt)
 }
 
+/// Asks the gate. Before it asks again it pays the rings that it owes: the gate may wait for what their masters do.
+fn asks<R: Wait, G: Gate>(
+    rt: &R,
+    gate: &G,
+    number: usize,
+    masters: &mut [Ringer],
+    owed: &mut Owed,
+) -> bool
+    requires { array_vec_len owed.old < MOST_OWED }
+    ensures { array_vec_len owed.new < MOST_OWED }
+{
+    if gate.may_serve(number) {
+        return true;
+    }
+    pay(rt, masters, owed);
+    opens(gate, number)
+}
+
 /// Serves a request at each ring, and rings its master, until it hears a stop. The answer is the port's number where
 /// the gate held it: then it served all the same, and asked no more.
 pub(crate) fn work<N: ArenaName, R: Wait, G: Gate>(
@@ -60,7 +78,7 @@ pub(crate) fn work<N: ArenaName, R: Wait, G: Gate>(
             break;
         }
         if !held {
-            held = !opens(gate, number);
+            held = !asks(rt, gate, number, &mut bells.others, &mut owed);
         }
         let step = port.step(rt, arena);
         if let Some((master, _)) = step.source.and_then(|wide| sources.owner(wide)) {
