@@ -1,11 +1,16 @@
--- What follows from the definitions of spelling.
-use Rattle.std.specs.Prelude.{◌≡◌, ℕ, List}
+-- What follows from the definitions of the bus and of spelling.
+use Rattle.std.specs.Prelude.{◌≡◌, ◌↔◌, ℕ, List}
+use Rattle.std.specs.Int.{bit_at}
 use Rattle.tl_types.specs.Request.{Request, IsLawfulRequest}
 use Rattle.tl_types.specs.Response.{Response, IsLawfulResponse}
-use Rattle.tl_beats.specs.Beats.{SpellsAsk}
+use Rattle.tl_beats.specs.Beats.{IsActive, SpellsAsk, active_mask}
 use Rattle.tl_beats.specs.Replies.{SpellsReply}
 use Rattle.tl_beats.specs.declared.beat.ABeat.{ABeat}
 use Rattle.tl_beats.specs.declared.beat.DBeat.{DBeat}
+
+-- the mask of the active lanes sets the bits of just these
+abbrev pub MaskSetsActiveLanes : Type 0
+MaskSetsActiveLanes = (address size lane : ℕ) → (bit_at (active_mask address size) lane ≡ 1) ↔ IsActive address size lane
 
 -- beats spell at most one request
 abbrev pub AtMostOneAsk : Type 0

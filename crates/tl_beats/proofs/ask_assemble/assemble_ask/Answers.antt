@@ -1,5 +1,4 @@
 use Rattle.std.proofs.Common.{rules, arith, ◌≡◌, ◌∙◌, sym, ap, Ok, Some, slice_get}
-use Rattle.tl_types.specs.Request.{IsLawfulRequest}
 use Rattle.tl_beats.proofs.Only.{code_of_spelled}
 use Rattle.tl_beats.proofs.Reading.{IsBegun, no_request, first_of_beats, read_request, read_lawful, read_spells, read_only}
 use Rattle.tl_beats.proofs.ask_assemble.assemble_ask.Goals as goal

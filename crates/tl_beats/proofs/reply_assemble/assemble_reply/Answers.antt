@@ -1,5 +1,4 @@
 use Rattle.std.proofs.Common.{rules, arith, ◌≡◌, ◌∙◌, sym, ap, Ok, Some, slice_get}
-use Rattle.tl_types.specs.Response.{IsLawfulResponse}
 use Rattle.tl_types.specs.Wire.{reply_opcode_of}
 use Rattle.tl_beats.proofs.ReplyReading.{IsReplyBegun, no_reply, first_of_reply_beats, read_reply, reply_read_lawful, reply_read_spells, reply_read_only}
 use Rattle.tl_beats.proofs.reply_assemble.assemble_reply.Goals as goal
