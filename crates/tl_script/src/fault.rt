@@ -1,5 +1,5 @@
 //! The faults of scripts, and the keys that they name.
-ghost use Rattle.std.specs.Prelude.{◌≡◌};
+ghost use Rattle.std.specs.Prelude.{◌≡◌, Some};
 ghost use Rattle.tl_script.specs.Key.{key_name};
 ghost use Rattle.tl_script.specs.Reading.{map_fault, source_fault};
 ghost use Rattle.tl_script.specs.declared.fault.ScriptFault.TheVariants.{Memory};
@@ -43,6 +43,8 @@ impl Key {
 }
 
 impl fmt::Display for Key {
+    ghost output = { λ key. Some (key_name key) };
+
     fn fmt<W: fmt::Write>(&self, f: &mut fmt::Formatter<W>) -> fmt::Result {
         f.write_str(self.name())
     }
