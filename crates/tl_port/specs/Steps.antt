@@ -1,5 +1,5 @@
 -- What the calls of a book do to it. All of it is this project's own.
-use Rattle.std.specs.Prelude.{◌≡◌, ℕ, ◌++◌, List, [], ◌∷◌, length, Option, Some, None}
+use Rattle.std.specs.Prelude.{◌≡◌, ℕ, ◌++◌, List, [], ◌∷◌, length, Option, Some, None, IsSome, is_some}
 use Rattle.tl_types.specs.Request.{Request}
 use Rattle.tl_ops.specs.Store.{after, reply}
 use Rattle.tl_arena.specs.Views.{PortView, with_accepted, with_answered}
@@ -81,3 +81,11 @@ pub record TakesAndServes (b : BookView) (step : Step) (c : BookView) : Type 0 w
   pub takes : Takes b step.intake between
   pub serves : Serves between step.index c
   pub source : step.source ≡ oldest_source between.flights
+
+-- ---- what a step answers
+
+-- whatever the book, the answer of a step agrees with itself: it names a source just where it served a request, and where
+-- it took one it served one
+pub record IsStepAnswer (step : Step) : Type 0 where
+  pub named : is_some step.source ≡ is_some step.index
+  pub served : (source : ℕ) → step.intake ≡ Taken source → IsSome step.index
