@@ -1,3 +1,4 @@
 pub mod Scripts
 pub mod Sending
 pub mod Serving
+mod CommandLine

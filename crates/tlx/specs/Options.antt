@@ -1,7 +1,56 @@
--- The status that the program ends with where the command line is not answered with options.
-use Rattle.std.specs.Prelude.{ℕ}
+-- The command line: the options that there are, which of them the words ask for, and the status that the program ends with
+-- where they ask for none.
+use Rattle.std.specs.Prelude.{◌≡◌, ℕ, List, [], ◌∷◌, Some, codes, unwrap_or}
+use Rattle.std.specs.Str.{bytes_eq}
+use Rattle.std.specs.Str.Parse.{digits_value, without_leading_plus}
+use Rattle.clap.specs.Words.{App, Rule, Text, fault_of, matches_of, new_app, new_rule, one_of, with_rule}
+use Rattle.clap.specs.declared.builder.action.ArgAction.TheVariants.{Set, SetTrue}
+use Rattle.clap.specs.declared.builder.value_parser.ValueParser.TheVariants as values
 use Rattle.clap.specs.declared.error.ErrorKind.{ErrorKind}
 use Rattle.clap.specs.declared.error.ErrorKind.TheVariants.{DisplayHelp, OutOfMemory}
+use Rattle.tlx.specs.declared.options.Options.{Options}
+use Rattle.tlx.specs.declared.options.TheConstants.{MOST_WORKERS}
+
+-- `--serial`, a flag
+abbrev pub serial_rule : Rule
+serial_rule = record (new_rule (codes "serial")) {
+  long = Some (codes "serial");
+  action = Some SetTrue;
+  parser = Some values.Bool;
+}
+
+-- `--workers N`, a number from 1 to the most that there may be, and 1 where it is not given
+abbrev pub workers_rule : Rule
+workers_rule = record (new_rule (codes "workers")) {
+  long = Some (codes "workers");
+  action = Some Set;
+  value_names = 1;
+  parser = Some (values.Unsigned 1 MOST_WORKERS);
+  defaults = codes "1" ∷ [];
+}
+
+-- the command line: these two, and `--help`, which clap adds to each
+abbrev pub command_line : App
+command_line = with_rule (with_rule (new_app (codes "tlx")) serial_rule) workers_rule
+
+-- the value that the words give an option, or its own where they give none
+abbrev pub value_in : List Text → Text → Text
+value_in words option = unwrap_or (one_of option (matches_of command_line words)) []
+
+-- the options that the words ask for
+abbrev pub options_in : List Text → Options
+options_in words = record {
+  serial = bytes_eq (value_in words (codes "serial")) (codes "true");
+  workers = digits_value 10 (without_leading_plus (value_in words (codes "workers")));
+}
+
+-- the words are taken, and ask for these options
+abbrev pub AskFor : Options → List Text → Type 0
+AskFor options words = (fault_of command_line words ≡ []) × (options_in words ≡ options)
+
+-- the words are refused as this
+abbrev pub AreRefusedAs : ErrorKind → List Text → Type 0
+AreRefusedAs kind words = fault_of command_line words ≡ kind ∷ []
 
 -- the status of help, that of want of memory, and that of all else, which are mistakes
 abbrev pub status_of_kind : ErrorKind → ℕ

@@ -13,6 +13,7 @@
 
 pub mod engine;
 pub mod fault;
+pub mod laws;
 pub mod options;
 pub mod serial;
 pub mod steps;
@@ -52,7 +53,7 @@ fn main(rt: HostRuntime) -> ExitCode {
     let Ok(words) = words.collect::<Vec<String>>(rt.alloc()) else {
         return ended(&rt, Err(RunFault::Memory));
     };
-    match options_of(rt.alloc(), &words) {
+    match read_options(rt.alloc(), &words) {
         Ok(options) => ended(
             &rt,
             run(&rt, rt.alloc(), &mut rt.stdin(), &mut rt.stdout(), options),
@@ -82,14 +83,6 @@ fn refused(rt: &HostRuntime, error: clap::Error) -> ExitCode
 {
     let _ = error.print(rt);
     ExitCode::from(options_status(&error))
-}
-
-fn options_of(alloc: Global, words: &[String]) -> Result<Options, clap::Error>
-    ensures some { IfOk result (λ options. 1 ≤ options.workers) }
-    ensures few { IfOk result (λ options. options.workers ≤ MOST_WORKERS) }
-{
-    let words: Vec<&str> = words.iter().map(|word| word.as_str()).collect(alloc)?;
-    read_options(alloc, &words)
 }
 
 /// Runs the script that is read, on one thread or by threads.

@@ -1,7 +1,7 @@
 //! The command line: `tlx [--serial] [--workers N]`.
-ghost use Rattle.std.specs.Prelude.{◌≡◌, ◌≤◌, IfOk};
-ghost use Rattle.clap.specs.Words.{kind_of};
-ghost use Rattle.tlx.specs.Options.{status_of_kind};
+ghost use Rattle.std.specs.Prelude.{◌≡◌, ◌≤◌, IfOk, map, string_bytes};
+ghost use Rattle.clap.specs.Words.{FailsBy, app_of, fault_of, kind_of};
+ghost use Rattle.tlx.specs.Options.{command_line, options_in, status_of_kind};
 
 use clap::error::ErrorKind;
 use clap::{Arg, ArgAction, Command, Error, value_parser};
@@ -23,31 +23,37 @@ pub struct Options {
 ///
 /// Errors: help that was asked for, an unknown option, a stray word, or a number of workers that is none or outside its
 /// range; each is clap's own text.
-pub fn read_options(alloc: Global, words: &[&str]) -> Result<Options, Error>
+pub fn read_options(alloc: Global, words: &[String]) -> Result<Options, Error>
     ensures some { IfOk result (λ options. 1 ≤ options.workers) }
     ensures few { IfOk result (λ options. options.workers ≤ MOST_WORKERS) }
+
+    // The options are those that the words ask for.
+    ensures asked { IfOk result (λ options. options ≡ options_in (map (λ word. string_bytes word) words.now)) }
+
+    // The words are taken or refused as the command line says.
+    ensures faults { FailsBy (fault_of command_line (map (λ word. string_bytes word) words.now)) result }
 {
     let matches = command(alloc)?.try_get_matches_from(words)?;
     Ok(Options {
         serial: matches.get_flag("serial"),
-        // idle at run time: clap has refused every other number
-        workers: matches
-            .get_one::<usize>("workers")
-            .unwrap_or(1)
-            .clamp(1, MOST_WORKERS),
+        workers: matches.get_one::<usize>("workers").unwrap(),
     })
 }
 
 /// The options that there are.
-fn command<'a>(alloc: Global) -> Result<Command<'a>, AllocError> {
+fn command<'a>(alloc: Global) -> Result<Command<'a>, AllocError>
+    ensures { IfOk result (λ command. app_of command ≡ command_line) }
+{
     let serial = Arg::new(alloc, "serial")
         .long("serial")
         .action(ArgAction::SetTrue)
+        .value_parser(value_parser!(bool))
         .help("Run the masters one after the other, on one thread");
     let workers = Arg::new(alloc, "workers")
         .long("workers")
+        .action(ArgAction::Set)
         .value_name("N")
-        .value_parser(value_parser!(usize).range(1..=1))
+        .value_parser(value_parser!(usize).range(1..=MOST_WORKERS as i64))
         .default_value("1")
         .help("Threads for each port");
     Command::new(alloc, "tlx").arg(serial)?.arg(workers)

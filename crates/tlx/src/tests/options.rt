@@ -1,5 +1,5 @@
 //! The command line.
-use crate::options::{Options, options_status};
+use crate::options::{Options, options_status, read_options};
 use clap::Error;
 use std::alloc::Global;
 use std::test::Fail;
@@ -10,7 +10,7 @@ fn options_of(alloc: Global, words: &[&str]) -> Result<Options, Error> {
     for word in words {
         line.push(String::from_str(alloc, word)?)?;
     }
-    crate::options_of(alloc, &line)
+    read_options(alloc, &line)
 }
 
 #[test]

@@ -1,0 +1,13 @@
+use Rattle.std.proofs.Common.{refl}
+use Rattle.clap.proofs.OnLiterals.{clap_on_literals}
+use Rattle.tlx.proofs.laws.lines_ask_for_options.Goals as goal
+
+pub returns : goal.returns
+unfolding clap_on_literals
+returns c = record {
+  alone = (refl, refl);
+  serial = (refl, refl);
+  workers = (refl, refl);
+  attached = (refl, refl);
+  both = (refl, refl);
+}
