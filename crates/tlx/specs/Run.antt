@@ -14,7 +14,7 @@ use Rattle.tl_script.specs.declared.fault.ScriptFault.{ScriptFault}
 use Rattle.tl_script.specs.declared.script.TheConstants.{SCRIPT_LIMIT}
 use Rattle.tl_threads.specs.Run.{IsThreadedRun}
 use Rattle.tlx.specs.Serial.{IsSerialRun}
-use Rattle.tlx.specs.Streams.{ReadsAll, ReadsUpTo}
+use Rattle.tlx.specs.Streams.{AppendsFront, ReadsAll, ReadsUpTo}
 
 -- the lines of the histories of the ports, where the first has this number
 abbrev pub histories_from : ℕ → List (List (Request × Response)) → List ℕ
@@ -59,6 +59,14 @@ pub record Answers (IsText : System → List ℕ → Type 0) (read_old read_new 
   pub given : GivesSystem read_old read_new system
   pub of_run : IsText system text
   pub written : Appends written_old written_new text
+
+-- what was written is a front of such a text
+pub record BeginsToAnswer (IsText : System → List ℕ → Type 0) (read_old read_new written_old written_new : Option (List ℕ)) : Type 0 where
+  pub system : System
+  pub text : List ℕ
+  pub given : GivesSystem read_old read_new system
+  pub of_run : IsText system text
+  pub written : AppendsFront written_old written_new text
 
 -- the text is that of the serial run
 abbrev pub AnswersSerially : Bool → Option (List ℕ) → Option (List ℕ) → Option (List ℕ) → Option (List ℕ) → Type 0

@@ -3,7 +3,7 @@ ghost use Rattle.std.specs.Prelude.{◌≡◌, ◌≢◌, ◌++◌, ◌≤◌, �
 ghost use Rattle.std.specs.Io.KnownBytes.{Keeps};
 ghost use Rattle.tl_script.specs.System.{lists_of};
 ghost use Rattle.tl_script.specs.declared.fault.ScriptFault.{ScriptFault};
-ghost use Rattle.tlx.specs.Run.{histories_text, IsSerialText, GivesSystem, AnswersSerially, HasScriptFault};
+ghost use Rattle.tlx.specs.Run.{histories_text, IsSerialText, GivesSystem, AnswersSerially, BeginsToAnswer, HasScriptFault};
 
 use crate::fault::RunFault;
 use crate::serial::{History, run_serial, write_serial};
@@ -25,6 +25,7 @@ pub(crate) fn read_whole_system<R: Read, L: Ledger>(
     ensures ok { IfOk result (GivesSystem (R.remaining reader.old) (R.remaining reader.new)) }
     ensures script { (fault : ScriptFault) → result ≡ Err (RunFault.Script fault)
         → HasScriptFault (R.remaining reader.old) (R.remaining reader.new) fault }
+    ensures unwritten { IfErr result (λ fault. fault ≢ RunFault.Write) }
     ensures cost { steps.new ≤ steps.old + TURNS }
 {
     let script = read_up_to(alloc, reader, SCRIPT_LIMIT + 1, steps)?;
@@ -71,8 +72,9 @@ pub fn serial_engine<R: Read, W: Write>(
     ensures script { (fault : ScriptFault) → result ≡ Err (RunFault.Script fault)
         → HasScriptFault (R.remaining reader.old) (R.remaining reader.new) fault }
 
-    // Nothing is written but by an Ok or before a failed write.
+    // Nothing is written but by an Ok or before a failed write, which leaves a front of such a text.
     ensures quiet { IfErr result (λ e. e ≢ RunFault.Write → Keeps (W.contents writer.old) (W.contents writer.new)) }
+    ensures part { IfErr result (λ e. e ≡ RunFault.Write → BeginsToAnswer (IsSerialText history) (R.remaining reader.old) (R.remaining reader.new) (W.contents writer.old) (W.contents writer.new)) }
 {
     engine_from::<R, W, Brand>(alloc, reader, writer, history, Blank::new(1))
 }
@@ -92,6 +94,7 @@ fn engine_from<R: Read, W: Write, L: Ledger>(
     ensures script { (fault : ScriptFault) → result ≡ Err (RunFault.Script fault)
         → HasScriptFault (R.remaining reader.old) (R.remaining reader.new) fault }
     ensures quiet { IfErr result (λ e. e ≢ RunFault.Write → Keeps (W.contents writer.old) (W.contents writer.new)) }
+    ensures part { IfErr result (λ e. e ≡ RunFault.Write → BeginsToAnswer (IsSerialText history) (R.remaining reader.old) (R.remaining reader.new) (W.contents writer.old) (W.contents writer.new)) }
 {
     let mut steps = Steps::<L>::new(blank);
     counted_serial_engine(alloc, reader, writer, history, &mut steps)
@@ -109,6 +112,7 @@ pub fn counted_serial_engine<R: Read, W: Write, L: Ledger>(
     ensures script { (fault : ScriptFault) → result ≡ Err (RunFault.Script fault)
         → HasScriptFault (R.remaining reader.old) (R.remaining reader.new) fault }
     ensures quiet { IfErr result (λ e. e ≢ RunFault.Write → Keeps (W.contents writer.old) (W.contents writer.new)) }
+    ensures part { IfErr result (λ e. e ≡ RunFault.Write → BeginsToAnswer (IsSerialText history) (R.remaining reader.old) (R.remaining reader.new) (W.contents writer.old) (W.contents writer.new)) }
 
     // However the reader and the writer behave: at most this many reads, and as many writes that are tried again.
     ensures cost { steps.new ≤ steps.old + 2 * TURNS }

@@ -29,7 +29,7 @@ ghost use Rattle.clap.specs.Words.{kind_of};
 ghost use Rattle.tl_script.specs.declared.fault.ScriptFault.{ScriptFault};
 ghost use Rattle.tlx.specs.Fault.{status_of};
 ghost use Rattle.tlx.specs.Options.{status_of_kind};
-ghost use Rattle.tlx.specs.Run.{AnswersSerially, AnswersByThreads, HasScriptFault};
+ghost use Rattle.tlx.specs.Run.{AnswersSerially, AnswersByThreads, BeginsToAnswer, HasScriptFault, IsSerialText, IsThreadedText};
 
 use crate::engine::serial_engine;
 use crate::fault::RunFault;
@@ -103,8 +103,10 @@ fn run<R: Read, W: Write, T: Threads + Wait + Sync>(
     ensures script { (fault : ScriptFault) → result ≡ Err (RunFault.Script fault)
         → HasScriptFault (R.remaining reader.old) (R.remaining reader.new) fault }
 
-    // Nothing is written but by an Ok or before a failed write.
+    // Nothing is written but by an Ok or before a failed write, which leaves a front of such a text.
     ensures quiet { IfErr result (λ e. e ≢ RunFault.Write → Keeps (W.contents writer.old) (W.contents writer.new)) }
+    ensures serial_part { options.serial ≡ true → IfErr result (λ e. e ≡ RunFault.Write → BeginsToAnswer (IsSerialText false) (R.remaining reader.old) (R.remaining reader.new) (W.contents writer.old) (W.contents writer.new)) }
+    ensures threads_part { options.serial ≡ false → IfErr result (λ e. e ≡ RunFault.Write → BeginsToAnswer IsThreadedText (R.remaining reader.old) (R.remaining reader.new) (W.contents writer.old) (W.contents writer.new)) }
 {
     if options.serial {
         serial_engine(alloc, reader, writer, false)

@@ -1,9 +1,9 @@
 //! Reading a whole input and writing a whole output, within bounds.
-ghost use Rattle.std.specs.Prelude.{◌≡◌, ◌≤◌, ◌+◌, IfOk, OnOk};
+ghost use Rattle.std.specs.Prelude.{◌≡◌, ◌≤◌, ◌<◌, ◌+◌, IfOk, OnOk, IfErr, OnErr};
 ghost use Rattle.std.specs.Io.{ReadsAtMost};
 ghost use Rattle.std.specs.Io.KnownBytes.{Appends, ReadConsumes};
 ghost use Rattle.tlx.specs.declared.streams.ReadFault.TheVariants.{Memory};
-ghost use Rattle.tlx.specs.Streams.{ReadsUpTo};
+ghost use Rattle.tlx.specs.Streams.{AppendsFront, ReadsUpTo, TakesUpTo};
 
 use crate::steps::Steps;
 use std::alloc::{AllocError, Global};
@@ -35,7 +35,7 @@ impl From<AllocError> for ReadFault {
     }
 }
 
-/// An output was not written whole. Nothing is said of how much went out.
+/// An output was not written whole. Nothing is said of how much of its front went out.
 #[derive(Debug, Drop, Error)]
 #[error("write failed")]
 pub struct WriteFault;
@@ -64,6 +64,10 @@ pub fn read_up_to<R: Read, L: Ledger>(
 ) -> Result<Vec<u8>, ReadFault>
     ensures cost { steps.new ≤ steps.old + TURNS }
     ensures bytes { IfOk result (λ v. ReadsUpTo limit (R.remaining reader.old) (R.remaining reader.new) v.items) }
+
+    // No more is taken for a fault, and a read was made before one of reading.
+    ensures taken { OnErr result (TakesUpTo limit (R.remaining reader.old) (R.remaining reader.new)) }
+    ensures tried { IfErr result (λ fault. fault ≡ ReadFault.Read → steps.old < steps.new) }
 {
     let mut bytes = Vec::new(alloc);
     let mut chunk = [0u8; CHUNK];
@@ -91,6 +95,9 @@ pub fn write_all<W: Write, L: Ledger>(
 ) -> Result<(), WriteFault>
     ensures cost { steps.new ≤ steps.old + TURNS }
     ensures bytes { OnOk result (Appends (W.contents writer.old) (W.contents writer.new) bytes.now) }
+
+    // Whatever fails, what went out is a front of the bytes.
+    ensures front { OnErr result (AppendsFront (W.contents writer.old) (W.contents writer.new) bytes.now) }
 {
     let mut rest = bytes;
     let mut retries = TURNS;

@@ -2,7 +2,7 @@
 ghost use Rattle.std.specs.Prelude.{◌≡◌, ◌≢◌, ◌≤◌, ◌<◌, ◌+◌, ◌*◌, IfOk, OnOk, IfErr, Err};
 ghost use Rattle.std.specs.Io.KnownBytes.{Keeps};
 ghost use Rattle.tl_script.specs.declared.fault.ScriptFault.{ScriptFault};
-ghost use Rattle.tlx.specs.Run.{IsThreadedText, AnswersByThreads, HasScriptFault};
+ghost use Rattle.tlx.specs.Run.{IsThreadedText, AnswersByThreads, BeginsToAnswer, HasScriptFault};
 
 use crate::engine::read_whole_system;
 use crate::fault::RunFault;
@@ -55,8 +55,9 @@ pub fn threads_engine<R: Read, W: Write, T: Threads + Wait + Sync>(
     ensures script { (fault : ScriptFault) → result ≡ Err (RunFault.Script fault)
         → HasScriptFault (R.remaining reader.old) (R.remaining reader.new) fault }
 
-    // Nothing is written but by an Ok or before a failed write.
+    // Nothing is written but by an Ok or before a failed write, which leaves a front of such a text.
     ensures quiet { IfErr result (λ e. e ≢ RunFault.Write → Keeps (W.contents writer.old) (W.contents writer.new)) }
+    ensures part { IfErr result (λ e. e ≡ RunFault.Write → BeginsToAnswer IsThreadedText (R.remaining reader.old) (R.remaining reader.new) (W.contents writer.old) (W.contents writer.new)) }
 {
     engine_from::<R, W, T, Brand>(rt, alloc, reader, writer, workers, Blank::new(1))
 }
@@ -79,6 +80,7 @@ fn engine_from<R: Read, W: Write, T: Threads + Wait + Sync, L: Ledger>(
     ensures script { (fault : ScriptFault) → result ≡ Err (RunFault.Script fault)
         → HasScriptFault (R.remaining reader.old) (R.remaining reader.new) fault }
     ensures quiet { IfErr result (λ e. e ≢ RunFault.Write → Keeps (W.contents writer.old) (W.contents writer.new)) }
+    ensures part { IfErr result (λ e. e ≡ RunFault.Write → BeginsToAnswer IsThreadedText (R.remaining reader.old) (R.remaining reader.new) (W.contents writer.old) (W.contents writer.new)) }
 {
     let mut steps = Steps::<L>::new(blank);
     counted_threads_engine(rt, alloc, reader, writer, workers, &mut steps)
@@ -99,6 +101,7 @@ pub fn counted_threads_engine<R: Read, W: Write, T: Threads + Wait + Sync, L: Le
     ensures script { (fault : ScriptFault) → result ≡ Err (RunFault.Script fault)
         → HasScriptFault (R.remaining reader.old) (R.remaining reader.new) fault }
     ensures quiet { IfErr result (λ e. e ≢ RunFault.Write → Keeps (W.contents writer.old) (W.contents writer.new)) }
+    ensures part { IfErr result (λ e. e ≡ RunFault.Write → BeginsToAnswer IsThreadedText (R.remaining reader.old) (R.remaining reader.new) (W.contents writer.old) (W.contents writer.new)) }
 
     // However the reader and the writer behave: at most this many reads, and as many writes that are tried again.
     ensures cost { steps.new ≤ steps.old + 2 * TURNS }

@@ -8,4 +8,5 @@ invariant-loop g l = record {
   taken : Consumes (g.R.Read.remaining l.initial.reader) (g.R.Read.remaining l.reader) l.bytes.items;
   bounded : vec_len l.bytes ≤ l.limit;
   cost : l.steps ≤ l.initial.steps + l.counter;
+  tried : l.initial.steps + l.counter ≤ l.steps;
 }
