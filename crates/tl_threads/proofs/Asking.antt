@@ -166,7 +166,7 @@ all_asked m none s = ap (λ (o : Option TicketView). of_source s (asks_of m.trac
 sends_snoc : (js : List Job) (j : Job) → sends (js ++ j ∷ []) ≡ sends js ++ sends (j ∷ [])
 sends_snoc js j = filter_map-append sent_by js (j ∷ [])
 
-next_sends : (js : List Job) (k : ℕ) (d j : Job) → k < length js → get_or js k d ≡ j → sends (take (k + 1) js) ≡ sends (take k js) ++ sends (j ∷ [])
+pub next_sends : (js : List Job) (k : ℕ) (d j : Job) → k < length js → get_or js k d ≡ j → sends (take (k + 1) js) ≡ sends (take k js) ++ sends (j ∷ [])
 next_sends js k d j lt is = ap sends (take_more js k d lt) ∙ sends_snoc (take k js) (get_or js k d) ∙ ap (λ (x : Job). sends (take k js) ++ sends (x ∷ [])) is
 
 -- one operation more, which waited if it is a wait

@@ -1,13 +1,18 @@
 -- The threads of a run, from their start to their end. All of it is this project's own.
-use Rattle.std.specs.Prelude.{◌≡◌, ℕ, ◌+◌, List, Vec, slice_get, Some}
+use Rattle.std.specs.Prelude.{◌≡◌, ℕ, ◌+◌, List, [], ◌∷◌, Vec, length, count_by, eqb, slice_get, Some}
+use Rattle.std.specs.List.{flat_map}
 use Rattle.std.specs.Global.{Global}
 use Rattle.std.specs.declared.thread.PromisedHandle.{PromisedHandle}
+use Rattle.tl_types.specs.Request.{Request}
 use Rattle.tl_types.specs.declared.trace.Entry.{Entry}
 use Rattle.tl_map.specs.declared.map.Range.{Range}
+use Rattle.tl_map.specs.Map.{Routes}
+use Rattle.tl_script.specs.System.{System, sends}
 use Rattle.tl_script.specs.declared.operation.Job.{Job}
 use Rattle.tl_ops.specs.Store.{Store}
 use Rattle.tl_arena.specs.Views.{ArenaId, MasterView, PortView, new_master, new_port}
-use Rattle.tl_port.specs.Book.{BookView}
+use Rattle.tl_port.specs.Book.{BookView, new_book}
+use Rattle.tl_rule.specs.Views.{reset_of}
 use Rattle.tl_threads.specs.declared.start.TraceOf.{TraceOf}
 use Rattle.tl_threads.specs.declared.run.Driver.{Driver}
 use Rattle.tl_threads.specs.Trace.{IsTrace, IsIdle}
@@ -16,9 +21,45 @@ use Rattle.tl_threads.specs.Trace.{IsTrace, IsIdle}
 abbrev pub AreFrom : {X : Type 0} → (ℕ → X → Type 0) → ℕ → List X → Type 0
 AreFrom {X} P from xs = (k : ℕ) (x : X) → slice_get xs k ≡ Some x → P (from + k) x
 
--- nothing was asked of the driver's master, which has this number
-abbrev pub IsNewDriver : ArenaId → ℕ → Driver → Type 0
-IsNewDriver arena number d = IsIdle arena number d.master
+-- nothing was asked of the driver's master, which has this number, and room for the replies to its operations
+pub record IsNewDriver (arena : ArenaId) (jobs : List (List Job)) (number : ℕ) (d : Driver) : Type 0 where
+  pub idle : IsIdle arena number d.master
+  pub room : (its_jobs : List Job) → slice_get jobs number ≡ Some its_jobs → d.master.limit ≡ length (sends its_jobs)
+
+-- ---- how many requests go to each port
+
+-- these are the ports that the map has these requests with, one for one
+abbrev pub ArePortsOf : List Range → List Request → List ℕ → Type 0
+ArePortsOf ranges [] [] = Unit {0}
+ArePortsOf ranges [] (port ∷ ports) = ⊥
+ArePortsOf ranges (ask ∷ asks) [] = ⊥
+ArePortsOf ranges (ask ∷ asks) (port ∷ ports) = Routes ranges ask port × ArePortsOf ranges asks ports
+
+-- how often the number is in the list
+abbrev pub times_in : List ℕ → ℕ → ℕ
+times_in numbers n = count_by (λ m. eqb m n) numbers
+
+-- so many of these requests go to the port
+pub record GoTo (ranges : List Range) (asks : List Request) (port count : ℕ) : Type 0 where
+  pub ports : List ℕ
+  pub are : ArePortsOf ranges asks ports
+  pub count_is : count ≡ times_in ports port
+
+-- each port's count is larger by the number of these requests that go there
+pub record AddsArrivals (ranges : List Range) (asks : List Request) (old new : List ℕ) : Type 0 where
+  pub ports : List ℕ
+  pub are : ArePortsOf ranges asks ports
+  pub many : length new ≡ length old
+  pub each : (p n : ℕ) → slice_get old p ≡ Some n → slice_get new p ≡ Some (n + times_in ports p)
+
+-- the requests of all masters
+abbrev pub all_sends : List (List Job) → List Request
+all_sends jobs = flat_map sends jobs
+
+-- for each port the number of the requests of all masters that go there
+pub record AreJournals (s : System) (journals : List ℕ) : Type 0 where
+  pub many : length journals ≡ length s.ranges + 1
+  pub each : (p n : ℕ) → slice_get journals p ≡ Some n → GoTo s.ranges (all_sends s.jobs) p n
 
 abbrev pub Handle : Type 0
 Handle = PromisedHandle (Vec Entry Global) TraceOf
@@ -39,6 +80,11 @@ pub record IsTraceOf (arena : ArenaId) (ranges : List Range) (jobs : List (List 
 -- the book is of the arena
 abbrev pub IsBookIn : ArenaId → ℕ → BookView → Type 0
 IsBookIn arena number b = b.seat.arena ≡ arena
+
+-- the book is that of a new port of this number, with the port's reset, and room for all requests that go there
+pub record IsNewBook (arena : ArenaId) (s : System) (number : ℕ) (b : BookView) : Type 0 where
+  pub is : b ≡ new_book (new_port arena number) (reset_of arena.about number) b.journal
+  pub room : GoTo s.ranges (all_sends s.jobs) number b.journal
 
 -- the seat is that of a new port; the bank holds what the port's did when the arena was made
 abbrev pub IsNewPort : ArenaId → ℕ → PortView → Type 0

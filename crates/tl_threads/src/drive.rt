@@ -1,5 +1,6 @@
 //! What a master's thread does.
 ghost use Rattle.std.specs.Prelude.{◌≡◌, ◌+◌, ◌≤◌, length};
+ghost use Rattle.tl_script.specs.System.{sends};
 ghost use Rattle.tl_master.specs.Master.{out_of};
 ghost use Rattle.tl_threads.specs.Trace.{IsTrace, IsSame, HasAsked, HasDone, IsIdle};
 
@@ -141,7 +142,8 @@ fn do_job<N: ArenaName, R: Wait, G: Gate>(
     }
 }
 
-/// Does a master's operations in order, collects all that is out, and leaves with the trace.
+/// Does a master's operations in order, collects all that is out, and leaves with the trace, which has room for all
+/// replies.
 pub(crate) fn drive<N: ArenaName, R: Wait, G: Gate>(
     rt: &R,
     mut master: Master,
@@ -154,6 +156,7 @@ pub(crate) fn drive<N: ArenaName, R: Wait, G: Gate>(
     gate: &G,
 ) -> Trace
     requires new { IsIdle arena.now number master }
+    requires room { master.limit ≡ length (sends jobs.now) }
     requires ports { length map.now + 1 ≤ arena.now.about.ports }
     ensures { IsTrace arena.now map.now number jobs.now result.items }
 {

@@ -2,7 +2,7 @@
 ghost use Rattle.std.specs.Prelude.{◌≡◌, ◌+◌, ◌≤◌, IfOk, vec_len, vec_capacity, length};
 ghost use Rattle.tl_arena.specs.Account.{IsClosing};
 ghost use Rattle.tl_threads.specs.Run.{IsBookOf};
-ghost use Rattle.tl_threads.specs.Start.{AreFrom, IsNewDriver, IsTraceOf, IsBookIn};
+ghost use Rattle.tl_threads.specs.Start.{AreFrom, IsNewDriver, IsNewBook, IsTraceOf, IsBookIn};
 
 use crate::fault::ThreadFault;
 use crate::gate::Gate;
@@ -67,7 +67,7 @@ fn run_scope<'x, N: ArenaName + Send + Sync, R: Threads + Wait + Sync, G: Gate +
 ) -> Result<Ended, ThreadFault>
     requires arena { arena.now ≡ N.arena }
     requires ports { length system.now.ranges + 1 ≤ arena.now.about.ports }
-    requires drivers { AreFrom (IsNewDriver arena.now) 0 parts.drivers.items }
+    requires drivers { AreFrom (IsNewDriver arena.now system.now.jobs) 0 parts.drivers.items }
     requires jobs { vec_len parts.drivers ≡ length system.now.jobs }
     ensures many { IfOk result (λ ended. vec_len ended.traces ≡ vec_len parts.drivers) }
     ensures traces { IfOk result (λ ended. AreFrom (IsTraceOf arena.now system.now.ranges system.now.jobs) 0 ended.traces.items) }
@@ -76,7 +76,7 @@ fn run_scope<'x, N: ArenaName + Send + Sync, R: Threads + Wait + Sync, G: Gate +
         thread::scope_env(),
         rt,
         |scope| -> Result<Ended, ThreadFault>
-            requires { (arena.now ≡ N.arena) × (length system.now.ranges + 1 ≤ arena.now.about.ports) × AreFrom (IsNewDriver arena.now) 0 parts.drivers.items × (vec_len parts.drivers ≡ length system.now.jobs) }
+            requires { (arena.now ≡ N.arena) × (length system.now.ranges + 1 ≤ arena.now.about.ports) × AreFrom (IsNewDriver arena.now system.now.jobs) 0 parts.drivers.items × (vec_len parts.drivers ≡ length system.now.jobs) }
             ensures { IfOk result (λ ended. (vec_len ended.traces ≡ vec_len parts.drivers) × AreFrom (IsTraceOf arena.entry.now system.entry.now.ranges system.entry.now.jobs) 0 ended.traces.items) }
         { run_in(scope, rt, alloc, arena, system, ports, parts, gate) },
     )
@@ -94,9 +94,9 @@ pub(crate) fn run_named<'x, N: ArenaName + Send + Sync, R: Threads + Wait + Sync
 ) -> Result<Run, ThreadFault>
     requires name { arena ≡ N.arena }
     requires ports { length system.now.ranges + 1 ≤ arena.about.ports }
-    requires drivers { AreFrom (IsNewDriver arena) 0 parts.drivers.items }
+    requires drivers { AreFrom (IsNewDriver arena system.now.jobs) 0 parts.drivers.items }
     requires jobs { vec_len parts.drivers ≡ length system.now.jobs }
-    requires books { AreFrom (IsBookIn arena) 0 books.items }
+    requires books { AreFrom (IsNewBook arena system.now) 0 books.items }
     ensures many { IfOk result (λ run. vec_len run.traces ≡ vec_len parts.drivers) }
     ensures traces { IfOk result (λ run. AreFrom (IsTraceOf arena system.now.ranges system.now.jobs) 0 run.traces.items) }
     ensures all { IfOk result (λ run. vec_len run.books ≡ vec_len books) }

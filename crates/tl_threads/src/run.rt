@@ -1,7 +1,6 @@
 //! The threads of a run: started, joined, stopped.
 ghost use Rattle.std.specs.Prelude.{◌≡◌, ◌+◌, ◌≤◌, IfOk, vec_len, vec_capacity, length, IsTrue};
-ghost use Rattle.tl_threads.specs.Start.{AreFrom, IsNewDriver, IsPromised, IsTraceOf, IsBookIn};
-ghost use Rattle.tl_threads.specs.Run.{IsBookOf};
+ghost use Rattle.tl_threads.specs.Start.{AreFrom, IsNewDriver, IsPromised, IsTraceOf};
 
 use crate::bell::{Bells, Ring, Ringer};
 use crate::fault::ThreadFault;
@@ -49,7 +48,7 @@ fn start_masters<'s, 'e: 's, N: ArenaName + Send + Sync, R: Threads + Wait + Syn
     handles: Vec<PromisedHandle<Trace, TraceOf>>,
 ) -> Started
     requires ports { length system.now.ranges + 1 ≤ arena.now.about.ports }
-    requires drivers { AreFrom (IsNewDriver arena.now) 0 drivers.items }
+    requires drivers { AreFrom (IsNewDriver arena.now system.now.jobs) 0 drivers.items }
     requires jobs { vec_len drivers ≡ length system.now.jobs }
     requires none { vec_len handles ≡ 0 }
     requires room { vec_len drivers ≤ vec_capacity handles }
@@ -214,7 +213,7 @@ pub(crate) fn run_in<
 ) -> Result<Ended, ThreadFault>
     requires arena { arena.now ≡ N.arena }
     requires ports { length system.now.ranges + 1 ≤ arena.now.about.ports }
-    requires drivers { AreFrom (IsNewDriver arena.now) 0 parts.drivers.items }
+    requires drivers { AreFrom (IsNewDriver arena.now system.now.jobs) 0 parts.drivers.items }
     requires jobs { vec_len parts.drivers ≡ length system.now.jobs }
     ensures many { IfOk result (λ ended. vec_len ended.traces ≡ vec_len parts.drivers) }
     ensures traces { IfOk result (λ ended. AreFrom (IsTraceOf arena.now system.now.ranges system.now.jobs) 0 ended.traces.items) }

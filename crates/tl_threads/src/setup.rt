@@ -1,10 +1,11 @@
 //! What a run needs before its threads start: banks, books, masters and bells.
-ghost use Rattle.std.specs.Prelude.{◌≡◌, ◌+◌, ◌≤◌, ◌∷◌, ◌++◌, [], IfOk, vec_len, length, map};
-ghost use Rattle.tl_script.specs.System.{store_of, error_store};
+ghost use Rattle.std.specs.Prelude.{◌≡◌, ◌+◌, ◌^◌, ◌<◌, ◌≤◌, ◌∷◌, ◌++◌, [], ℕ, IfOk, Some, vec_len, length, map, slice_get};
+ghost use Rattle.tl_script.specs.System.{store_of, error_store, sends};
 ghost use Rattle.tl_arena.specs.Views.{AreNewMasters, AreNewPorts};
 ghost use Rattle.tl_threads.specs.Trace.{IsIdle};
-ghost use Rattle.tl_threads.specs.Start.{AreFrom, IsNewDriver, IsBookIn};
+ghost use Rattle.tl_threads.specs.Start.{AreFrom, IsNewDriver, IsNewBook, AddsArrivals, AreJournals};
 ghost use Rattle.tl_arena.specs.Views.{new_master, new_port};
+ghost use Rattle.tl_port.specs.Book.{new_book};
 ghost use Rattle.tl_rule.specs.Views.{reset_of};
 
 use crate::bell::{Bells, Listener, Ringer, bell};
@@ -45,25 +46,33 @@ fn error_bank(alloc: Global) -> Result<Bank, Memory>
 }
 
 /// How many requests these operations send.
-pub(crate) fn sends_of(jobs: &[Job]) -> usize {
+fn sends_of(jobs: &[Job]) -> usize
+    ensures { result ≡ length (sends jobs.now) }
+{
     jobs.iter()
         .filter(|job| matches!(job, Job::Send(_)))
         .count()
 }
 
-/// Adds the requests that these operations send to each port.
-fn count_sends(map: &Map, jobs: &[Job], counts: &mut [usize]) {
+/// Adds to each port's count the requests of these operations that go there.
+fn count_sends(map: &Map, jobs: &[Job], counts: &mut [usize])
+    requires ports { length counts.old ≡ length map.now + 1 }
+    requires room { (p n : ℕ) → slice_get counts.old p ≡ Some n → n + length jobs.now < 2 ^ 64 }
+    ensures { AddsArrivals map.now (sends jobs.now) counts.old counts.new }
+{
     for job in jobs {
-        if let Job::Send(ask) = job {
-            if let Some(count) = counts.get_mut(map.route(ask)) {
-                *count = usize::saturating_add(*count, 1);
-            }
+        match job {
+            Job::Wait => (),
+            Job::Send(ask) => counts[map.route(ask)] += 1,
         }
     }
 }
 
 /// How many requests of a system go to each port.
-pub(crate) fn journals_of(alloc: Global, system: &System) -> Result<Vec<usize>, Memory> {
+pub(crate) fn journals_of(alloc: Global, system: &System) -> Result<Vec<usize>, Memory>
+    ensures { IfOk result (λ journals. AreJournals system.now journals.items) }
+{
+    let _few_masters = system.sources().masters();
     let map = system.map();
     let mut counts = Vec::from_elem(alloc, 0usize, map.ports())?;
     for jobs in system.jobs() {
@@ -83,7 +92,7 @@ fn book_of(
 ) -> Result<Book, Memory>
     requires seat { seat ≡ new_port arena.now number }
     requires bank { bank ≡ reset_of arena.now.about number }
-    ensures { IfOk result (λ book. book.seat.arena ≡ arena.now) }
+    ensures { IfOk result (λ book. book ≡ new_book (new_port arena.now number) (reset_of arena.now.about number) journal) }
 {
     Book::new(alloc, bank, seat, arena.slots(), journal).map_err(|_| Memory)
 }
@@ -94,12 +103,15 @@ pub(crate) fn books_of(
     arena: &Arena,
     seats: Vec<PortSeat>,
     banks: Vec<Bank>,
+    system: &System,
     journals: &[usize],
 ) -> Result<Vec<Book>, Memory>
     requires seats { AreNewPorts arena.now (vec_len banks) seats.items }
     requires banks { banks.items ≡ arena.now.about.resets }
+    requires ports { vec_len banks ≡ length journals.now }
+    requires journals { AreJournals system.now journals.now }
     ensures many { IfOk result (λ books. vec_len books ≡ vec_len seats) }
-    ensures books { IfOk result (λ books. AreFrom (IsBookIn arena.now) 0 books.items) }
+    ensures books { IfOk result (λ books. AreFrom (IsNewBook arena.now system.now) 0 books.items) }
 {
     let mut books = Vec::with_capacity(alloc, seats.len())?;
     let mut banks = banks.into_iter();
@@ -108,8 +120,7 @@ pub(crate) fn books_of(
             unreachable!()
         };
         let number = books.len();
-        let journal = journals.get(number).copied().unwrap_or(0);
-        let book = book_of(alloc, arena, number, seat, bank, journal)?;
+        let book = book_of(alloc, arena, number, seat, bank, journals[number])?;
         books.push_reserved(book);
     }
     Ok(books)
@@ -135,9 +146,10 @@ fn driver_of(
 ) -> Result<(Driver, Ringer), Memory>
     requires seat { seat ≡ new_master arena.now number }
     requires sources { arena.now.about.counts ≡ system.now.counts }
-    ensures { IfOk result (λ made. IsNewDriver arena.now number made.0) }
+    requires jobs { number < length system.now.jobs }
+    ensures { IfOk result (λ made. IsNewDriver arena.now system.now.jobs number made.0) }
 {
-    let limit = system.jobs().get(number).map_or(0, |jobs| sends_of(jobs));
+    let limit = sends_of(&system.jobs()[number]);
     let (ringer, listeners) = bell(alloc, limit, 1)?;
     let own = listeners.into_iter().next().ok_or(Memory)?;
     let master = master_of(alloc, arena, number, seat, system, limit)?;
@@ -161,7 +173,8 @@ fn master_of(
 ) -> Result<Master, Memory>
     requires seat { seat ≡ new_master arena.now number }
     requires sources { arena.now.about.counts ≡ system.now.counts }
-    ensures { IfOk result (λ master. IsIdle arena.now number master) }
+    ensures idle { IfOk result (λ master. IsIdle arena.now number master) }
+    ensures room { IfOk result (λ master. master.limit ≡ limit) }
 {
     match Master::new(alloc, seat, system.sources(), limit) {
         Ok(master) => Ok(master),
@@ -180,7 +193,7 @@ fn drivers_of(
     requires seats { AreNewMasters arena.now (length system.now.jobs) seats.items }
     requires sources { arena.now.about.counts ≡ system.now.counts }
     ensures many { IfOk result (λ made. vec_len made.0 ≡ length system.now.jobs) }
-    ensures drivers { IfOk result (λ made. AreFrom (IsNewDriver arena.now) 0 made.0.items) }
+    ensures drivers { IfOk result (λ made. AreFrom (IsNewDriver arena.now system.now.jobs) 0 made.0.items) }
 {
     let mut drivers = Vec::with_capacity(alloc, seats.len())?;
     let mut bells = Vec::with_capacity(alloc, seats.len())?;
@@ -252,7 +265,7 @@ pub(crate) fn parts_of(
     requires seats { AreNewMasters arena.now (length system.now.jobs) seats.items }
     requires sources { arena.now.about.counts ≡ system.now.counts }
     ensures many { IfOk result (λ parts. vec_len parts.drivers ≡ length system.now.jobs) }
-    ensures drivers { IfOk result (λ parts. AreFrom (IsNewDriver arena.now) 0 parts.drivers.items) }
+    ensures drivers { IfOk result (λ parts. AreFrom (IsNewDriver arena.now system.now.jobs) 0 parts.drivers.items) }
 {
     let (mut stops, listeners) = port_bells(alloc, journals, workers)?;
     let (drivers, mut bells) = drivers_of(alloc, arena, seats, system, &mut stops)?;

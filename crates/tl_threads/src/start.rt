@@ -1,5 +1,6 @@
 //! How the threads of a run are started.
 ghost use Rattle.std.specs.Prelude.{◌≡◌, ◌+◌, ◌≤◌, length, IfSome};
+ghost use Rattle.tl_script.specs.System.{sends};
 ghost use Rattle.tl_threads.specs.Trace.{IsTrace, IsIdle};
 
 use crate::bell::Bells;
@@ -45,6 +46,7 @@ pub(crate) fn start_master<'s, 'e: 's, N: ArenaName + Send + Sync, R: Wait + Syn
     gate: &'e G,
 ) -> Option<PromisedHandle<Trace, TraceOf>>
     requires new { IsIdle arena.now number master }
+    requires room { master.limit ≡ length (sends jobs.now.items) }
     requires ports { length map.now + 1 ≤ arena.now.about.ports }
     ensures { IfSome result (λ h. (h.promise.number ≡ number) × (h.promise.arena.value ≡ arena.now) × (h.promise.map.value ≡ map.now) × (h.promise.jobs.value ≡ jobs.now)) }
 {
@@ -55,7 +57,7 @@ pub(crate) fn start_master<'s, 'e: 's, N: ArenaName + Send + Sync, R: Wait + Syn
         map: Snapshot::of(map),
     };
     let run = move || -> Trace
-        requires { IsIdle arena.now number master × (length map.now + 1 ≤ arena.now.about.ports) }
+        requires { IsIdle arena.now number master × (master.limit ≡ length (sends jobs.now.items)) × (length map.now + 1 ≤ arena.now.about.ports) }
         ensures { IsTrace arena.entry.now map.entry.now number jobs.entry.now.items result.items }
     { drive(rt, master, arena, map, ports, number, jobs, bells, gate) };
     scope.spawn_with(promise, run).ok()

@@ -65,7 +65,7 @@ pub fn run_threads<R: Threads + Wait + Sync, G: Gate + Sync>(
     } = arena_of(alloc, system, &banks)?;
     let journals = journals_of(alloc, system)?;
     let parts = parts_of(alloc, &arena, masters, system, &journals, workers)?;
-    let books = books_of(alloc, &arena, ports, banks, &journals)?;
+    let books = books_of(alloc, &arena, ports, banks, system, &journals)?;
     let run = run_named::<Brand, R, G>(rt, alloc, arena, system, books, parts, gate)?;
     Ok(run)
 }

@@ -1,8 +1,12 @@
-use Rattle.std.proofs.Common.{sym, subst}
+use Rattle.std.proofs.Common.{◌+◌, ◌∙◌, sym, subst}
 use Rattle.tl_arena.specs.Views.{ArenaId}
 use Rattle.tl_threads.specs.Run.{IsBookOf}
 use Rattle.tl_threads.specs.Start.{AreFrom}
+use Rattle.tl_threads.proofs.Arrivals.{new_in}
 use Rattle.tl_threads.proofs.named.run_named.Goals as goal
+
+pub ports_of-requires : goal.ports_of-requires
+ports_of-requires g c k book at = new_in c.args.arena c.args.system.now (0 + k) book (c.requires.books k book at) ∙ c.requires.name
 
 pub returns-in-None-clause-books : goal.returns-in-None-clause-books
 returns-in-None-clause-books g c = subst (λ (a : ArenaId). AreFrom (IsBookOf a) 0 c.in_ok-books.books.items) (sym c.requires.name) c.in_ok-books.ensures.books

@@ -1,9 +1,9 @@
 use Rattle.std.proofs.Common.{◌≡◌, ◌+◌, ◌≤◌, vec_len, vec_capacity, length}
 use Rattle.std.specs.Vec.Iter.{into_iter_items, into_iter_len}
-use Rattle.tl_threads.specs.Start.{AreFrom, IsBookIn, IsNewPort, IsResetBank}
+use Rattle.tl_threads.specs.Start.{AreFrom, IsNewBook, IsNewPort, IsResetBank}
 use Rattle.tl_threads.proofs.setup.books_of.Given as goal
 
--- the books so far are of the arena, and seats and banks that are left are those of the ports that are left
+-- the books so far are new, and the seats and banks that are left are those of the ports that are left
 abbrev pub invariant-loop-seat : goal.invariant-loop-seat
 invariant-loop-seat l = record {
   count : vec_len l.books + into_iter_len l.seat-iterator ≡ vec_len l.fn.seats;
@@ -11,5 +11,5 @@ invariant-loop-seat l = record {
   room : vec_len l.fn.seats ≤ vec_capacity l.books;
   seats : AreFrom (IsNewPort l.fn.arena) (length l.books.items) (into_iter_items l.seat-iterator);
   banks : AreFrom (IsResetBank l.fn.arena) (length l.books.items) (into_iter_items l.banks);
-  books : AreFrom (IsBookIn l.fn.arena) 0 l.books.items;
+  books : AreFrom (IsNewBook l.fn.arena l.fn.system) 0 l.books.items;
 }

@@ -12,6 +12,7 @@ driver_of-requires-clause-seat c =
 pub loop-seat-preserved : goal.loop-seat-preserved
 loop-seat-preserved c =
     let a = c.args.arena.now in
+    let jobs = c.args.system.now.jobs in
     let was = c.loop-seat.invariant in
     let step = c.in-Some.ensures.steps in
     let push = c.push_reserved.ensures in
@@ -23,5 +24,5 @@ loop-seat-preserved c =
       count = omega (arith, step.1, push.len, was.count);
       room = rw push.capacity was.room;
       seats = row_tail (IsNewMaster a) (length done) (length after) c.in-Some.seat _ _ step.0 more was.seats;
-      drivers = row_more (IsNewDriver a) done after c.in_ok-driver.driver push.items was.drivers (subst (λ (n : ℕ). IsNewDriver a n c.in_ok-driver.driver) num c.in_ok-driver.ensures);
+      drivers = row_more (IsNewDriver a jobs) done after c.in_ok-driver.driver push.items was.drivers (subst (λ (n : ℕ). IsNewDriver a jobs n c.in_ok-driver.driver) num c.in_ok-driver.ensures);
     }

@@ -9,5 +9,5 @@ invariant-loop-seat l = record {
   count : vec_len l.drivers + into_iter_len l.seat-iterator ≡ vec_len l.fn.seats;
   room : vec_len l.fn.seats ≤ vec_capacity l.drivers;
   seats : AreFrom (IsNewMaster l.fn.arena) (length l.drivers.items) (into_iter_items l.seat-iterator);
-  drivers : AreFrom (IsNewDriver l.fn.arena) 0 l.drivers.items;
+  drivers : AreFrom (IsNewDriver l.fn.arena l.fn.system.jobs) 0 l.drivers.items;
 }

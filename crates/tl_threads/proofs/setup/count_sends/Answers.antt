@@ -1,0 +1,33 @@
+use Rattle.std.proofs.Common.{◌<◌, ◌+◌, ◌∙◌, ℕ, List, length, take, get_or, refl, sym, subst, arith}
+use Rattle.std.proofs.lemmas.Option.{slice_get-get_or}
+use Rattle.tl_script.specs.System.{sends}
+use Rattle.tl_threads.specs.Start.{AddsArrivals}
+use Rattle.tl_threads.proofs.Arrivals.{grown, few_before, wait_adds, send_adds}
+use Rattle.tl_threads.proofs.setup.count_sends.Goals as goal
+use Rattle.tl_threads.proofs.setup.count_sends.Goals.{in-Wait, in-Send}
+
+pub overflow_add-counts : goal.overflow_add-counts
+overflow_add-counts c =
+    let was = c.loop-job.invariant in
+    let port = c.route.result in
+    let within : port < length c.loop-job.counts = omega (arith, c.route.ensures.in_ports, was.many, c.requires.ports) in
+    let from = grown c.args.map.now (sends (take c.loop-job.job-index c.args.jobs.now)) c.args.counts.now c.loop-job.counts port (get_or c.loop-job.counts port 0) was (slice_get-get_or c.loop-job.counts port 0 within) in
+    omega (arith, from.2, few_before c.args.jobs.now c.loop-job.job-index, c.requires.room port from.0 from.1, c.loop-job-test.true)
+
+pub loop-job-preserved : goal.loop-job-preserved
+loop-job-preserved c =
+    let ranges = c.args.map.now in
+    let jobs = c.args.jobs.now in
+    let k = c.loop-job.job-index in
+    let job = c.job-item.result in
+    let counts = c.loop-job.counts in
+    let was = c.loop-job.invariant in
+    elim c.match-job.branch [
+      | in-Wait w ↦ subst (λ (l : List ℕ). AddsArrivals ranges (sends (take (k + 1) jobs)) c.args.counts.now l) (sym w.counts-is)
+          (wait_adds ranges jobs k job c.loop-job-test.true c.args.counts.now counts was (sym c.job-item.is ∙ w.in-Wait.is))
+      | in-Send w ↦
+          let port = w.route.result in
+          let within : port < length counts = omega (arith, w.route.ensures.in_ports, was.many, c.requires.ports) in
+          send_adds ranges jobs k job c.loop-job-test.true c.args.counts.now counts was w.in-Send.ask port (get_or counts port 0) c.match-job.counts (sym c.job-item.is ∙ w.in-Send.is)
+          (slice_get-get_or counts port 0 within) ((w.route.ensures.port port).0 refl) w.counts-is
+    ]

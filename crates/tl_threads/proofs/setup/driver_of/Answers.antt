@@ -1,0 +1,17 @@
+use Rattle.std.proofs.Common.{◌<◌, ◌∙◌, List, length, ap, sym, subst}
+use Rattle.tl_script.specs.declared.operation.Job.{Job}
+use Rattle.tl_script.specs.System.{sends}
+use Rattle.tl_threads.proofs.Arrivals.{listed_here, listed_many}
+use Rattle.tl_threads.proofs.setup.driver_of.Goals as goal
+
+pub returns : goal.returns
+returns c =
+    let s = c.args.system.now in
+    let lists = c.jobs.result.now in
+    let within : c.args.number < length lists = subst (λ n. c.args.number < n) (sym (listed_many s lists c.jobs.ensures.value)) c.requires.jobs in
+    record {
+      idle = c.in_ok-master.ensures.idle;
+      room = λ its_jobs at.
+          let here = listed_here s lists c.args.number c.index-jobs-number.result its_jobs c.jobs.ensures.value within c.index-jobs-number.is at in
+          c.in_ok-master.ensures.room ∙ c.sends_of-limit.ensures ∙ ap (λ (js : List Job). length (sends js)) (c.deref.ensures.value ∙ here);
+    }
