@@ -1,4 +1,7 @@
 //! Why a run by threads has no end.
+ghost use Rattle.std.specs.Prelude.{◌≡◌};
+ghost use Rattle.tl_threads.specs.declared.fault.ThreadFault.TheVariants.{Memory};
+
 use std::alloc::AllocError;
 use thiserror::Error;
 use tl_types::Memory;
@@ -19,12 +22,16 @@ pub enum ThreadFault {
 }
 
 impl From<Memory> for ThreadFault {
+    ghost from_gives = { λ _ fault. fault ≡ Memory };
+
     fn from(_: Memory) -> ThreadFault {
         ThreadFault::Memory
     }
 }
 
 impl From<AllocError> for ThreadFault {
+    ghost from_gives = { λ _ fault. fault ≡ Memory };
+
     fn from(_: AllocError) -> ThreadFault {
         ThreadFault::Memory
     }
