@@ -178,11 +178,14 @@ impl Book {
         }
     }
 
-    /// How many requests are in flight.
+    /// How many requests are in flight: no more than there are slots.
     pub fn in_flight_len(&self) -> usize
         ensures value { result ≡ length self.now.flights }
+        ensures few { result ≤ self.now.seat.arena.about.slots }
         ensures lawful { IsLawfulBook self.now }
     {
+        // the port's seat serves no slot twice, and what is in flight is what it serves
+        let _number = self.seat.number();
         self.flights.len()
     }
 

@@ -1,5 +1,5 @@
 //! A book behind a lock.
-ghost use Rattle.std.specs.Prelude.{◌≡◌, ◌+◌, ◌<◌, ◌↔◌, ◌++◌, ◌∷◌, [], length, IsTrue};
+ghost use Rattle.std.specs.Prelude.{◌≡◌, ◌+◌, ◌<◌, ◌≤◌, ◌↔◌, ◌++◌, ◌∷◌, [], length, IsTrue};
 ghost use Rattle.std.specs.Prelude as std;
 ghost use Rattle.tl_port.specs.declared.book.Intake.TheVariants.{JournalFull};
 ghost use Rattle.tl_port.specs.Book.{IsLawfulBook};
@@ -103,8 +103,10 @@ impl<N: ArenaName> Port<N> {
         self.lock.lock(rt).step(arena)
     }
 
-    /// How many requests are in flight.
-    pub fn in_flight_len(&self, rt: &impl Wait) -> usize {
+    /// How many requests are in flight: no more than the arena has slots.
+    pub fn in_flight_len(&self, rt: &impl Wait) -> usize
+        ensures { result ≤ N.arena.about.slots }
+    {
         self.lock.lock(rt).book.in_flight_len()
     }
 
