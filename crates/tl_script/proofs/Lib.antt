@@ -4,3 +4,4 @@ pub mod Views
 pub mod Jobs
 pub mod Resets
 pub mod Systems
+pub mod Names

@@ -1,5 +1,7 @@
 //! Laws of scripts, each on a function that does nothing but carry it.
-ghost use Rattle.std.specs.Prelude.{◌≡◌};
+ghost use Rattle.std.specs.Prelude.{◌≡◌, Some};
+ghost use Rattle.tl_types.specs.declared.operation.AskOp.{AskOp};
+ghost use Rattle.tl_script.specs.Name.{name_of, word_of};
 ghost use Rattle.tl_script.specs.declared.script.TheConstants.{SCRIPT_LIMIT};
 ghost use Rattle.tl_script.specs.declared.system.TheConstants.{MAX_JOBS};
 
@@ -7,4 +9,9 @@ ghost use Rattle.tl_script.specs.declared.system.TheConstants.{MAX_JOBS};
 pub fn limits_in_numbers()
     ensures script { SCRIPT_LIMIT ≡ 1048576 }
     ensures operations { MAX_JOBS ≡ 4096 }
+{}
+
+/// The word that names an operation in traces names it in scripts, and no other.
+pub fn names_are_read_back()
+    ensures { (op : AskOp) → name_of (word_of op) ≡ Some op }
 {}
