@@ -5,3 +5,4 @@ pub mod Jobs
 pub mod Resets
 pub mod Systems
 pub mod Names
+pub mod Printed

@@ -1,6 +1,7 @@
 //! Laws of scripts, each on a function that does nothing but carry it.
-ghost use Rattle.std.specs.Prelude.{◌≡◌, Some};
+ghost use Rattle.std.specs.Prelude.{◌≡◌, ◌<◌, ℕ, All, IfSome, List, Option, Some};
 ghost use Rattle.tl_types.specs.declared.operation.AskOp.{AskOp};
+ghost use Rattle.tl_script.specs.Data.{data_of, data_text};
 ghost use Rattle.tl_script.specs.Name.{name_of, word_of};
 ghost use Rattle.tl_script.specs.declared.script.TheConstants.{SCRIPT_LIMIT};
 ghost use Rattle.tl_script.specs.declared.system.TheConstants.{MAX_JOBS};
@@ -14,4 +15,9 @@ pub fn limits_in_numbers()
 /// The word that names an operation in traces names it in scripts, and no other.
 pub fn names_are_read_back()
     ensures { (op : AskOp) → name_of (word_of op) ≡ Some op }
+{}
+
+/// Bytes are read as they are printed.
+pub fn bytes_are_read_back()
+    ensures { (bytes : List (Option ℕ)) → All (λ byte. IfSome byte (λ value. value < 256)) bytes → data_of (data_text bytes) ≡ Some bytes }
 {}
