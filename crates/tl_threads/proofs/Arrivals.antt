@@ -17,14 +17,11 @@ use Rattle.tl_script.specs.System.{System, IsLawfulSystem, lists_of, sends}
 use Rattle.tl_script.specs.declared.system.TheConstants.{MAX_JOBS}
 use Rattle.std.specs.Global.{Global}
 use Rattle.tl_threads.proofs.Asking.{next_sends}
+use Rattle.tl_threads.proofs.Rows.{one_some}
 use Rattle.tl_threads.specs.Start.{ArePortsOf, times_in, GoTo, AddsArrivals, all_sends, AreJournals, IsNewBook}
 use Rattle.tl_arena.specs.Views.{ArenaId, new_port}
 use Rattle.tl_rule.specs.Views.{reset_of}
 use Rattle.tl_port.specs.Book.{BookView, new_book}
-
--- one value is at one place
-one_number : (m n : ℕ) → Some m ≡ Some n → m ≡ n
-one_number m n p = cc
 
 -- ---- the ports of requests
 
@@ -66,7 +63,7 @@ adds_one ranges ask port n old at goes = record {
   many = length-set old port (n + 1);
   each = λ p m is. dite (ℕ_discrete port p)
       (λ (here : port ≡ p).
-      let same : n ≡ m = one_number n m (sym at ∙ ap (λ (k : ℕ). slice_get old k) here ∙ is) in
+      let same : n ≡ m = one_some (slice_get old port) n m at (ap (λ (k : ℕ). slice_get old k) here ∙ is) in
       let one : times_in (port ∷ []) p ≡ 1 = subst (λ (k : ℕ). times_in (port ∷ []) k ≡ 1) here (times_here port) in
       let sum : n + 1 ≡ m + times_in (port ∷ []) p = omega (arith, same, one) in
       ap (λ (k : ℕ). slice_get (set old port (n + 1)) k) (sym here) ∙ slice_get-set_same old port (n + 1) (slice_get_within old port n at) ∙ ap (λ (k : ℕ). Some k) sum)
@@ -91,7 +88,7 @@ grown_by : (ranges : List Range) (asks : List Request) (old new : List ℕ) (p m
 grown_by ranges asks old new p m adds at =
     let within : p < length old = subst (λ (k : ℕ). p < k) adds.many (slice_get_within new p m at) in
     let was : slice_get old p ≡ Some (get_or old p 0) = slice_get-get_or old p 0 within in
-    (get_or old p 0, was, one_number m (get_or old p 0 + times_in adds.ports p) (sym at ∙ adds.each p (get_or old p 0) was))
+    (get_or old p 0, was, one_some (slice_get new p) m (get_or old p 0 + times_in adds.ports p) at (adds.each p (get_or old p 0) was))
 
 pub grown : (ranges : List Range) (asks : List Request) (old new : List ℕ) (p m : ℕ) → AddsArrivals ranges asks old new → slice_get new p ≡ Some m → (n : ℕ) × (slice_get old p ≡ Some n) × (m ≤ n + length asks)
 grown ranges asks old new p m adds at =
@@ -176,9 +173,7 @@ listed_at s lists k v are within is =
 
 -- and no others are there
 pub listed_here : (s : System) (lists : List (Vec Job Global)) (k : ℕ) (v : Vec Job Global) (jobs : List Job) → lists_of lists ≡ s.jobs → k < length lists → v ≡ get_or lists k v → slice_get s.jobs k ≡ Some jobs → v.items ≡ jobs
-listed_here s lists k v jobs are within is at = one_list v.items jobs (sym (listed_at s lists k v are within is) ∙ at) where
-  one_list : (x y : List Job) → Some x ≡ Some y → x ≡ y
-  one_list x y p = cc
+listed_here s lists k v jobs are within is at = one_some (slice_get s.jobs k) v.items jobs (listed_at s lists k v are within is) at
 
 pub listed_many : (s : System) (lists : List (Vec Job Global)) → lists_of lists ≡ s.jobs → length lists ≡ length s.jobs
 listed_many s lists are = sym (length-map lists (λ (v : Vec Job Global). v.items)) ∙ ap (λ (l : List (List Job)). length l) are

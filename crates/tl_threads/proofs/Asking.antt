@@ -26,11 +26,8 @@ use Rattle.tl_master.specs.Steps.{Sends, CollectsOne, AsksMore, AsksSame, Polls,
 use Rattle.tl_master.proofs.Hands.{source_known}
 use Rattle.std.specs.Global.{Global}
 use Rattle.tl_threads.specs.Trace.{StandFirst, AreWaitedFor, AreRouted, IsTrace, IsRouted, IsLonger, IsSame, HasAsked, HasDone, IsDriven, IsIdle}
+use Rattle.tl_threads.proofs.Rows.{one_some}
 use Rattle.tl_threads.specs.Start.{Handle, IsPromised, IsTraceOf}
-
--- one value is at one place
-one_ticket : (t u : TicketView) → Some t ≡ Some u → t ≡ u
-one_ticket t u p = cc
 
 -- ---- what the trace has, and where requests go
 
@@ -69,7 +66,7 @@ sends_routed ranges m q issued n s r = subst (λ (x : MasterState). IsRouted ran
   still z u at = dite (ℕ_discrete z q.source)
       (λ e.
       let here : ticket_at out q.source ≡ Some t = get_or-set_same m.out q.source (Some t) None s.known in
-      let same : t ≡ u = one_ticket t u (sym here ∙ ap (λ (k : ℕ). ticket_at out k) (sym e) ∙ at) in
+      let same : t ≡ u = one_some (ticket_at out q.source) t u here (ap (λ (k : ℕ). ticket_at out k) (sym e) ∙ at) in
       subst (λ (w : TicketView). Routes ranges w.ask w.port) same new)
       (λ ne. r.out z u (sym (get_or-set_other m.out q.source z (Some t) None ne) ∙ at))
 

@@ -1,8 +1,12 @@
 -- Rows of things, each with a number.
-use Rattle.std.proofs.Common.{◌≡◌, ℕ, suc, ◌+◌, List, [], ◌∷◌, ◌++◌, length, slice_get, Some, refl, sym, ap, subst, ◌∙◌, arith, length-append}
+use Rattle.std.proofs.Common.{◌≡◌, ℕ, suc, ◌+◌, List, [], ◌∷◌, ◌++◌, length, slice_get, Option, Some, refl, sym, ap, subst, ◌∙◌, arith, length-append}
 use Rattle.tl_types.proofs.Lists.{slice_get-push}
 use Rattle.std.proofs.Common.{⊎_elim}
 use Rattle.tl_threads.specs.Start.{AreFrom}
+
+-- one thing is at one place
+pub one_some : {X : Type 0} (o : Option X) (x y : X) → o ≡ Some x → o ≡ Some y → x ≡ y
+one_some o x y p q = cc
 
 module _ {X : Type 0} (P : ℕ → X → Type 0) where
   -- the first, and those behind it

@@ -14,16 +14,13 @@ use Rattle.tl_port.specs.Book.{BookView}
 use Rattle.tl_threads.specs.Trace.{IsTrace}
 use Rattle.tl_threads.specs.Run.{IsBookOf, AreTraces, AreBooks, IsThreadedRun}
 use Rattle.tl_threads.specs.Start.{AreFrom, IsTraceOf}
+use Rattle.tl_threads.proofs.Rows.{one_some}
 
 -- a system has a reset for each range and one for the error port
 pub resets_length : (s : System) → IsLawfulSystem s → length (resets s) ≡ length s.ranges + 1
 resets_length s lawful =
     let each : length s.stores ≡ length s.ranges = sym (length-map s.stores range_of) ∙ ap (λ (l : List Range). length l) lawful.ranges in
     length-append s.stores (error_store ∷ []) ∙ ap (λ (n : ℕ). n + 1) each
-
--- one value is at one place
-one_some : {X : Type 0} (o : Option X) (x y : X) → o ≡ Some x → o ≡ Some y → x ≡ y
-one_some o x y p q = cc
 
 -- whose trace a list is
 traced_at : (a : ArenaId) (ranges : List Range) (jobs : List (List Job)) (m : ℕ) (its_jobs : List Job) (entries : List Entry) (o : Option (Vec Entry Global)) → slice_get jobs m ≡ Some its_jobs
