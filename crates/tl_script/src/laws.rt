@@ -1,8 +1,12 @@
 //! Laws of scripts, each on a function that does nothing but carry it.
-ghost use Rattle.std.specs.Prelude.{◌≡◌, ◌<◌, ℕ, All, IfSome, List, Option, Some};
+ghost use Rattle.std.specs.Prelude.{◌≡◌, ◌<◌, ◌↔◌, ℕ, true, All, IfSome, List, Option, Some};
+ghost use Rattle.tl_types.specs.Request.{Request};
 ghost use Rattle.tl_types.specs.declared.operation.AskOp.{AskOp};
 ghost use Rattle.tl_script.specs.Data.{data_of, data_text};
+ghost use Rattle.tl_map.specs.Range.{HoldsAsk};
+ghost use Rattle.tl_ops.specs.Store.{Store, contains_window};
 ghost use Rattle.tl_script.specs.Name.{name_of, word_of};
+ghost use Rattle.tl_script.specs.System.{range_of};
 ghost use Rattle.tl_script.specs.declared.script.TheConstants.{SCRIPT_LIMIT};
 ghost use Rattle.tl_script.specs.declared.system.TheConstants.{MAX_JOBS};
 
@@ -20,4 +24,10 @@ pub fn names_are_read_back()
 /// Bytes are read as they are printed.
 pub fn bytes_are_read_back()
     ensures { (bytes : List (Option ℕ)) → All (λ byte. IfSome byte (λ value. value < 256)) bytes → data_of (data_text bytes) ≡ Some bytes }
+{}
+
+/// The address map and the slaves mean the same by "holds all bytes of a request": a request that a port's range holds has its
+/// window in that port's slave, and the other way round.
+pub fn containment_is_one()
+    ensures { (store : Store) (ask : Request) → HoldsAsk (range_of store) ask ↔ (contains_window store ask ≡ true) }
 {}
