@@ -14,7 +14,9 @@ fn push_line(
     ask: &Ask,
     reply: &Reply,
 ) -> Result<(), AllocError>
-    ensures { OnOk result (string_bytes text.new ≡ string_bytes text.old ++ history_line port index (ask.now, reply.now)) }
+    ensures { OnOk result
+        (string_bytes text.new
+        ≡ string_bytes text.old ++ history_line port index (ask.now, reply.now)) }
 {
     write!(text, "p{port} #{index} w{} ", ask.source())?;
     push_message(text, ask, reply)?;

@@ -23,11 +23,13 @@ pub fn names_are_read_back()
 
 /// Bytes are read as they are printed.
 pub fn bytes_are_read_back()
-    ensures { (bytes : List (Option ℕ)) → All (λ byte. IfSome byte (λ value. value < 256)) bytes → data_of (data_text bytes) ≡ Some bytes }
+    ensures { (bytes : List (Option ℕ)) → All (λ byte. IfSome byte (λ value. value < 256)) bytes
+        → data_of (data_text bytes) ≡ Some bytes }
 {}
 
 /// The address map and the slaves mean the same by "holds all bytes of a request": a request that a port's range holds has its
 /// window in that port's slave, and the other way round.
 pub fn containment_is_one()
-    ensures { (store : Store) (ask : Request) → HoldsAsk (range_of store) ask ↔ (contains_window store ask ≡ true) }
+    ensures { (store : Store) (ask : Request)
+        → HoldsAsk (range_of store) ask ↔ (contains_window store ask ≡ true) }
 {}

@@ -19,7 +19,8 @@ const MOST_SOURCES: u64 = 65_535;
 /// The lines of a master's operations.
 #[tactic(auto, unfolding(crate::specs::Master::lines_at))]
 fn read_lines<'a>(alloc: Global, table: &'a Table) -> Result<Vec<&'a str>, ScriptFault>
-    ensures value { Gives (λ lines. map (λ line. line.now) lines.items) result (lines_at (table_view table.now)) }
+    ensures value { Gives (λ lines. map (λ line. line.now) lines.items) result
+        (lines_at (table_view table.now)) }
     ensures in_limit { IfOk result (λ lines. length lines.items ≤ MAX_JOBS) }
 {
     let values = list_at(value_at(table, Key::Ops)?, Key::Ops)?;
@@ -43,7 +44,8 @@ fn read_master<'a>(alloc: Global, table: &'a Table) -> Result<Master<'a>, Script
 }
 
 fn read_each_master<'a>(alloc: Global, tables: &[&'a Table]) -> Result<Vec<Master<'a>>, ScriptFault>
-    ensures value { Gives (λ masters. map master_view masters.items) result (each master_of (map (λ table. table_view table.now) tables.now)) }
+    ensures value { Gives (λ masters. map master_view masters.items) result
+        (each master_of (map (λ table. table_view table.now) tables.now)) }
     ensures counted { IfOk result (λ masters. length masters.items ≡ length tables.now) }
 {
     let mut masters = Vec::new(alloc);
@@ -56,7 +58,8 @@ fn read_each_master<'a>(alloc: Global, tables: &[&'a Table]) -> Result<Vec<Maste
 /// The masters, of which there is at least one.
 #[tactic(auto, unfolding(crate::specs::Master::masters_of))]
 pub fn read_masters<'a>(alloc: Global, table: &'a Table) -> Result<Vec<Master<'a>>, ScriptFault>
-    ensures value { Gives (λ masters. map master_view masters.items) result (masters_of (table_view table.now)) }
+    ensures value { Gives (λ masters. map master_view masters.items) result
+        (masters_of (table_view table.now)) }
     ensures some { IfOk result (λ masters. 0 < length masters.items) }
 {
     let values = list_at(value_at(table, Key::Master)?, Key::Master)?;
@@ -86,8 +89,11 @@ fn read_operations(alloc: Global, m: usize, master: &Master<'_>) -> Result<Vec<J
 
 /// The operations of each master, or the lowest master's lowest line that is none.
 pub fn read_jobs(alloc: Global, masters: &[Master<'_>]) -> Result<Vec<Vec<Job>>, ScriptFault>
-    ensures value { Gives (λ jobs. lists_of jobs.items) result (jobs_from 0 (map master_view masters.now)) }
-    ensures lawful { IfOk result (λ jobs. LawfulSoFar (map (λ master. master.sources) (map master_view masters.now)) (lists_of jobs.items) (length masters.now)) }
+    ensures value { Gives (λ jobs. lists_of jobs.items) result
+        (jobs_from 0 (map master_view masters.now)) }
+    ensures lawful { IfOk result
+        (λ jobs. LawfulSoFar (map (λ master. master.sources) (map master_view masters.now))
+        (lists_of jobs.items) (length masters.now)) }
     ensures bad { IfErr result IsOfJobs }
 {
     let mut jobs = Vec::with_capacity(alloc, masters.len())?;

@@ -92,7 +92,8 @@ fn read_size(word: &[u8]) -> Option<u8>
 #[tactic(auto, unfolding(crate::specs::Operation::bytes_of))]
 fn read_bytes(op: AskOp, size: u8, words: &[&[u8]]) -> Option<Bytes>
     requires { size ≤ LARGEST_SIZE }
-    ensures value { option_map (λ bytes. bytes.items) result ≡ bytes_of op size (map (λ word. word.now) words.now) }
+    ensures value { option_map (λ bytes. bytes.items) result
+        ≡ bytes_of op size (map (λ word. word.now) words.now) }
     ensures lawful { IfSome result (λ bytes. IsLawfulRequest op size bytes.items) }
 {
     match words {

@@ -105,8 +105,10 @@ fn read_port(alloc: Global, table: &Table) -> Result<Device, ScriptFault>
 }
 
 fn read_each_port(alloc: Global, tables: &[&Table]) -> Result<Vec<Device>, ScriptFault>
-    ensures value { Gives (λ devices. map store_of devices.items) result (each port_of (map (λ table. table_view table.now) tables.now)) }
-    ensures in_limit { IfOk result (λ devices. All (λ store. length store.bytes ≤ LONGEST) (map store_of devices.items)) }
+    ensures value { Gives (λ devices. map store_of devices.items) result
+        (each port_of (map (λ table. table_view table.now) tables.now)) }
+    ensures in_limit { IfOk result
+        (λ devices. All (λ store. length store.bytes ≤ LONGEST) (map store_of devices.items)) }
 {
     let mut devices = Vec::new(alloc);
     for table in tables {
@@ -118,8 +120,10 @@ fn read_each_port(alloc: Global, tables: &[&Table]) -> Result<Vec<Device>, Scrip
 /// The device of each port, of which there may be none.
 #[tactic(auto, unfolding(crate::specs::Port::ports_of))]
 pub fn read_ports(alloc: Global, table: &Table) -> Result<Vec<Device>, ScriptFault>
-    ensures value { Gives (λ devices. map store_of devices.items) result (ports_of (table_view table.now)) }
-    ensures in_limit { IfOk result (λ devices. All (λ store. length store.bytes ≤ LONGEST) (map store_of devices.items)) }
+    ensures value { Gives (λ devices. map store_of devices.items) result
+        (ports_of (table_view table.now)) }
+    ensures in_limit { IfOk result
+        (λ devices. All (λ store. length store.bytes ≤ LONGEST) (map store_of devices.items)) }
 {
     let Some(ports) = find_value(table, Key::Port) else {
         return Ok(Vec::new(alloc));

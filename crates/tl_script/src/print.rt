@@ -49,7 +49,9 @@ fn push_data(text: &mut String, bytes: &[Option<u8>]) -> Result<(), AllocError>
 
 /// A space and the bytes of a reply, where it carries any.
 fn push_plain(text: &mut String, bytes: &[u8]) -> Result<(), AllocError>
-    ensures { OnOk result (string_bytes text.new ≡ string_bytes text.old ++ bytes_part (map (λ byte. Some byte) bytes.now)) }
+    ensures { OnOk result
+        (string_bytes text.new
+        ≡ string_bytes text.old ++ bytes_part (map (λ byte. Some byte) bytes.now)) }
 {
     if !bytes.is_empty() {
         text.push_str(" ")?;
@@ -92,7 +94,8 @@ fn push_reply(text: &mut String, reply: &Reply) -> Result<(), AllocError>
 /// A request and its reply, as the lines of traces and of histories have them.
 #[tactic(auto, unfolding(crate::specs::Trace::message_text))]
 pub fn push_message(text: &mut String, ask: &Ask, reply: &Reply) -> Result<(), AllocError>
-    ensures { OnOk result (string_bytes text.new ≡ string_bytes text.old ++ message_text ask.now reply.now) }
+    ensures { OnOk result
+        (string_bytes text.new ≡ string_bytes text.old ++ message_text ask.now reply.now) }
 {
     push_ask(text, ask)?;
     text.push_str(" -> ")?;
@@ -102,7 +105,8 @@ pub fn push_message(text: &mut String, ask: &Ask, reply: &Reply) -> Result<(), A
 
 #[tactic(auto, unfolding(crate::specs::Trace::trace_line))]
 fn push_line(text: &mut String, master: usize, entry: &Entry) -> Result<(), AllocError>
-    ensures { OnOk result (string_bytes text.new ≡ string_bytes text.old ++ trace_line master entry.now) }
+    ensures { OnOk result
+        (string_bytes text.new ≡ string_bytes text.old ++ trace_line master entry.now) }
 {
     write!(text, "m{master} s{} ", entry.ask.source())?;
     push_message(text, &entry.ask, &entry.reply)?;
@@ -112,7 +116,8 @@ fn push_line(text: &mut String, master: usize, entry: &Entry) -> Result<(), Allo
 
 /// Appends the lines of a master's trace.
 pub fn push_trace(text: &mut String, master: usize, entries: &[Entry]) -> Result<(), AllocError>
-    ensures { OnOk result (string_bytes text.new ≡ string_bytes text.old ++ lines_of master entries.now) }
+    ensures { OnOk result
+        (string_bytes text.new ≡ string_bytes text.old ++ lines_of master entries.now) }
 {
     for entry in entries {
         push_line(text, master, entry)?;
@@ -122,7 +127,8 @@ pub fn push_trace(text: &mut String, master: usize, entries: &[Entry]) -> Result
 
 /// The text of the traces, that of master 0 first: a line for each entry.
 pub fn write_trace(alloc: Global, traces: &[Trace]) -> Result<Vec<u8>, Memory>
-    ensures { IfOk result (λ text. text.items ≡ trace_text (map (λ trace. trace.items) traces.now)) }
+    ensures { IfOk result
+        (λ text. text.items ≡ trace_text (map (λ trace. trace.items) traces.now)) }
 {
     let mut text = String::new(alloc);
     for (master, entries) in traces.iter().enumerate() {

@@ -70,7 +70,8 @@ fn ranges_of(alloc: Global, devices: &[Device]) -> Result<Vec<Range>, AllocError
 
 /// How many sources masters have.
 fn counts_of(alloc: Global, masters: &[Master<'_>]) -> Result<Vec<u16>, AllocError>
-    ensures { IfOk result (λ counts. counts.items ≡ map (λ master. master.sources) (map master_view masters.now)) }
+    ensures { IfOk result
+        (λ counts. counts.items ≡ map (λ master. master.sources) (map master_view masters.now)) }
 {
     let mut counts = Vec::new(alloc);
     for master in masters {
@@ -82,7 +83,8 @@ fn counts_of(alloc: Global, masters: &[Master<'_>]) -> Result<Vec<u16>, AllocErr
 /// The system of these parts, or their first fault.
 fn make_system(alloc: Global, parts: Parts<'_>) -> Result<System, ScriptFault>
     ensures made { IfOk result (Makes (parts_view parts.entry)) }
-    ensures fault { IfErr result (λ fault. fault ≢ Memory → IsFirstFaultOf (parts_view parts.entry) fault) }
+    ensures fault { IfErr result
+        (λ fault. fault ≢ Memory → IsFirstFaultOf (parts_view parts.entry) fault) }
 {
     let ranges = ranges_of(alloc, &parts.devices)?;
     let counts = counts_of(alloc, &parts.masters)?;

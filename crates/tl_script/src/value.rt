@@ -12,7 +12,8 @@ use toml::{Table, Value};
 
 /// The value at a key, if it is there.
 pub fn find_value(table: &Table, key: Key) -> Option<&Value>
-    ensures { option_map (λ value. view value.now) result ≡ get_member (key_name key) (table_view table.now) }
+    ensures { option_map (λ value. view value.now) result
+        ≡ get_member (key_name key) (table_view table.now) }
 {
     table.get(key.name())
 }
@@ -69,7 +70,8 @@ pub fn tables_of<'a>(
     values: &'a [Value],
     key: Key,
 ) -> Result<Vec<&'a Table>, ScriptFault>
-    ensures { Gives (λ tables. map (λ table. table_view table.now) tables.items) result (each (table_of_value key) (map view values.now)) }
+    ensures { Gives (λ tables. map (λ table. table_view table.now) tables.items) result
+        (each (table_of_value key) (map view values.now)) }
 {
     let mut tables = Vec::with_capacity(alloc, values.len())?;
     for value in values {
@@ -87,7 +89,8 @@ pub fn texts_of<'a>(
     values: &'a [Value],
     key: Key,
 ) -> Result<Vec<&'a str>, ScriptFault>
-    ensures { Gives (λ texts. map (λ text. text.now) texts.items) result (each (text_of_value key) (map view values.now)) }
+    ensures { Gives (λ texts. map (λ text. text.now) texts.items) result
+        (each (text_of_value key) (map view values.now)) }
 {
     let mut texts = Vec::with_capacity(alloc, values.len())?;
     for value in values {
