@@ -6,7 +6,7 @@ use Rattle.tl_types.specs.Wire.{opcode_of, param_of}
 use Rattle.tl_types.specs.Request.{Request}
 use Rattle.tl_types.specs.declared.operation.AskOp.{AskOp}
 use Rattle.tl_beats.specs.declared.beat.ABeat.{ABeat}
-use Rattle.tl_beats.specs.declared.beat.TheConstants.{BUS_BYTES}
+use Rattle.tl_types.specs.declared.limits.TheConstants.{BUS_BYTES}
 
 -- the address rounded down to a multiple of the size
 abbrev pub low : ℕ → ℕ → ℕ

@@ -8,7 +8,7 @@ use Rattle.tl_types.specs.Response.{Response}
 use Rattle.tl_types.specs.declared.operation.ReplyOp.{ReplyOp}
 use Rattle.tl_beats.specs.Beats.{lane_of, beat_count, IsActive}
 use Rattle.tl_beats.specs.declared.beat.DBeat.{DBeat}
-use Rattle.tl_beats.specs.declared.beat.TheConstants.{BUS_BYTES}
+use Rattle.tl_types.specs.declared.limits.TheConstants.{BUS_BYTES}
 
 -- `corrupt` is lawful where it is set only in a beat that carries bytes of a denied reply
 pub record IsLawfulFlag (op : ReplyOp) (denied corrupt : Bool) : Type 0 where

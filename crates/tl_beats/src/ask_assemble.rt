@@ -6,10 +6,10 @@ ghost use Rattle.tl_beats.specs.Beats.{beat_count, IsLawfulMask, StandsAt, Spell
 ghost use Rattle.tl_beats.specs.Faults.{SameFields, IsFirstBeatFault};
 ghost use Rattle.tl_beats.specs.Reading.{GainsLanes, IsReadFrom, IsFaultOfBeats};
 
-use crate::beat::{ABeat, BUS_BYTES, BeatFault};
+use crate::beat::{ABeat, BeatFault};
 use crate::bus::{active_mask, beat_count, first_failing, first_lane};
 use arrayvec::ArrayVec;
-use tl_types::{Ask, AskOp, LARGEST_SIZE, MAX_BYTES, read_op};
+use tl_types::{Ask, AskOp, BUS_BYTES, LARGEST_SIZE, MAX_BYTES, read_op};
 
 /// Whether two beats have the same shared fields.
 fn same_fields(first: &ABeat, beat: &ABeat) -> bool

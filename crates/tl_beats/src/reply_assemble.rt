@@ -7,10 +7,10 @@ ghost use Rattle.tl_beats.specs.Replies.{IsLawfulFlag, SpellsReply};
 ghost use Rattle.tl_beats.specs.Faults.{SameReplyFields, IsFirstReplyBeatFault};
 ghost use Rattle.tl_beats.specs.Reading.{Gains, StandsInReply, IsReplyReadFrom, IsFaultOfReplyBeats};
 
-use crate::beat::{BUS_BYTES, BeatFault, DBeat};
+use crate::beat::{BeatFault, DBeat};
 use crate::bus::{beat_count, first_failing, first_lane};
 use arrayvec::ArrayVec;
-use tl_types::{LARGEST_SIZE, MAX_BYTES, Reply, ReplyOp, read_reply_op};
+use tl_types::{BUS_BYTES, LARGEST_SIZE, MAX_BYTES, Reply, ReplyOp, read_reply_op};
 
 /// Whether two beats have the same shared fields.
 fn same_reply_fields(first: &DBeat, beat: &DBeat) -> bool
