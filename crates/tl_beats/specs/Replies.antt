@@ -26,7 +26,8 @@ pub record HasReplyFieldsOf (reply : Response) (beat : DBeat) : Type 0 where
 pub record IsReplyBeatOf (reply : Response) (address b : ℕ) (beat : DBeat) : Type 0 where
   pub fields : HasReplyFieldsOf reply beat
   pub corrupt : IsLawfulFlag reply.op reply.denied beat.corrupt
-  pub bytes : reply.denied ≡ false → (j byte : ℕ) → slice_get reply.bytes j ≡ Some byte → j / BUS_BYTES ≡ b → slice_index beat.lanes (lane_of address reply.size j) ≡ byte
+  pub bytes : reply.denied ≡ false → (j byte : ℕ) → slice_get reply.bytes j ≡ Some byte → j / BUS_BYTES ≡ b
+      → slice_index beat.lanes (lane_of address reply.size j) ≡ byte
 
 -- the beats spell the reply to a request at the address
 pub record SpellsReply (reply : Response) (address : ℕ) (beats : List DBeat) : Type 0 where

@@ -110,22 +110,14 @@ pub fn assemble_ask(beats: &[ABeat]) -> Result<Ask, BeatFault>
         → SpellsAsk ask beats.now → result ≡ Ok ask }
     ensures fault { IfErr result (IsFirstBeatFault beats.now) }
 {
-    let Some(first) = beats.first() else {
-        return Err(BeatFault::NoBeat);
-    };
-    let op = match read_op(first.opcode, first.param) {
-        Ok(op) => op,
-        Err(fault) => return Err(BeatFault::Op(fault)),
-    };
+    let first = beats.first().ok_or(BeatFault::NoBeat)?;
+    let op = read_op(first.opcode, first.param).map_err(BeatFault::Op)?;
     if first.size > LARGEST_SIZE {
         return Err(BeatFault::Size);
     }
     if beats.len() != beat_count(op.carries_bytes(), first.size) {
         return Err(BeatFault::Count);
     }
-    let bytes = match read_beats(beats, first, op) {
-        Ok(bytes) => bytes,
-        Err(fault) => return Err(fault),
-    };
+    let bytes = read_beats(beats, first, op)?;
     Ok(Ask::from_parts(op, first.size, first.source, first.address, bytes))
 }
