@@ -1,4 +1,5 @@
--- How a request stands on the bus, beat by beat: the chapter "Beats and bursts" of the TileLink specification.
+-- How a request stands on the bus, beat by beat: the chapter "Beats and bursts" of the TileLink specification, but for
+-- the width of the bus, which is this project's choice.
 use Rattle.std.specs.Prelude.{◌≡◌, ℕ, ◌+◌, ◌-◌, ◌/◌, ◌%◌, ◌^◌, ◌<◌, ◌≤◌, Bool, true, false, if◌then◌else◌, List, length, Option, Some, None, min, max, slice_get, slice_index, bit_and}
 use Rattle.std.specs.Int.{bit_at}
 use Rattle.tl_types.specs.Operation.{carries_bytes, may_leave_unset}
@@ -6,7 +7,7 @@ use Rattle.tl_types.specs.Wire.{opcode_of, param_of}
 use Rattle.tl_types.specs.Request.{Request}
 use Rattle.tl_types.specs.declared.operation.AskOp.{AskOp}
 use Rattle.tl_beats.specs.declared.beat.ABeat.{ABeat}
-use Rattle.tl_beats.specs.declared.beat.TheConstants.{BUS_BYTES}
+use Rattle.tl_types.specs.declared.limits.TheConstants.{BUS_BYTES}
 
 -- the address rounded down to a multiple of the size
 abbrev pub low : ℕ → ℕ → ℕ
@@ -20,7 +21,8 @@ lane_of address size j = (low address size + j) % BUS_BYTES
 abbrev pub beat_count : Bool → ℕ → ℕ
 beat_count carries size = if carries then max 1 (2 ^ size / BUS_BYTES) else 1
 
--- a lane is active: all are in a message that fills the bus, else as many as it has bytes, from that of the rounded address upward
+-- a lane is active: all are in a message that fills the bus, else as many as it has bytes, from that of the rounded
+-- address upward
 pub record IsActive (address size lane : ℕ) : Type 0 where
   pub above : low address size % BUS_BYTES ≤ lane
   pub below : lane < low address size % BUS_BYTES + min BUS_BYTES (2 ^ size)
@@ -52,7 +54,8 @@ pub record HasFieldsOf (ask : Request) (beat : ABeat) : Type 0 where
 pub record IsBeatOf (ask : Request) (b : ℕ) (beat : ABeat) : Type 0 where
   pub fields : HasFieldsOf ask beat
   pub mask : IsLawfulMask ask.op ask.size ask.address beat.mask
-  pub bytes : (j : ℕ) (given : Option ℕ) → slice_get ask.bytes j ≡ Some given → j / BUS_BYTES ≡ b → StandsAt beat.mask beat.lanes (lane_of ask.address ask.size j) given
+  pub bytes : (j : ℕ) (given : Option ℕ) → slice_get ask.bytes j ≡ Some given → j / BUS_BYTES ≡ b
+      → StandsAt beat.mask beat.lanes (lane_of ask.address ask.size j) given
 
 -- the beats spell the request
 pub record SpellsAsk (ask : Request) (beats : List ABeat) : Type 0 where

@@ -1,4 +1,5 @@
--- Why a list of beats spells no message. Which fault is named where several apply is this project's own.
+-- Why a list of beats spells no message: what breaks the rules of the chapter "Beats and bursts" of the TileLink
+-- specification. Which fault is named where several apply is this project's own.
 use Rattle.std.specs.Prelude.{◌≡◌, ◌≢◌, ℕ, ◌<◌, List, [], length, slice_get, IsSomeAnd}
 use Rattle.tl_types.specs.Fault.{IsFirstOf}
 use Rattle.tl_types.specs.List.{FailsFirstAt}

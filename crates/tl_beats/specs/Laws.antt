@@ -1,4 +1,5 @@
--- What follows from the definitions of the bus and of spelling.
+-- What follows from the definitions of the bus and of spelling, and so from the chapter "Beats and bursts" of the
+-- TileLink specification.
 use Rattle.std.specs.Prelude.{◌≡◌, ◌↔◌, ℕ, List}
 use Rattle.std.specs.Int.{bit_at}
 use Rattle.tl_types.specs.Request.{Request, IsLawfulRequest}

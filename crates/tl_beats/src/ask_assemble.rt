@@ -6,10 +6,10 @@ ghost use Rattle.tl_beats.specs.Beats.{beat_count, IsLawfulMask, StandsAt, Spell
 ghost use Rattle.tl_beats.specs.Faults.{SameFields, IsFirstBeatFault};
 ghost use Rattle.tl_beats.specs.Reading.{GainsLanes, IsReadFrom, IsFaultOfBeats};
 
-use crate::beat::{ABeat, BUS_BYTES, BeatFault};
+use crate::beat::{ABeat, BeatFault};
 use crate::bus::{active_mask, beat_count, first_failing, first_lane};
 use arrayvec::ArrayVec;
-use tl_types::{Ask, AskOp, LARGEST_SIZE, MAX_BYTES, read_op};
+use tl_types::{Ask, AskOp, BUS_BYTES, LARGEST_SIZE, MAX_BYTES, read_op};
 
 /// Whether two beats have the same shared fields.
 fn same_fields(first: &ABeat, beat: &ABeat) -> bool
@@ -110,22 +110,14 @@ pub fn assemble_ask(beats: &[ABeat]) -> Result<Ask, BeatFault>
         → SpellsAsk ask beats.now → result ≡ Ok ask }
     ensures fault { IfErr result (IsFirstBeatFault beats.now) }
 {
-    let Some(first) = beats.first() else {
-        return Err(BeatFault::NoBeat);
-    };
-    let op = match read_op(first.opcode, first.param) {
-        Ok(op) => op,
-        Err(fault) => return Err(BeatFault::Op(fault)),
-    };
+    let first = beats.first().ok_or(BeatFault::NoBeat)?;
+    let op = read_op(first.opcode, first.param).map_err(BeatFault::Op)?;
     if first.size > LARGEST_SIZE {
         return Err(BeatFault::Size);
     }
     if beats.len() != beat_count(op.carries_bytes(), first.size) {
         return Err(BeatFault::Count);
     }
-    let bytes = match read_beats(beats, first, op) {
-        Ok(bytes) => bytes,
-        Err(fault) => return Err(fault),
-    };
+    let bytes = read_beats(beats, first, op)?;
     Ok(Ask::from_parts(op, first.size, first.source, first.address, bytes))
 }

@@ -5,10 +5,10 @@ ghost use Rattle.tl_types.specs.Operation.{carries_bytes};
 ghost use Rattle.tl_beats.specs.Beats.{beat_count, IsBeatOf, IsClean, SpellsAsk};
 ghost use Rattle.tl_beats.specs.Packing.{byte_at_place, mask_bit, IsBlankOf};
 
-use crate::beat::{ABeat, BUS_BYTES, MAX_BEATS};
+use crate::beat::{ABeat, MAX_BEATS};
 use crate::bus::{active_mask, beat_count, first_lane};
 use arrayvec::ArrayVec;
-use tl_types::{Ask, opcode, param};
+use tl_types::{Ask, BUS_BYTES, opcode, param};
 
 /// A beat of a request before its bytes: all active lanes are set in the mask, and every lane is zero.
 fn blank_beat(ask: &Ask) -> ABeat

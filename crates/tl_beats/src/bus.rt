@@ -3,8 +3,8 @@ ghost use Rattle.std.specs.Prelude.{◌≡◌, ◌%◌, ◌<◌, ◌≤◌};
 ghost use Rattle.tl_beats.specs.Beats.{low, beat_count, active_mask};
 ghost use Rattle.tl_beats.specs.Reading.{first_failing};
 
-use crate::beat::{BUS_BYTES, MAX_BEATS};
-use tl_types::{LARGEST_SIZE, width};
+use crate::beat::MAX_BEATS;
+use tl_types::{BUS_BYTES, LARGEST_SIZE, width};
 
 /// How many beats a message has.
 pub fn beat_count(carries: bool, size: u8) -> usize

@@ -1,7 +1,8 @@
 //! Laws of the bus and of spelling, each on a function that does nothing but carry it.
 ghost use Rattle.std.specs.Prelude.{◌≡◌};
 ghost use Rattle.tl_beats.specs.Laws.{AtMostOneAsk, AtMostOneReply, MaskSetsActiveLanes};
-ghost use Rattle.tl_beats.specs.declared.beat.TheConstants.{BUS_BYTES, MAX_BEATS};
+ghost use Rattle.tl_types.specs.declared.limits.TheConstants.{BUS_BYTES};
+ghost use Rattle.tl_beats.specs.declared.beat.TheConstants.{MAX_BEATS};
 
 /// The bus in numbers: contracts name the constants, so a wrong one would change what they promise.
 pub fn bus_in_numbers()

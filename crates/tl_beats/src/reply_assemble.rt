@@ -7,10 +7,10 @@ ghost use Rattle.tl_beats.specs.Replies.{IsLawfulFlag, SpellsReply};
 ghost use Rattle.tl_beats.specs.Faults.{SameReplyFields, IsFirstReplyBeatFault};
 ghost use Rattle.tl_beats.specs.Reading.{Gains, StandsInReply, IsReplyReadFrom, IsFaultOfReplyBeats};
 
-use crate::beat::{BUS_BYTES, BeatFault, DBeat};
+use crate::beat::{BeatFault, DBeat};
 use crate::bus::{beat_count, first_failing, first_lane};
 use arrayvec::ArrayVec;
-use tl_types::{LARGEST_SIZE, MAX_BYTES, Reply, ReplyOp, read_reply_op};
+use tl_types::{BUS_BYTES, LARGEST_SIZE, MAX_BYTES, Reply, ReplyOp, read_reply_op};
 
 /// Whether two beats have the same shared fields.
 fn same_reply_fields(first: &DBeat, beat: &DBeat) -> bool
@@ -45,7 +45,8 @@ fn push_reply_lanes(
 )
     requires in_bus { first + count ≤ BUS_BYTES }
     requires room { length bytes.old.items + count ≤ MAX_BYTES }
-    ensures { Gains (λ k byte. slice_index lanes.now (first + k) ≡ byte) count bytes.old.items bytes.new.items }
+    ensures { Gains (λ k byte. slice_index lanes.now (first + k) ≡ byte) count
+        bytes.old.items bytes.new.items }
 {
     if count == BUS_BYTES {
         bytes.try_extend_from_slice(lanes).unwrap();
@@ -95,22 +96,14 @@ pub fn assemble_reply(beats: &[DBeat], address: u64) -> Result<Reply, BeatFault>
         → SpellsReply reply address beats.now → result ≡ Ok reply }
     ensures fault { IfErr result (IsFirstReplyBeatFault beats.now) }
 {
-    let Some(first) = beats.first() else {
-        return Err(BeatFault::NoBeat);
-    };
-    let op = match read_reply_op(first.opcode) {
-        Ok(op) => op,
-        Err(fault) => return Err(BeatFault::Op(fault)),
-    };
+    let first = beats.first().ok_or(BeatFault::NoBeat)?;
+    let op = read_reply_op(first.opcode).map_err(BeatFault::Op)?;
     if first.size > LARGEST_SIZE {
         return Err(BeatFault::Size);
     }
     if beats.len() != beat_count(op.carries_bytes(), first.size) {
         return Err(BeatFault::Count);
     }
-    let bytes = match read_reply_beats(beats, first, op, address) {
-        Ok(bytes) => bytes,
-        Err(fault) => return Err(fault),
-    };
+    let bytes = read_reply_beats(beats, first, op, address)?;
     Ok(Reply::from_parts(op, first.size, first.source, first.denied, bytes))
 }

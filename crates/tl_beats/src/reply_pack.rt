@@ -5,10 +5,10 @@ ghost use Rattle.tl_beats.specs.Beats.{beat_count};
 ghost use Rattle.tl_beats.specs.Replies.{IsReplyBeatOf, IsCleanReply, SpellsReply};
 ghost use Rattle.tl_beats.specs.Packing.{reply_byte_at, IsBlankReplyOf};
 
-use crate::beat::{BUS_BYTES, DBeat, MAX_BEATS};
+use crate::beat::{DBeat, MAX_BEATS};
 use crate::bus::{beat_count, first_lane};
 use arrayvec::ArrayVec;
-use tl_types::{Reply, reply_opcode};
+use tl_types::{BUS_BYTES, Reply, reply_opcode};
 
 /// A beat of a reply before its bytes: every lane is zero.
 fn blank_reply_beat(reply: &Reply) -> DBeat

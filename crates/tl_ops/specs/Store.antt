@@ -1,4 +1,6 @@
--- A slave's memory, one request at a time: what is legal there, what a request leaves, and what it is answered.
+-- A slave's memory, one request at a time: what is legal there, what a request leaves, and what it is answered. This is
+-- the chapter "TL-UL and TL-UH operations" of the TileLink specification, but for what is denied and that the bytes of a
+-- denied reply are zero, which are this project's choices.
 use Rattle.std.specs.Prelude.{ℕ, ◌+◌, ◌-◌, ◌%◌, ◌^◌, Bool, true, false, ◌&&◌, if◌then◌else◌, ◌==◌, nat_le, List, [], ◌++◌, take, drop, length, replicate}
 use Rattle.tl_types.specs.declared.operation.ReplyOp.{ReplyOp}
 use Rattle.tl_types.specs.Operation.{reply_op_of, reply_carries_bytes}
@@ -22,7 +24,7 @@ contains_window store ask =
     nat_le store.base ask.address
     && nat_le (ask.address + 2 ^ ask.size) (store.base + length store.bytes)
 
--- whether a request is legal at a store
+-- whether a request is legal at a store: supported there, aligned as the standard has it, and inside
 abbrev pub legal : Store → Request → Bool
 legal store ask =
     supports store.kind ask.op ask.size
@@ -35,7 +37,7 @@ legal store ask =
 abbrev pub window : Store → Request → List ℕ
 window store ask = take (2 ^ ask.size) (drop (ask.address - store.base) store.bytes)
 
--- bytes with those from a place on replaced
+-- bytes with those from a place on replaced: a law (`window_by_places`) says what that leaves at each place
 abbrev pub with_window : List ℕ → ℕ → List ℕ → List ℕ
 with_window bytes start new = take start bytes ++ new ++ drop (start + length new) bytes
 

@@ -1,4 +1,5 @@
--- What each operation carries and how it is answered: the chapter "TL-UL and TL-UH operations" of the TileLink specification.
+-- What each operation carries and how it is answered: the chapter "TL-UL and TL-UH operations" of the TileLink
+-- specification.
 use Rattle.std.specs.Prelude.{ℕ, ◌^◌, Bool, true, false, if◌then◌else◌}
 use Rattle.tl_types.specs.declared.operation.AskOp.{AskOp}
 use Rattle.tl_types.specs.declared.operation.AskOp.TheVariants.{PutFull, PutPartial, Arithmetic, Logical, Get, Intent}

@@ -1,4 +1,6 @@
--- A request on channel A as every contract sees it, the rule that it keeps, and the faults of one that does not.
+-- A request on channel A as every contract sees it, and the rule that it keeps: the chapter "TL-UL and TL-UH operations"
+-- of the TileLink specification, but for the largest size, which is this project's choice. The faults of parts that
+-- break the rule, and their order, are this project's own.
 use Rattle.std.specs.Prelude.{◌≡◌, ℕ, ◌≢◌, ◌≤◌, ◌<◌, false, List, length, Option, IsSome, IsNone, All, Any}
 use Rattle.tl_types.specs.Fault.{IsFirstOf}
 use Rattle.tl_types.specs.Operation.{byte_count, may_leave_unset}
@@ -7,7 +9,8 @@ use Rattle.tl_types.specs.declared.limits.TheConstants.{LARGEST_SIZE}
 use Rattle.tl_types.specs.declared.request.AskFault.{AskFault}
 use Rattle.tl_types.specs.declared.request.AskFault.TheVariants.{TooLarge, WrongCount, HoleInFull}
 
--- a request: its operation, its size as the base-2 logarithm of a number of bytes, its source, its address and its bytes
+-- a request: its operation, its size as the base-2 logarithm of a number of bytes, its source, its address and its
+-- bytes, where a byte that a partial put's mask leaves out is None
 pub record Request : Type 0 where
   pub op : AskOp
   pub size : ℕ
@@ -15,7 +18,7 @@ pub record Request : Type 0 where
   pub address : ℕ
   pub bytes : List (Option ℕ)
 
--- the rule of requests
+-- the rule of requests: as many bytes as the operation carries, and all of them given but in a partial put
 pub record IsLawfulRequest (op : AskOp) (size : ℕ) (bytes : List (Option ℕ)) : Type 0 where
   pub in_limit : size ≤ LARGEST_SIZE
   pub counted : length bytes ≡ byte_count op size

@@ -1,4 +1,6 @@
--- A reply on channel D as every contract sees it, the rule that it keeps, and the faults of one that does not.
+-- A reply on channel D as every contract sees it, and the rule that it keeps: the chapter "TL-UL and TL-UH operations"
+-- of the TileLink specification, but for the largest size and that the bytes of a denied reply are zero, which are this
+-- project's choices. The faults of parts that break the rule, and their order, are this project's own.
 use Rattle.std.specs.Prelude.{◌≡◌, ℕ, ◌≢◌, ◌≤◌, ◌<◌, Bool, List, length, All, Any, IsTrue}
 use Rattle.tl_types.specs.declared.operation.ReplyOp.{ReplyOp}
 use Rattle.tl_types.specs.Fault.{IsFirstOf}
@@ -15,7 +17,7 @@ pub record Response : Type 0 where
   pub denied : Bool
   pub bytes : List ℕ
 
--- the rule of replies
+-- the rule of replies: as many bytes as the opcode carries, all of them zero where it is denied
 pub record IsLawfulResponse (op : ReplyOp) (size : ℕ) (denied : Bool) (bytes : List ℕ) : Type 0 where
   pub in_limit : size ≤ LARGEST_SIZE
   pub counted : length bytes ≡ reply_byte_count op size

@@ -6,6 +6,9 @@ pub const LARGEST_SIZE: u8 = 6;
 /// The most bytes that a message carries.
 pub const MAX_BYTES: usize = 1 << LARGEST_SIZE;
 
+/// The lanes of the bus, each of one byte.
+pub const BUS_BYTES: usize = 8;
+
 /// The most masters of a crossbar.
 pub const MAX_MASTERS: usize = 16;
 

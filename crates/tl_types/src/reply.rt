@@ -34,7 +34,13 @@ impl Model for Reply {
 
     ghost Value = { Response };
 
-    ghost view = { λ r. record { op = r.op; size = r.size; source = r.source; denied = r.denied; bytes = r.bytes.items } };
+    ghost view = { λ r. record {
+      op = r.op;
+      size = r.size;
+      source = r.source;
+      denied = r.denied;
+      bytes = r.bytes.items;
+    } };
 
     ghost invariant = { λ r. IsLawfulResponse r.op r.size r.denied r.bytes.items };
 }
@@ -49,7 +55,13 @@ impl Reply {
         bytes: &[u8],
     ) -> Result<Reply, ReplyFault>
         ensures ok { IsOk result ↔ IsLawfulResponse op size denied bytes.now }
-        ensures parts { IfOk result (λ r. r ≡ record { op = op; size = size; source = source; denied = denied; bytes = bytes.now }) }
+        ensures parts { IfOk result (λ r. r ≡ record {
+          op = op;
+          size = size;
+          source = source;
+          denied = denied;
+          bytes = bytes.now;
+        }) }
         ensures fault { IfErr result (IsFirstReplyFault op size denied bytes.now) }
     {
         if size > LARGEST_SIZE {
@@ -79,7 +91,13 @@ impl Reply {
         bytes: ArrayVec<u8, MAX_BYTES>,
     ) -> Reply
         requires { IsLawfulResponse op size denied bytes.items }
-        ensures { result ≡ record { op = op; size = size; source = source; denied = denied; bytes = bytes.items } }
+        ensures { result ≡ record {
+          op = op;
+          size = size;
+          source = source;
+          denied = denied;
+          bytes = bytes.items;
+        } }
     {
         Reply {
             op,

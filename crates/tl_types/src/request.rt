@@ -35,7 +35,13 @@ impl Model for Ask {
 
     ghost Value = { Request };
 
-    ghost view = { λ a. record { op = a.op; size = a.size; source = a.source; address = a.address; bytes = a.bytes.items } };
+    ghost view = { λ a. record {
+      op = a.op;
+      size = a.size;
+      source = a.source;
+      address = a.address;
+      bytes = a.bytes.items;
+    } };
 
     ghost invariant = { λ a. IsLawfulRequest a.op a.size a.bytes.items };
 }
@@ -50,7 +56,13 @@ impl Ask {
         bytes: &[Option<u8>],
     ) -> Result<Ask, AskFault>
         ensures ok { IsOk result ↔ IsLawfulRequest op size bytes.now }
-        ensures parts { IfOk result (λ ask. ask ≡ record { op = op; size = size; source = source; address = address; bytes = bytes.now }) }
+        ensures parts { IfOk result (λ ask. ask ≡ record {
+          op = op;
+          size = size;
+          source = source;
+          address = address;
+          bytes = bytes.now;
+        }) }
         ensures fault { IfErr result (IsFirstAskFault op size bytes.now) }
     {
         if size > LARGEST_SIZE {
@@ -80,7 +92,13 @@ impl Ask {
         bytes: ArrayVec<Option<u8>, MAX_BYTES>,
     ) -> Ask
         requires { IsLawfulRequest op size bytes.items }
-        ensures { result ≡ record { op = op; size = size; source = source; address = address; bytes = bytes.items } }
+        ensures { result ≡ record {
+          op = op;
+          size = size;
+          source = source;
+          address = address;
+          bytes = bytes.items;
+        } }
     {
         Ask {
             op,

@@ -1,6 +1,7 @@
 //! The numbers of operations and replies on the wires of channels A and D.
 ghost use Rattle.std.specs.Prelude.{◌≡◌, IfOk, IfErr};
-ghost use Rattle.tl_types.specs.Wire.{opcode_of, param_of, IsCodeOf, IsFirstOpFault, reply_opcode_of, IsFirstReplyOpFault};
+ghost use Rattle.tl_types.specs.Wire.{opcode_of, param_of, IsCodeOf, IsFirstOpFault};
+ghost use Rattle.tl_types.specs.Wire.{reply_opcode_of, IsFirstReplyOpFault};
 ghost use Rattle.tl_types.specs.declared.operation.AskOp.{AskOp};
 ghost use Rattle.tl_types.specs.declared.operation.ReplyOp.{ReplyOp};
 
