@@ -1,5 +1,5 @@
 -- What the calls promise, from what the steps tell.
-use Rattle.std.proofs.Common.{◌≡◌, ℕ, true, false, sym, refl, ap, subst, ◌∙◌, Some, None}
+use Rattle.std.proofs.Common.{◌≡◌, ℕ, true, sym, refl, ap, subst, ◌∙◌, Some, None}
 use Rattle.atomic_table.specs.Table.{Step}
 use Rattle.atomic_table.specs.Seated.{TableId}
 use Rattle.tl_types.specs.Request.{Request}
@@ -11,14 +11,13 @@ use Rattle.tl_rule.specs.Serving.{ask_at}
 use Rattle.tl_rule.specs.Moves.{Seat, Collects, Accepts, hand_of}
 use Rattle.tl_rule.proofs.Facts.{spells_one, answers_one}
 use Rattle.tl_slots.specs.declared.event.Event.{Event}
-use Rattle.tl_rule.specs.declared.view.Hands.{Hands}
 use Rattle.tl_rule.specs.declared.view.Desk.{Desk}
-use Rattle.tl_rule.specs.declared.view.View.TheVariants.{Master, Port}
+use Rattle.tl_rule.specs.declared.view.View.TheVariants.{Port}
 use Rattle.tl_rule.specs.Events.{IsEventOf}
-use Rattle.tl_rule.specs.Moves.{is_master, is_port, as_master, as_port}
-use Rattle.tl_rule.proofs.Facts.{seat_is, port_seat_is}
-use Rattle.tl_arena.specs.Views.{MasterView, PortView, TicketView, ServedView, in_hand, with_accepted, hands_of, desk_of}
-use Rattle.tl_arena.specs.Promises.{IsCollected, IsMasterStep, IsPortStep}
+use Rattle.tl_rule.specs.Moves.{is_port, as_port}
+use Rattle.tl_rule.proofs.Facts.{port_seat_is}
+use Rattle.tl_arena.specs.Views.{MasterView, PortView, TicketView, ServedView, in_hand, with_accepted, desk_of}
+use Rattle.tl_arena.specs.Promises.{IsCollected, IsPortStep}
 use Rattle.tl_arena.specs.Kept.{master_view, port_view}
 
 -- what the hand has of a ticket's slot
@@ -75,22 +74,6 @@ module _ (st : Step SlotRecord) (m n : Seat) (A : Accepts st m n) where
       )
 
 -- ---- one step is one event
-
--- the hands of a master that is there are what it shows
-hands_shown : (table : TableId) (w : View) (h : Hands) → w ≡ Master h → h.left ≡ false → w ≡ Master (hands_of (master_view table w))
-hands_shown table w h e stays = subst (λ (y : View). y ≡ Master (hands_of (master_view table y))) (sym e) (λ t. Master (record { number = h.number; about = h.about; hand = h.hand; got = h.got; left = stays t }))
-
--- the hands of a master's seat are what it shows
-pub hands_seen : (table : TableId) (m : Seat) → is_master m.0 ≡ true → (as_master m.0).left ≡ false → m.0 ≡ Master (hands_of (master_view table m.0))
-hands_seen table m is stays = hands_shown table m.0 (as_master m.0) (λ t. (seat_is m is t).0) stays
-
-pub master_stepped : (event : Event) (table now : TableId) (m : Seat) (w : View) (h : Hands) (u v : MasterView) → is_master m.0 ≡ true → (as_master m.0).left ≡ false → w ≡ Master h → h.left ≡ false
-    → master_view table m.0 ≡ u → master_view now w ≡ v → IsEventOf (as_master m.0).about event m.0 w → IsMasterStep event u v
-master_stepped event table now m w h u v is stays e stayed seen shown one =
-    let before = hands_seen table m is stays in
-    let after = hands_shown now w h e stayed in
-    subst (λ (y : MasterView). IsMasterStep event u y) shown (subst (λ (y : MasterView). IsMasterStep event y (master_view now w)) seen
-    (subst (λ (y : View). IsEventOf (as_master m.0).about event (Master (hands_of (master_view table m.0))) y) after (subst (λ (y : View). IsEventOf (as_master m.0).about event y w) before one)))
 
 pub port_stepped : (event : Event) (table now : TableId) (m : Seat) (w : View) (d : Desk) (u v : PortView) → is_port m.0 ≡ true → w ≡ Port d
     → port_view table m.0 ≡ u → port_view now w ≡ v → IsEventOf (as_port m.0).about event m.0 w → IsPortStep event u v

@@ -1,5 +1,5 @@
 -- The steps of a seat, as a call of the arena meets them: what it owes before a step, and what it is told after it.
-use Rattle.std.proofs.Common.{◌≡◌, ℕ, ◌+◌, ◌/◌, ◌%◌, ◌<◌, ◌≤◌, eqb, true, false, List, [], ◌∷◌, ◌++◌, length, sym, subst, ◌∙◌, Some}
+use Rattle.std.proofs.Common.{◌≡◌, ℕ, ◌+◌, ◌/◌, ◌<◌, ◌≤◌, eqb, true, false, List, [], ◌∷◌, ◌++◌, length, sym, subst, ◌∙◌, Some}
 use mathlib.Core.Option as maybe
 use mathlib.Core.Option.{some, none}
 use prog.Atomic.{either}
@@ -16,8 +16,6 @@ use Rattle.tl_rule.specs.Record.{SlotRecord, Spells, SpellsAnswer}
 use Rattle.tl_rule.specs.Serving.{drop_slot}
 use Rattle.tl_rule.specs.Views.{Owns, reset_of, with_serving}
 use Rattle.tl_rule.specs.Rule.{Fits}
-use Rattle.tl_rule.specs.Events.{IsEventOf}
-use Rattle.tl_slots.specs.declared.event.Event.TheVariants.{Post, Answer, Release}
 use Rattle.atomic_table.specs.Table.{Splits}
 use Rattle.tl_ops.specs.Store as store
 use Rattle.tl_ops.specs.History.{replay, asks_of}
@@ -81,11 +79,6 @@ pub told_sent : (slots : ℕ) (m₀ m n : Seat) (i new : ℕ) (letter : SlotReco
 told_sent slots m₀ m n i new letter rs ask p e spells port told = let t = subst (λ (y : Seat). Sends (step slots i new 0 none) y new n) e told in let same = spells_one letter t.ask ask t.spells spells in
     t.seat ∙ (λ z. (handed m₀ i (Sent (same z) (port z) (length (as_master m₀.0).got)), rs))
 
-pub sent_event : (slots : ℕ) (m₀ m n : Seat) (i new : ℕ) (letter : SlotRecord) (rs : List (ℕ × SlotRecord)) (p : ℕ) → m ≡ (m₀.0, (i, letter) ∷ rs) → new / 2048 ≡ p → Sends (step slots i new 0 none) m new n
-    → IsEventOf (as_master m₀.0).about (Post i (as_master m₀.0).number p) m₀.0 n.0
-sent_event slots m₀ m n i new letter rs p e port told =
-    subst (λ (q : ℕ). IsEventOf (as_master m₀.0).about (Post i (as_master m₀.0).number q) m₀.0 n.0) port (subst (λ (y : Seat). Sends (step slots i new 0 none) y new n) e told).event
-
 pub answers_at : (a : About) (slots id : ℕ) (m₀ m : Seat) (i new owner : ℕ) (letter : SlotRecord) (rs : List (ℕ × SlotRecord)) (ask : Request) (reply : Response) → m ≡ (m₀.0, (i, letter) ∷ rs) → is_port m₀.0 ≡ true → service_of m₀ i ≡ Some ask
     → new ≡ word (Answered owner (as_port m₀.0).number) → Owns (as_port m₀.0).about owner ask.source → Spells letter ask → SpellsAnswer letter ask.address reply → letter.index ≡ length (as_port m₀.0).list
     → reply ≡ store.reply (replay (reset_of (as_port m₀.0).about (as_port m₀.0).number) (asks_of (as_port m₀.0).list)) ask
@@ -102,11 +95,6 @@ told_answered slots m₀ m n i new letter rs ask reply e serves answer told = le
     let replies = answers_one letter ask.address t.reply reply (subst (λ (q : Request). SpellsAnswer letter q.address t.reply) asks t.spells) answer in
     (t.seat ∙ (λ z. (Port (with_serving (as_port m₀.0) (drop_slot i (as_port m₀.0).serving) ((as_port m₀.0).list ++ (asks z, replies z) ∷ [])), rs)), t.law)
 
-pub answered_event : (slots : ℕ) (m₀ m n : Seat) (i new : ℕ) (letter : SlotRecord) (rs : List (ℕ × SlotRecord)) (ask : Request) → m ≡ (m₀.0, (i, letter) ∷ rs) → service_of m₀ i ≡ Some ask → Answers (step slots i new 0 none) m new n
-    → Owns (as_port m₀.0).about (new / 8 % 256) ask.source × IsEventOf (as_port m₀.0).about (Answer i (new / 8 % 256) (as_port m₀.0).number) m₀.0 n.0
-answered_event slots m₀ m n i new letter rs ask e serves told = let t = subst (λ (y : Seat). Answers (step slots i new 0 none) y new n) e told in
-    let asks : t.ask ≡ ask = (let z = t.serves in cc) in (subst (λ (q : Request). Owns (as_port m₀.0).about (new / 8 % 256) q.source) asks t.owner, t.event)
-
 pub releases_at : (a : About) (slots id : ℕ) (m₀ m : Seat) (i : ℕ) (letter : SlotRecord) (rs : List (ℕ × SlotRecord)) (p : ℕ) → m ≡ (m₀.0, (i, letter) ∷ rs) → is_master m₀.0 ≡ true → hand_of m₀ i ≡ Taken p
     → Allows (Fits a) slots id m i (λ _. 0) (λ _. Releases (step slots i 0 0 none) m 0)
 releases_at a slots id m₀ m i letter rs p e is taken =
@@ -114,11 +102,6 @@ releases_at a slots id m₀ m i letter rs p e is taken =
 
 pub told_released : (slots : ℕ) (m₀ m n : Seat) (i : ℕ) (letter : SlotRecord) (rs : List (ℕ × SlotRecord)) → m ≡ (m₀.0, (i, letter) ∷ rs) → Releases (step slots i 0 0 none) m 0 n → n ≡ (handed m₀ i Nothing, rs)
 told_released slots m₀ m n i letter rs e told = (subst (λ (y : Seat). Releases (step slots i 0 0 none) y 0 n) e told).seat
-
-pub released_event : (slots : ℕ) (m₀ m n : Seat) (i : ℕ) (letter : SlotRecord) (rs : List (ℕ × SlotRecord)) (p : ℕ) → m ≡ (m₀.0, (i, letter) ∷ rs) → hand_of m₀ i ≡ Taken p → Releases (step slots i 0 0 none) m 0 n
-    → IsEventOf (as_master m₀.0).about (Release i (as_master m₀.0).number p) m₀.0 n.0
-released_event slots m₀ m n i letter rs p e taken told = let t = subst (λ (y : Seat). Releases (step slots i 0 0 none) y 0 n) e told in
-    let ports : t.port ≡ p = (let z = t.was in cc) in subst (λ (q : ℕ). IsEventOf (as_master m₀.0).about (Release i (as_master m₀.0).number q) m₀.0 n.0) ports t.event
 
 pub leaves_at : (a : About) (slots id : ℕ) (m : Seat) (i : ℕ) → is_master m.0 ≡ true → (as_master m.0).left ≡ false → ((j : ℕ) → hand_of m j ≡ Nothing) → i ≡ slots + (as_master m.0).number
     → Allows (Fits a) slots id m i (λ _. 1) (λ _. Leaves (step slots i 1 0 none) m 1)
