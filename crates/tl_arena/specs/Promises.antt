@@ -1,4 +1,6 @@
--- What the calls of the arena ask and promise. All of it is this project's own.
+-- What the calls of the arena ask and promise. All of it is this project's own, but for two rules of the TileLink
+-- specification: a source has one request out at a time (the chapter on channels), and a reply is the memory's (the chapter
+-- "TL-UL and TL-UH operations").
 use Rattle.std.specs.Prelude.{◌≡◌, ◌≢◌, ℕ, List, take}
 use Rattle.tl_types.specs.Request.{Request}
 use Rattle.tl_types.specs.Response.{Response}

@@ -129,7 +129,7 @@ impl Arena {
         {
             return Err(ArenaFault::BadCount);
         }
-        Arena::make(alloc, slots, sources, banks).map_err(|AllocError| ArenaFault::Memory)
+        Arena::make(alloc, slots, sources, banks).map_err(|_refused| ArenaFault::Memory)
     }
 
     /// The same, where the counts are in their limits.

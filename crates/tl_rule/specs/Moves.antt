@@ -1,6 +1,6 @@
 -- What each step tells: of the step, the seat before, the word found (at a store, the word stored) and the seat after. Each
--- is one event of the core.
--- All of it is this project's own.
+-- is one event of the core. The steps are this project's own; that a source has one request out at a time is of the chapter
+-- on channels of the TileLink specification.
 use Rattle.std.specs.Prelude.{◌≡◌, ◌≢◌, ℕ, ◌+◌, ◌<◌, ◌/◌, ◌%◌, List, ◌∷◌, ◌++◌, [], length, slice_index_or, Bool, true, false, Option, Some, None, ◌≤◌, take}
 use Rattle.atomic_table.specs.Table.{Me, Step, rest}
 use Rattle.tl_types.specs.Request.{Request}
@@ -67,7 +67,7 @@ abbrev pub top : List (ℕ × SlotRecord) → SlotRecord
 top [] = no_record
 top (x ∷ xs) = x.1
 
--- no request of this source is out
+-- no request of this source is out: the chapter on channels has it so
 abbrev pub IsNew : Seat → ℕ → Type 0
 IsNew m source = (i p known : ℕ) (ask : Request) → hand_of m i ≡ Sent ask p known → source ≢ ask.source
 
