@@ -93,8 +93,9 @@ fn open(alloc: Global, key: &Key) -> Result<(Arena, TableSeat), AllocError>
 {
     let words = Vec::from_elem(alloc, 0u64, key.slots + key.masters)?;
     let records = blank_records(alloc, key.slots)?;
-    let (table, dealer) =
-        Table::new(alloc, words.as_slice(), records, key).map_err(|_refused| AllocError)?;
+    let (table, dealer) = Table::new(alloc, words.as_slice(), records, key).map_err(
+        |_refused| AllocError,
+    )?;
     let arena = Arena {
         table,
         slots: key.slots,

@@ -10,7 +10,7 @@ use Rattle.tl_rule.specs.Views.{Owns}
 use Rattle.tl_slots.specs.declared.event.Event.TheVariants.{Accept}
 use Rattle.tl_rule.specs.Moves.{Seat, top, as_port, IsLawfulDesk}
 use Rattle.tl_rule.proofs.Seats.{accepts_at}
-use Rattle.tl_arena.specs.Views.{ArenaId, PortView, with_accepted}
+use Rattle.tl_arena.specs.Views.{ArenaId, PortView}
 use Rattle.tl_arena.specs.Promises.{IsPortStep}
 use Rattle.tl_arena.specs.Key.{about_in}
 use Rattle.tl_types.specs.Request.{Request}
