@@ -41,6 +41,8 @@ new_desk_lawful a number more = record {
   few = omega arith;
   sources = λ i j ask other e f same. absurd (cc);
   lawful = λ k ask response e. absurd (cc);
+  listed = λ k x e. absurd (cc);
+  served = λ i ask e. absurd (cc);
 }
 
 pub new_port_kept : (a : About) (me : Seat) (order : List ℕ) (capacity : ℕ) (owners : List ℕ) (number : ℕ) → me ≡ (Port (new_desk a number), []) → order ≡ [] → number < a.ports → a.ports ≤ MAX_PORTS → a.slots ≤ capacity → length owners ≡ a.slots

@@ -1,5 +1,5 @@
 -- What the calls promise, from what the steps tell.
-use Rattle.std.proofs.Common.{◌≡◌, ℕ, sym, refl, ap, subst, ◌∙◌, Some, None}
+use Rattle.std.proofs.Common.{◌≡◌, ℕ, true, sym, refl, ap, subst, ◌∙◌, Some, None}
 use Rattle.atomic_table.specs.Table.{Step}
 use Rattle.atomic_table.specs.Seated.{TableId}
 use Rattle.tl_types.specs.Request.{Request}
@@ -10,8 +10,14 @@ use Rattle.tl_rule.specs.Record.{SlotRecord, Spells, SpellsAnswer}
 use Rattle.tl_rule.specs.Serving.{ask_at}
 use Rattle.tl_rule.specs.Moves.{Seat, Collects, Accepts, hand_of}
 use Rattle.tl_rule.proofs.Facts.{spells_one, answers_one}
-use Rattle.tl_arena.specs.Views.{MasterView, PortView, TicketView, ServedView, in_hand, with_accepted}
-use Rattle.tl_arena.specs.Promises.{IsCollected}
+use Rattle.tl_slots.specs.declared.event.Event.{Event}
+use Rattle.tl_rule.specs.declared.view.Desk.{Desk}
+use Rattle.tl_rule.specs.declared.view.View.TheVariants.{Port}
+use Rattle.tl_rule.specs.Events.{IsEventOf}
+use Rattle.tl_rule.specs.Moves.{is_port, as_port}
+use Rattle.tl_rule.proofs.Facts.{port_seat_is}
+use Rattle.tl_arena.specs.Views.{MasterView, PortView, TicketView, ServedView, in_hand, with_accepted, desk_of}
+use Rattle.tl_arena.specs.Promises.{IsCollected, IsPortStep}
 use Rattle.tl_arena.specs.Kept.{master_view, port_view}
 
 -- what the hand has of a ticket's slot
@@ -66,3 +72,13 @@ module _ (st : Step SlotRecord) (m n : Seat) (A : Accepts st m n) where
         subst (λ (x : PortView). ask_at x.serving i ≡ None) seen (subst (λ (k : ℕ). ask_at (port_view table m.0).serving k ≡ None) (sym at) A.free),
         (λ k. port_view (same k) (view k)) ∙ ap (λ (x : Seat). port_view table x.0) A.seat ∙ (λ k. with_accepted (seen k) (sym at k, asks k)),
       )
+
+-- ---- one step is one event
+
+pub port_stepped : (event : Event) (table now : TableId) (m : Seat) (w : View) (d : Desk) (u v : PortView) → is_port m.0 ≡ true → w ≡ Port d
+    → port_view table m.0 ≡ u → port_view now w ≡ v → IsEventOf (as_port m.0).about event m.0 w → IsPortStep event u v
+port_stepped event table now m w d u v is e seen shown one =
+    let before : m.0 ≡ Port (desk_of (port_view table m.0)) = (λ t. (port_seat_is m is t).0) in
+    let after : w ≡ Port (desk_of (port_view now w)) = subst (λ (y : View). y ≡ Port (desk_of (port_view now y))) (sym e) refl in
+    subst (λ (y : PortView). IsPortStep event u y) shown (subst (λ (y : PortView). IsPortStep event y (port_view now w)) seen
+    (subst (λ (y : View). IsEventOf (as_port m.0).about event (Port (desk_of (port_view table m.0))) y) after (subst (λ (y : View). IsEventOf (as_port m.0).about event y w) before one)))

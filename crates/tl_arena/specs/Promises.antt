@@ -1,11 +1,17 @@
--- What the calls of the arena ask and promise. All of it is this project's own.
+-- What the calls of the arena ask and promise. All of it is this project's own, but for two rules of the TileLink
+-- specification: a source has one request out at a time (the chapter on channels), and a reply is the memory's (the chapter
+-- "TL-UL and TL-UH operations").
 use Rattle.std.specs.Prelude.{◌≡◌, ◌≢◌, ℕ, List, take}
 use Rattle.tl_types.specs.Request.{Request}
 use Rattle.tl_types.specs.Response.{Response}
 use Rattle.tl_ops.specs.Store as store
 use Rattle.tl_ops.specs.History.{replay, asks_of, IsLawfulHistory}
+use Rattle.tl_slots.specs.declared.event.Event.{Event}
+use Rattle.tl_slots.specs.declared.event.Event.TheVariants.{Accept, Answer, Leave}
 use Rattle.tl_rule.specs.declared.view.Held.TheVariants.{Sent}
-use Rattle.tl_rule.specs.Views.{Owns, reset_of, Above}
+use Rattle.tl_rule.specs.declared.view.View.TheVariants.{Master, Port}
+use Rattle.tl_rule.specs.Events.{IsEventOf}
+use Rattle.tl_rule.specs.Views.{Owns, reset_of, Above, gone_hands}
 use Rattle.tl_rule.specs.Seen.{IsOfMasters, SeenFit, JustOwn, IsPlaceOf, at_port, sent_at}
 use Rattle.tl_rule.specs.Moves.{IsLawfulDesk, OwnsAll}
 use Rattle.tl_arena.specs.Views.{MasterView, PortView, TicketView, ServedView, in_hand, with_collected, entry_of, hands_of, desk_of}
@@ -14,7 +20,8 @@ use Rattle.tl_arena.specs.Views.{MasterView, PortView, TicketView, ServedView, i
 abbrev pub IsUnsent : MasterView → ℕ → Type 0
 IsUnsent v source = (i p known : ℕ) (ask : Request) → in_hand v i ≡ Sent ask p known → source ≢ ask.source
 
--- what is so of every port's seat: no slot and no source is served twice, and its list is true of its memory
+-- what is so of every port's seat: no slot and no source is served twice, its list is true of its memory, and what it has
+-- served and serves are requests of masters alone
 abbrev pub IsLawfulPort : PortView → Type 0
 IsLawfulPort u = IsLawfulDesk (desk_of u)
 
@@ -43,3 +50,29 @@ pub record IsCollected (v : MasterView) (t : TicketView) (s : ServedView) (w : M
 -- and no other request of its own
 abbrev pub OwnsHistories : MasterView → Type 0
 OwnsHistories v = (p : ℕ) → OwnsAll (hands_of v) p
+
+-- ---- one step of the arena is one event of the core
+
+-- the step that took a master's seat from v to w is this event
+abbrev pub IsMasterStep : Event → MasterView → MasterView → Type 0
+IsMasterStep event v w = IsEventOf v.arena.about event (Master (hands_of v)) (Master (hands_of w))
+
+-- the last step of a master's seat is that the master leaves
+abbrev pub IsLeaveStep : MasterView → Type 0
+IsLeaveStep v = IsEventOf v.arena.about (Leave v.number) (Master (hands_of v)) (Master (gone_hands (hands_of v)))
+
+-- the step that took a port's seat from u to v is this event
+abbrev pub IsPortStep : Event → PortView → PortView → Type 0
+IsPortStep event u v = IsEventOf u.arena.about event (Port (desk_of u)) (Port (desk_of v))
+
+-- the step is that the port accepts the request, which is its owner's, from its slot
+pub record IsAcceptStep (u : PortView) (f : ℕ × Request) (v : PortView) : Type 0 where
+  pub owner : ℕ
+  pub owns : Owns u.arena.about owner f.1.source
+  pub step : IsPortStep (Accept f.0 owner u.number) u v
+
+-- the step is that the port answers the request, which is its owner's, in its slot
+pub record IsAnswerStep (u : PortView) (f : ℕ × Request) (v : PortView) : Type 0 where
+  pub owner : ℕ
+  pub owns : Owns u.arena.about owner f.1.source
+  pub step : IsPortStep (Answer f.0 owner u.number) u v

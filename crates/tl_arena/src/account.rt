@@ -68,8 +68,5 @@ fn held_slots(alloc: Global, words: &[u64]) -> Result<Vec<Held>, AllocError>
 fn holder(word: u64) -> Option<usize>
     ensures { (master : ℕ) → (result ≡ Some master) ↔ IsHeldWord word master }
 {
-    match phase_of(word) {
-        Some(phase) => phase.owner(),
-        None => None,
-    }
+    phase_of(word)?.owner()
 }

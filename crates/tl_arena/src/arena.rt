@@ -10,7 +10,7 @@ use crate::key::{ArenaRule, Key, remember};
 use crate::plays::{DealsMaster, DealsPort};
 use crate::record::Record;
 use crate::seats::{MasterSeat, PortSeat, TableSeat};
-use atomic_table::{Refused, Table};
+use atomic_table::Table;
 use std::alloc::{AllocError, Global};
 use std::collections::VecDeque;
 use std::marker::{Brand, Model};
@@ -93,10 +93,9 @@ fn open(alloc: Global, key: &Key) -> Result<(Arena, TableSeat), AllocError>
 {
     let words = Vec::from_elem(alloc, 0u64, key.slots + key.masters)?;
     let records = blank_records(alloc, key.slots)?;
-    let (table, dealer) = match Table::new(alloc, words.as_slice(), records, key) {
-        Ok(made) => made,
-        Err(Refused { slots: _ }) => return Err(AllocError),
-    };
+    let (table, dealer) = Table::new(alloc, words.as_slice(), records, key).map_err(
+        |_refused| AllocError,
+    )?;
     let arena = Arena {
         table,
         slots: key.slots,
@@ -131,10 +130,7 @@ impl Arena {
         {
             return Err(ArenaFault::BadCount);
         }
-        match Arena::make(alloc, slots, sources, banks) {
-            Ok(made) => Ok(made),
-            Err(AllocError) => Err(ArenaFault::Memory),
-        }
+        Arena::make(alloc, slots, sources, banks).map_err(|_refused| ArenaFault::Memory)
     }
 
     /// The same, where the counts are in their limits.

@@ -1,9 +1,10 @@
 //! The calls of a master.
 ghost use Rattle.std.specs.Prelude.{◌≡◌, ◌<◌, length, true, false, IfOk, IfErr, IfSome, IfNone};
+ghost use Rattle.tl_slots.specs.declared.event.Event.TheVariants as event;
 ghost use Rattle.tl_rule.specs.declared.view.Held.TheVariants.{Nothing, Filled, Sent, Taken};
 ghost use Rattle.tl_rule.specs.Views.{Owns};
 ghost use Rattle.tl_arena.specs.Views.{in_hand, owned_of, with_held};
-ghost use Rattle.tl_arena.specs.Promises.{IsUnsent, IsCollected, OwnsHistories};
+ghost use Rattle.tl_arena.specs.Promises.{IsUnsent, IsCollected, OwnsHistories, IsMasterStep, IsLeaveStep};
 
 use crate::arena::Arena;
 use crate::carried::bring;
@@ -25,6 +26,7 @@ impl Arena {
     pub fn claim(&self, master: &mut MasterSeat) -> Option<Claim>
         requires arena { master.old.arena ≡ self.now }
         ensures some { IfSome result (λ i. (i < length master.old.hand) × (in_hand master.old i ≡ Nothing) × (master.new ≡ with_held master.old i Filled)) }
+        ensures event { IfSome result (λ i. IsMasterStep (event.Claim i master.old.number) master.old master.new) }
         ensures none { IfNone result (master.new ≡ master.old) }
     {
         for slot in 0..self.slots {
@@ -40,6 +42,7 @@ impl Arena {
         requires arena { master.old.arena ≡ self.now }
         requires slot { slot < self.now.about.slots }
         ensures claimed { result ≡ true → (slot < length master.old.hand) × (in_hand master.old slot ≡ Nothing) × (master.new ≡ with_held master.old slot Filled) }
+        ensures event { result ≡ true → IsMasterStep (event.Claim slot master.old.number) master.old master.new }
         ensures refused { result ≡ false → master.new ≡ master.old }
     {
         let words = &self.table.shared;
@@ -64,6 +67,7 @@ impl Arena {
         requires port { port < self.now.about.ports }
         ensures ticket { result ≡ record { slot = claim; ask = ask.now; port = port; known = length master.old.got } }
         ensures seat { master.new ≡ with_held master.old claim (Sent ask.now port (length master.old.got)) }
+        ensures event { IsMasterStep (event.Post claim master.old.number port) master.old master.new }
     {
         let Claim { slot } = claim;
         let words = &self.table.shared;
@@ -86,6 +90,7 @@ impl Arena {
         requires ticket { in_hand master.old ticket.slot ≡ Sent ticket.ask ticket.port ticket.known }
         requires room { length master.old.got < usize.MAX }
         ensures ok { IfOk result (λ s. IsCollected master.old ticket s master.new) }
+        ensures event { IfOk result (λ _. IsMasterStep (event.Collect ticket.slot master.old.number ticket.port) master.old master.new) }
         ensures err { IfErr result (λ t. (t ≡ ticket) × (master.new ≡ master.old)) }
     {
         let words = &self.table.shared;
@@ -118,6 +123,7 @@ impl Arena {
         requires arena { master.old.arena ≡ self.now }
         requires taken { in_hand master.old served.slot ≡ Taken served.port }
         ensures seat { master.new ≡ with_held master.old served.slot Nothing }
+        ensures event { IsMasterStep (event.Release served.slot master.old.number served.port) master.old master.new }
     {
         let Served {
             slot,
@@ -139,6 +145,7 @@ impl Arena {
         requires arena { master.arena ≡ self.now }
         requires empty { owned_of master ≡ 0 }
         ensures own { OwnsHistories master }
+        ensures event { IsLeaveStep master }
     {
         let MasterSeat {
             mut seat,

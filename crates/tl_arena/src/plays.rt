@@ -1,4 +1,4 @@
-//! The names of the steps: what each tells is the rule's.
+//! The names of the steps: what each tells is the rule's, and the event of the core that it is.
 ghost use Rattle.tl_rule.specs.Moves as moves;
 
 use crate::record::Record;

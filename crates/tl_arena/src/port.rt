@@ -5,7 +5,7 @@ ghost use Rattle.tl_ops.specs.Store as store;
 ghost use Rattle.tl_slots.specs.declared.word.TheConstants.{MAX_AGENT};
 ghost use Rattle.tl_rule.specs.Serving.{ask_at};
 ghost use Rattle.tl_arena.specs.Views.{with_accepted, with_answered};
-ghost use Rattle.tl_arena.specs.Promises.{IsLawfulPort, memory_of};
+ghost use Rattle.tl_arena.specs.Promises.{IsLawfulPort, IsAcceptStep, IsAnswerStep, memory_of};
 
 use crate::arena::Arena;
 use crate::carried::bring;
@@ -21,6 +21,7 @@ impl Arena {
     pub fn accept_at(&self, port: &mut PortSeat, slot: usize) -> Option<Accepted>
         requires arena { port.old.arena ≡ self.now }
         ensures some { IfSome result (λ a. (a.0 ≡ slot) × (ask_at port.old.serving slot ≡ std.None) × (port.new ≡ with_accepted port.old a)) }
+        ensures event { IfSome result (λ a. IsAcceptStep port.old a port.new) }
         ensures none { IfNone result (port.new ≡ port.old) }
         ensures law { IsLawfulPort port.new }
     {
@@ -48,6 +49,7 @@ impl Arena {
         requires slot { slot < self.now.about.slots }
         requires small { owner ≤ MAX_AGENT }
         ensures some { IfSome result (λ a. (a.0 ≡ slot) × (ask_at port.old.serving slot ≡ std.None) × (port.new ≡ with_accepted port.old a)) }
+        ensures event { IfSome result (λ a. IsAcceptStep port.old a port.new) }
         ensures none { IfNone result (port.new ≡ port.old) }
         ensures law { IsLawfulPort port.new }
     {
@@ -73,6 +75,7 @@ impl Arena {
         requires room { length port.old.list < usize.MAX }
         requires reply { reply.now ≡ store.reply (memory_of port.old) accepted.1 }
         ensures seat { port.new ≡ with_answered port.old accepted reply.now }
+        ensures event { IsAnswerStep port.old accepted port.new }
         ensures law { IsLawfulPort port.new }
     {
         let Accepted { slot, ask } = accepted;

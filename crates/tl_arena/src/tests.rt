@@ -5,3 +5,4 @@ mod floor;
 mod shop;
 mod threads;
 mod turns;
+mod worked;

@@ -1,4 +1,5 @@
--- What the calls of a master do to it. All of it is this project's own.
+-- What the calls of a master do to it. All of it is this project's own; that a source has one request out at a time is of the
+-- chapter on channels of the TileLink specification.
 use Rattle.std.specs.Prelude.{◌≡◌, ℕ, ◌+◌, ◌<◌, ◌≤◌, ◌++◌, cond, eqb, List, [], ◌∷◌, length, slice_set, Some, None, Result, Ok, Err, IsSome}
 use Rattle.tl_types.specs.Request.{Request}
 use Rattle.tl_types.specs.declared.trace.Entry.{Entry}

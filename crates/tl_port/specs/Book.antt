@@ -1,4 +1,5 @@
--- What a port's book shows to its callers, and when it is lawful. All of it is this project's own.
+-- What a port's book shows to its callers, and when it is lawful. All of it is this project's own; what a request leaves of a
+-- memory, and its reply, are of the chapter "TL-UL and TL-UH operations" of the TileLink specification.
 use Rattle.std.specs.Prelude.{◌≡◌, ℕ, ◌+◌, ◌≤◌, List, [], length, slice_get, Some}
 use Rattle.tl_types.specs.Request.{Request}
 use Rattle.tl_types.specs.Response.{Response}

@@ -1,4 +1,5 @@
--- What the calls of a book do to it. All of it is this project's own.
+-- What the calls of a book do to it. All of it is this project's own; what a request leaves of a memory, and its reply, are of
+-- the chapter "TL-UL and TL-UH operations" of the TileLink specification.
 use Rattle.std.specs.Prelude.{◌≡◌, ℕ, ◌++◌, List, [], ◌∷◌, length, Option, Some, None, IsSome, is_some}
 use Rattle.tl_types.specs.Request.{Request}
 use Rattle.tl_ops.specs.Store.{after, reply}

@@ -22,7 +22,7 @@ use Rattle.tl_rule.specs.declared.view.View.TheVariants.{Master, Port}
 use Rattle.tl_rule.specs.Record.{SlotRecord}
 use Rattle.tl_rule.specs.Views.{hands, with_hand, with_serving}
 use Rattle.tl_rule.specs.Rule.{Parts, Lawful, Fits, phase, views_of, table_of}
-use Rattle.tl_rule.specs.Events.{state_of, IsOneEvent}
+use Rattle.tl_rule.specs.Events.{state_of, IsOneEvent, IsEventOf}
 use lib.Seq.{set-get_or}
 use Rattle.atomic_table.proofs.Lists.{set_again, exchanged}
 use Rattle.tl_rule.specs.Moves.{Seat, Won, Tried}
@@ -39,6 +39,10 @@ by_parts a P prove s F = subst P (sym F.is) (prove F.parts F.lawful)
 -- what an event leaves fits
 pub fits_after : (a : About) (event : Event) (s t : State SlotRecord View) → IsOneEvent a event s t → Fits a t
 fits_after a event s t E = record { parts = E.after; is = E.is; lawful = E.lawful_after }
+
+-- what a seat is told of the event, in what its own view knows of what never changes
+pub event_told : (a known : About) (event : Event) (s t : State SlotRecord View) (id : ℕ) (v w : View) → known ≡ a → get_elem? s.views id ≡ some v → t.views ≡ set s.views id w → IsOneEvent a event s t → IsEventOf known event v w
+event_told a known event s t id v w same had has one = subst (λ (z : About). IsEventOf z event v w) (sym same) (record { before = s; after = t; seat = id; had = had; has = has; one = one })
 
 -- ---- what is enough for an event to be allowed
 

@@ -1,5 +1,5 @@
 -- The step that answers a request: the pair goes to the end of the list, and the record goes home.
-use Rattle.std.proofs.Common.{◌≡◌, ℕ, ◌<◌, List, [], ◌∷◌, ◌++◌, length, get_or, sym, refl, ap, subst, ◌∙◌, arith, inl, inr, ⊎_elim, get_or-set_same, get_or-set_other, Some, slice_get}
+use Rattle.std.proofs.Common.{◌≡◌, ℕ, ◌/◌, ◌%◌, ◌<◌, ◌≤◌, List, [], ◌∷◌, ◌++◌, length, get_or, sym, refl, ap, subst, ◌∙◌, arith, inl, inr, ⊎_elim, get_or-set_same, get_or-set_other, Some, slice_get}
 use mathlib.Core.Option.{some, none}
 use mathlib.Core.Logic.{dite}
 use native.Mathlib.Decide.{ℕ_discrete}
@@ -10,6 +10,7 @@ use Rattle.tl_types.specs.declared.trace.Entry.{Entry}
 use Rattle.tl_ops.specs.History.{IsLawfulHistory}
 use Rattle.tl_slots.specs.declared.phase.Phase.TheVariants.{Serving, Answered}
 use Rattle.tl_slots.specs.declared.event.Event.TheVariants.{Answer}
+use Rattle.tl_slots.specs.declared.word.TheConstants.{MAX_AGENT}
 use Rattle.tl_slots.specs.Word.{word}
 use Rattle.tl_slots.proofs.Steps.{move_is_allowed}
 use Rattle.tl_rule.specs.declared.view.About.{About}
@@ -20,7 +21,7 @@ use Rattle.tl_rule.specs.Record.{SlotRecord, Spells, SpellsAnswer}
 use Rattle.tl_rule.specs.Serving.{ask_at, drop_slot, HasDistinctSlots}
 use Rattle.tl_rule.specs.Views.{Owns, reset_of, hands, desk, held, with_serving}
 use Rattle.tl_rule.specs.Rule.{Parts, Names, InPhase, InSlot, InGot, Placed, Places, Lawful, Fits, phase, table_of}
-use Rattle.tl_rule.specs.Events.{state_of, IsOneEvent}
+use Rattle.tl_rule.specs.Events.{state_of, IsOneEvent, IsEventOf}
 use Rattle.tl_ops.specs.Store as store
 use Rattle.tl_ops.specs.History.{replay, asks_of}
 use Rattle.tl_ops.proofs.Histories.{IsLawfulHistory-push}
@@ -28,9 +29,9 @@ use Rattle.tl_rule.specs.Moves.{Answers, IsLawfulDesk}
 use Rattle.tl_rule.proofs.Lists.{at_end, before_end, below_length, ended}
 use Rattle.tl_rule.proofs.Serving.{drop_here, drop_else, drop_once}
 use Rattle.tl_rule.proofs.PortFrame.{port_moves, PortStep, port_moved, list_here, port_phase_here, port_phase_else, desk_elim}
-use Rattle.tl_rule.proofs.Facts.{KnownPort, known_port, one_owner, some_master, low_port}
+use Rattle.tl_rule.proofs.Facts.{KnownPort, known_port, one_owner, some_master, low_master, low_port}
 use Rattle.tl_rule.proofs.PortSteps.{serving_inside, asked_there, law_after}
-use Rattle.tl_rule.proofs.Allowing.{fits_after, found, there, port_step, stores}
+use Rattle.tl_rule.proofs.Allowing.{fits_after, event_told, found, there, port_step, stores}
 
 -- the places, once the slot i has its answer at the end of the list
 module _ (a : About) (c : Parts) (i p o : ℕ) (letter : SlotRecord) (ask : Request) (reply : Response) (now : List (ℕ × Request)) (L : Lawful a c)
@@ -92,6 +93,10 @@ module _ (a : About) (c : Parts) (L : Lawful a c) (id i o : ℕ) (u : Desk) (K :
       let one = one_owner a t.0 o ask.source ask.source (L.block t.0 i p t.1 ask t.3) (subst (λ (z : About). Owns z o ask.source) K.about own) refl in
       (t.1, subst (λ (n : ℕ). phase c i ≡ Serving n p) one t.2, subst (λ (n : ℕ). held c.masters n i ≡ Sent ask p t.1) one t.3)
 
+  -- so the owner fits in a word
+  pub answer_owner : o ≤ MAX_AGENT
+  answer_owner = let s = asked_by.2 in (low_master a c L o (some_master c.masters o i (λ e. absurd (cc)))).1
+
   pub answer_event : IsOneEvent a (Answer i o u.number) (table_of a c) (stepped (table_of a c) i (word (Answered o u.number)) id ((i, letter) ∷ carried) (Port (with_serving u now (u.list ++ (ask, reply) ∷ []))) gives)
       × IsLawfulDesk (with_serving u now (u.list ++ (ask, reply) ∷ []))
   answer_event = let p = u.number in let by = asked_by in let ph = by.1 in
@@ -135,10 +140,22 @@ pub answers : (a : About) (slots id : ℕ) (u : Desk) (carried : List (ℕ × Sl
     → Allows (Fits a) slots id (Port u, (i, letter) ∷ carried) i (λ _. new) (λ _. Answers (step slots i new 0 none) (Port u, (i, letter) ∷ carried) new)
 answers a slots id u carried i new o letter ask reply serves is own spells answer last right = let v = with_serving u (drop_slot i u.serving) (u.list ++ (ask, reply) ∷ []) in
     stores a slots id (Port u, (i, letter) ∷ carried) i new (Answers (step slots i new 0 none) (Port u, (i, letter) ∷ carried) new) (λ c L wide at. let K = known_port a c L id u at in
-    let E = answer_event a c L id i o u K carried letter ask reply serves own spells answer last right in (
+    let E = answer_event a c L id i o u K carried letter ask reply serves own spells answer last right in
+    let small = answer_owner a c L id i o u K carried letter ask reply serves own spells answer last right in
+    let low = (low_port a c L u.number K.near).1 in
+    let owner : o ≡ new / 8 % 256 = omega arith in (
       Port v,
       gives,
       tt,
       subst (λ (n : ℕ). Fits a (stepped (table_of a c) i n id ((i, letter) ∷ carried) (Port v) gives)) (sym is) (fits_after a (Answer i o u.number) _ _ E.0),
-      record { ask = ask; serves = serves; reply = reply; spells = answer; seat = refl; law = E.1 },
+      record {
+        ask = ask;
+        serves = serves;
+        reply = reply;
+        spells = answer;
+        seat = refl;
+        owner = subst (λ (n : ℕ). Owns u.about n ask.source) owner own;
+        law = E.1;
+        event = subst (λ (n : ℕ). IsEventOf u.about (Answer i n u.number) (Port u) (Port v)) owner (event_told a u.about (Answer i o u.number) _ _ id _ _ K.about at refl E.0);
+      },
     ))

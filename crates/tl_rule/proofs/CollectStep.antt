@@ -1,6 +1,7 @@
 -- The step that collects a reply.
 use Rattle.std.proofs.Common.{◌≡◌, ◌≢◌, ℕ, ◌<◌, eqb, false, List, [], ◌∷◌, ◌++◌, length, get_or, sym, refl, ap, subst, ◌∙◌, arith, inl, inr, ⊎_elim, get_or-set_same, get_or-set_other, length-set, length-append, Some, slice_get, take}
 use mathlib.Core.Option as maybe
+use lib.ListN.{get_elem?}
 use mathlib.Core.Option.{some, none}
 use mathlib.Core.Logic.{dite}
 use native.Mathlib.Decide.{ℕ_discrete}
@@ -29,7 +30,7 @@ use Rattle.tl_rule.proofs.Lists.{at_end, before_end, below_length, ended, first_
 use Rattle.tl_rule.proofs.MasterFrame.{master_moves, MasterStep, moved, held_here, got_here, got_elim, phase_here, phase_else}
 use Rattle.tl_rule.proofs.Facts.{Known, known, shown, in_hand_of, not_left, some_list, low_master, low_port, one_named, sent_port}
 use Rattle.tl_rule.proofs.Own.{of_masters, just_own, seen_fit, answered_inside, got_back}
-use Rattle.tl_rule.proofs.Allowing.{fits_after, found, there, present, master_step, tries}
+use Rattle.tl_rule.proofs.Allowing.{fits_after, event_told, found, there, present, master_step, tries}
 
 -- the places, once the answer of the slot i is collected
 module _ (a : About) (c : Parts) (i m p since : ℕ) (letter : SlotRecord) (ask : Request) (reply : Response) (L : Lawful a c)
@@ -180,8 +181,8 @@ module _ (a : About) (c : Parts) (L : Lawful a c) (id i : ℕ) (v : Hands) (K : 
       (move_is_allowed (state_of a c) (Collect i v.number p) _ refl (found a c L i (Answered v.number p) lt ph) (there a c L v.number K.near) in_range (present a c L v.number K.near staying)) refl)
 
   -- what the seat is told
-  pub collect_told : (slots from new : ℕ) (said : maybe.Option SlotRecord) → Collects (step slots i from new said) (Master v, carried) (Master (with_hand v i (Taken p) (v.got ++ last ∷ [])), (i, letter) ∷ carried)
-  collect_told slots from new said = let m = v.number in let d = moved_parts in
+  pub collect_told : (slots from new : ℕ) (said : maybe.Option SlotRecord) → get_elem? (table_of a c).views id ≡ some (Master v) → Collects (step slots i from new said) (Master v, carried) (Master (with_hand v i (Taken p) (v.got ++ last ∷ [])), (i, letter) ∷ carried)
+  collect_told slots from new said at = let m = v.number in let d = moved_parts in
       let hands_is : hands d.masters m ≡ with_hand v i (Taken p) (v.got ++ last ∷ []) = get_or-set_same c.masters m (with_hand (hands c.masters m) i (Taken p) (held_before ++ last ∷ [])) no_hands K.near ∙ (λ t. with_hand (K.is t) i (Taken p) (got_is t ++ last ∷ [])) in
       let views = collect_lawful.shape.master_views m (let z = K.near in let y = length-set c.masters m (with_hand (hands c.masters m) i (Taken p) (held_before ++ last ∷ [])) in omega arith) in
       let own = just_own a d collect_lawful m p views.1 views.0 in record {
@@ -203,6 +204,7 @@ module _ (a : About) (c : Parts) (L : Lawful a c) (id i : ℕ) (v : Hands) (K : 
             (subst (λ (k : ℕ). SeenFit (desk c.ports p).list letter.index A.asked.ask reply (at_port p (take k v.got))) known_is
             (subst (λ (w : Hands). SeenFit (desk c.ports p).list letter.index A.asked.ask reply (at_port p (take A.asked.known w.got))) K.is (seen_fit a c L m p i A)));
         own = subst (λ (w : Hands). JustOwn (desk c.ports p).list (Owns w.about w.number) (at_port p w.got) (sent_at p w.hand)) hands_is own;
+        event = event_told a v.about (Collect i m p) _ _ id _ _ K.about at refl collect_event;
       }
 
 pub collects : (a : About) (slots id : ℕ) (v : Hands) (carried : List (ℕ × SlotRecord)) (i from new : ℕ) (said : maybe.Option SlotRecord) (ask : Request) (p since : ℕ) → get_or v.hand i Nothing ≡ Sent ask p since
@@ -219,5 +221,5 @@ collects a slots id v carried i from new said ask p since sent_is from_is is = l
       takes i A.home.letter,
       of_get c.homes i (some A.home.letter) none (let e = L.shape.homes in omega arith) A.home.at,
       subst (λ (n : ℕ). Fits a (stepped (table_of a c) i n id carried view (takes i A.home.letter))) (sym is) (fits_after a (Collect i m p) _ _ E),
-      collect_told a c L id i v K carried ask p since lt sent_is ph A slots from new said,
+      collect_told a c L id i v K carried ask p since lt sent_is ph A slots from new said at,
     ))

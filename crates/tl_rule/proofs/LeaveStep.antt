@@ -29,7 +29,7 @@ use Rattle.tl_rule.proofs.Lists.{set_elim, any_default}
 use Rattle.tl_rule.proofs.Frames.{Same, stays, quiet}
 use Rattle.tl_rule.proofs.Facts.{Known, known, owner_holds}
 use Rattle.tl_rule.proofs.Own.{all_own}
-use Rattle.tl_rule.proofs.Allowing.{fits_after, there, present, stores}
+use Rattle.tl_rule.proofs.Allowing.{fits_after, event_told, there, present, stores}
 
 -- c and d differ at most in numbers, counts and who has left
 pub record Alike (c d : Parts) : Type 0 where
@@ -148,5 +148,9 @@ leaves a slots id v carried i staying empty is =
       keeps,
       tt,
       subst (λ (n : ℕ). Fits a (stepped (table_of a c) n 1 id carried (Master (gone_hands v)) keeps)) there (fits_after a (Leave v.number) _ _ E),
-      record { seat = refl; owns_all = λ p. subst (λ (w : Hands). OwnsAll w p) K.is (all_own a c L v.number p t.1 t.0 (empty_here a c L id v K carried staying empty)) },
+      record {
+        seat = refl;
+        owns_all = λ p. subst (λ (w : Hands). OwnsAll w p) K.is (all_own a c L v.number p t.1 t.0 (empty_here a c L id v K carried staying empty));
+        event = event_told a v.about (Leave v.number) _ _ id _ _ K.about at refl E;
+      },
     ))

@@ -17,12 +17,12 @@ use Rattle.tl_rule.specs.declared.view.View.TheVariants.{Master}
 use Rattle.tl_rule.specs.Record.{SlotRecord, Spells}
 use Rattle.tl_rule.specs.Views.{Owns, hands, held, with_hand}
 use Rattle.tl_rule.specs.Rule.{Parts, Names, InPhase, Lawful, Fits, phase, table_of}
-use Rattle.tl_rule.specs.Events.{state_of, IsOneEvent}
+use Rattle.tl_rule.specs.Events.{state_of, IsOneEvent, IsEventOf}
 use Rattle.tl_rule.specs.Moves.{Tried, Claims, Sends, Releases}
 use Rattle.tl_rule.proofs.Tables.{of_get}
 use Rattle.tl_rule.proofs.MasterFrame.{MasterStep, moved, held_here, got_here, quiet_master}
 use Rattle.tl_rule.proofs.Facts.{Known, known, shown, nothing_or, filled_phase, taken_phase, in_hand_of, not_left, low_master, one_named, free_names_none}
-use Rattle.tl_rule.proofs.Allowing.{fits_after, found, there, present, master_step, tries, stores}
+use Rattle.tl_rule.proofs.Allowing.{fits_after, event_told, found, there, present, master_step, tries, stores}
 
 -- ---- claim
 
@@ -125,7 +125,7 @@ claims a slots id v carried i new said staying inside is =
       takes i home.0,
       of_get c.homes i (some home.0) none (in_homes a c L id i v K carried lt) home.1,
       subst (λ (n : ℕ). Fits a (stepped (table_of a c) i n id carried (Master (with_hand v i Filled v.got)) (takes i home.0))) (sym is) (fits_after a (Claim i v.number) _ _ E),
-      record { letter = home.0; seat = refl; free = ⊎_elim (λ e. e) (λ ne. absurd (none_held ne)) (nothing_or (get_or v.hand i Nothing)); inside = let w = K.wide in omega arith },
+      record { letter = home.0; seat = refl; free = ⊎_elim (λ e. e) (λ ne. absurd (none_held ne)) (nothing_or (get_or v.hand i Nothing)); inside = let w = K.wide in omega arith; event = event_told a v.about (Claim i v.number) _ _ id _ _ K.about at refl E },
     ))
 
 pub posts : (a : About) (slots id : ℕ) (v : Hands) (carried : List (ℕ × SlotRecord)) (i new : ℕ) (letter : SlotRecord) (ask : Request) (p : ℕ) → get_or v.hand i Nothing ≡ Filled → new ≡ word (Posted v.number p) → Spells letter ask → p < v.about.ports
@@ -140,7 +140,12 @@ posts a slots id v carried i new letter ask p filled is spells to own distinct =
       gives,
       tt,
       subst (λ (n : ℕ). Fits a (stepped (table_of a c) i n id ((i, letter) ∷ carried) (Master (with_hand v i y v.got)) gives)) (sym is) (fits_after a (Post i v.number p) _ _ E),
-      record { ask = ask; spells = spells; seat = λ t. (Master (with_hand v i (Sent ask (sym port t) (length v.got)) v.got), carried) },
+      record {
+        ask = ask;
+        spells = spells;
+        seat = λ t. (Master (with_hand v i (Sent ask (sym port t) (length v.got)) v.got), carried);
+        event = subst (λ (q : ℕ). IsEventOf v.about (Post i v.number q) (Master v) (Master (with_hand v i y v.got))) (sym port) (event_told a v.about (Post i v.number p) _ _ id _ _ K.about at refl E);
+      },
     ))
 
 pub releases : (a : About) (slots id : ℕ) (v : Hands) (carried : List (ℕ × SlotRecord)) (i : ℕ) (letter : SlotRecord) (p : ℕ) → get_or v.hand i Nothing ≡ Taken p
@@ -153,5 +158,5 @@ releases a slots id v carried i letter p taken =
       gives,
       tt,
       fits_after a (Release i v.number p) _ _ E,
-      record { seat = refl },
+      record { port = p; was = taken; seat = refl; event = event_told a v.about (Release i v.number p) _ _ id _ _ K.about at refl E },
     ))

@@ -20,14 +20,15 @@ use Rattle.tl_rule.specs.Record.{SlotRecord}
 use Rattle.tl_rule.specs.Serving.{ask_at, HasDistinctSlots}
 use Rattle.tl_rule.specs.Views.{Owns, reset_of, desk, held, served, no_desk, with_serving}
 use Rattle.tl_rule.specs.Rule.{Parts, Names, Asked, InPhase, Lawful, Fits, phase, table_of}
-use Rattle.tl_rule.specs.Events.{state_of, IsOneEvent}
+use Rattle.tl_rule.specs.Events.{state_of, IsOneEvent, IsEventOf}
 use Rattle.tl_slots.specs.declared.word.TheConstants.{MAX_AGENT}
+use Rattle.tl_rule.specs.Seen.{IsOfMasters}
 use Rattle.tl_rule.specs.Moves.{Tried, Accepts, IsLawfulDesk}
 use Rattle.tl_rule.proofs.Tables.{of_get}
 use Rattle.tl_rule.proofs.Serving.{serves_few, push_here, push_else, push_once}
 use Rattle.tl_rule.proofs.PortFrame.{port_moves, PortStep, port_moved, served_here, quiet_port}
 use Rattle.tl_rule.proofs.Facts.{KnownPort, known_port, shown, none_or, one_owner, phase_inside, some_master, low_port}
-use Rattle.tl_rule.proofs.Allowing.{fits_after, found, there, port_step, tries}
+use Rattle.tl_rule.proofs.Allowing.{fits_after, event_told, found, there, port_step, tries}
 
 -- a slot in this phase is there
 pub serving_inside : (a : About) (c : Parts) (L : Lawful a c) (i m p : ℕ) → phase c i ≡ Serving m p → i < a.slots
@@ -50,6 +51,8 @@ desk_law a c L p lt = let v = L.shape.port_views p lt in
           let one = one_owner a s.0 t.0 other.source ask.source (L.block s.0 j p s.1 other s.3) (L.block t.0 i p t.1 ask t.3) (sym same) in
           L.sources t.0 i j p p t.1 s.1 ask other t.3 (subst (λ (n : ℕ). held c.masters n j ≡ Sent other p s.1) one s.3) same;
       lawful = subst (λ (z : About). IsLawfulHistory (reset_of z (desk c.ports p).number) (desk c.ports p).list) (sym v.1) (subst (λ (n : ℕ). IsLawfulHistory (reset_of a n) (desk c.ports p).list) (sym v.0) (L.lawful p));
+      listed = subst (λ (z : About). IsOfMasters z (desk c.ports p).list) (sym v.1) (λ k x at. let t = L.places.placed p k x at in (t.master, t.owns));
+      served = λ i ask is. let t = asked_there a c L p i ask is in (t.0, subst (λ (z : About). Owns z t.0 ask.source) (sym v.1) (L.block t.0 i p t.1 ask t.3));
     }
 
 module _ (a : About) (c : Parts) (L : Lawful a c) (id i : ℕ) (u : Desk) (K : KnownPort a c L id u) (carried : List (ℕ × SlotRecord)) where
@@ -124,5 +127,6 @@ accepts a slots id u carried i old new o said inside small old_is is = let p = u
         owner = subst (λ (n : ℕ). Owns u.about n ask.source) owner (subst (λ (z : About). Owns z o ask.source) (sym K.about) mine);
         apart = away;
         law = E.1;
+        event = subst (λ (n : ℕ). IsEventOf u.about (Accept i n p) (Port u) (Port (with_serving u now u.list))) owner (event_told a u.about (Accept i o p) _ _ id _ _ K.about at refl E.0);
       },
     ))

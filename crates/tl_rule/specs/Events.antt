@@ -1,5 +1,7 @@
 -- What a step of the table is to the core of slots. All of it is this project's own.
-use Rattle.std.specs.Prelude.{◌≡◌}
+use Rattle.std.specs.Prelude.{◌≡◌, ℕ, slice_set}
+use mathlib.Core.Option.{some}
+use lib.ListN.{get_elem?}
 use Rattle.atomic_table.specs.Table.{State}
 use Rattle.tl_slots.specs.declared.event.Event.{Event}
 use Rattle.tl_slots.specs.Machine as machine
@@ -23,3 +25,15 @@ pub record IsOneEvent (a : About) (event : Event) (s t : State SlotRecord View) 
   pub lawful_after : Lawful a after
   pub allowed : machine.IsAllowed (state_of a before) event
   pub leaves : state_of a after ≡ machine.state_after (state_of a before) event
+
+-- A seat's step, from the view v to the view w, is this event. It was made in some table that fits, where the seat had v,
+-- and left one that fits, where the seat has w and every other seat has what it had. In the state that the words before
+-- show, the core accepts the event: so the word found was that of the phase which the event finds. The words after show
+-- the state that the event leaves
+pub record IsEventOf (a : About) (event : Event) (v w : View) : Type 0 where
+  pub before : State SlotRecord View
+  pub after : State SlotRecord View
+  pub seat : ℕ
+  pub had : get_elem? before.views seat ≡ some v
+  pub has : after.views ≡ slice_set before.views seat w
+  pub one : IsOneEvent a event before after

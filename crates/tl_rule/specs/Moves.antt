@@ -1,11 +1,13 @@
--- What each step tells: of the step, the seat before, the word found (at a store, the word stored) and the seat after.
--- All of it is this project's own.
+-- What each step tells: of the step, the seat before, the word found (at a store, the word stored) and the seat after. Each
+-- is one event of the core. The steps are this project's own; that a source has one request out at a time is of the chapter
+-- on channels of the TileLink specification.
 use Rattle.std.specs.Prelude.{◌≡◌, ◌≢◌, ℕ, ◌+◌, ◌<◌, ◌/◌, ◌%◌, List, ◌∷◌, ◌++◌, [], length, slice_index_or, Bool, true, false, Option, Some, None, ◌≤◌, take}
 use Rattle.atomic_table.specs.Table.{Me, Step, rest}
 use Rattle.tl_types.specs.Request.{Request}
 use Rattle.tl_types.specs.Response.{Response}
 use Rattle.tl_types.specs.declared.trace.Entry.{Entry}
 use Rattle.tl_ops.specs.History.{IsLawfulHistory}
+use Rattle.tl_slots.specs.declared.event.Event.TheVariants.{Claim, Post, Accept, Answer, Collect, Release, Leave}
 use Rattle.tl_rule.specs.declared.view.About.{About}
 use Rattle.tl_rule.specs.declared.view.Held.{Held}
 use Rattle.tl_rule.specs.declared.view.Held.TheVariants.{Nothing, Filled, Sent, Taken}
@@ -16,6 +18,7 @@ use Rattle.tl_rule.specs.declared.view.View.TheVariants.{Dealer, Master, Port}
 use Rattle.tl_rule.specs.Record.{SlotRecord, Spells, SpellsAnswer}
 use Rattle.tl_rule.specs.Serving.{ask_at, drop_slot, HasDistinctSlots}
 use Rattle.tl_rule.specs.Views.{Owns, reset_of, new_hands, new_desk, no_hands, no_desk, Above, with_hand, with_serving, gone_hands}
+use Rattle.tl_rule.specs.Events.{IsEventOf}
 use Rattle.tl_rule.specs.Seen.{IsOfMasters, SeenFit, JustOwn, IsPlaceOf, at_port, sent_at}
 
 -- ---- seats
@@ -64,7 +67,7 @@ abbrev pub top : List (ℕ × SlotRecord) → SlotRecord
 top [] = no_record
 top (x ∷ xs) = x.1
 
--- no request of this source is out
+-- no request of this source is out: the chapter on channels has it so
 abbrev pub IsNew : Seat → ℕ → Type 0
 IsNew m source = (i p known : ℕ) (ask : Request) → hand_of m i ≡ Sent ask p known → source ≢ ask.source
 
@@ -86,14 +89,17 @@ pub record Claims (st : Step SlotRecord) (m n : Seat) : Type 0 where
   pub seat : n ≡ (handed m st.word Filled, (st.word, letter) ∷ m.1)
   pub free : hand_of m st.word ≡ Nothing
   pub inside : st.word < length (as_master m.0).hand
+  pub event : IsEventOf (as_master m.0).about (Claim st.word (as_master m.0).number) m.0 n.0
 
 -- what the record spells is sent to the port that the stored word names
 pub record Sends (st : Step SlotRecord) (m : Seat) (r : ℕ) (n : Seat) : Type 0 where
   pub ask : Request
   pub spells : Spells (top m.1) ask
   pub seat : n ≡ (handed m st.word (Sent ask (r / 2048) (length (as_master m.0).got)), rest m.1)
+  pub event : IsEventOf (as_master m.0).about (Post st.word (as_master m.0).number (r / 2048)) m.0 n.0
 
--- a port's view in itself: no slot and no source is served twice, and its list is true of its memory
+-- a port's view in itself: no slot and no source is served twice, its list is true of its memory, and what it has served
+-- and serves are requests of masters alone
 pub record IsLawfulDesk (u : Desk) : Type 0 where
   pub number : u.number < u.about.ports
   pub slots : HasDistinctSlots u.serving
@@ -101,6 +107,8 @@ pub record IsLawfulDesk (u : Desk) : Type 0 where
   pub few : length u.serving ≤ u.about.slots
   pub sources : (i j : ℕ) (ask other : Request) → ask_at u.serving i ≡ Some ask → ask_at u.serving j ≡ Some other → ask.source ≡ other.source → i ≡ j
   pub lawful : IsLawfulHistory (reset_of u.about u.number) u.list
+  pub listed : IsOfMasters u.about u.list
+  pub served : (i : ℕ) (ask : Request) → ask_at u.serving i ≡ Some ask → (master : ℕ) × Owns u.about master ask.source
 
 -- the port serves what the record spells, at a slot and of a source that it did not serve, of the master that the word names
 pub record Accepts (st : Step SlotRecord) (m n : Seat) : Type 0 where
@@ -112,15 +120,19 @@ pub record Accepts (st : Step SlotRecord) (m n : Seat) : Type 0 where
   pub owner : Owns (as_port m.0).about (st.first / 8 % 256) ask.source
   pub apart : (j : ℕ) (other : Request) → service_of m j ≡ Some other → ask.source ≢ other.source
   pub law : IsLawfulDesk (as_port n.0)
+  pub event : IsEventOf (as_port m.0).about (Accept st.word (st.first / 8 % 256) (as_port m.0).number) m.0 n.0
 
--- the request that was served at the slot, and the reply that the record spells, are the last of the list
+-- the request that was served at the slot, of the master that the word names, and the reply that the record spells, are
+-- the last of the list
 pub record Answers (st : Step SlotRecord) (m : Seat) (r : ℕ) (n : Seat) : Type 0 where
   pub ask : Request
   pub serves : service_of m st.word ≡ Some ask
   pub reply : Response
   pub spells : SpellsAnswer (top m.1) ask.address reply
   pub seat : n ≡ (Port (with_serving (as_port m.0) (drop_slot st.word (as_port m.0).serving) ((as_port m.0).list ++ (ask, reply) ∷ [])), rest m.1)
+  pub owner : Owns (as_port m.0).about (r / 8 % 256) ask.source
   pub law : IsLawfulDesk (as_port n.0)
+  pub event : IsEventOf (as_port m.0).about (Answer st.word (r / 8 % 256) (as_port m.0).number) m.0 n.0
 
 abbrev pub entry : ℕ → ℕ → Request → Response → Entry
 entry p index ask reply = record { ask = ask; reply = reply; port = p; index = index }
@@ -144,10 +156,14 @@ pub record Collects (st : Step SlotRecord) (m n : Seat) : Type 0 where
   pub masters : IsOfMasters (as_master m.0).about history
   pub seen : SeenFit history letter.index ask reply (at_port port (take known (as_master m.0).got))
   pub own : JustOwn history (Owns (as_master m.0).about (as_master m.0).number) (at_port port (as_master n.0).got) (sent_at port (as_master n.0).hand)
+  pub event : IsEventOf (as_master m.0).about (Collect st.word (as_master m.0).number port) m.0 n.0
 
--- the hand loses the slot
+-- the hand loses the slot, whose reply was collected
 pub record Releases (st : Step SlotRecord) (m : Seat) (r : ℕ) (n : Seat) : Type 0 where
+  pub port : ℕ
+  pub was : hand_of m st.word ≡ Taken port
   pub seat : n ≡ (handed m st.word Nothing, rest m.1)
+  pub event : IsEventOf (as_master m.0).about (Release st.word (as_master m.0).number port) m.0 n.0
 
 -- at the port, one lawful history of its reset, of requests of masters alone, has all that the master collected there,
 -- and no other request of its own
@@ -161,6 +177,7 @@ pub record OwnsAll (v : Hands) (p : ℕ) : Type 0 where
 pub record Leaves (st : Step SlotRecord) (m : Seat) (r : ℕ) (n : Seat) : Type 0 where
   pub seat : n ≡ (Master (gone_hands (as_master m.0)), m.1)
   pub owns_all : (p : ℕ) → OwnsAll (as_master m.0) p
+  pub event : IsEventOf (as_master m.0).about (Leave (as_master m.0).number) m.0 n.0
 
 -- ---- the dealing of seats
 

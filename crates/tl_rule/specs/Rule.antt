@@ -1,5 +1,7 @@
 -- The rule of the arena's table: what the words, the records at home and the seats' views are between any two steps.
--- All of it is this project's own.
+-- All of it is this project's own, but for three rules of the TileLink specification: a source has one request out at a time
+-- (the chapter on channels), beats spell a request and its reply (the chapter "Beats and bursts"), and a reply is the memory's
+-- (the chapter "TL-UL and TL-UH operations").
 use Rattle.std.specs.Prelude.{◌≡◌, ◌≢◌, ℕ, ◌<◌, ◌≤◌, ◌⊎◌, Bool, true, false, cond, List, ◌∷◌, ◌++◌, map, length, slice_get, slice_index_or, Some}
 use mathlib.Core.Option as maybe
 use Rattle.atomic_table.specs.Table.{State}

@@ -1,4 +1,5 @@
--- What a master knows of a port's history, from what it has seen. All of it is this project's own.
+-- What a master knows of a port's history, from what it has seen. All of it is this project's own; which reply is lawful in a
+-- history is of the chapter "TL-UL and TL-UH operations" of the TileLink specification.
 use Rattle.std.specs.Prelude.{◌≡◌, ◌≢◌, ℕ, ◌<◌, ◌++◌, cond, eqb, filter, Contains, List, [], ◌∷◌, ◌⊎◌, slice_get, Some}
 use Rattle.tl_types.specs.Request.{Request}
 use Rattle.tl_types.specs.Response.{Response}

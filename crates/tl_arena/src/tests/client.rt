@@ -1,7 +1,9 @@
 //! A master that has one request out at a time.
-ghost use Rattle.std.specs.Prelude.{◌≡◌, IfSome, IfNone, IfErr};
-ghost use Rattle.tl_rule.specs.declared.view.Held.TheVariants.{Sent, Nothing};
+ghost use Rattle.std.specs.Prelude.{◌≡◌, ◌<◌, IfSome, IfNone, IfErr};
+ghost use Rattle.tl_rule.specs.declared.view.Held.TheVariants.{Filled, Sent, Nothing};
+ghost use Rattle.tl_rule.specs.Views.{Owns};
 ghost use Rattle.tl_arena.specs.Views.{in_hand};
+ghost use Rattle.tl_arena.specs.Promises.{IsUnsent};
 
 use crate::{Arena, Claim, MasterSeat, Ticket};
 use tl_map::Sources;
@@ -19,10 +21,22 @@ pub(super) struct Client<'a> {
     ghost blocks: { arena.now.about.counts ≡ sources.now },
 }
 
+/// A reply that was collected, with the port that gave it and its place in the port's list.
+#[derive(Drop)]
+pub(super) struct Received {
+    pub(super) reply: Reply,
+    pub(super) port: usize,
+    pub(super) index: usize,
+}
+
 impl<'a> Client<'a> {
-    /// Posts a request of the client's own source, if it has a free slot and nothing is out.
-    pub(super) fn send(&mut self, ask: &Ask, port: usize) -> Option<Ticket>
-        ensures some { IfSome result (λ t. in_hand self.new.seat t.slot ≡ Sent t.ask t.port t.known) }
+    /// A slot for a request of the client's own source to a port, with the request as it will be posted, if nothing is
+    /// out.
+    pub(super) fn claim(&mut self, ask: &Ask, port: usize) -> Option<(Claim, Ask)>
+        ensures claimed { IfSome result (λ c. in_hand self.new.seat c.0 ≡ Filled) }
+        ensures source { IfSome result (λ c. Owns self.new.seat.arena.about self.new.seat.number c.1.source) }
+        ensures unsent { IfSome result (λ c. IsUnsent self.new.seat c.1.source) }
+        ensures port { IfSome result (λ _. port < self.new.seat.arena.about.ports) }
         ensures none { IfNone result (self.new.seat ≡ self.old.seat) }
     {
         if self.seat.owned() != 0 || port >= self.arena.ports() {
@@ -30,12 +44,31 @@ impl<'a> Client<'a> {
         }
         let wide = self.sources.widen(self.seat.number(), ask.source())?;
         let claim = self.arena.claim(&mut self.seat)?;
-        let ask = ask.with_source(wide);
-        Some(self.arena.post(&mut self.seat, claim, &ask, port))
+        Some((claim, ask.with_source(wide)))
     }
 
-    /// The reply with its index, if it is there, whose slot is then released.
-    pub(super) fn receive(&mut self, ticket: Ticket) -> Result<(Reply, usize), Ticket>
+    /// Posts the request.
+    pub(super) fn post(&mut self, claim: Claim, ask: &Ask, port: usize) -> Ticket
+        requires claim { in_hand self.old.seat claim ≡ Filled }
+        requires source { Owns self.old.seat.arena.about self.old.seat.number ask.now.source }
+        requires unsent { IsUnsent self.old.seat ask.now.source }
+        requires port { port < self.old.seat.arena.about.ports }
+        ensures { in_hand self.new.seat result.slot ≡ Sent result.ask result.port result.known }
+    {
+        self.arena.post(&mut self.seat, claim, ask, port)
+    }
+
+    /// Posts a request of the client's own source, if it has a free slot and nothing is out.
+    pub(super) fn send(&mut self, ask: &Ask, port: usize) -> Option<Ticket>
+        ensures some { IfSome result (λ t. in_hand self.new.seat t.slot ≡ Sent t.ask t.port t.known) }
+        ensures none { IfNone result (self.new.seat ≡ self.old.seat) }
+    {
+        let (claim, ask) = self.claim(ask, port)?;
+        Some(self.post(claim, &ask, port))
+    }
+
+    /// The reply, if it is there, whose slot is then released.
+    pub(super) fn receive(&mut self, ticket: Ticket) -> Result<Received, Ticket>
         requires { in_hand self.old.seat ticket.slot ≡ Sent ticket.ask ticket.port ticket.known }
         ensures err { IfErr result (λ t. (t ≡ ticket) × (self.new.seat ≡ self.old.seat)) }
     {
@@ -43,17 +76,13 @@ impl<'a> Client<'a> {
             return Err(ticket);
         }
         let served = self.arena.collect(&mut self.seat, ticket)?;
-        let reply = served.reply().copy();
-        let index = served.index();
+        let received = Received {
+            reply: served.reply().copy(),
+            port: served.port(),
+            index: served.index(),
+        };
         self.arena.release(&mut self.seat, served);
-        Ok((reply, index))
-    }
-
-    /// The slots of two claims, which are never posted.
-    pub(super) fn claim_two(&mut self) -> [Option<usize>; 2] {
-        let first = self.arena.claim(&mut self.seat);
-        let second = self.arena.claim(&mut self.seat);
-        [slot_of(first), slot_of(second)]
+        Ok(received)
     }
 
     /// One whole turn: the reply to a request.
@@ -61,18 +90,22 @@ impl<'a> Client<'a> {
         let mut ticket = self.send(ask, port)?;
         for _ in 0..MOST_LOOKS {
             ticket = match self.receive(ticket) {
-                Ok((reply, _)) => return Some(reply),
+                Ok(received) => return Some(received.reply),
                 Err(ticket) => ticket,
             };
         }
         None
     }
-}
 
-/// The slot of a claim that is let go.
-fn slot_of(claim: Option<Claim>) -> Option<usize> {
-    match claim {
-        Some(Claim { slot }) => Some(slot),
-        None => None,
+    /// The master leaves, if it owns nothing.
+    pub(super) fn leave(self) {
+        let Client {
+            arena,
+            sources: _,
+            seat,
+        } = self;
+        if seat.owned() == 0 {
+            arena.leave(seat);
+        }
     }
 }

@@ -1,4 +1,4 @@
-//! An arena of two masters with one source each, and two ports with memories of 16 bytes.
+//! Arenas for tests: mostly of two masters with one source each, and two ports with memories of 16 bytes.
 ghost use Rattle.std.specs.Prelude.{◌≡◌, All, map, IfOk, IfSome};
 ghost use Rattle.tl_arena.specs.Promises.{memory_of};
 
@@ -53,10 +53,13 @@ pub(super) struct Floor {
     ghost memories: { banks.items ≡ map memory_of ports.items },
 }
 
-/// The arena with all that belongs to it.
-pub(super) fn open_floor(alloc: Global, slots: usize) -> Result<Floor, Fail> {
-    let banks = banks_of(alloc, 2)?;
-    let sources = sources_of(alloc, 2)?;
+/// The arena of these sources and banks, with all that belongs to it.
+pub(super) fn floor_of(
+    alloc: Global,
+    slots: usize,
+    sources: Sources,
+    banks: Vec<Bank>,
+) -> Result<Floor, Fail> {
     let Made {
         arena,
         masters,
@@ -69,6 +72,11 @@ pub(super) fn open_floor(alloc: Global, slots: usize) -> Result<Floor, Fail> {
         ports,
         banks,
     })
+}
+
+/// The arena of two masters and two ports.
+pub(super) fn open_floor(alloc: Global, slots: usize) -> Result<Floor, Fail> {
+    floor_of(alloc, slots, sources_of(alloc, 2)?, banks_of(alloc, 2)?)
 }
 
 /// The client of the last master.

@@ -79,26 +79,3 @@ fn every_reply_of_two_masters_at_two_ports_is_right(rt: HostRuntime) -> Result<(
     assert_eq!(rt; (one, two), (TURNS, TURNS));
     Ok(())
 }
-
-#[test]
-fn claims_of_two_threads_are_of_four_slots(rt: HostRuntime) -> Result<(), Fail> {
-    let Floor {
-        arena,
-        sources,
-        mut masters,
-        ports: _,
-        banks: _,
-    } = open_floor(rt.alloc(), 4)?;
-    let mut second = client(&arena, &sources, &mut masters)?;
-    let mut first = client(&arena, &sources, &mut masters)?;
-    let (one, two) = join(&rt, || first.claim_two(), || second.claim_two());
-    for slot in 0..4 {
-        let times = one
-            .iter()
-            .chain(two.iter())
-            .filter(|s| **s == Some(slot))
-            .count();
-        assert_eq!(rt; times, 1);
-    }
-    Ok(())
-}

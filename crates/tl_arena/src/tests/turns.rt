@@ -68,12 +68,12 @@ fn a_ticket_comes_back_until_the_answer(rt: HostRuntime) -> Result<(), Fail> {
         return Err(Fail::from("there is a reply before the answer"));
     };
     port.pass();
-    let Ok((reply, index)) = master.receive(ticket) else {
+    let Ok(received) = master.receive(ticket) else {
         return Err(Fail::from("there is no reply"));
     };
-    assert_eq!(rt; index, 0);
-    assert_eq!(rt; reply.op(), ReplyOp::AccessAckData);
-    assert_eq!(rt; reply.bytes(), [1].as_slice());
+    assert_eq!(rt; (received.port, received.index), (1, 0));
+    assert_eq!(rt; received.reply.op(), ReplyOp::AccessAckData);
+    assert_eq!(rt; received.reply.bytes(), [1].as_slice());
     let again = master.send(&read(BASE)?, 1).ok_or("no slot")?;
     assert_eq!(rt; again.slot(), 0);
     Ok(())
@@ -107,13 +107,14 @@ fn a_slot_whose_ticket_was_dropped_is_held(rt: HostRuntime) -> Result<(), Fail> 
         banks: _,
     } = open_floor(rt.alloc(), 4)?;
     {
+        let _second = client(&arena, &sources, &mut masters)?;
         let mut master = client(&arena, &sources, &mut masters)?;
         let _ticket = master.send(&read(BASE)?, 1).ok_or("no slot")?;
     }
     let Account { free, held, left } = arena.close(rt.alloc())?;
     assert_eq!(rt; free.as_slice(), [1, 2, 3].as_slice());
     assert_eq!(rt; held.len(), 1);
-    assert_eq!(rt; (held[0].slot, held[0].master), (0, 1));
+    assert_eq!(rt; (held[0].slot, held[0].master), (0, 0));
     assert!(rt; left.is_empty());
     Ok(())
 }

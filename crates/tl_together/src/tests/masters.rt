@@ -1,13 +1,18 @@
 //! What a master issues and collects.
-ghost use Rattle.std.specs.Prelude.{◌≡◌};
+ghost use Rattle.std.specs.Prelude.{◌≡◌, ◌+◌, ◌≤◌, length};
 
-use super::board::{Board, set_up};
+use super::board::{Board, read, set_up};
 use std::alloc::Global;
 use std::process::Abort;
+use std::sync::Wait;
 use std::test::Fail;
+use std::thread;
+use std::thread::Threads;
 use tl_arena::Arena;
+use tl_map::Map;
 use tl_master::{IssueFault, Issued, Master, Polled};
 use tl_port::Intake;
+use tl_types::Ask;
 
 /// The port takes what is posted in the slot, and answers it.
 fn answer(rt: &impl Abort, board: &mut Board, slot: usize) {
@@ -86,4 +91,94 @@ fn issue_finds_free_slot(rt: HostRuntime) -> Result<(), Fail> {
     answer(&rt, &mut board, 0);
     assert_eq!(rt; board.poll_second(0), Polled::Done(0));
     end(&rt, rt.alloc(), board)
+}
+
+/// A master, and the slots of two requests that it issues.
+fn issue_two(
+    arena: &Arena,
+    map: &Map,
+    mut master: Master,
+    asks: &[Ask; 2],
+) -> (Master, Option<[usize; 2]>)
+    requires arena { master.seat.arena ≡ arena.now }
+    requires ports { length map.now + 1 ≤ arena.now.about.ports }
+    ensures { result.0.seat.arena ≡ arena.now }
+{
+    let first = master.issue(arena, map, &asks[0]).ok();
+    let second = master.issue(arena, map, &asks[1]).ok();
+    let slots = first.zip(second).map(|(a, b)| [a.slot, b.slot]);
+    (master, slots)
+}
+
+/// Both masters issue twice, each on a thread of its own. The answer is where each slot was claimed.
+fn issue_at_once<R: Threads + Wait + Sync>(
+    rt: &R,
+    board: Board,
+    asks: &[Ask; 2],
+) -> (Board, Option<([usize; 2], [usize; 2])>) {
+    let Board {
+        arena,
+        map,
+        first,
+        second,
+        book,
+    } = board;
+    let ((first, one), (second, two)) = {
+        let (arena, map) = (&arena, &map);
+        thread::join(
+            rt,
+            || -> (Master, Option<[usize; 2]>)
+                requires { (first.seat.arena ≡ arena.now) × (length map.now + 1 ≤ arena.now.about.ports) }
+                ensures { result.0.seat.arena ≡ arena.entry.now }
+            { issue_two(arena, map, first, asks) },
+            || -> (Master, Option<[usize; 2]>)
+                requires { (second.seat.arena ≡ arena.now) × (length map.now + 1 ≤ arena.now.about.ports) }
+                ensures { result.0.seat.arena ≡ arena.entry.now }
+            { issue_two(arena, map, second, asks) },
+        )
+    };
+    let board = Board {
+        arena,
+        map,
+        first,
+        second,
+        book,
+    };
+    (board, one.zip(two))
+}
+
+/// Collects both replies of each master, and ends masters and arena.
+fn collect_all(rt: &impl Abort, alloc: Global, mut board: Board) -> Result<(), Fail> {
+    for source in 0..2 {
+        assert!(rt; matches!(board.poll(source), Polled::Done(_)));
+        assert!(rt; matches!(board.poll_second(source), Polled::Done(_)));
+    }
+    let Board {
+        arena,
+        map: _,
+        first,
+        second,
+        book: _,
+    } = board;
+    assert!(rt; first.out() == 0);
+    assert!(rt; second.out() == 0);
+    let traces = [first.finish(&arena), second.finish(&arena)];
+    assert!(rt; traces.iter().all(|trace| trace.len() == 2));
+    let account = arena.close(alloc)?;
+    assert!(rt; account.free.as_slice() == [0, 1, 2, 3].as_slice());
+    assert_eq!(rt; (account.held.len(), account.left.len()), (0, 2));
+    Ok(())
+}
+
+#[test]
+fn two_threads_claim_four_slots(rt: HostRuntime) -> Result<(), Fail> {
+    let asks = [read(0)?, read(1)?];
+    let (mut board, slots) = issue_at_once(&rt, set_up(rt.alloc(), 4, 4)?, &asks);
+    let (one, two) = slots.ok_or("not issued")?;
+    for slot in 0..4 {
+        let times = one.iter().chain(two.iter()).filter(|s| **s == slot).count();
+        assert_eq!(rt; times, 1);
+        answer(&rt, &mut board, slot);
+    }
+    collect_all(&rt, rt.alloc(), board)
 }

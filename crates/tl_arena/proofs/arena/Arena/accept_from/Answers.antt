@@ -7,13 +7,20 @@ use Rattle.tl_slots.specs.Word.{word, FitsWord}
 use Rattle.tl_slots.proofs.Words.{word-master}
 use Rattle.tl_rule.specs.declared.view.About.{About}
 use Rattle.tl_rule.specs.Views.{Owns}
+use Rattle.tl_slots.specs.declared.event.Event.TheVariants.{Accept}
 use Rattle.tl_rule.specs.Moves.{Seat, top, as_port, IsLawfulDesk}
 use Rattle.tl_rule.proofs.Seats.{accepts_at}
-use Rattle.tl_arena.specs.Views.{ArenaId}
+use Rattle.tl_arena.specs.Views.{ArenaId, PortView}
+use Rattle.tl_arena.specs.Promises.{IsPortStep}
 use Rattle.tl_arena.specs.Key.{about_in}
-use Rattle.tl_arena.specs.Kept.{IsOwner}
+use Rattle.tl_types.specs.Request.{Request}
+use Rattle.tl_rule.specs.declared.view.View.{View}
+use Rattle.tl_rule.specs.Record.{SlotRecord, Spells}
+use Rattle.tl_rule.specs.Events.{IsEventOf}
+use Rattle.tl_rule.proofs.Facts.{spells_one}
+use Rattle.tl_arena.specs.Kept.{IsOwner, port_view}
 use Rattle.tl_arena.proofs.Keeping.{port_arena, port_recounted, accept_kept}
-use Rattle.tl_arena.proofs.Promised.{accepted}
+use Rattle.tl_arena.proofs.Promised.{accepted, port_stepped}
 use Rattle.tl_arena.proofs.arena.Arena.accept_from.Goals as goal
 
 pub compare_exchange-requires : goal.compare_exchange-requires
@@ -59,3 +66,21 @@ returns-clause-some c =
     let told = accepted _ c.port.inside.seat.me c.compare_exchange.new.seat.me t c.port.inside.seat.table_id c.exchange-record.new.seat.table_id c.exchange-record.new.seat.me.0 c.args.port.now c.args.slot c.ask.result c.exchange-record.result
     (x.0 ∙ c.compare_exchange.ensures.0) (ap (λ (y : Seat). y.0) x.3) c.port.view_is refl letter c.ask.ensures in
     (refl, told.0, told.1)
+
+pub returns-clause-event : goal.returns-clause-event
+returns-clause-event c =
+    let t = c.compare_exchange.ensures.2.0 c.if-compare_exchange-from.false in
+    let x = c.exchange-record.ensures in
+    let me = c.port.inside.seat.me in
+    let owner = c.word_of-from.result / 8 % 256 in
+    let letter : c.exchange-record.result ≡ t.letter = ap top (sym x.2 ∙ ap (λ (y : Seat). y.1) t.seat) in
+    let asks : t.ask ≡ c.ask.result = spells_one t.letter t.ask c.ask.result t.spells (subst (λ (l : SlotRecord). Spells l c.ask.result) letter c.ask.ensures) in
+    let owns : Owns (as_port me.0).about owner c.ask.result.source = subst (λ (q : Request). Owns (as_port me.0).about owner q.source) asks t.owner in
+    let view = ap (λ (y : Seat). y.0) x.3 in
+    record {
+      owner = owner;
+      owns = subst (λ (u : PortView). Owns u.arena.about owner c.ask.result.source) c.port.view_is owns;
+      step = subst (λ (u : PortView). IsPortStep (Accept c.args.slot owner u.number) c.args.port.now (port_view c.exchange-record.new.seat.table_id c.exchange-record.new.seat.me.0)) c.port.view_is
+          (port_stepped (Accept c.args.slot owner (as_port me.0).number) c.port.inside.seat.table_id c.exchange-record.new.seat.table_id me c.exchange-record.new.seat.me.0 _ c.args.port.now _ c.port.invariant.is
+          (view ∙ ap (λ (y : Seat). y.0) t.seat) c.port.view_is refl (subst (λ (y : View). IsEventOf (as_port me.0).about (Accept c.args.slot owner (as_port me.0).number) me.0 y) (sym view) t.event));
+    }

@@ -1,4 +1,4 @@
-use Rattle.std.proofs.Common.{arith, sym, ap, subst, ◌∙◌, ◌≡◌, ◌<◌, ◌/◌, ℕ, length}
+use Rattle.std.proofs.Common.{arith, sym, ap, subst, ◌∙◌, ◌≡◌, ◌<◌, ◌/◌, ℕ, length, refl}
 use Rattle.std.specs.VecDeque.{deque_capacity}
 use Rattle.atomic_table.specs.Table.{rest}
 use Rattle.tl_slots.specs.declared.phase.Phase.TheVariants.{Posted}
@@ -13,7 +13,7 @@ use Rattle.tl_arena.specs.Views.{ArenaId, MasterView, in_hand, with_held}
 use Rattle.tl_arena.specs.Key.{about_in}
 use Rattle.tl_arena.specs.Kept.{master_view}
 use Rattle.tl_arena.specs.Promises.{IsUnsent}
-use Rattle.tl_arena.proofs.Keeping.{master_arena, held_inside}
+use Rattle.tl_arena.proofs.Keeping.{master_arena, held_inside, master_recounted, post_kept}
 use Rattle.tl_arena.proofs.arena.Arena.post.Goals as goal
 
 pub store-requires : goal.store-requires
@@ -55,3 +55,18 @@ returns-clause-seat c =
     let told = told_sent _ me c.exchange.new.seat.me c.store.new.seat.me i _ c.posted.result (rest c.bring.new.seat.me.1) ask port now c.posted.ensures.spells named c.store.ensures.2 in
     let table = c.store.ensures.0 ∙ c.exchange.ensures.0 ∙ c.bring.ensures.table in
     (λ k. master_view (table k) (told k).0) ∙ (λ k. with_held (c.master.view_is k) (c.claim.view_is k) (Sent ask port (length (c.master.view_is k).got)))
+
+pub invariant_of-master : goal.invariant_of-master
+invariant_of-master c =
+    let m = c.master.invariant in
+    let i = c.claim.inside.slot in
+    let me = c.master.inside.seat.me in
+    let order = c.master.inside.order in
+    let ask = c.args.ask.now in
+    let port = c.args.port in
+    let filled : hand_of me i ≡ Filled = subst (λ (v : MasterView). in_hand v i ≡ Filled) (sym c.master.view_is) (subst (λ (k : ℕ). in_hand c.args.master.now k ≡ Filled) (sym c.claim.view_is) c.requires.claim) in
+    let now = written me c.bring.new.seat.me c.exchange.new.seat.me i c.posted.result c.bring.ensures.brought.view c.exchange.ensures.3 in
+    let told = told_sent _ me c.exchange.new.seat.me c.store.new.seat.me i _ c.posted.result (rest c.bring.new.seat.me.1) ask _ now c.posted.ensures.spells refl c.store.ensures.2 in
+    master_recounted c.store.new.seat.me _ _ _ _ c.master.inside.number c.master.inside.owned c.master.inside.collected refl (c.pop_front.ensures.capacity ∙ c.bring.ensures.capacity)
+    (post_kept me order.items (deque_capacity order) c.master.inside.number c.master.inside.owned c.master.inside.collected m
+    c.bring.new.seat.me c.store.new.seat.me c.bring.new.order.items c.pop_front.new.self.items i ask _ _ c.bring.ensures.brought c.pop_front.ensures.rest told filled)

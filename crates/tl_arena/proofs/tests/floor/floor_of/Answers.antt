@@ -6,7 +6,7 @@ use Rattle.tl_rule.specs.Views.{no_store}
 use Rattle.tl_rule.specs.declared.view.About.{About}
 use Rattle.tl_arena.specs.Views.{ArenaId, MasterView, PortView, new_port, AreNewPorts}
 use Rattle.tl_arena.specs.Promises.{memory_of}
-use Rattle.tl_arena.proofs.tests.floor.open_floor.Goals as goal
+use Rattle.tl_arena.proofs.tests.floor.floor_of.Goals as goal
 
 -- what the banks hold are the memories of new ports
 memories : (a : ArenaId) (banks : List Store) (us : List PortView) → a.about.resets ≡ banks → AreNewPorts a (length banks) us → banks ≡ map memory_of us
@@ -26,5 +26,5 @@ invariant_of-result-clause-counters c = λ k d lt. let m = c.in_ok-arena.field-0
 pub invariant_of-result-clause-memories : goal.invariant_of-result-clause-memories
 invariant_of-result-clause-memories c =
     let m = c.in_ok-arena.field-0 in
-    let banks = c.in_ok-banks.banks.items in
+    let banks = c.args.banks.items in
     memories m.arena banks m.ports.items (ap (λ (a : About). a.resets) c.in_ok-arena.ensures.arena ∙ c.as_slice.ensures.value) (subst (λ (l : List Store). AreNewPorts m.arena (length l) m.ports.items) c.as_slice.ensures.value c.in_ok-arena.ensures.ports)
