@@ -1,0 +1,2 @@
+mod Same
+mod Pairs

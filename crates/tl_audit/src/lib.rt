@@ -1,0 +1,15 @@
+//! The audit of a finished run: whether the traces of its masters and the histories of its ports hold the same entries,
+//! each once.
+//!
+//! [`audit_lists`] answers Ok exactly where they agree (`Agrees`, `specs/Agrees.antt`); a fault names an entry of a trace,
+//! or a place of a history, at which that fails. It takes one mark for each place of each history, and time in proportion
+//! to the entries.
+//!
+//! Read on in `docs/MODEL.md`, "The audit".
+#![tactic(auto)]
+
+mod fault;
+mod marks;
+mod recorded;
+
+pub use fault::AuditFault;

@@ -1,0 +1,71 @@
+//! Whether an entry of a trace is the one at its port and index.
+ghost use Rattle.std.specs.Prelude.{◌≡◌, ◌↔◌, IsTrue, option_map};
+ghost use Rattle.tl_audit.specs.Agrees.{IsRecorded, lists_in, pair_at};
+
+use tl_map::Sources;
+use tl_types::{Ask, Entry, Reply};
+
+/// Whether two requests carry the same bytes.
+fn are_same(one: &[Option<u8>], other: &[Option<u8>]) -> bool
+    ensures { IsTrue result ↔ (one.now ≡ other.now) }
+{
+    one == other
+}
+
+/// Whether a request is another but for the source, which is this one.
+fn is_ask(wide: &Ask, source: u16, own: &Ask) -> bool
+    ensures { IsTrue result ↔ (wide.now ≡ record own.now { source = source }) }
+{
+    wide.source() == source
+        && wide.op() == own.op()
+        && wide.size() == own.size()
+        && wide.address() == own.address()
+        && are_same(wide.bytes(), own.bytes())
+}
+
+/// Whether a reply is another but for the source, which is this one.
+fn is_reply(wide: &Reply, source: u16, own: &Reply) -> bool
+    ensures { IsTrue result ↔ (wide.now ≡ record own.now { source = source }) }
+{
+    wide.source() == source
+        && wide.op() == own.op()
+        && wide.size() == own.size()
+        && wide.denied() == own.denied()
+        && wide.bytes() == own.bytes()
+}
+
+/// Whether a request and its reply are an entry's with this source in place of the entry's own.
+fn is_pair(pair: &(Ask, Reply), wide: u16, entry: &Entry) -> bool
+    ensures { IsTrue result ↔ (pair.now ≡ (record entry.now.ask { source = wide }, record entry.now.reply { source = wide })) }
+{
+    is_ask(&pair.0, wide, &entry.ask) && is_reply(&pair.1, wide, &entry.reply)
+}
+
+/// The request and the reply at a place of a port's history.
+fn pair_of<'a>(
+    histories: &[&'a [(Ask, Reply)]],
+    port: usize,
+    index: usize,
+) -> Option<&'a (Ask, Reply)>
+    ensures { option_map (λ pair. pair.now) result ≡ pair_at (lists_in histories.now) port index }
+{
+    histories.get(port)?.get(index)
+}
+
+/// Whether an entry of a master, with its source widened, is the pair at its port and index.
+pub(crate) fn is_recorded(
+    sources: &Sources,
+    histories: &[&[(Ask, Reply)]],
+    master: usize,
+    entry: &Entry,
+) -> bool
+    ensures { IsTrue result ↔ IsRecorded sources.now (lists_in histories.now) master entry.now }
+{
+    let Some(wide) = sources.widen(master, entry.ask.source()) else {
+        return false;
+    };
+    match pair_of(histories, entry.port, entry.index) {
+        Some(pair) => is_pair(pair, wide, entry),
+        None => false,
+    }
+}
