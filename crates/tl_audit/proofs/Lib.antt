@@ -1,2 +1,4 @@
 mod Same
 mod Pairs
+mod Cells
+mod Counting

@@ -35,3 +35,7 @@ AreMarkedBy times old new = (p i : ℕ) → cell new p i ≡ option_map (next_ti
 -- each entry names a place that has a mark
 abbrev pub NamePlaces : List (List Mark) → List Entry → Type 0
 NamePlaces rows trace = (k : ℕ) (e : Entry) → slice_get trace k ≡ Some e → IsSome (cell rows e.port e.index)
+
+-- so does each entry of each trace
+abbrev pub AllNamePlaces : List (List Mark) → List (List Entry) → Type 0
+AllNamePlaces rows traces = (m : ℕ) (trace : List Entry) → slice_get traces m ≡ Some trace → NamePlaces rows trace

@@ -1,7 +1,7 @@
 //! Marks: how often the entries of traces name each place of each history.
-ghost use Rattle.std.specs.Prelude.{◌≡◌, ℕ, IfNone, IfOk, IfSome, IsSome, Some, map, length, replicate};
+ghost use Rattle.std.specs.Prelude.{◌≡◌, ℕ, IfNone, IfOk, IfSome, IsSome, Some, map, length, replicate, slice_get};
 ghost use Rattle.tl_audit.specs.Agrees.{lists_in, times_in, times_named};
-ghost use Rattle.tl_audit.specs.Marks.{AreMarkedBy, IsSetAt, NamePlaces, cell, next_of, rows_in};
+ghost use Rattle.tl_audit.specs.Marks.{AllNamePlaces, AreMarkedBy, IsSetAt, NamePlaces, cell, next_of, rows_in};
 
 use std::alloc::{AllocError, Global};
 use tl_types::{Ask, Entry, Reply, Trace};
@@ -66,4 +66,35 @@ fn mark_trace(rows: &mut [Vec<Mark>], trace: &[Entry])
         let mark = next(get(rows, entry.port, entry.index));
         put(rows, entry.port, entry.index, mark);
     }
+}
+
+/// Marks the places that the entries of traces name.
+pub(crate) fn mark_traces(rows: &mut [Vec<Mark>], traces: &[Trace])
+    requires { AllNamePlaces (rows_in rows.old) (rows_in traces.now) }
+    ensures { AreMarkedBy (times_named (rows_in traces.now)) (rows_in rows.old) (rows_in rows.new) }
+{
+    for trace in traces {
+        mark_trace(rows, trace);
+    }
+}
+
+/// The first place of a row that has this mark.
+fn first_in(row: &[Mark], mark: Mark) -> Option<usize>
+    ensures found { IfSome result (λ index. slice_get row.now index ≡ Some mark) }
+    ensures none { IfNone result ((index : ℕ) → slice_get row.now index ≡ Some mark → ⊥) }
+{
+    row.iter().position(|other| *other == mark)
+}
+
+/// The first place of the lowest port that has this mark.
+pub(crate) fn first_marked(rows: &[Vec<Mark>], mark: Mark) -> Option<(usize, usize)>
+    ensures found { IfSome result (λ at. cell (rows_in rows.now) at.0 at.1 ≡ Some mark) }
+    ensures none { IfNone result ((port index : ℕ) → cell (rows_in rows.now) port index ≡ Some mark → ⊥) }
+{
+    for (port, row) in rows.iter().enumerate() {
+        if let Some(index) = first_in(row, mark) {
+            return Some((port, index));
+        }
+    }
+    None
 }
