@@ -2,3 +2,4 @@ mod Same
 mod Pairs
 mod Cells
 mod Counting
+mod Ordering

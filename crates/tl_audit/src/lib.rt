@@ -10,6 +10,7 @@
 
 mod fault;
 mod marks;
+mod order;
 mod recorded;
 
 pub use fault::AuditFault;

@@ -13,8 +13,8 @@ pub mark_trace-requires : goal.mark_trace-requires
 mark_trace-requires c =
     let here : slice_get c.args.traces.now c.loop-trace.trace-index ≡ Some c.trace-item.result = search (rules, slice_get_read) in
     let places : NamePlaces (rows_in c.loop-trace.rows) c.trace-item.result.items =
-        still_there (rows_in c.args.rows.now) (rows_in c.loop-trace.rows) (times_named (take c.loop-trace.trace-index (rows_in c.args.traces.now))) c.loop-trace.invariant
-        c.trace-item.result.items (c.requires c.loop-trace.trace-index c.trace-item.result.items (row_at c.args.traces.now c.loop-trace.trace-index c.trace-item.result here)) in
+    still_there (rows_in c.args.rows.now) (rows_in c.loop-trace.rows) (times_named (take c.loop-trace.trace-index (rows_in c.args.traces.now))) c.loop-trace.invariant
+    c.trace-item.result.items (c.requires c.loop-trace.trace-index c.trace-item.result.items (row_at c.args.traces.now c.loop-trace.trace-index c.trace-item.result here)) in
     rw c.deref.ensures.value places
 
 pub loop-trace-preserved : goal.loop-trace-preserved
@@ -23,6 +23,6 @@ loop-trace-preserved c =
     let k = c.loop-trace.trace-index in
     let traces = c.args.traces.now in
     let more : AreMarkedBy (λ p i. times_in p i c.trace-item.result.items) (rows_in c.loop-trace.rows) (rows_in c.mark_trace.new.rows) =
-        rw c.deref.ensures.value at c.mark_trace.ensures in
+    rw c.deref.ensures.value at c.mark_trace.ensures in
     marked_with (rows_in c.args.rows.now) (rows_in c.loop-trace.rows) (rows_in c.mark_trace.new.rows) (rows_in traces) k c.trace-item.result.items
     (row_at traces k c.trace-item.result here) c.loop-trace.invariant more
