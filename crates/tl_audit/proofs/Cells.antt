@@ -1,7 +1,8 @@
 -- What is read in rows after one cell was written, and in rows of one thing.
 use Rattle.std.proofs.Common.{◌≡◌, ◌≢◌, ℕ, ◌<◌, ◌&&◌, ◌==◌, ◌⊎◌, ⊎_elim, if◌then◌else◌, true, false, List, length, map, set, Some, None, Option, slice_get, refl, sym, arith}
 use Rattle.std.proofs.lemmas.Bool.Decides.{eqb_tells}
-use Rattle.std.proofs.Common.{get_or, Vec, IsSome}
+use Rattle.std.proofs.Common.{[], ◌∷◌, ◌++◌, ◌≤◌, suc, zero, take, drop, replicate, option_map, get_or, Vec, IsSome}
+use Rattle.std.proofs.lemmas.List.{append-nil, drop_all, take_all}
 use Rattle.std.proofs.lemmas.Bool.{false≢true}
 use Rattle.std.proofs.lemmas.List.{map-set}
 use Rattle.std.proofs.lemmas.Option.{slice_get_within, slice_get-map, get_or_from_slice_get}
@@ -47,3 +48,22 @@ cell_within {A} rows p i x there = by_row (slice_get rows p) refl where
   by_row : (o : Option (List A)) → slice_get rows p ≡ o → p < length rows
   by_row None none = absurd (let never = rw none at there in cc)
   by_row (Some row) at = slice_get_within rows p row at
+
+-- ---- rows as they are made
+
+-- what is written over all of a list is what it holds then
+pub all_written : {A : Type 0} (new old : List A) (n : ℕ) → n ≡ length old → length new ≡ length old → take n (new ++ drop (length new) old) ≡ new
+all_written new old n many same =
+    rw (drop_all (length new) old (omega arith), append-nil new) (take_all n new (omega arith))
+
+-- rows as long as those of other rows, of one thing
+blank_row : {A B : Type 0} (x : A) (row : List B) (i : ℕ) → slice_get (replicate (length row) x) i ≡ option_map (λ (_ : B). x) (slice_get row i)
+blank_row x [] i = refl
+blank_row x (y ∷ row) zero = refl
+blank_row x (y ∷ row) (suc i) = blank_row x row i
+
+pub blank_cell : {A B : Type 0} (x : A) (rows : List (List B)) (p i : ℕ) → cell (map (λ row. replicate (length row) x) rows) p i ≡ option_map (λ (_ : B). x) (cell rows p i)
+blank_cell {A} {B} x rows p i = by_row (slice_get rows p) refl where
+  by_row : (o : Option (List B)) → slice_get rows p ≡ o → cell (map (λ row. replicate (length row) x) rows) p i ≡ option_map (λ (_ : B). x) (cell rows p i)
+  by_row None none = rw (slice_get-map (λ (row : List B). replicate (length row) x) rows p, none) refl
+  by_row (Some row) there = rw (slice_get-map (λ (row : List B). replicate (length row) x) rows p, there) (blank_row x row i)

@@ -91,3 +91,8 @@ still_there old new times marked trace places k e here = by_cell (cell old e.por
   by_cell : (o : Option Mark) → cell old e.port e.index ≡ o → IsSome (cell new e.port e.index)
   by_cell None none = let there : IsSome (cell old e.port e.index) = places k e here in absurd (false≢true (rw none at there))
   by_cell (Some mark) is = rw (marked e.port e.index, is) refl
+
+-- marks that were none before count the entries of all traces
+pub counted : {B : Type 0} (n : ℕ) (mark : Mark) (o : Option B) → option_map (next_times n) (option_map (λ (_ : B). mark) o) ≡ option_map (λ (_ : B). next_times n mark) o
+counted n mark None = refl
+counted n mark (Some x) = refl

@@ -3,3 +3,4 @@ mod Pairs
 mod Cells
 mod Counting
 mod Ordering
+mod Entries

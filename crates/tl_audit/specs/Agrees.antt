@@ -33,6 +33,10 @@ pub record IsRecorded (counts : List ℕ) (histories : List (List (Request × Re
   pub is : IsWide counts m e.ask.source wide
   pub at : pair_at histories e.port e.index ≡ Some (record e.ask { source = wide }, record e.reply { source = wide })
 
+-- so is each entry of each master
+abbrev pub AreRecorded : List ℕ → List (List Entry) → List (List (Request × Response)) → Type 0
+AreRecorded counts traces histories = (m k : ℕ) (e : Entry) → HasEntry traces m k e → IsRecorded counts histories m e
+
 -- whether the entry names place i of port p
 abbrev pub names : ℕ → ℕ → Entry → Bool
 names p i e = (e.port == p) && (e.index == i)
@@ -66,7 +70,7 @@ IsInOrder trace = (k : ℕ) → IsOutOfOrder trace k → ⊥
 -- the traces and the histories hold the same entries, each once: each entry is the pair at its port and index, each place
 -- of a history is named by one entry, and each trace is in order
 pub record Agrees (counts : List ℕ) (traces : List (List Entry)) (histories : List (List (Request × Response))) : Type 0 where
-  pub recorded : (m k : ℕ) (e : Entry) → HasEntry traces m k e → IsRecorded counts histories m e
+  pub recorded : AreRecorded counts traces histories
   pub once : (p i : ℕ) → HasPlace histories p i → times_named traces p i ≡ 1
   pub ordered : (m : ℕ) (trace : List Entry) → slice_get traces m ≡ Some trace → IsInOrder trace
 

@@ -1,7 +1,10 @@
 -- A mark for each place of each history: how often the entries so far name it. For the proofs of the audit.
 use Rattle.std.specs.Prelude.{◌≡◌, ℕ, zero, suc, Bool, ◌&&◌, ◌==◌, if◌then◌else◌, List, map, Option, Some, slice_get, option_and_then, option_map, Vec, IsSome}
 use Rattle.std.specs.Global.{Global}
+use Rattle.tl_types.specs.Request.{Request}
+use Rattle.tl_types.specs.Response.{Response}
 use Rattle.tl_types.specs.declared.trace.Entry.{Entry}
+use Rattle.tl_audit.specs.Agrees.{times_named}
 use Rattle.tl_audit.specs.declared.marks.Mark.{Mark}
 use Rattle.tl_audit.specs.declared.marks.Mark.TheVariants.{Unnamed, Named, NamedAgain}
 
@@ -39,3 +42,8 @@ NamePlaces rows trace = (k : ℕ) (e : Entry) → slice_get trace k ≡ Some e �
 -- so does each entry of each trace
 abbrev pub AllNamePlaces : List (List Mark) → List (List Entry) → Type 0
 AllNamePlaces rows traces = (m : ℕ) (trace : List Entry) → slice_get traces m ≡ Some trace → NamePlaces rows trace
+
+-- there is a mark for each place of the histories, and it says how many entries of the traces name the place
+abbrev pub AreCounted : List (List Entry) → List (List (Request × Response)) → List (List Mark) → Type 0
+AreCounted traces histories rows = (p i : ℕ) → cell rows p i
+    ≡ option_map (λ _. next_times (times_named traces p i) Unnamed) (cell histories p i)

@@ -8,6 +8,7 @@
 //! Read on in `docs/MODEL.md`, "The audit".
 #![tactic(auto)]
 
+mod audit;
 mod fault;
 mod marks;
 mod order;

@@ -16,9 +16,9 @@ loop-place-preserved c =
     let here : slice_get c.args.trace.now c.loop-place.place ≡ Some c.index-trace-place.result = search (rules, slice_get_read) in
     let put = rw c.source-source.ensures at c.keep.ensures in (
       ordered_more c.args.trace.now c.loop-place.place c.index-trace-place.result (rows_in c.loop-place.lasts) (rows_in c.keep.new.lasts) c.last.result here
-      c.loop-place.invariant.0 (rw c.source-source.ensures at c.last.ensures) (λ large. false≢true (c.if-is_at_least.ensures.1 large)) put,
+          c.loop-place.invariant.0 (rw c.source-source.ensures at c.last.ensures) (λ large. false≢true (c.if-is_at_least.ensures.1 large)) put,
       cells_more c.args.trace.now c.index-trace-place.result.port c.index-trace-place.result.ask.source (Some c.index-trace-place.result.index)
-      (rows_in c.loop-place.lasts) (rows_in c.keep.new.lasts) put c.loop-place.invariant.1,
+          (rows_in c.loop-place.lasts) (rows_in c.keep.new.lasts) put c.loop-place.invariant.1,
     )
 
 pub returns-clause-none : goal.returns-clause-none

@@ -1,0 +1,20 @@
+-- Entries at places of traces.
+use Rattle.std.proofs.Common.{◌≡◌, ℕ, zero, suc, ◌<◌, List, [], ◌∷◌, All, length, Option, Some, None, slice_get, refl, sym}
+use Rattle.std.proofs.lemmas.Option.{get_or_from_slice_get, slice_get_within}
+use Rattle.tl_types.specs.declared.trace.Entry.{Entry}
+use Rattle.tl_audit.specs.Agrees.{HasEntry}
+
+-- what holds of all holds of the one at a place
+pub of_all : {A : Type 0} (P : A → Type 0) (xs : List A) (k : ℕ) (x : A) → slice_get xs k ≡ Some x → All P xs → P x
+of_all P xs k x at all = rw (sym (get_or_from_slice_get xs k x x at)) (all k x (slice_get_within xs k x at))
+
+-- the entry stands in the master's trace
+pub entry_in : (traces : List (List Entry)) (m k : ℕ) (trace : List Entry) (e : Entry) → slice_get traces m ≡ Some trace → HasEntry traces m k e → slice_get trace k ≡ Some e
+entry_in traces m k trace e there has = rw there at has
+
+-- a master that has an entry has a trace
+pub has_master : (traces : List (List Entry)) (m k : ℕ) (e : Entry) → HasEntry traces m k e → m < length traces
+has_master traces m k e has = by_trace (slice_get traces m) refl where
+  by_trace : (o : Option (List Entry)) → slice_get traces m ≡ o → m < length traces
+  by_trace None none = absurd (rw none at has)
+  by_trace (Some trace) there = slice_get_within traces m trace there
