@@ -67,3 +67,17 @@ blank_cell {A} {B} x rows p i = by_row (slice_get rows p) refl where
   by_row : (o : Option (List B)) → slice_get rows p ≡ o → cell (map (λ row. replicate (length row) x) rows) p i ≡ option_map (λ (_ : B). x) (cell rows p i)
   by_row None none = rw (slice_get-map (λ (row : List B). replicate (length row) x) rows p, none) refl
   by_row (Some row) there = rw (slice_get-map (λ (row : List B). replicate (length row) x) rows p, there) (blank_row x row i)
+
+replicate_at : {A : Type 0} (n k : ℕ) (x : A) → k < n → slice_get (replicate n x) k ≡ Some x
+replicate_at zero k x below = absurd (omega arith)
+replicate_at (suc n) zero x below = refl
+replicate_at (suc n) (suc k) x below = replicate_at n k x (omega arith)
+
+-- rows of one width
+pub square_cell : {A : Type 0} (x : A) (rows width p i : ℕ) → p < rows → i < width → cell (replicate rows (replicate width x)) p i ≡ Some x
+square_cell x rows width p i row within = rw (replicate_at rows p (replicate width x) row) (replicate_at width i x within)
+
+-- a cell of a list that a map gives is one of the list
+pub cell_of : {A B : Type 0} (x y : A) (o : Option B) → option_map (λ (_ : B). x) o ≡ Some y → IsSome o × (x ≡ y)
+cell_of x y None is = absurd cc
+cell_of x y (Some b) is = (refl, cc)

@@ -10,6 +10,7 @@ use Rattle.tl_types.specs.declared.trace.Entry.{Entry}
 use Rattle.tl_audit.specs.Agrees.{names, times_in, times_named}
 use Rattle.tl_audit.specs.Marks.{AreMarkedBy, IsSetAt, NamePlaces, cell, next_of, next_times}
 use Rattle.tl_audit.specs.declared.marks.Mark.{Mark}
+use Rattle.tl_audit.specs.declared.marks.Mark.TheVariants.{Unnamed, Named, NamedAgain}
 
 -- the entry at place k is counted after those before it
 counted_last : (p i k : ℕ) (trace : List Entry) (e : Entry) → slice_get trace k ≡ Some e
@@ -96,3 +97,24 @@ still_there old new times marked trace places k e here = by_cell (cell old e.por
 pub counted : {B : Type 0} (n : ℕ) (mark : Mark) (o : Option B) → option_map (next_times n) (option_map (λ (_ : B). mark) o) ≡ option_map (λ (_ : B). next_times n mark) o
 counted n mark None = refl
 counted n mark (Some x) = refl
+
+-- ---- what a mark tells
+
+twice_named : (n : ℕ) → next_times (suc (suc n)) Unnamed ≡ NamedAgain
+twice_named zero = refl
+twice_named (suc n) = rw (twice_named n) refl
+
+pub named_again : (n : ℕ) → next_times n Unnamed ≡ NamedAgain → 1 < n
+named_again zero is = absurd cc
+named_again (suc zero) is = absurd cc
+named_again (suc (suc n)) is = omega arith
+
+pub named_never : (n : ℕ) → next_times n Unnamed ≡ Unnamed → n ≡ 0
+named_never zero is = refl
+named_never (suc zero) is = absurd cc
+named_never (suc (suc n)) is = absurd (let other = twice_named n in cc)
+
+pub named_once : (n : ℕ) → (next_times n Unnamed ≡ Unnamed → ⊥) → (next_times n Unnamed ≡ NamedAgain → ⊥) → n ≡ 1
+named_once zero some few = absurd (some refl)
+named_once (suc zero) some few = refl
+named_once (suc (suc n)) some few = absurd (few (twice_named n))

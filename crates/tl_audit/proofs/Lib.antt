@@ -4,3 +4,4 @@ mod Cells
 mod Counting
 mod Ordering
 mod Entries
+mod Judging

@@ -1,5 +1,5 @@
 -- What is kept while a trace's order is checked: the last index of each source at each port. For the proofs of the audit.
-use Rattle.std.specs.Prelude.{◌≡◌, ℕ, ◌<◌, ◌≤◌, List, Option, Some, None, slice_get, IsSome}
+use Rattle.std.specs.Prelude.{◌≡◌, ℕ, ◌<◌, ◌≤◌, List, Option, Some, None, slice_get, IsSome, IsSomeAnd}
 use Rattle.tl_types.specs.declared.trace.Entry.{Entry}
 use Rattle.tl_audit.specs.Agrees.{IsOutOfOrder}
 use Rattle.tl_audit.specs.Marks.{cell}
@@ -32,3 +32,8 @@ HaveCells lasts trace = (k : ℕ) (e : Entry) → slice_get trace k ≡ Some e �
 -- nothing was seen yet
 abbrev pub AreBlank : List (List (Option ℕ)) → Type 0
 AreBlank lasts = (p s : ℕ) (last : Option ℕ) → cell lasts p s ≡ Some last → last ≡ None
+
+-- each entry is of a port below this many and of a source that the master has
+abbrev pub HavePlaces : List ℕ → ℕ → ℕ → List Entry → Type 0
+HavePlaces counts ports master trace = (k : ℕ) (e : Entry) → slice_get trace k ≡ Some e
+    → (e.port < ports) × IsSomeAnd (slice_get counts master) (λ count. e.ask.source < count)

@@ -1,9 +1,10 @@
 //! The audit of traces and histories.
-ghost use Rattle.std.specs.Prelude.{◌≡◌, ◌<◌, ℕ, List, All, IfErr, IfNone, IfOk, IfSome, IsSomeAnd, OnOk, Some, length, slice_get};
+ghost use Rattle.std.specs.Prelude.{◌≡◌, ℕ, List, All, IfErr, IfNone, IfOk, IfSome, IsSomeAnd, OnOk, Some, replicate, slice_get};
+ghost use Rattle.std.specs.Prelude as std;
 ghost use Rattle.tl_types.specs.declared.trace.Entry.{Entry};
-ghost use Rattle.tl_audit.specs.Agrees.{Agrees, AreRecorded, HasAuditFault, IsInOrder, IsRecorded, lists_in};
+ghost use Rattle.tl_audit.specs.Agrees.{Agrees, AreRecorded, HasAuditFault, IsInOrder, IsOutOfOrder, IsRecorded, lists_in};
 ghost use Rattle.tl_audit.specs.Marks.{AreCounted, rows_in};
-ghost use Rattle.tl_audit.specs.Order.{AreBlank};
+ghost use Rattle.tl_audit.specs.Order.{HavePlaces};
 ghost use Rattle.tl_audit.specs.declared.fault.AuditFault.TheVariants.{Memory};
 
 use crate::fault::AuditFault;
@@ -59,4 +60,84 @@ fn marks_of(
     let mut rows = unnamed(alloc, histories)?;
     mark_traces(&mut rows, traces);
     Ok(rows)
+}
+
+/// No last index of any of a master's sources at any port.
+fn blank(alloc: Global, ports: usize, sources: u16) -> Result<Vec<Vec<Option<usize>>>, AllocError>
+    ensures { IfOk result (λ lasts. rows_in lasts.items
+        ≡ replicate ports (replicate sources std.None)) }
+{
+    let mut lasts = Vec::with_capacity(alloc, ports)?;
+    for _ in 0..ports {
+        lasts.push(Vec::from_elem(alloc, None, sources as usize)?)?;
+    }
+    Ok(lasts)
+}
+
+/// The first entry of a master's trace that is out of order.
+fn first_disordered(
+    alloc: Global,
+    sources: &Sources,
+    ports: usize,
+    master: usize,
+    trace: &[Entry],
+) -> Result<Option<usize>, AllocError>
+    requires { HavePlaces sources.now ports master trace.now }
+    ensures found { IfOk result (λ first. IfSome first (IsOutOfOrder trace.now)) }
+    ensures none { IfOk result (λ first. IfNone first (IsInOrder trace.now)) }
+{
+    let count = sources.count(master).unwrap_or(0);
+    let mut lasts = blank(alloc, ports, count)?;
+    Ok(first_out_of_order(&mut lasts, trace))
+}
+
+/// Checks that each trace is in order.
+fn check_order(
+    alloc: Global,
+    sources: &Sources,
+    traces: &[Trace],
+    histories: &[&[(Ask, Reply)]],
+) -> Result<(), AuditFault>
+    requires { AreRecorded sources.now (rows_in traces.now) (lists_in histories.now) }
+    ensures ok { OnOk result ((master : ℕ) (trace : List Entry)
+        → slice_get (rows_in traces.now) master ≡ Some trace → IsInOrder trace) }
+    ensures fault { IfErr result (HasAuditFault sources.now (rows_in traces.now) (lists_in histories.now)) }
+{
+    for (master, trace) in traces.iter().enumerate() {
+        let first = first_disordered(alloc, sources, histories.len(), master, trace)?;
+        if let Some(place) = first {
+            return Err(AuditFault::Order(master, place));
+        }
+    }
+    Ok(())
+}
+
+/// Whether the traces of masters and the histories of ports hold the same entries, each once.
+///
+/// A history carries wide sources, a trace the master's own. Errors, the first kind that applies, and of a kind the one of
+/// the lowest master or port and there of the lowest place: [`AuditFault::Missing`], [`AuditFault::Twice`],
+/// [`AuditFault::Order`], [`AuditFault::Untraced`]; and [`AuditFault::Memory`] where memory is refused.
+pub fn audit_lists(
+    alloc: Global,
+    sources: &Sources,
+    traces: &[Trace],
+    histories: &[&[(Ask, Reply)]],
+) -> Result<(), AuditFault>
+    ensures ok { OnOk result (Agrees sources.now (rows_in traces.now) (lists_in histories.now)) }
+    ensures fault { IfErr result (HasAuditFault sources.now (rows_in traces.now) (lists_in histories.now)) }
+
+    // Where they agree nothing but want of memory is answered beside Ok.
+    ensures agreed { Agrees sources.now (rows_in traces.now) (lists_in histories.now)
+        → IfErr result (λ fault. fault ≡ Memory) }
+{
+    check_recorded(sources, traces, histories)?;
+    let rows = marks_of(alloc, traces, histories)?;
+    if let Some((port, index)) = first_marked(&rows, Mark::NamedAgain) {
+        return Err(AuditFault::Twice(port, index));
+    }
+    check_order(alloc, sources, traces, histories)?;
+    if let Some((port, index)) = first_marked(&rows, Mark::Unnamed) {
+        return Err(AuditFault::Untraced(port, index));
+    }
+    Ok(())
 }

@@ -14,4 +14,5 @@ mod marks;
 mod order;
 mod recorded;
 
+pub use audit::audit_lists;
 pub use fault::AuditFault;

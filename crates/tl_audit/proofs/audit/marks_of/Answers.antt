@@ -16,6 +16,11 @@ pub returns : goal.returns
 returns c p i =
     let long : length c.mark_traces.new.rows ≡ length c.in_ok-rows.rows.items = search rules in
     let many : c.in_ok-rows.rows.len ≡ length c.in_ok-rows.rows.items = search rules in
-    rw (all_written c.mark_traces.new.rows c.in_ok-rows.rows.items c.in_ok-rows.rows.len many long,
-    c.mark_traces.ensures p i, c.deref_mut.ensures.value, c.in_ok-rows.ensures, blank_cell Unnamed (lists_in c.args.histories.now) p i)
+    rw (
+      all_written c.mark_traces.new.rows c.in_ok-rows.rows.items c.in_ok-rows.rows.len many long,
+      c.mark_traces.ensures p i,
+      c.deref_mut.ensures.value,
+      c.in_ok-rows.ensures,
+      blank_cell Unnamed (lists_in c.args.histories.now) p i,
+    )
     (counted (times_named (rows_in c.args.traces.now) p i) Unnamed (cell (lists_in c.args.histories.now) p i))
