@@ -202,25 +202,29 @@ fn the_limit_on_bytes(rt: HostRuntime) -> Result<(), Fail> {
     Ok(())
 }
 
+/// What becomes of a script of so many comment signs that come one by one, with an interruption before each and before the
+/// end, and how many reads are made.
+fn one_by_one(alloc: Global, length: usize) -> Result<(Option<RunFault>, u32), Fail> {
+    let script = vec![in alloc; b'#'; length]?;
+    let mut reader = reader_of(&script, 1, Trouble::BeforeEach);
+    let mut writer = writer_with(alloc, 64, Trouble::Never);
+    let outcome = serial_engine(alloc, &mut reader, &mut writer, false);
+    Ok((outcome.err(), reader.reads))
+}
+
 #[test]
 fn the_last_read_tells_what_was_read(rt: HostRuntime) -> Result<(), Fail> {
-    // a byte at a time, with an interruption before each: two reads for each byte, and two at the end of the input
-    let script = vec![in rt.alloc(); b'#'; SCRIPT_LIMIT + 1]?;
-    let mut writer = Vec::new(rt.alloc());
-    let mut reader = reader_of(&script, 1, Trouble::BeforeEach);
-    let outcome = serial_engine(rt.alloc(), &mut reader, &mut writer, false);
-    assert!(rt; matches!(&outcome, Err(RunFault::Script(ScriptFault::TooLong))));
-    assert_eq!(rt; reader.reads, 2_097_154);
-    let mut reader = reader_of(&script[..SCRIPT_LIMIT], 1, Trouble::BeforeEach);
-    let outcome = serial_engine(rt.alloc(), &mut reader, &mut writer, false);
+    let (fault, reads) = one_by_one(rt.alloc(), SCRIPT_LIMIT + 1)?;
+    assert!(rt; matches!(&fault, Some(RunFault::Script(ScriptFault::TooLong))));
+    assert_eq!(rt; reads, 2_097_154);
+    let (fault, reads) = one_by_one(rt.alloc(), SCRIPT_LIMIT)?;
     assert!(rt;
         matches!(
-            &outcome,
-            Err(RunFault::Script(ScriptFault::Missing(Key::Slots)))
+            &fault,
+            Some(RunFault::Script(ScriptFault::Missing(Key::Slots)))
         )
     );
-    assert_eq!(rt; reader.reads, 2_097_154);
-    assert!(rt; writer.is_empty());
+    assert_eq!(rt; reads, 2_097_154);
     Ok(())
 }
 
