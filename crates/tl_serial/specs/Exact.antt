@@ -1,4 +1,4 @@
--- A system has one serial run.
+-- A system has one serial run. This project's own.
 use Rattle.std.specs.Prelude.{◌≡◌, List}
 use Rattle.tl_types.specs.Request.{Request}
 use Rattle.tl_types.specs.Response.{Response}

@@ -1,4 +1,5 @@
--- The run of a system by one thread: master 0's requests, then master 1's, and so on, each answered before the next.
+-- The run of a system by one thread: master 0's requests, then master 1's, and so on, each answered before the next. The
+-- order is this project's own; what a reply is (`reply`) is told with the stores that give it.
 use Rattle.std.specs.Prelude.{◌≡◌, ℕ, ◌+◌, ◌==◌, List, [], ◌∷◌, ◌++◌, map, filter, take, length, Some, slice_get, IsSomeAnd}
 use Rattle.tl_types.specs.Request.{Request}
 use Rattle.tl_types.specs.Response.{Response}

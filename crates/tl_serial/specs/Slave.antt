@@ -1,4 +1,4 @@
--- Where the slaves of a system stand after a list of entries.
+-- Where the slaves of a system stand after a list of entries. This project's own.
 use Rattle.std.specs.Prelude.{◌≡◌, ℕ, ◌+◌, Bool, true, List, [], ◌∷◌, length, Option, Some, option_map, unwrap_or, slice_get, IsSomeAnd, map, take}
 use Rattle.tl_map.specs.Block.{IsWide}
 use Rattle.tl_types.specs.declared.trace.Entry.{Entry}

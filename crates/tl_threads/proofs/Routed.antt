@@ -1,6 +1,5 @@
 -- Where requests go, and whose their replies are.
-use Rattle.std.proofs.Common.{◌≡◌, ℕ, ◌+◌, ◌<◌, inl, inr, List, length, Option, Some, None, IsSomeAnd, slice_get, refl, sym, arith}
-use Rattle.std.proofs.lemmas.Option.{slice_get_within}
+use Rattle.std.proofs.Common.{ℕ, ◌+◌, ◌<◌, inl, inr, List, length, arith}
 use Rattle.tl_types.specs.Request.{Request}
 use Rattle.tl_map.specs.declared.map.Range.{Range}
 use Rattle.tl_map.specs.Block.{IsWide}

@@ -1,5 +1,5 @@
--- The room of bells. It is this project's own.
-use Rattle.std.specs.Prelude.{ℕ, ◌≤◌, max}
+-- The room of bells. This project's own.
+use Rattle.std.specs.Prelude.{ℕ, ◌≤◌}
 use Rattle.crossbeam_channel.specs.Ends.{receives_on, ruled_capacity}
 use Rattle.tl_threads.specs.declared.bell.Listener.{Listener}
 

@@ -1,4 +1,4 @@
--- What the threads of a run share. It is this project's own.
+-- What the threads of a run share. This project's own.
 use Rattle.std.specs.Prelude.{◌≡◌, ℕ, ◌+◌, ◌≤◌, length}
 use Rattle.tl_arena.specs.Views.{ArenaId}
 use Rattle.tl_script.specs.System.{System}

@@ -15,6 +15,7 @@ use Rattle.tl_port.specs.Book.{BookView, new_book}
 use Rattle.tl_rule.specs.Views.{reset_of}
 use Rattle.tl_threads.specs.declared.start.TraceOf.{TraceOf}
 use Rattle.tl_threads.specs.declared.run.MasterThread.{MasterThread}
+use Rattle.tl_threads.specs.declared.run.ThreadSet.{ThreadSet}
 use Rattle.tl_threads.specs.declared.run.WorkerThread.{WorkerThread}
 use Rattle.tl_threads.specs.declared.setup.PortListeners.{PortListeners}
 use Rattle.tl_threads.specs.Bell.{HasRoom}
@@ -38,6 +39,12 @@ pub record IsNewMasterThread (arena : ArenaId) (s : System) (number : ℕ) (t : 
 pub record IsNewWorkerThread (ports masters : ℕ) (t : WorkerThread) : Type 0 where
   pub port : t.port < ports
   pub rings : vec_len t.bells.others ≡ masters
+
+-- what the threads of a run are handed: each master's of what its operations need, and each port's
+pub record IsNewThreadSet (arena : ArenaId) (s : System) (t : ThreadSet) : Type 0 where
+  pub masters : AreFrom (IsNewMasterThread arena s) 0 t.masters.items
+  pub all : vec_len t.masters ≡ length s.jobs
+  pub workers : All (IsNewWorkerThread (length s.ranges + 1) (length s.jobs)) t.workers.items
 
 -- so many threads hear the bell of the port, which has room for a ring for each of its requests and a stop for each of them
 pub record IsHeardAt (journals : List ℕ) (workers : ℕ) (p : PortListeners) : Type 0 where
@@ -95,6 +102,11 @@ pub record IsTraceOf (arena : ArenaId) (ranges : List Range) (jobs : List (List 
   pub its_jobs : List Job
   pub at : slice_get jobs number ≡ Some its_jobs
   pub trace : IsTrace arena ranges number its_jobs t.items
+
+-- a trace of each master
+pub record AreTracesOf (arena : ArenaId) (s : System) (traces : List (Vec Entry Global)) : Type 0 where
+  pub all : length traces ≡ length s.jobs
+  pub each : AreFrom (IsTraceOf arena s.ranges s.jobs) 0 traces
 
 -- the book is of the arena
 abbrev pub IsBookIn : ArenaId → ℕ → BookView → Type 0

@@ -65,7 +65,10 @@ impl Ringer {
         ensures many { IfOk result (λ made. vec_len made.1 ≡ listeners) }
         ensures room { IfOk result (λ made. All (HasRoom room) made.1.items) }
     {
-        let (sender, receiver, mut pass) = bounded_with::<Ring, (), Free, Global>(alloc, room.max(1))?;
+        let (sender, receiver, mut pass) = bounded_with::<Ring, (), Free, Global>(
+            alloc,
+            room.max(1),
+        )?;
         let mut made = Vec::with_capacity(alloc, listeners)?;
         for _ in 0..listeners {
             let listener = Listener {

@@ -3,7 +3,7 @@ ghost use Rattle.std.specs.Prelude.{◌≡◌, ◌+◌, ◌≤◌, All, IfOk, ve
 ghost use Rattle.tl_arena.specs.Account.{IsClosing};
 ghost use Rattle.tl_threads.specs.Context.{AreShared};
 ghost use Rattle.tl_threads.specs.Run.{IsBookOf};
-ghost use Rattle.tl_threads.specs.Start.{AreFrom, IsNewMasterThread, IsNewWorkerThread, IsNewBook, IsTraceOf, IsBookIn};
+ghost use Rattle.tl_threads.specs.Start.{AreFrom, AreTracesOf, IsBookIn, IsNewBook, IsNewThreadSet};
 
 use crate::context::Shared;
 use crate::fault::ThreadFault;
@@ -64,26 +64,29 @@ fn run_scope<'x, N: ArenaName + Send + Sync, R: Threads + Wait + Sync, G: Gate +
     shared: &Shared<'x, N, G>,
     threads: ThreadSet,
 ) -> Result<Ended, ThreadFault>
-    requires masters { AreFrom (IsNewMasterThread shared.now.arena.now shared.now.system.now) 0 threads.masters.items }
-    requires jobs { vec_len threads.masters ≡ length shared.now.system.now.jobs }
-    requires workers { All (IsNewWorkerThread (length shared.now.system.now.ranges + 1) (length shared.now.system.now.jobs)) threads.workers.items }
-    ensures many { IfOk result (λ ended. vec_len ended.traces ≡ vec_len threads.masters) }
-    ensures traces { IfOk result (λ ended. AreFrom
-        (IsTraceOf shared.now.arena.now shared.now.system.now.ranges shared.now.system.now.jobs) 0 ended.traces.items) }
+    requires { IsNewThreadSet shared.now.arena.now shared.now.system.now threads }
+    ensures { IfOk result (λ ended. AreTracesOf shared.now.arena.now shared.now.system.now ended.traces.items) }
 {
-    let Shared { system, arena, ports, gate } = *shared;
+    let Shared {
+        system,
+        arena,
+        ports,
+        gate,
+    } = *shared;
     thread::scope(
         thread::scope_env(),
         rt,
         |scope| -> Result<Ended, ThreadFault>
             requires { AreShared N.arena system.now arena.now (vec_len ports.now)
-                × AreFrom (IsNewMasterThread arena.now system.now) 0 threads.masters.items
-                × (vec_len threads.masters ≡ length system.now.jobs)
-                × All (IsNewWorkerThread (length system.now.ranges + 1) (length system.now.jobs)) threads.workers.items }
-            ensures { IfOk result (λ ended. (vec_len ended.traces ≡ vec_len threads.masters) × AreFrom
-                (IsTraceOf arena.entry.now system.entry.now.ranges system.entry.now.jobs) 0 ended.traces.items) }
+                × IsNewThreadSet arena.now system.now threads }
+            ensures { IfOk result (λ ended. AreTracesOf arena.entry.now system.entry.now ended.traces.items) }
         {
-            let shared = Shared { system, arena, ports, gate };
+            let shared = Shared {
+                system,
+                arena,
+                ports,
+                gate,
+            };
             run_in(scope, rt, alloc, &shared, threads)
         },
     )
@@ -101,14 +104,11 @@ pub(crate) fn run_named<N: ArenaName + Send + Sync, R: Threads + Wait + Sync, G:
 ) -> Result<ThreadedRun, ThreadFault>
     requires name { arena ≡ N.arena }
     requires ports { length system.now.ranges + 1 ≤ arena.about.ports }
-    requires masters { AreFrom (IsNewMasterThread arena system.now) 0 threads.masters.items }
-    requires jobs { vec_len threads.masters ≡ length system.now.jobs }
-    requires workers { All (IsNewWorkerThread (length system.now.ranges + 1) (length system.now.jobs)) threads.workers.items }
+    requires threads { IsNewThreadSet arena system.now threads }
     requires books { AreFrom (IsNewBook arena system.now) 0 books.items }
     requires all_books { vec_len books ≡ length system.now.ranges + 1 }
     requires counts { length system.now.jobs ≡ length system.now.counts }
-    ensures many { IfOk result (λ run. vec_len run.traces ≡ vec_len threads.masters) }
-    ensures traces { IfOk result (λ run. AreFrom (IsTraceOf arena system.now.ranges system.now.jobs) 0 run.traces.items) }
+    ensures traces { IfOk result (λ run. AreTracesOf arena system.now run.traces.items) }
     ensures all { IfOk result (λ run. vec_len run.books ≡ vec_len books) }
     ensures books { IfOk result (λ run. AreFrom (IsBookOf arena) 0 run.books.items) }
     ensures account { IfOk result (λ run. IsClosing arena.about run.account.free.items run.account.held.items

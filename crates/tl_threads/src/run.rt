@@ -1,6 +1,6 @@
 //! The threads of a run: started, joined, stopped.
 ghost use Rattle.std.specs.Prelude.{◌≡◌, ◌+◌, ◌≤◌, All, IfOk, vec_len, vec_capacity, length, IsTrue};
-ghost use Rattle.tl_threads.specs.Start.{AreFrom, IsNewMasterThread, IsNewWorkerThread, IsPromised, IsTraceOf};
+ghost use Rattle.tl_threads.specs.Start.{AreFrom, AreTracesOf, IsNewMasterThread, IsNewThreadSet, IsNewWorkerThread, IsPromised, IsTraceOf};
 
 use crate::bell::{Bells, Ring, Ringer};
 use crate::context::Shared;
@@ -54,12 +54,13 @@ fn start_masters<'s, 'e: 's, N: ArenaName + Send + Sync, R: Threads + Wait + Syn
     masters: Vec<MasterThread>,
     handles: Vec<PromisedHandle<Trace, TraceOf>>,
 ) -> StartedMasters
-    requires masters { AreFrom (IsNewMasterThread shared.now.arena.now shared.now.system.now) 0 masters.items }
+    requires masters { AreFrom (IsNewMasterThread shared.now.arena.now shared.now.system.now)
+        0 masters.items }
     requires jobs { vec_len masters ≡ length shared.now.system.now.jobs }
     requires none { vec_len handles ≡ 0 }
     requires room { vec_len masters ≤ vec_capacity handles }
-    ensures promised { AreFrom (IsPromised shared.now.arena.now shared.now.system.now.ranges shared.now.system.now.jobs)
-        0 result.handles.items }
+    ensures promised { AreFrom (IsPromised shared.now.arena.now
+        shared.now.system.now.ranges shared.now.system.now.jobs) 0 result.handles.items }
     ensures few { vec_len result.handles ≤ vec_len masters }
     ensures all { IsTrue result.all → vec_len result.handles ≡ vec_len masters }
 {
@@ -115,7 +116,8 @@ fn start_workers<'s, 'e: 's, N: ArenaName + Send + Sync, R: Threads + Wait + Syn
     workers: Vec<WorkerThread>,
     handles: Vec<JoinHandle<Option<usize>>>,
 ) -> StartedWorkers
-    requires workers { All (IsNewWorkerThread (length shared.now.system.now.ranges + 1) (length shared.now.system.now.jobs)) workers.items }
+    requires workers { All (IsNewWorkerThread
+        (length shared.now.system.now.ranges + 1) (length shared.now.system.now.jobs)) workers.items }
     requires none { vec_len handles ≡ 0 }
     requires room { vec_len workers ≤ vec_capacity handles }
 {
@@ -184,12 +186,8 @@ pub(crate) fn run_in<
     shared: &Shared<'e, N, G>,
     threads: ThreadSet,
 ) -> Result<Ended, ThreadFault>
-    requires masters { AreFrom (IsNewMasterThread shared.now.arena.now shared.now.system.now) 0 threads.masters.items }
-    requires jobs { vec_len threads.masters ≡ length shared.now.system.now.jobs }
-    requires workers { All (IsNewWorkerThread (length shared.now.system.now.ranges + 1) (length shared.now.system.now.jobs)) threads.workers.items }
-    ensures many { IfOk result (λ ended. vec_len ended.traces ≡ vec_len threads.masters) }
-    ensures traces { IfOk result (λ ended. AreFrom
-        (IsTraceOf shared.now.arena.now shared.now.system.now.ranges shared.now.system.now.jobs) 0 ended.traces.items) }
+    requires { IsNewThreadSet shared.now.arena.now shared.now.system.now threads }
+    ensures { IfOk result (λ ended. AreTracesOf shared.now.arena.now shared.now.system.now ended.traces.items) }
 {
     let ThreadSet {
         masters,

@@ -6,7 +6,8 @@ ghost use Rattle.tl_threads.specs.Trace.{IsIdle};
 ghost use Rattle.tl_types.specs.declared.limits.TheConstants.{MAX_MASTERS};
 ghost use Rattle.tl_script.specs.declared.system.TheConstants.{MAX_JOBS};
 ghost use Rattle.tl_threads.specs.declared.threads.TheConstants.{MAX_WORKERS};
-ghost use Rattle.tl_threads.specs.Start.{AreFrom, IsNewMasterThread, IsNewWorkerThread, IsNewBook, IsHeardAt, AddsArrivals, AreJournals};
+ghost use Rattle.tl_threads.specs.Start.{AddsArrivals, AreFrom, AreJournals, IsHeardAt};
+ghost use Rattle.tl_threads.specs.Start.{IsNewBook, IsNewMasterThread, IsNewThreadSet, IsNewWorkerThread};
 ghost use Rattle.tl_arena.specs.Views.{new_master, new_port};
 ghost use Rattle.tl_port.specs.Book.{new_book};
 ghost use Rattle.tl_rule.specs.Views.{reset_of};
@@ -210,7 +211,14 @@ fn master_threads_of(
     let mut threads = Vec::with_capacity(alloc, seats.len())?;
     let mut bells = Vec::with_capacity(alloc, seats.len())?;
     for seat in seats {
-        let (thread, ringer) = master_thread_of(alloc, arena, threads.len(), seat, system, port_bells)?;
+        let (thread, ringer) = master_thread_of(
+            alloc,
+            arena,
+            threads.len(),
+            seat,
+            system,
+            port_bells,
+        )?;
         threads.push_reserved(thread);
         bells.push(ringer)?;
     }
@@ -277,7 +285,8 @@ fn worker_threads_of(
     master_bells: &mut [Ringer],
 ) -> Result<Vec<WorkerThread>, Memory>
     requires { All (IsHeardAt journals.now workers) heard.items }
-    ensures { IfOk result (λ threads. All (IsNewWorkerThread (length journals.now) (length master_bells.old)) threads.items) }
+    ensures { IfOk result (λ threads. All
+        (IsNewWorkerThread (length journals.now) (length master_bells.old)) threads.items) }
 {
     let mut threads = Vec::with_capacity(alloc, usize::saturating_mul(journals.len(), workers))?;
     for listeners in heard {
@@ -300,13 +309,16 @@ pub(crate) fn threads_of(
     requires ports { length journals.now ≡ length system.now.ranges + 1 }
     requires few { All (λ n. n ≤ MAX_MASTERS * MAX_JOBS) journals.now }
     requires workers { workers ≤ MAX_WORKERS }
-    ensures many { IfOk result (λ threads. vec_len threads.masters ≡ length system.now.jobs) }
-    ensures masters { IfOk result (λ threads. AreFrom (IsNewMasterThread arena.now system.now) 0 threads.masters.items) }
-    ensures workers { IfOk result (λ threads. All (IsNewWorkerThread (length journals.now) (length system.now.jobs))
-        threads.workers.items) }
+    ensures { IfOk result (IsNewThreadSet arena.now system.now) }
 {
     let (mut port_bells, heard) = port_bells_of(alloc, journals, workers)?;
-    let (masters, mut master_bells) = master_threads_of(alloc, arena, seats, system, &mut port_bells)?;
+    let (masters, mut master_bells) = master_threads_of(
+        alloc,
+        arena,
+        seats,
+        system,
+        &mut port_bells,
+    )?;
     let threads = worker_threads_of(alloc, heard, journals, workers, &mut master_bells)?;
     Ok(ThreadSet {
         masters,

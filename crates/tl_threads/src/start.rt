@@ -55,13 +55,23 @@ pub(crate) fn start_master<'s, 'e: 's, N: ArenaName + Send + Sync, R: Wait + Syn
         arena: Snapshot::of(shared.arena),
         map: Snapshot::of(shared.system.map()),
     };
-    let Shared { system, arena, ports, gate } = *shared;
+    let Shared {
+        system,
+        arena,
+        ports,
+        gate,
+    } = *shared;
     let run = move || -> Trace
         requires { AreShared N.arena system.now arena.now (vec_len ports.now) × IsIdle arena.now number master
             × (master.limit ≡ length (sends jobs.now.items)) × (vec_len bells.others ≡ length system.now.ranges + 1) }
         ensures { IsTrace arena.entry.now system.entry.now.ranges number jobs.entry.now.items result.items }
     {
-        let shared = Shared { system, arena, ports, gate };
+        let shared = Shared {
+            system,
+            arena,
+            ports,
+            gate,
+        };
         run_master(rt, &shared, number, master, jobs, bells)
     };
     scope.spawn_with(promise, run).ok()
@@ -78,12 +88,22 @@ pub(crate) fn start_worker<'s, 'e: 's, N: ArenaName + Send + Sync, R: Wait + Syn
     requires port { port < length shared.now.system.now.ranges + 1 }
     requires bells { vec_len bells.others ≡ length shared.now.system.now.jobs }
 {
-    let Shared { system, arena, ports, gate } = *shared;
+    let Shared {
+        system,
+        arena,
+        ports,
+        gate,
+    } = *shared;
     let run = move || -> Option<usize>
         requires { AreShared N.arena system.now arena.now (vec_len ports.now) × (port < length system.now.ranges + 1)
             × (vec_len bells.others ≡ length system.now.jobs) }
     {
-        let shared = Shared { system, arena, ports, gate };
+        let shared = Shared {
+            system,
+            arena,
+            ports,
+            gate,
+        };
         run_worker(rt, &shared, port, bells)
     };
     scope.spawn(run).ok()

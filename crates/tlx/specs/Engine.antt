@@ -1,4 +1,4 @@
--- What an engine reads, and what it writes for that.
+-- What an engine reads, and what it writes for that. This project's own.
 use Rattle.std.specs.Prelude.{◌≡◌, ◌≢◌, ℕ, ◌+◌, List, ◌++◌, length, Option, Result, Err, OnOk, IfErr}
 use Rattle.std.specs.Io.KnownBytes.{Appends, Keeps}
 use Rattle.tl_types.specs.declared.trace.Entry.{Entry}

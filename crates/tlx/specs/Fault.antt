@@ -1,4 +1,4 @@
--- What becomes of the fault of a step.
+-- What becomes of the fault of a step. This project's own.
 use Rattle.std.specs.Prelude.{ℕ}
 use Rattle.tl_script.specs.declared.fault.ScriptFault.{ScriptFault}
 use Rattle.tl_script.specs.declared.fault.ScriptFault.TheVariants as script

@@ -1,4 +1,4 @@
-use Rattle.std.proofs.Common.{◌+◌, ◌<◌, List, length, rules, sym, subst}
+use Rattle.std.proofs.Common.{List, sym, subst}
 use Rattle.tl_map.specs.declared.map.Range.{Range}
 use Rattle.tl_master.specs.Master.{MasterState}
 use Rattle.tl_threads.specs.Trace.{HasAsked, IsSame}
