@@ -35,12 +35,11 @@ use crate::engine::threads::threads_engine;
 use crate::fault::RunFault;
 use crate::options::{LINE_WORKERS, Options, options_status, read_options};
 use std::alloc::Global;
-use std::env;
-use std::io;
 use std::io::{ErrorKind, Read, Write};
 use std::process::ExitCode;
 use std::sync::Wait;
 use std::thread::Threads;
+use std::{env, io};
 
 /// The status of a command line that is not text.
 const USAGE: u8 = 2;
@@ -120,10 +119,10 @@ fn run<R: Read, W: Write, T: Threads + Wait + Sync>(
     // Which of the two texts is written.
     ensures serial { options.serial ≡ true
         → IsAnswered (IsSerialText false) (R.remaining reader.old) (R.remaining reader.new)
-            (W.contents writer.old) (W.contents writer.new) result }
+        (W.contents writer.old) (W.contents writer.new) result }
     ensures threads { options.serial ≡ false
         → IsAnswered IsThreadedText (R.remaining reader.old) (R.remaining reader.new)
-            (W.contents writer.old) (W.contents writer.new) result }
+        (W.contents writer.old) (W.contents writer.new) result }
 {
     if options.serial {
         serial_engine(alloc, reader, writer, false)

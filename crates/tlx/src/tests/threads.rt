@@ -1,7 +1,7 @@
 //! Runs by threads.
 use super::{FIRST, SYSTEM, Trouble, reader_of, writer_with};
-use crate::fault::RunFault;
 use crate::engine::threads::threads_engine;
+use crate::fault::RunFault;
 use std::alloc::Global;
 use std::io::ErrorKind;
 use std::sync::Wait;
