@@ -1,5 +1,5 @@
 -- The bytes of words: what one word adds, a cell read, and a cell replaced.
-use Rattle.std.proofs.Common.{◌≡◌, ℕ, zero, suc, ◌+◌, ◌-◌, ◌*◌, ◌/◌, ◌%◌, ◌^◌, ◌<◌, ◌≤◌, List, [], ◌∷◌, ◌++◌, length, take, drop, set, get_or, replicate, refl, sym, ap, ◌∙◌, arith}
+use Rattle.std.proofs.Common.{◌≡◌, ℕ, zero, suc, ◌+◌, ◌-◌, ◌*◌, ◌/◌, ◌%◌, ◌^◌, ◌<◌, ◌≤◌, List, [], ◌∷◌, ◌++◌, length, take, drop, set, get_or, replicate, slice_get, Some, refl, sym, ap, ◌∙◌, arith}
 use Rattle.std.proofs.lemmas.Nat.{pow_pos, mod_below, mod_low, shr_high, shr-shr}
 use Rattle.std.proofs.lemmas.List.{append_assoc, length-append, take_at, drop_at, length-take-le, length-drop, set-get_or}
 use Rattle.tl_ops.specs.Number.{low_bytes}
@@ -121,3 +121,28 @@ cell_written words start width cell within fits small =
 pub length-with_window : (bytes : List ℕ) (start : ℕ) (new : List ℕ) → start + length new ≤ length bytes → length (with_window bytes start new) ≡ length bytes
 length-with_window bytes start new fits =
     length-append (take start bytes ++ new) (drop (start + length new) bytes) ∙ omega (arith, length-append (take start bytes) new, length-take-le start bytes (omega (arith, fits)), length-drop (start + length new) bytes)
+
+-- ---- a whole word
+
+words_long : (words : List ℕ) (i : ℕ) → i < length words → length (lanes_of (take i words)) ≡ 8 * i
+words_long words i within = length-lanes_of (take i words) ∙ omega (arith, length-take-le i words (omega (arith, within)))
+
+pub word_read : (words : List ℕ) (i : ℕ) → i < length words → low_bytes 8 (get_or words i 0) ≡ take 8 (drop (8 * i) (lanes_of words))
+unfolding word_bytes
+word_read words i within =
+    let word = get_or words i 0 in
+    rw (lanes_at words i 0 within) (sym (middle (lanes_of (take i words)) (word_bytes word) (lanes_of (drop (suc i) words)) (8 * i) 8 (words_long words i within) (length-word_bytes word)))
+
+pub word_written : (words : List ℕ) (i word : ℕ) → i < length words → lanes_of (set words i word) ≡ with_window (lanes_of words) (8 * i) (low_bytes 8 word)
+unfolding word_bytes
+word_written words i word within =
+    let was = get_or words i 0 in
+    let wide : length (word_bytes word) ≡ length (word_bytes was) = length-word_bytes word ∙ sym (length-word_bytes was) in
+    rw (lanes_at words i 0 within) (lanes_set words i word within ∙ sym (middle_replaced (lanes_of (take i words)) (word_bytes was) (lanes_of (drop (suc i) words)) (word_bytes word) (8 * i) (words_long words i within) wide))
+
+-- the byte at a place, from a window of one
+pub byte_at_place : (bytes : List ℕ) (place byte : ℕ) → byte ∷ [] ≡ take 1 (drop place bytes) → slice_get bytes place ≡ Some byte
+byte_at_place [] zero byte is = cc
+byte_at_place [] (suc place) byte is = cc
+byte_at_place (b ∷ bytes) zero byte is = cc
+byte_at_place (b ∷ bytes) (suc place) byte is = byte_at_place bytes place byte is
