@@ -29,7 +29,7 @@ given_more f given k d within = ap (map f) (drop_more given k d within)
 -- a byte that is not given stays, and one that is given replaces the old one
 pub merged_by_masks : (given : List (Option ℕ)) (old : ℕ)
     → map (λ (p : ℕ × ℕ). bit_or p.0 p.1) (zip (map (λ (p : ℕ × ℕ). bit_and p.0 p.1) (zip (low_bytes (length given) old) (keep_of given))) (operand_of given))
-        ≡ merged (low_bytes (length given) old) given
+    ≡ merged (low_bytes (length given) old) given
 merged_by_masks [] old = refl
 merged_by_masks (None ∷ given) old =
     let kept : bit_or (bit_and (old % 256) 255) 0 ≡ old % 256 = or_zero_r _ ∙ and_mask (old % 256) 8 ∙ omega arith in

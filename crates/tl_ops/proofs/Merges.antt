@@ -32,8 +32,8 @@ four_parts bytes start m n =
 -- a put of the first m bytes, and then of the next n, is a put of both
 pub window_grows : (bytes : List ℕ) (start m n : ℕ) (given : List (Option ℕ)) → start + (m + n) ≤ length bytes → m + n ≤ length given
     → (let first = with_window bytes start (merged (take m (drop start bytes)) (take m given)) in
-        with_window first (start + m) (merged (take n (drop (start + m) first)) (take n (drop m given))))
-      ≡ with_window bytes start (merged (take (m + n) (drop start bytes)) (take (m + n) given))
+    with_window first (start + m) (merged (take n (drop (start + m) first)) (take n (drop m given))))
+    ≡ with_window bytes start (merged (take (m + n) (drop start bytes)) (take (m + n) given))
 window_grows bytes start m n given inside enough =
     let a = take start bytes in
     let b = take m (drop start bytes) in
@@ -59,12 +59,12 @@ window_grows bytes start m n given inside enough =
     let long_both : length (new_b ++ new_c) ≡ length (b ++ c) = omega (arith, length-append new_b new_c, length-append b c, b_kept, c_kept) in
     let regrouped : (a ++ new_b) ++ (new_c ++ d) ≡ a ++ ((new_b ++ new_c) ++ d) = simp append_assoc in
     ap (λ old. with_window first (start + m) (merged old (take n (drop m given)))) next_is
-        ∙ ap (λ bs. with_window bs (start + m) new_c) first_is
-        ∙ middle_replaced (a ++ new_b) c d new_c (start + m) front c_kept
-        ∙ regrouped
-        ∙ sym (middle_replaced a (b ++ c) d (new_b ++ new_c) start a_long long_both)
-        ∙ ap (λ bs. with_window bs start (new_b ++ new_c)) (sym whole)
-        ∙ ap (λ new. with_window bytes start new) (sym new_both)
+    ∙ ap (λ bs. with_window bs (start + m) new_c) first_is
+    ∙ middle_replaced (a ++ new_b) c d new_c (start + m) front c_kept
+    ∙ regrouped
+    ∙ sym (middle_replaced a (b ++ c) d (new_b ++ new_c) start a_long long_both)
+    ∙ ap (λ bs. with_window bs start (new_b ++ new_c)) (sym whole)
+    ∙ ap (λ new. with_window bytes start new) (sym new_both)
 
 -- a byte put after the first ones, where a zero stood
 pub byte_put : (front done rest : List ℕ) (was byte place : ℕ) → length (front ++ done) ≡ place
@@ -75,6 +75,6 @@ byte_put front done rest was byte place at =
     let window : take 1 (drop place bytes) ≡ was ∷ [] = ap (λ bs. take 1 (drop place bs)) grouped ∙ middle (front ++ done) (was ∷ []) rest place 1 at refl in
     let regrouped : (front ++ done) ++ ((byte ∷ []) ++ rest) ≡ front ++ ((done ++ byte ∷ []) ++ rest) = simp append_assoc in
     ap (λ old. with_window bytes place (merged old (Some byte ∷ []))) window
-        ∙ ap (λ bs. with_window bs place (byte ∷ [])) grouped
-        ∙ middle_replaced (front ++ done) (was ∷ []) rest (byte ∷ []) place at refl
-        ∙ regrouped
+    ∙ ap (λ bs. with_window bs place (byte ∷ [])) grouped
+    ∙ middle_replaced (front ++ done) (was ∷ []) rest (byte ∷ []) place at refl
+    ∙ regrouped

@@ -23,4 +23,3 @@ returns-else-first-clause-bytes c =
     let old = number-low_bytes c.args.width c.args.old c.requires.old in
     let operand = number-low_bytes c.args.width c.args.operand c.requires.operand in
     elim c.match-op.branch [ in-Min w ↦ search rules | in-Max w ↦ search rules | in-MinU w ↦ search (rules, old, operand) | in-MaxU w ↦ search (rules, old, operand) ]
-

@@ -20,6 +20,6 @@ loop-k-preserved c =
     let long : length (zeros ++ take k bytes) ≡ place = length-append zeros (take k bytes) ∙ omega (arith, length-replicate {A = ℕ} c.args.lead 0, length-take-le k bytes (omega arith)) in
     let more : take (k + 1) bytes ≡ take k bytes ++ byte ∷ [] = take_more bytes k 0 (omega arith) in
     c.update.ensures.after
-        ∙ ap (λ l. with_window l place (merged (take 1 (drop place l)) (Some byte ∷ []))) lanes
-        ∙ byte_put zeros (take k bytes) (replicate rest 0) 0 byte place long
-        ∙ ap (λ done. zeros ++ (done ++ replicate rest 0)) (sym more)
+    ∙ ap (λ l. with_window l place (merged (take 1 (drop place l)) (Some byte ∷ []))) lanes
+    ∙ byte_put zeros (take k bytes) (replicate rest 0) 0 byte place long
+    ∙ ap (λ done. zeros ++ (done ++ replicate rest 0)) (sym more)

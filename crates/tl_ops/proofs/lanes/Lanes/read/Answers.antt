@@ -12,5 +12,5 @@ loop-k-preserved c =
     let more : done + 8 ≡ 8 * (c.loop-k.k + 1) = omega arith in
     let items : c.try_extend_from_slice.new.self.items ≡ c.loop-k.bytes.items ++ c.to_le_bytes.result = search rules in
     let word : c.to_le_bytes.result ≡ take 8 (drop done (drop start lanes)) =
-        c.to_le_bytes.ensures ∙ to_le_bytes-low c.word-word.result c.word-word.type_inv ∙ c.word-word.ensures ∙ ap (λ p. take 8 (drop p lanes)) place ∙ ap (take 8) (sym (drop-drop done start lanes)) in
+    c.to_le_bytes.ensures ∙ to_le_bytes-low c.word-word.result c.word-word.type_inv ∙ c.word-word.ensures ∙ ap (λ p. take 8 (drop p lanes)) place ∙ ap (take 8) (sym (drop-drop done start lanes)) in
     items ∙ ap (λ bytes. c.loop-k.bytes.items ++ bytes) word ∙ ap (λ bytes. bytes ++ take 8 (drop done (drop start lanes))) c.loop-k.invariant ∙ sym (take-add done 8 (drop start lanes)) ∙ ap (λ n. take n (drop start lanes)) more
