@@ -111,7 +111,7 @@ lanes_around_window : (base offset n : ℕ) (bytes : List ℕ)
 lanes_around_window base offset n bytes =
     let spare = replicate {A = ℕ} (spare_after (base % 8 + length bytes)) 0 in
     let parts : bytes ≡ take offset bytes ++ (take n (drop offset bytes) ++ drop (offset + n) bytes) =
-        sym (take-append-drop offset bytes) ∙ ap (λ rest. take offset bytes ++ rest) (sym (take-append-drop n (drop offset bytes)) ∙ ap (λ rest. take n (drop offset bytes) ++ rest) (drop-drop n offset bytes)) in
+    sym (take-append-drop offset bytes) ∙ ap (λ rest. take offset bytes ++ rest) (sym (take-append-drop n (drop offset bytes)) ∙ ap (λ rest. take n (drop offset bytes) ++ rest) (drop-drop n offset bytes)) in
     ap (λ bs. replicate (base % 8) 0 ++ (bs ++ spare)) parts ∙ simp append_assoc
 
 front_long : (base offset : ℕ) (bytes : List ℕ) → offset ≤ length bytes → length (replicate {A = ℕ} (base % 8) 0 ++ take offset bytes) ≡ base % 8 + offset
@@ -122,7 +122,7 @@ pub window_in_lanes : (base offset n : ℕ) (bytes : List ℕ) → offset + n �
 window_in_lanes base offset n bytes inside =
     let wide : length (take n (drop offset bytes)) ≡ n = length-take-le n (drop offset bytes) (omega (arith, length-drop offset bytes)) in
     ap (λ lanes. take n (drop (base % 8 + offset) lanes)) (lanes_around_window base offset n bytes)
-        ∙ middle (replicate (base % 8) 0 ++ take offset bytes) (take n (drop offset bytes)) _ (base % 8 + offset) n (front_long base offset bytes (omega arith)) wide
+    ∙ middle (replicate (base % 8) 0 ++ take offset bytes) (take n (drop offset bytes)) _ (base % 8 + offset) n (front_long base offset bytes (omega arith)) wide
 
 regrouped : (zeros front new rest spare : List ℕ) → (zeros ++ front) ++ (new ++ (rest ++ spare)) ≡ zeros ++ ((front ++ new ++ rest) ++ spare)
 regrouped zeros front new rest spare = simp append_assoc
@@ -136,9 +136,9 @@ window_put_in_lanes base offset bytes new inside =
     let spare = replicate {A = ℕ} (spare_after (base % 8 + length bytes)) 0 in
     let same : length bytes ≡ length (with_window bytes offset new) = sym (length-with_window bytes offset new inside) in
     ap (λ lanes. with_window lanes (base % 8 + offset) new) (lanes_around_window base offset (length new) bytes)
-        ∙ middle_replaced (replicate (base % 8) 0 ++ take offset bytes) old _ new (base % 8 + offset) (front_long base offset bytes (omega arith)) wide
-        ∙ regrouped (replicate (base % 8) 0) (take offset bytes) new (drop (offset + length new) bytes) spare
-        ∙ ap (λ n. replicate {A = ℕ} (base % 8) 0 ++ (with_window bytes offset new ++ replicate (spare_after (base % 8 + n)) 0)) same
+    ∙ middle_replaced (replicate (base % 8) 0 ++ take offset bytes) old _ new (base % 8 + offset) (front_long base offset bytes (omega arith)) wide
+    ∙ regrouped (replicate (base % 8) 0) (take offset bytes) new (drop (offset + length new) bytes) spare
+    ∙ ap (λ n. replicate {A = ℕ} (base % 8) 0 ++ (with_window bytes offset new ++ replicate (spare_after (base % 8 + n)) 0)) same
 
 -- ---- how long a window is after a request
 
@@ -184,16 +184,16 @@ served kind base count lanes new_lanes ask kept is counted made =
     let old = take width (drop offset bytes) in
     let old_long : length old ≡ width = length-take-le width (drop offset bytes) (omega (arith, length-drop offset bytes, stands.inside)) in
     let old_is : take (length ask.bytes) (drop (base % 8 + offset) lanes) ≡ old =
-        ap (λ n. take n (drop (base % 8 + offset) lanes)) counted ∙ ap (λ ls. take width (drop (base % 8 + offset) ls)) kept.spare ∙ window_in_lanes base offset width bytes stands.inside in
+    ap (λ n. take n (drop (base % 8 + offset) lanes)) counted ∙ ap (λ ls. take width (drop (base % 8 + offset) ls)) kept.spare ∙ window_in_lanes base offset width bytes stands.inside in
     let new = new_window ask.op old ask.bytes in
     let new_long : length new ≡ width = length-new_window ask.op old ask.bytes (counted ∙ sym old_long) ∙ old_long in
     let inside : offset + length new ≤ length bytes = omega (arith, new_long, stands.inside) in
     let left = with_window bytes offset new in
     let lanes_are : new_lanes ≡ lanes_with base left =
-        made ∙ ap (λ was. with_window lanes (base % 8 + offset) (new_window ask.op was ask.bytes)) old_is ∙ ap (λ ls. with_window ls (base % 8 + offset) new) kept.spare ∙ window_put_in_lanes base offset bytes new inside in
+    made ∙ ap (λ was. with_window lanes (base % 8 + offset) (new_window ask.op was ask.bytes)) old_is ∙ ap (λ ls. with_window ls (base % 8 + offset) new) kept.spare ∙ window_put_in_lanes base offset bytes new inside in
     let left_long : length left ≡ count = length-with_window bytes offset new inside ∙ kept.counted in
     let left_is : bytes_in base count new_lanes ≡ left =
-        ap (λ ls. bytes_in base count ls) lanes_are ∙ ap (λ n. bytes_in base n (lanes_with base left)) (sym left_long) ∙ bytes_in-lanes_with base left in
+    ap (λ ls. bytes_in base count ls) lanes_are ∙ ap (λ n. bytes_in base n (lanes_with base left)) (sym left_long) ∙ bytes_in-lanes_with base left in
     let long : length (bytes_in base count new_lanes) ≡ count = ap length left_is ∙ left_long in
     record {
       kept = record {
