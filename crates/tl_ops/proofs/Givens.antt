@@ -1,5 +1,5 @@
 -- What is given of a cell, byte by byte, the highest first; and the masked merge of it into what was there.
-use Rattle.std.proofs.Common.{◌≡◌, ℕ, zero, suc, ◌+◌, ◌-◌, ◌*◌, ◌/◌, ◌%◌, ◌^◌, ◌<◌, ◌≤◌, List, [], ◌∷◌, length, drop, get_or, map, Option, Some, None, bit_and, bit_or, unwrap_or, ◌⊎◌, inl, inr, refl, sym, ap, ◌∙◌, arith}
+use Rattle.std.proofs.Common.{◌≡◌, ℕ, suc, ◌+◌, ◌*◌, ◌/◌, ◌%◌, ◌^◌, ◌<◌, List, [], ◌∷◌, length, drop, get_or, map, Option, Some, None, bit_and, bit_or, ◌⊎◌, inl, inr, refl, ap, ◌∙◌, arith}
 use Rattle.std.specs.List.{zip}
 use Rattle.std.specs.Int.Bits.{or_zero_r, or_zero_l, and_zero_r}
 use Rattle.std.proofs.lemmas.Nat.{and_mask, or_shifted, shl_whole, pow-add}
@@ -8,7 +8,7 @@ use Rattle.tl_types.specs.declared.operation.AskOp.{AskOp}
 use Rattle.tl_types.specs.declared.operation.AskOp.TheVariants.{PutFull, PutPartial}
 use Rattle.tl_ops.specs.Number.{low_bytes}
 use Rattle.tl_ops.specs.Window.{merged, operand_of, new_window}
-use Rattle.tl_ops.specs.Cell.{keep_byte, keep_of}
+use Rattle.tl_ops.specs.Cell.{keep_of}
 
 -- a byte below the bytes that were gathered
 pub byte_below : (cell byte n : ℕ) → byte < 256 → cell < 2 ^ (8 * n) → n < 8

@@ -1,5 +1,5 @@
 -- A bank's bytes among the lanes of its words: where a window stands there, and what a request leaves.
-use Rattle.std.proofs.Common.{◌≡◌, ℕ, zero, suc, ◌+◌, ◌-◌, ◌*◌, ◌/◌, ◌%◌, ◌^◌, ◌<◌, ◌≤◌, Bool, true, false, if◌then◌else◌, List, [], ◌∷◌, ◌++◌, length, take, drop, replicate, Option, ◌⊎◌, inl, inr, refl, sym, ap, ◌∙◌, rules, arith}
+use Rattle.std.proofs.Common.{◌≡◌, ℕ, zero, suc, ◌+◌, ◌-◌, ◌%◌, ◌^◌, ◌≤◌, Bool, true, false, if◌then◌else◌, List, ◌++◌, length, take, drop, replicate, Option, ◌⊎◌, inl, inr, refl, sym, ap, ◌∙◌, rules, arith}
 use Rattle.std.proofs.lemmas.List.{append_assoc, length-append, length-replicate, length-take-le, length-drop, length-map, take-append-drop, drop-drop}
 use Rattle.tl_types.proofs.Zipped.{zipped_length}
 use Rattle.tl_types.specs.declared.operation.AskOp.{AskOp}
@@ -13,10 +13,10 @@ use Rattle.tl_types.specs.Response.{Response}
 use Rattle.tl_ops.specs.declared.kind.Kind.{Kind}
 use Rattle.tl_ops.specs.declared.kind.Kind.TheVariants.{Ram, Rom, Regs, NoDevice}
 use Rattle.tl_ops.specs.Support.{supports, ram_supports, rom_supports, regs_supports}
-use Rattle.tl_ops.specs.Bank.{IsLawfulBank, IsKept, bytes_in, lanes_with}
+use Rattle.tl_ops.specs.Bank.{IsKept, bytes_in, lanes_with}
 use Rattle.tl_ops.specs.Cell.{FitsWords, spare_after}
 use Rattle.tl_ops.specs.Store.{Store, legal, window, with_window, after, shown, reply}
-use Rattle.tl_ops.specs.Window.{new_window, merged, operand_of, combine_arith}
+use Rattle.tl_ops.specs.Window.{new_window, operand_of, combine_arith}
 use Rattle.tl_ops.proofs.Bytes.{length-low_bytes}
 use Rattle.tl_ops.proofs.LaneLists.{middle, middle_replaced, length-with_window}
 use Rattle.tl_ops.proofs.Merges.{length-merged}

@@ -1,6 +1,6 @@
 -- The bytes of words: what one word adds, a cell read, and a cell replaced.
 use Rattle.std.proofs.Common.{◌≡◌, ℕ, zero, suc, ◌+◌, ◌-◌, ◌*◌, ◌/◌, ◌%◌, ◌^◌, ◌<◌, ◌≤◌, List, [], ◌∷◌, ◌++◌, length, take, drop, set, get_or, replicate, slice_get, Some, refl, sym, ap, ◌∙◌, arith}
-use Rattle.std.proofs.lemmas.Nat.{pow_pos, mod_below, mod_low, shr_high, shr-shr}
+use Rattle.std.proofs.lemmas.Nat.{pow_pos, mod_below, shr_high}
 use Rattle.std.proofs.lemmas.List.{append_assoc, length-append, take_at, drop_at, length-take-le, length-drop, set-get_or}
 use Rattle.tl_ops.specs.Number.{low_bytes}
 use Rattle.tl_ops.specs.Store.{with_window}

@@ -1,10 +1,9 @@
 -- A word with a cell replaced by a mask.
-use Rattle.std.proofs.Common.{◌≡◌, ℕ, ◌+◌, ◌-◌, ◌*◌, ◌/◌, ◌%◌, ◌^◌, ◌<◌, ◌≤◌, bit_and, bit_or, sym, ap, ◌∙◌, lit≤, arith}
+use Rattle.std.proofs.Common.{◌≡◌, ℕ, ◌+◌, ◌-◌, ◌*◌, ◌/◌, ◌%◌, ◌^◌, ◌<◌, ◌≤◌, bit_and, bit_or, ap, ◌∙◌, lit≤, arith}
 use Rattle.std.proofs.Math.Nat.{pow-le-pow_right, add-mul, mul-sub, mul_comm}
 use Rattle.std.proofs.lemmas.Nat.{pow-add, pow_pos, shl_whole, shr_split, mod_below, and-not, and_comm, or_block, or_shifted}
 use Rattle.std.proofs.lemmas.Nat.Bits.{and_high}
 use Rattle.std.specs.Int.Bits.{or_zero_r}
-use Rattle.tl_ops.specs.Cell.{with_cell}
 
 -- a mask of j bits from bit k on
 mask_shifted : (j k : ℕ) → j + k ≤ 64 → ((2 ^ j - 1) * 2 ^ k) % 2 ^ 64 ≡ 2 ^ (j + k) - 2 ^ k

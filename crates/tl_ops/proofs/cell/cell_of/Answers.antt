@@ -1,4 +1,4 @@
-use Rattle.std.proofs.Common.{◌≡◌, ◌*◌, ◌/◌, ◌^◌}
+use Rattle.std.proofs.Common.{◌*◌, ◌/◌, ◌^◌}
 use Rattle.std.proofs.lemmas.Nat.{and_mask}
 use Rattle.tl_ops.proofs.cell.cell_of.Goals as goal
 

@@ -1,7 +1,6 @@
-use Rattle.std.proofs.Common.{rules, ◌≡◌, ◌∙◌, ◌+◌, ◌%◌, ◌*◌, ◌^◌, sym, ap}
+use Rattle.std.proofs.Common.{rules, ◌∙◌, ◌+◌, ◌%◌, ◌*◌, ◌^◌}
 use Rattle.std.proofs.lemmas.Nat.{and_mask}
 use Rattle.tl_ops.proofs.Bytes.{number-low_bytes, length-low_bytes, low_bytes-mod, low_bytes-mod_word}
-use Rattle.tl_ops.specs.Number.{low_bytes}
 use Rattle.tl_ops.proofs.cell.combine_arith.Goals.{in-Min, in-Max, in-MinU, in-MaxU}
 use Rattle.tl_ops.proofs.cell.combine_arith.Goals as goal
 

@@ -1,6 +1,5 @@
-use Rattle.std.proofs.Common.{rules, ◌≡◌, ◌∙◌, ◌+◌, ◌-◌, ◌<◌, ◌≤◌, suc, length, drop, get_or, Option, None, Some, unwrap_or, sym, ap, arith}
-use Rattle.tl_ops.specs.Window.{operand_of}
-use Rattle.tl_ops.specs.Cell.{keep_byte, keep_of}
+use Rattle.std.proofs.Common.{rules, ◌≡◌, ◌+◌, ◌-◌, ◌<◌, suc, length, get_or, None, unwrap_or, arith}
+use Rattle.tl_ops.specs.Cell.{keep_byte}
 use Rattle.tl_ops.proofs.Givens.{byte_below, given_more}
 use Rattle.tl_ops.proofs.cell.given_cell.Goals as goal
 

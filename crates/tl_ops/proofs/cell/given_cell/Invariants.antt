@@ -1,4 +1,4 @@
-use Rattle.std.proofs.Common.{◌≡◌, ◌-◌, ◌*◌, ◌^◌, ◌<◌, ◌≤◌, length, drop}
+use Rattle.std.proofs.Common.{◌≡◌, ◌-◌, ◌*◌, ◌^◌, ◌<◌, length, drop}
 use Rattle.tl_ops.specs.Number.{low_bytes}
 use Rattle.tl_ops.specs.Window.{operand_of}
 use Rattle.tl_ops.specs.Cell.{keep_of}

@@ -1,4 +1,4 @@
-use Rattle.std.proofs.Common.{◌≡◌, ◌∙◌, ◌<◌, ◌≤◌, ◌*◌, ◌^◌, length, bit_and, refl, arith}
+use Rattle.std.proofs.Common.{◌<◌, ◌*◌, ◌^◌, length, bit_and, refl, arith}
 use Rattle.std.proofs.lemmas.Nat.{or_lt, and_le_l}
 use Rattle.tl_ops.proofs.Bytes.{low_bytes-and, low_bytes-or}
 use Rattle.tl_ops.proofs.Givens.{merged_by_masks, put_merges}

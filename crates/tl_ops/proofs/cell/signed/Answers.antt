@@ -1,11 +1,10 @@
-use Rattle.std.proofs.Common.{rules, ◌≡◌, ◌∙◌, ◌<◌, ◌≤◌, ◌^◌, ◌*◌, ◌%◌, length, sym, lit≤, pos, arith}
+use Rattle.std.proofs.Common.{rules, ◌≡◌, ◌∙◌, ◌<◌, ◌≤◌, ◌^◌, ◌*◌, ◌%◌, sym, lit≤, pos, arith}
 use Rattle.std.proofs.lemmas.Int.{ints}
 use Rattle.std.proofs.lemmas.Bool.Decides.{nat_tests}
 use Rattle.std.proofs.lemmas.Nat.{one_shl}
 use Rattle.std.proofs.Math.Nat.{pow-le-pow_right}
 use Rattle.tl_ops.proofs.Numbers.{wide_difference, signed_high}
 use Rattle.tl_ops.proofs.Bytes.{number-low_bytes, length-low_bytes}
-use Rattle.tl_ops.specs.Number.{number}
 use Rattle.tl_ops.proofs.cell.signed.Goals as goal
 
 pub returns-then-unsigned-span : goal.returns-then-unsigned-span

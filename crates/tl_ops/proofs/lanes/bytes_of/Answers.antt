@@ -1,4 +1,4 @@
-use Rattle.std.proofs.Common.{rules, ◌≡◌, ◌∙◌, ◌%◌, ◌^◌, take, sym, ap, arith}
+use Rattle.std.proofs.Common.{rules, ◌≡◌, ◌∙◌, ◌%◌, ◌^◌, take, ap, arith}
 use Rattle.std.specs.Int.{to_le_bytes, w64}
 use Rattle.tl_ops.proofs.Numbers.{take-to_le_bytes}
 use Rattle.tl_ops.proofs.lanes.bytes_of.Goals as goal

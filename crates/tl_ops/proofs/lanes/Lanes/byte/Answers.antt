@@ -1,4 +1,4 @@
-use Rattle.std.proofs.Common.{◌≡◌, ◌∙◌, ◌%◌, ◌∷◌, [], List, ap, sym, arith}
+use Rattle.std.proofs.Common.{◌≡◌, ◌∙◌, ◌%◌, ◌∷◌, [], ap, arith}
 use Rattle.tl_ops.proofs.LaneLists.{byte_at_place}
 use Rattle.tl_ops.proofs.lanes.Lanes.byte.Goals as goal
 

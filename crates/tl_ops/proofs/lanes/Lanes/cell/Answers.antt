@@ -1,6 +1,5 @@
-use Rattle.std.proofs.Common.{rules, ◌≡◌, ◌<◌, ◌/◌, ◌*◌, length, get_or, ap, arith}
+use Rattle.std.proofs.Common.{◌≡◌, ◌<◌, ◌/◌, length, get_or, ap, arith}
 use Rattle.std.proofs.lemmas.List.{get_or_read}
-use Rattle.tl_ops.specs.Cell.{lanes_of}
 use Rattle.tl_ops.proofs.LaneLists.{length-lanes_of, cell_read}
 use Rattle.tl_ops.proofs.lanes.Lanes.cell.Goals as goal
 

@@ -1,4 +1,4 @@
-use Rattle.std.proofs.Common.{◌≡◌, ℕ, ◌∙◌, ◌+◌, ◌-◌, ◌≤◌, ◌++◌, ◌∷◌, [], suc, length, take, drop, replicate, get_or, Some, sym, ap, arith}
+use Rattle.std.proofs.Common.{◌≡◌, ℕ, ◌∙◌, ◌+◌, ◌-◌, ◌++◌, ◌∷◌, [], suc, length, take, drop, replicate, get_or, Some, sym, ap, arith}
 use Rattle.std.proofs.lemmas.List.{take_more, length-append, length-replicate, length-take-le}
 use Rattle.tl_ops.specs.Cell.{spare_after}
 use Rattle.tl_ops.specs.Store.{with_window}

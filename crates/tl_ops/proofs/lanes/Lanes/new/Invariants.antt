@@ -1,4 +1,4 @@
-use Rattle.std.proofs.Common.{◌≡◌, ◌+◌, ◌-◌, ◌*◌, ◌++◌, length, take, replicate}
+use Rattle.std.proofs.Common.{◌≡◌, ◌+◌, ◌-◌, ◌++◌, length, take, replicate}
 use Rattle.tl_ops.specs.Cell.{spare_after}
 use Rattle.tl_ops.proofs.lanes.Lanes.new.Given as goal
 

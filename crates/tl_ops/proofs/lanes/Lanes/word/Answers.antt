@@ -1,4 +1,4 @@
-use Rattle.std.proofs.Common.{◌≡◌, ◌<◌, ◌*◌, length, get_or, ap, arith}
+use Rattle.std.proofs.Common.{◌≡◌, ◌<◌, length, get_or, ap, arith}
 use Rattle.std.proofs.lemmas.List.{get_or_read}
 use Rattle.tl_ops.proofs.LaneLists.{length-lanes_of, word_read}
 use Rattle.tl_ops.proofs.lanes.Lanes.word.Goals as goal
