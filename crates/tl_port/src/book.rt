@@ -218,11 +218,7 @@ impl Book {
 }
 
 /// Accepts a request that is posted to the port, puts it at the end of what is in flight, and answers its wide source.
-fn take_posted(
-    arena: &Arena,
-    seat: &mut PortSeat,
-    flights: &mut VecDeque<Accepted>,
-) -> Option<u16>
+fn take_posted(arena: &Arena, seat: &mut PortSeat, flights: &mut VecDeque<Accepted>) -> Option<u16>
     requires arena { seat.old.arena ≡ arena.now }
     requires serving { flights.old.items ≡ seat.old.serving }
     requires room { seat.old.arena.about.slots ≤ deque_capacity flights.old }
