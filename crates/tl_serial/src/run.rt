@@ -40,7 +40,9 @@ impl Slave {
         ensures counted { OnOk result (self.new.served ≡ self.old.served + 1) }
         ensures reply { IfOk result (λ served. served.1 ≡ reply self.old.bank ask.now) }
         ensures history { IfOk result (λ served. kept_by self.new
-            ≡ option_map (λ h. h ++ (record ask.now { source = wide }, record served.1 { source = wide }) ∷ []) (kept_by self.old)) }
+            ≡ option_map
+            (λ h. h ++ (record ask.now { source = wide }, record served.1 { source = wide }) ∷ [])
+            (kept_by self.old)) }
     {
         let index = self.served;
         let reply = self.bank.serve(ask);
@@ -57,7 +59,8 @@ fn send(slaves: &mut [Slave], system: &System, master: usize, ask: &Ask) -> Resu
     requires ready { length slaves.old ≡ length system.now.ranges + 1 }
     requires source { IsSomeAnd (slice_get system.now.counts master) (λ count. ask.now.source < count) }
     ensures asked { IfOk result (λ entry. entry.ask ≡ ask.now) }
-    ensures stands { IfOk result (λ entry. (keeps : Bool) (log : List (ℕ × Entry)) → Stand system.now keeps log slaves.old
+    ensures stands { IfOk result (λ entry. (keeps : Bool) (log : List (ℕ × Entry))
+        → Stand system.now keeps log slaves.old
         → Stand system.now keeps (log ++ (master, entry) ∷ []) slaves.new) }
 {
     let port = system.map().route(ask);
@@ -80,9 +83,11 @@ pub(crate) fn run_master(
     jobs: &[Job],
 ) -> Result<Trace, Memory>
     requires ready { length slaves.old ≡ length system.now.ranges + 1 }
-    requires source { IsSomeAnd (slice_get system.now.counts master) (λ count. All (λ ask. ask.source < count) (sends jobs.now)) }
+    requires source { IsSomeAnd (slice_get system.now.counts master)
+        (λ count. All (λ ask. ask.source < count) (sends jobs.now)) }
     ensures asked { IfOk result (λ trace. asks_in trace.items ≡ sends jobs.now) }
-    ensures stands { IfOk result (λ trace. (keeps : Bool) (log : List (ℕ × Entry)) → Stand system.now keeps log slaves.old
+    ensures stands { IfOk result (λ trace. (keeps : Bool) (log : List (ℕ × Entry))
+        → Stand system.now keeps log slaves.old
         → Stand system.now keeps (log ++ numbered master trace.items) slaves.new) }
 {
     let mut trace = Trace::with_capacity(alloc, jobs.len())?;
@@ -106,7 +111,8 @@ fn slave_of(
     reset: &[u8],
     keeps: bool,
 ) -> Result<Slave, Memory>
-    ensures bank { IfOk result (λ slave. slave.bank ≡ record { kind = kind; base = base; bytes = reset.now }) }
+    ensures bank { IfOk result (λ slave. slave.bank
+        ≡ record { kind = kind; base = base; bytes = reset.now }) }
     ensures fresh { IfOk result (IsFresh keeps) }
 {
     let bank = Bank::new(alloc, kind, base, reset).map_err(|_| Memory)?;
@@ -123,7 +129,8 @@ pub(crate) fn slaves_of(
     devices: &[Device],
     keeps: bool,
 ) -> Result<Vec<Slave>, Memory>
-    ensures banks { IfOk result (λ slaves. map bank_of slaves.items ≡ map store_of devices.now ++ error_store ∷ []) }
+    ensures banks { IfOk result (λ slaves. map bank_of slaves.items
+        ≡ map store_of devices.now ++ error_store ∷ []) }
     ensures fresh { IfOk result (λ slaves. All (IsFresh keeps) slaves.items) }
 {
     let mut slaves = Vec::with_capacity(alloc, devices.len() + 1)?;
@@ -150,7 +157,8 @@ fn histories_of(alloc: Global, slaves: Vec<Slave>) -> Result<Vec<History>, Memor
 /// Serves the masters of a system, one after the other, and gives their traces.
 fn run_masters(alloc: Global, slaves: &mut [Slave], system: &System) -> Result<Vec<Trace>, Memory>
     requires { length slaves.old ≡ length system.now.ranges + 1 }
-    ensures asked { IfOk result (λ traces. map asks_in (lists_of traces.items) ≡ map sends system.now.jobs) }
+    ensures asked { IfOk result (λ traces. map asks_in (lists_of traces.items)
+        ≡ map sends system.now.jobs) }
     ensures stands { IfOk result (λ traces. (keeps : Bool) → Stand system.now keeps [] slaves.old
         → Stand system.now keeps (log_of (lists_of traces.items)) slaves.new) }
 {
@@ -165,7 +173,8 @@ fn run_masters(alloc: Global, slaves: &mut [Slave], system: &System) -> Result<V
 
 /// Runs a system on one thread: the masters one after the other, each request answered before the next is sent.
 pub fn run_serial(alloc: Global, system: &System) -> Result<SerialRun, Memory>
-    ensures { IfOk result (λ run. IsSerialRun system.now (lists_of run.traces.items) (lists_of run.histories.items)) }
+    ensures { IfOk result (λ run. IsSerialRun system.now (lists_of run.traces.items)
+        (lists_of run.histories.items)) }
 {
     let mut slaves = slaves_of(alloc, system.devices(), true)?;
     let traces = run_masters(alloc, &mut slaves, system)?;

@@ -12,7 +12,8 @@ use tl_types::Memory;
 /// Serves the masters of a system, one after the other, and gives the lines of their traces.
 fn write_masters(alloc: Global, slaves: &mut [Slave], system: &System) -> Result<String, Memory>
     requires { length slaves.old ≡ length system.now.ranges + 1 }
-    ensures { IfOk result (λ text. AreWritten system.now slaves.old slaves.new (string_bytes text) (length system.now.jobs)) }
+    ensures { IfOk result (λ text. AreWritten system.now slaves.old slaves.new (string_bytes text)
+        (length system.now.jobs)) }
 {
     let jobs = system.jobs();
     let mut text = String::new(alloc);

@@ -107,10 +107,9 @@ impl Listener {
     /// Waits for a ring. A bell that nobody can ring any more says stop.
     pub(crate) fn hear(&mut self, rt: &impl Wait) -> Ring {
         self.heard = usize::saturating_add(self.heard, 1);
-        match self.receiver.recv_as::<Free, _>(rt, &mut self.pass) {
-            Ok(ring) => ring,
-            Err(_) => Ring::Stop,
-        }
+        self.receiver
+            .recv_as::<Free, _>(rt, &mut self.pass)
+            .unwrap_or(Ring::Stop)
     }
 
     /// How often it waited for a ring.

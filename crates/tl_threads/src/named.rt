@@ -65,7 +65,8 @@ fn run_scope<'x, N: ArenaName + Send + Sync, R: Threads + Wait + Sync, G: Gate +
     threads: ThreadSet,
 ) -> Result<Ended, ThreadFault>
     requires { IsNewThreadSet shared.now.arena.now shared.now.system.now threads }
-    ensures { IfOk result (λ ended. AreTracesOf shared.now.arena.now shared.now.system.now ended.traces.items) }
+    ensures { IfOk result (λ ended. AreTracesOf shared.now.arena.now shared.now.system.now
+        ended.traces.items) }
 {
     let Shared {
         system,
@@ -79,7 +80,8 @@ fn run_scope<'x, N: ArenaName + Send + Sync, R: Threads + Wait + Sync, G: Gate +
         |scope| -> Result<Ended, ThreadFault>
             requires { AreShared N.arena system.now arena.now (vec_len ports.now)
                 × IsNewThreadSet arena.now system.now threads }
-            ensures { IfOk result (λ ended. AreTracesOf arena.entry.now system.entry.now ended.traces.items) }
+            ensures { IfOk result (λ ended. AreTracesOf arena.entry.now system.entry.now
+                ended.traces.items) }
         {
             let shared = Shared {
                 system,
@@ -111,8 +113,8 @@ pub(crate) fn run_named<N: ArenaName + Send + Sync, R: Threads + Wait + Sync, G:
     ensures traces { IfOk result (λ run. AreTracesOf arena system.now run.traces.items) }
     ensures all { IfOk result (λ run. vec_len run.books ≡ vec_len books) }
     ensures books { IfOk result (λ run. AreFrom (IsBookOf arena) 0 run.books.items) }
-    ensures account { IfOk result (λ run. IsClosing arena.about run.account.free.items run.account.held.items
-        run.account.left.items) }
+    ensures account { IfOk result (λ run. IsClosing arena.about run.account.free.items
+        run.account.held.items run.account.left.items) }
 {
     let room = Vec::with_capacity(alloc, books.len())?;
     let ports = ports_of::<N>(alloc, books)?;

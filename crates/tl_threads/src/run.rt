@@ -88,7 +88,8 @@ fn join_masters<R: Threads>(
     handles: Vec<PromisedHandle<Trace, TraceOf>>,
     traces: Vec<Trace>,
 ) -> Vec<Trace>
-    requires promised { AreFrom (IsPromised arena.now system.now.ranges system.now.jobs) 0 handles.items }
+    requires promised { AreFrom (IsPromised arena.now system.now.ranges system.now.jobs)
+        0 handles.items }
     requires none { vec_len traces ≡ 0 }
     requires room { vec_len handles ≤ vec_capacity traces }
     ensures many { vec_len result ≡ vec_len handles }
@@ -187,7 +188,8 @@ pub(crate) fn run_in<
     threads: ThreadSet,
 ) -> Result<Ended, ThreadFault>
     requires { IsNewThreadSet shared.now.arena.now shared.now.system.now threads }
-    ensures { IfOk result (λ ended. AreTracesOf shared.now.arena.now shared.now.system.now ended.traces.items) }
+    ensures { IfOk result (λ ended. AreTracesOf shared.now.arena.now shared.now.system.now
+        ended.traces.items) }
 {
     let ThreadSet {
         masters,

@@ -97,7 +97,8 @@ fn book_of(
 ) -> Result<Book, Memory>
     requires seat { seat ≡ new_port arena.now number }
     requires bank { bank ≡ reset_of arena.now.about number }
-    ensures { IfOk result (λ book. book ≡ new_book (new_port arena.now number) (reset_of arena.now.about number) journal) }
+    ensures { IfOk result (λ book. book
+        ≡ new_book (new_port arena.now number) (reset_of arena.now.about number) journal) }
 {
     Book::new(alloc, bank, seat, arena.slots(), journal).map_err(|_| Memory)
 }
@@ -187,10 +188,8 @@ fn master_of(
     ensures idle { IfOk result (λ master. IsIdle arena.now number master) }
     ensures room { IfOk result (λ master. master.limit ≡ limit) }
 {
-    match Master::new(alloc, seat, system.sources(), limit) {
-        Ok(master) => Ok(master),
-        Err(_) => Err(Memory),
-    }
+    let master = Master::new(alloc, seat, system.sources(), limit).map_err(|_| Memory)?;
+    Ok(master)
 }
 
 /// What the thread of each new master is handed, and an end of each master's bell.
@@ -205,7 +204,8 @@ fn master_threads_of(
     requires sources { arena.now.about.counts ≡ system.now.counts }
     requires ports { length port_bells.old ≡ length system.now.ranges + 1 }
     ensures many { IfOk result (λ made. vec_len made.0 ≡ length system.now.jobs) }
-    ensures threads { IfOk result (λ made. AreFrom (IsNewMasterThread arena.now system.now) 0 made.0.items) }
+    ensures threads { IfOk result (λ made. AreFrom (IsNewMasterThread arena.now system.now)
+        0 made.0.items) }
     ensures bells { IfOk result (λ made. vec_len made.1 ≡ length system.now.jobs) }
 {
     let mut threads = Vec::with_capacity(alloc, seats.len())?;

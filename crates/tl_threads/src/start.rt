@@ -46,8 +46,10 @@ pub(crate) fn start_master<'s, 'e: 's, N: ArenaName + Send + Sync, R: Wait + Syn
     requires new { IsIdle shared.now.arena.now number master }
     requires room { master.limit ≡ length (sends jobs.now.items) }
     requires bells { vec_len bells.others ≡ length shared.now.system.now.ranges + 1 }
-    ensures { IfSome result (λ h. (h.promise.number ≡ number) × (h.promise.arena.value ≡ shared.now.arena.now)
-        × (h.promise.map.value ≡ shared.now.system.now.ranges) × (h.promise.jobs.value ≡ jobs.now)) }
+    ensures { IfSome result (λ h. (h.promise.number ≡ number)
+        × (h.promise.arena.value ≡ shared.now.arena.now)
+        × (h.promise.map.value ≡ shared.now.system.now.ranges)
+        × (h.promise.jobs.value ≡ jobs.now)) }
 {
     let promise = TraceOf {
         number,
@@ -62,9 +64,12 @@ pub(crate) fn start_master<'s, 'e: 's, N: ArenaName + Send + Sync, R: Wait + Syn
         gate,
     } = *shared;
     let run = move || -> Trace
-        requires { AreShared N.arena system.now arena.now (vec_len ports.now) × IsIdle arena.now number master
-            × (master.limit ≡ length (sends jobs.now.items)) × (vec_len bells.others ≡ length system.now.ranges + 1) }
-        ensures { IsTrace arena.entry.now system.entry.now.ranges number jobs.entry.now.items result.items }
+        requires { AreShared N.arena system.now arena.now (vec_len ports.now)
+            × IsIdle arena.now number master
+            × (master.limit ≡ length (sends jobs.now.items))
+            × (vec_len bells.others ≡ length system.now.ranges + 1) }
+        ensures { IsTrace arena.entry.now system.entry.now.ranges number jobs.entry.now.items
+            result.items }
     {
         let shared = Shared {
             system,
@@ -95,7 +100,8 @@ pub(crate) fn start_worker<'s, 'e: 's, N: ArenaName + Send + Sync, R: Wait + Syn
         gate,
     } = *shared;
     let run = move || -> Option<usize>
-        requires { AreShared N.arena system.now arena.now (vec_len ports.now) × (port < length system.now.ranges + 1)
+        requires { AreShared N.arena system.now arena.now (vec_len ports.now)
+            × (port < length system.now.ranges + 1)
             × (vec_len bells.others ≡ length system.now.jobs) }
     {
         let shared = Shared {

@@ -23,8 +23,10 @@ pub const MAX_WORKERS: usize = 4;
 /// A new arena for the masters of a system and for ports with these banks.
 fn arena_of(alloc: Global, system: &System, banks: &[Bank]) -> Result<Made, Memory>
     requires { banks.now ≡ resets system.now }
-    ensures arena { IfOk result (λ made. made.arena.about ≡ about_of system.now.slots system.now.counts (resets system.now)) }
-    ensures masters { IfOk result (λ made. AreNewMasters made.arena (length system.now.jobs) made.masters.items) }
+    ensures arena { IfOk result (λ made. made.arena.about
+        ≡ about_of system.now.slots system.now.counts (resets system.now)) }
+    ensures masters { IfOk result (λ made. AreNewMasters made.arena (length system.now.jobs)
+        made.masters.items) }
     ensures ports { IfOk result (λ made. AreNewPorts made.arena (length banks.now) made.ports.items) }
 {
     let _lawful = system.jobs();
@@ -55,7 +57,8 @@ pub fn run_threads<R: Threads + Wait + Sync, G: Gate + Sync>(
 ) -> Result<ThreadedRun, ThreadFault>
     requires some { 1 ≤ workers }
     requires few { workers ≤ MAX_WORKERS }
-    ensures { IfOk result (λ run. IsThreadedRun system.now (lists_of run.traces.items) run.books.items run.account.free.items run.account.held.items run.account.left.items) }
+    ensures { IfOk result (λ run. IsThreadedRun system.now (lists_of run.traces.items)
+        run.books.items run.account.free.items run.account.held.items run.account.left.items) }
 {
     let banks = banks_of(alloc, system.devices())?;
     let Made {
