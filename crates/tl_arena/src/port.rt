@@ -17,7 +17,29 @@ use tl_slots::{Phase, phase_of, word_of};
 use tl_types::Reply;
 
 impl Arena {
-    /// Accepts the request in a slot, where one is posted there for this port.
+    /// Accepts a request that is posted for this port, by one pass from slot 0 upward.
+    pub fn accept(&self, port: &mut PortSeat) -> Option<Accepted>
+        requires arena { port.old.arena ≡ self.now }
+        ensures slot { IfSome result (λ a. a.0 < self.now.about.slots) }
+        ensures some { IfSome result (λ a. (ask_at port.old.serving a.0 ≡ std.None) × (port.new ≡ with_accepted port.old a)) }
+        ensures event { IfSome result (λ a. IsAcceptStep port.old a port.new) }
+        ensures none { IfNone result (port.new ≡ port.old) }
+        ensures law { IsLawfulPort port.new }
+    {
+        let number = port.number();
+        for slot in 0..self.slots {
+            let Some(owner) = self.poster(slot, number) else {
+                continue;
+            };
+            if let Some(accepted) = self.accept_from(port, slot, owner) {
+                return Some(accepted);
+            }
+        }
+        None
+    }
+
+    /// Accepts the request in a slot, where one is posted there for this port. It looks first: an exchange takes the
+    /// word's cache line from its owner.
     pub fn accept_at(&self, port: &mut PortSeat, slot: usize) -> Option<Accepted>
         requires arena { port.old.arena ≡ self.now }
         ensures some { IfSome result (λ a. (a.0 ≡ slot) × (ask_at port.old.serving slot ≡ std.None) × (port.new ≡ with_accepted port.old a)) }

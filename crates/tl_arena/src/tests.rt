@@ -2,6 +2,7 @@
 mod account;
 mod client;
 mod floor;
+mod passes;
 mod shop;
 mod threads;
 mod turns;

@@ -34,11 +34,11 @@ window_by_places bytes new start fits =
     let wide : length (take start bytes) ≡ start = length-take-le start bytes (omega arith) in
     let rest = drop (start + length new) bytes in
     let second : (k : ℕ) → start ≤ k → slice_get (with_window bytes start new) k ≡ slice_get (new ++ rest) (k - start) =
-        λ k from. rw append_assoc (in_second (take start bytes) (new ++ rest) start k wide from) in
+    λ k from. rw append_assoc (in_second (take start bytes) (new ++ rest) start k wide from) in
     record {
       inside = λ k from below. second k from ∙ slice_get-append_left new rest (k - start) (omega arith);
       outside = λ k where_. ⊎_elim
-        (λ before. rw append_assoc (slice_get-append_left (take start bytes) (new ++ rest) k (omega arith) ∙ slice_get-take start bytes k before))
-        (λ past. second k (omega arith) ∙ in_second new rest (length new) (k - start) refl (omega arith) ∙ slice_get-drop (start + length new) bytes (k - start - length new) ∙ ap (slice_get bytes) (omega arith))
-        where_;
+          (λ before. rw append_assoc (slice_get-append_left (take start bytes) (new ++ rest) k (omega arith) ∙ slice_get-take start bytes k before))
+          (λ past. second k (omega arith) ∙ in_second new rest (length new) (k - start) refl (omega arith) ∙ slice_get-drop (start + length new) bytes (k - start - length new) ∙ ap (slice_get bytes) (omega arith))
+          where_;
     }

@@ -1,5 +1,5 @@
 -- The value of bytes as a sum over their places.
-use Rattle.std.proofs.Common.{◌≡◌, ℕ, ◌+◌, ◌*◌, ◌^◌, List, [], ◌∷◌, fold, ◌∙◌, sym, ap, refl, arith}
+use Rattle.std.proofs.Common.{◌≡◌, ℕ, ◌+◌, ◌*◌, ◌^◌, List, [], ◌∷◌, fold, ◌∙◌, sym, arith}
 use Rattle.std.proofs.Math.Nat.{mul-add, mul_assoc, mul_comm, mul-zero}
 use Rattle.std.proofs.lemmas.Nat.{pow-add}
 use Rattle.std.specs.List.{enumerate_from}

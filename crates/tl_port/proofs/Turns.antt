@@ -11,17 +11,13 @@ use Rattle.tl_rule.specs.Views.{reset_of}
 use Rattle.tl_arena.specs.Views.{PortView, with_accepted, with_answered}
 use Rattle.tl_arena.specs.Promises.{IsLawfulPort}
 use Rattle.tl_port.specs.Book.{BookView, IsLawfulBook, reset}
-use Rattle.tl_port.specs.Steps.{IsTried, with_waiting, with_flight, with_served}
+use Rattle.tl_port.specs.Steps.{with_flight, with_served}
 use Rattle.tl_port.specs.Kept.{IsKeptBook}
 use Rattle.tl_port.proofs.Lawful.{lawful_book}
 
--- what is left of the slots to look at is less than there was
-pub fewer_left : (waiting : List ℕ) (slot : ℕ) (left : List ℕ) → IsTried waiting slot left → length left < length waiting
-fewer_left waiting slot left tried = let many = ap length tried.is in let parts = length-append tried.before (slot ∷ left) in omega arith
-
-pub takes_on : (b c : BookView) (slots entries flights hints flights' hints' : ℕ) (f : ℕ × Request) → IsKeptBook b slots entries flights hints → length b.history + length b.flights ≢ b.journal
-    → c ≡ with_flight b f c.waiting → IsTried b.waiting f.0 c.waiting → IsLawfulPort c.seat → flights' ≡ flights → hints' ≡ hints → IsKeptBook c slots entries flights' hints'
-takes_on b c slots entries flights hints flights' hints' f kept room is tried law same_flights same_hints =
+pub takes_on : (b c : BookView) (entries flights flights' : ℕ) (f : ℕ × Request) → IsKeptBook b entries flights → length b.history + length b.flights ≢ b.journal
+    → c ≡ with_flight b f → IsLawfulPort c.seat → flights' ≡ flights → IsKeptBook c entries flights'
+takes_on b c entries flights flights' f kept room is law same_flights =
     let was = kept.lawful in
     let seat : c.seat ≡ with_accepted b.seat f = ap (λ (d : BookView). d.seat) is in
     let pushed : c.flights ≡ b.flights ++ f ∷ [] = ap (λ (d : BookView). d.flights) is in
@@ -31,56 +27,33 @@ takes_on b c slots entries flights hints flights' hints' f kept room is tried la
     let bank : c.store ≡ replay (reset c) (asks_of c.history) =
     ap (λ (d : BookView). d.store) is ∙ (was.bank ∙ (ap (λ (s : Store). replay s (asks_of b.history)) (sym resets) ∙ ap (λ (h : List (Request × Response)). replay (reset c) (asks_of h)) (sym history))) in
     let journal : c.journal ≡ b.journal = ap (λ (d : BookView). d.journal) is in
+    let slots : c.seat.arena.about.slots ≡ b.seat.arena.about.slots = ap (λ (u : PortView). u.arena.about.slots) seat in
     let entries_same = ap length history in
     let many = ap length pushed in
     let more = length-append b.flights (f ∷ []) in
     let old = was.room in
-    let fewer = fewer_left b.waiting f.0 c.waiting tried in
-    let few = kept.few_hints in
     record {
       lawful = lawful_book c law serving bank (ap (λ (u : PortView). u.list) seat ∙ (was.list ∙ sym history)) (omega arith);
-      slots_are = kept.slots_are ∙ sym (ap (λ (u : PortView). u.arena.about.slots) seat);
       entries_fit = rw journal kept.entries_fit;
-      flights_fit = rw same_flights kept.flights_fit;
-      hints_fit = rw same_hints kept.hints_fit;
-      few_hints = omega arith;
+      flights_fit = rw (slots, same_flights) kept.flights_fit;
     }
-
--- a book with no slot left to look at
-pub none_left : (b c : BookView) (slots entries flights hints flights' hints' : ℕ) → IsKeptBook b slots entries flights hints → c ≡ with_waiting b [] → flights' ≡ flights → hints' ≡ hints
-    → IsKeptBook c slots entries flights' hints'
-none_left b c slots entries flights hints flights' hints' kept is same_flights same_hints = rw (is, same_flights, same_hints) (record {
-  lawful = record {
-    sources = kept.lawful.sources;
-    slots = kept.lawful.slots;
-    bank = kept.lawful.bank;
-    replies = kept.lawful.replies;
-    list = kept.lawful.list;
-    room = kept.lawful.room;
-  };
-  slots_are = kept.slots_are;
-  entries_fit = kept.entries_fit;
-  flights_fit = kept.flights_fit;
-  hints_fit = kept.hints_fit;
-  few_hints = omega arith;
-})
 
 -- dropping the slot of the oldest leaves the others
 drop_first : (f : ℕ × Request) (fs : List (ℕ × Request)) → drop_slot f.0 (f ∷ fs) ≡ fs
 drop_first f fs = rw (eq-eqb f.0 f.0 refl) refl
 
-same_book : (u v : PortView) (s t : Store) (h i : List (Request × Response)) (fs : List (ℕ × Request)) (w x : List ℕ) (m n : ℕ) → u ≡ v → s ≡ t → h ≡ i → w ≡ x → m ≡ n
-    → ◌≡◌ {A = BookView} (record { seat = u; store = s; history = h; flights = fs; waiting = w; journal = m }) (record { seat = v; store = t; history = i; flights = fs; waiting = x; journal = n })
-same_book u v s t h i fs w x m n seat store history waiting journal = cc
+same_book : (u v : PortView) (s t : Store) (h i : List (Request × Response)) (fs : List (ℕ × Request)) (m n : ℕ) → u ≡ v → s ≡ t → h ≡ i → m ≡ n
+    → ◌≡◌ {A = BookView} (record { seat = u; store = s; history = h; flights = fs; journal = m }) (record { seat = v; store = t; history = i; flights = fs; journal = n })
+same_book u v s t h i fs m n seat store history journal = cc
 
 -- a book with these parts is the one with the oldest request served
 pub served_is : (b c : BookView) (f : ℕ × Request) → c.seat ≡ with_answered b.seat f (reply b.store f.1) → c.store ≡ after b.store f.1 → c.history ≡ b.history ++ (f.1, reply b.store f.1) ∷ []
-    → c.waiting ≡ b.waiting → c.journal ≡ b.journal → c ≡ with_served b f c.flights
-served_is b c f seat store history waiting journal = same_book c.seat _ c.store _ c.history _ c.flights c.waiting _ c.journal _ seat store history waiting journal
+    → c.journal ≡ b.journal → c ≡ with_served b f c.flights
+served_is b c f seat store history journal = same_book c.seat _ c.store _ c.history _ c.flights c.journal _ seat store history journal
 
-pub serves_on : (b c : BookView) (slots entries flights hints entries' flights' : ℕ) (f : ℕ × Request) → IsKeptBook b slots entries flights hints → b.flights ≡ f ∷ c.flights
-    → c ≡ with_served b f c.flights → IsLawfulPort c.seat → entries' ≡ entries → flights' ≡ flights → IsKeptBook c slots entries' flights' hints
-serves_on b c slots entries flights hints entries' flights' f kept oldest is law same_entries same_flights =
+pub serves_on : (b c : BookView) (entries flights entries' flights' : ℕ) (f : ℕ × Request) → IsKeptBook b entries flights → b.flights ≡ f ∷ c.flights
+    → c ≡ with_served b f c.flights → IsLawfulPort c.seat → entries' ≡ entries → flights' ≡ flights → IsKeptBook c entries' flights'
+serves_on b c entries flights entries' flights' f kept oldest is law same_entries same_flights =
     let was = kept.lawful in
     let r = reply b.store f.1 in
     let seat : c.seat ≡ with_answered b.seat f r = ap (λ (d : BookView). d.seat) is in
@@ -93,18 +66,15 @@ serves_on b c slots entries flights hints entries' flights' f kept oldest is law
     ∙ (ap (λ (qs : List Request). replay (reset b) qs) (sym asks) ∙ ap (λ (s : Store). replay s (asks_of c.history)) (sym resets)))) in
     let listed : c.seat.list ≡ c.history = ap (λ (u : PortView). u.list) seat ∙ (ap (λ (h : List (Request × Response)). h ++ (f.1, r) ∷ []) was.list ∙ sym history) in
     let journal : c.journal ≡ b.journal = ap (λ (d : BookView). d.journal) is in
-    let waiting : c.waiting ≡ b.waiting = ap (λ (d : BookView). d.waiting) is in
+    let slots : c.seat.arena.about.slots ≡ b.seat.arena.about.slots = ap (λ (u : PortView). u.arena.about.slots) seat in
     let entry = ap length history in
     let more = length-append b.history ((f.1, r) ∷ []) in
     let fewer = ap length oldest in
     let room = was.room in
     record {
       lawful = lawful_book c law serving bank listed (omega arith);
-      slots_are = kept.slots_are ∙ sym (ap (λ (u : PortView). u.arena.about.slots) seat);
       entries_fit = rw (journal, same_entries) kept.entries_fit;
-      flights_fit = rw same_flights kept.flights_fit;
-      hints_fit = kept.hints_fit;
-      few_hints = rw waiting kept.few_hints;
+      flights_fit = rw (slots, same_flights) kept.flights_fit;
     }
 
 -- the oldest request is found by its slot

@@ -9,17 +9,16 @@ use Rattle.tl_rule.specs.Views.{reset_of}
 use Rattle.tl_arena.specs.Views.{PortView}
 
 -- the port's seat; its memory; the requests with their replies in the order served; the slots with their requests that
--- are in flight, the oldest first; the slots to look at, the oldest first; and how many entries and flights it has room for
+-- are in flight, the oldest first; and how many entries and flights it has room for
 pub record BookView : Type 0 where
   pub seat : PortView
   pub store : Store
   pub history : List (Request × Response)
   pub flights : List (ℕ × Request)
-  pub waiting : List ℕ
   pub journal : ℕ
 
 abbrev pub new_book : PortView → Store → ℕ → BookView
-new_book u store journal = record { seat = u; store = store; history = []; flights = []; waiting = []; journal = journal }
+new_book u store journal = record { seat = u; store = store; history = []; flights = []; journal = journal }
 
 -- what the port's bank held when the arena was made
 abbrev pub reset : BookView → Store

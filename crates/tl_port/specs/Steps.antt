@@ -4,6 +4,7 @@ use Rattle.std.specs.Prelude.{◌≡◌, ℕ, ◌++◌, List, [], ◌∷◌, len
 use Rattle.tl_types.specs.Request.{Request}
 use Rattle.tl_ops.specs.Store.{after, reply}
 use Rattle.tl_arena.specs.Views.{PortView, with_accepted, with_answered}
+use Rattle.tl_arena.specs.Promises.{IsAcceptStep}
 use Rattle.tl_port.specs.declared.book.Intake.{Intake}
 use Rattle.tl_port.specs.declared.book.Intake.TheVariants.{Taken, Nothing, JournalFull}
 use Rattle.tl_port.specs.declared.book.Step.{Step}
@@ -11,37 +12,28 @@ use Rattle.tl_port.specs.Book.{BookView}
 
 -- ---- intake
 
--- these are the slots to look at, and all else is as it was
-abbrev pub with_waiting : BookView → List ℕ → BookView
-with_waiting b waiting = record { seat = b.seat; store = b.store; history = b.history; flights = b.flights; waiting = waiting; journal = b.journal }
+-- the slot with its request is the last in flight, and all else is as it was
+abbrev pub with_flight : BookView → ℕ × Request → BookView
+with_flight b f = record { seat = with_accepted b.seat f; store = b.store; history = b.history; flights = b.flights ++ f ∷ []; journal = b.journal }
 
--- the slot with its request is the last in flight, these slots are left to look at, and all else is as it was
-abbrev pub with_flight : BookView → ℕ × Request → List ℕ → BookView
-with_flight b f waiting = record { seat = with_accepted b.seat f; store = b.store; history = b.history; flights = b.flights ++ f ∷ []; waiting = waiting; journal = b.journal }
-
--- of the slots to look at the oldest were tried, up to the one whose request was accepted, and these are left
-pub record IsTried (waiting : List ℕ) (slot : ℕ) (left : List ℕ) : Type 0 where
-  pub before : List ℕ
-  pub is : waiting ≡ before ++ slot ∷ left
-
--- one request of this source is accepted, from one of the slots to look at, and joins the end of what is in flight
-pub record AcceptsOne (u : PortView) (waiting : List ℕ) (flights : List (ℕ × Request)) (source : ℕ) (v : PortView) (left : List ℕ) (more : List (ℕ × Request)) : Type 0 where
+-- one request of this source is accepted, and joins the end of what is in flight
+pub record AcceptsOne (u : PortView) (flights : List (ℕ × Request)) (source : ℕ) (v : PortView) (more : List (ℕ × Request)) : Type 0 where
   pub flight : ℕ × Request
   pub source_is : flight.1.source ≡ source
-  pub tried : IsTried waiting flight.0 left
   pub seat : v ≡ with_accepted u flight
+  pub event : IsAcceptStep u flight v
   pub pushed : more ≡ flights ++ flight ∷ []
 
--- one request of this source is taken, from one of the slots to look at
+-- one request of this source, which its owner has posted for the port, is taken
 pub record TakesOne (b : BookView) (source : ℕ) (c : BookView) : Type 0 where
   pub flight : ℕ × Request
   pub source_is : flight.1.source ≡ source
-  pub tried : IsTried b.waiting flight.0 c.waiting
-  pub book : c ≡ with_flight b flight c.waiting
+  pub event : IsAcceptStep b.seat flight c.seat
+  pub book : c ≡ with_flight b flight
 
 abbrev pub Takes : BookView → Intake → BookView → Type 0
 Takes b (Taken source) c = TakesOne b source c
-Takes b Nothing c = c ≡ with_waiting b []
+Takes b Nothing c = c ≡ b
 Takes b JournalFull c = c ≡ b
 
 -- ---- service
@@ -54,7 +46,6 @@ with_served b f left = record {
   store = after b.store f.1;
   history = b.history ++ (f.1, reply b.store f.1) ∷ [];
   flights = left;
-  waiting = b.waiting;
   journal = b.journal;
 }
 

@@ -9,7 +9,7 @@ ghost use Rattle.tl_arena.specs.Views.{with_accepted, with_answered};
 ghost use Rattle.tl_arena.specs.Promises.{IsLawfulPort, memory_of};
 ghost use Rattle.tl_port.specs.declared.book.Intake.TheVariants.{JournalFull};
 ghost use Rattle.tl_port.specs.Book.{IsLawfulBook, new_book};
-ghost use Rattle.tl_port.specs.Steps.{IsTried, AcceptsOne, Takes, Serves, TakesAndServes, with_waiting};
+ghost use Rattle.tl_port.specs.Steps.{AcceptsOne, Takes, Serves, TakesAndServes};
 
 use std::alloc::Global;
 use std::collections::VecDeque;
@@ -23,7 +23,7 @@ use tl_types::{Ask, Reply};
 pub enum Intake {
     /// A request of this wide source is in flight now.
     Taken(u16),
-    /// None of the slots to look at had a request for the port.
+    /// No slot was found with a request for the port.
     Nothing,
     /// There is no room for the entry of one more request.
     JournalFull,
@@ -51,16 +51,14 @@ pub struct NoBook {
     pub seat: PortSeat,
 }
 
-/// One port's memory, all that it has served, what it is serving, and the slots to look at.
+/// One port's memory, all that it has served, and what it is serving.
 #[derive(Drop)]
 pub struct Book {
     bank: Bank,
     seat: PortSeat,
-    slots: usize,
     journal: usize,
     history: Vec<(Ask, Reply)>,
     flights: VecDeque<Accepted>,
-    waiting: VecDeque<usize>,
 }
 
 impl Model for Book {
@@ -71,14 +69,14 @@ impl Model for Book {
 
     ghost Value = { BookView };
 
-    ghost view = { λ b. record { seat = b.seat; store = b.bank; history = b.history.items; flights = b.flights.items; waiting = b.waiting.items; journal = b.journal } };
+    ghost view = { λ b. record { seat = b.seat; store = b.bank; history = b.history.items; flights = b.flights.items; journal = b.journal } };
 
-    ghost invariant = { λ b. IsKeptBook (record { seat = b.seat; store = b.bank; history = b.history.items; flights = b.flights.items; waiting = b.waiting.items; journal = b.journal }) b.slots (vec_capacity b.history) (deque_capacity b.flights) (deque_capacity b.waiting) };
+    ghost invariant = { λ b. IsKeptBook (record { seat = b.seat; store = b.bank; history = b.history.items; flights = b.flights.items; journal = b.journal }) (vec_capacity b.history) (deque_capacity b.flights) };
 }
 
 impl Book {
-    /// A book with nothing served, with room for `journal` entries and, of each, for `slots` requests in flight and
-    /// slots to look at. Where memory is refused, bank and seat come back.
+    /// A book with nothing served, with room for `journal` entries and for `slots` requests in flight. Where memory is
+    /// refused, bank and seat come back.
     pub fn new(
         alloc: Global,
         bank: Bank,
@@ -99,35 +97,17 @@ impl Book {
         let Ok(flights) = VecDeque::with_capacity(alloc, slots) else {
             return Err(NoBook { bank, seat });
         };
-        let Ok(waiting) = VecDeque::with_capacity(alloc, slots) else {
-            return Err(NoBook { bank, seat });
-        };
         Ok(Book {
             bank,
             seat,
-            slots,
             journal,
             history,
             flights,
-            waiting,
         })
     }
 
-    /// Puts a slot at the end of those to look at. False, with nothing changed, where there are as many as slots.
-    pub fn hint(&mut self, slot: usize) -> bool
-        ensures room { IsTrue result ↔ (length self.old.waiting < self.old.seat.arena.about.slots) }
-        ensures hinted { IsTrue result → self.new ≡ with_waiting self.old (self.old.waiting ++ slot ∷ []) }
-        ensures refused { result ≡ std.false → self.new ≡ self.old }
-    {
-        if self.waiting.len() == self.slots {
-            return false;
-        }
-        self.waiting.push_back_reserved(slot);
-        true
-    }
-
-    /// Takes one request that is posted to this port: it tries the oldest slots to look at, and drops each that it
-    /// tried, until a request is accepted or no slot is left. Where the journal is full it looks at none.
+    /// Takes one request that is posted to this port, by one pass over the slots. Where the journal is full it looks at
+    /// none.
     pub fn intake(&mut self, arena: &Arena) -> Intake
         requires arena { self.old.seat.arena ≡ arena.now }
         ensures takes { Takes self.old result self.new }
@@ -136,8 +116,7 @@ impl Book {
         if self.history.len() + self.flights.len() == self.journal {
             return Intake::JournalFull;
         }
-        let Some(source) = take_hinted(arena, &mut self.seat, &mut self.waiting, &mut self.flights)
-        else {
+        let Some(source) = take_posted(arena, &mut self.seat, &mut self.flights) else {
             return Intake::Nothing;
         };
         Intake::Taken(source)
@@ -238,44 +217,17 @@ impl Book {
     }
 }
 
-/// Accepts the request in the oldest of these slots that has one for the port. The slots that were tried go.
-fn accept_hinted(
-    arena: &Arena,
-    seat: &mut PortSeat,
-    waiting: &mut VecDeque<usize>,
-) -> Option<Accepted>
-    requires arena { seat.old.arena ≡ arena.now }
-    ensures some { IfSome result (λ a. (seat.new ≡ with_accepted seat.old a) × IsTried waiting.old.items a.0 waiting.new.items) }
-    ensures none { IfNone result ((seat.new ≡ seat.old) × (waiting.new.items ≡ [])) }
-    ensures law { IsLawfulPort seat.new }
-    ensures capacity { deque_capacity waiting.new ≡ deque_capacity waiting.old }
-{
-    let _number = seat.number();
-    while let Some(slot) = waiting.pop_front() {
-        if let Some(accepted) = arena.accept_at(seat, slot) {
-            return Some(accepted);
-        }
-    }
-    None
-}
-
-/// Accepts the request in the oldest of these slots that has one for the port, puts it at the end of what is in
-/// flight, and answers its wide source. The slots that were tried go.
-fn take_hinted(
-    arena: &Arena,
-    seat: &mut PortSeat,
-    waiting: &mut VecDeque<usize>,
-    flights: &mut VecDeque<Accepted>,
-) -> Option<u16>
+/// Accepts a request that is posted to the port, puts it at the end of what is in flight, and answers its wide source.
+fn take_posted(arena: &Arena, seat: &mut PortSeat, flights: &mut VecDeque<Accepted>) -> Option<u16>
     requires arena { seat.old.arena ≡ arena.now }
     requires serving { flights.old.items ≡ seat.old.serving }
     requires room { seat.old.arena.about.slots ≤ deque_capacity flights.old }
-    ensures some { IfSome result (λ source. AcceptsOne seat.old waiting.old.items flights.old.items source seat.new waiting.new.items flights.new.items) }
-    ensures none { IfNone result ((seat.new ≡ seat.old) × (waiting.new.items ≡ []) × (flights.new.items ≡ flights.old.items)) }
+    ensures some { IfSome result (λ source. AcceptsOne seat.old flights.old.items source seat.new flights.new.items) }
+    ensures none { IfNone result ((seat.new ≡ seat.old) × (flights.new.items ≡ flights.old.items)) }
     ensures law { IsLawfulPort seat.new }
-    ensures capacity { (deque_capacity waiting.new ≡ deque_capacity waiting.old) × (deque_capacity flights.new ≡ deque_capacity flights.old) }
+    ensures capacity { deque_capacity flights.new ≡ deque_capacity flights.old }
 {
-    let accepted = accept_hinted(arena, seat, waiting)?;
+    let accepted = arena.accept(seat)?;
     let source = accepted.ask().source();
     flights.push_back_reserved(accepted);
     Some(source)

@@ -8,8 +8,8 @@
 //! A [`Port`] is a book behind a lock, of the arena that its parameter names. Whoever gets the lock finds a lawful
 //! book of that arena, whatever the number of threads; of one call under the lock nothing more is said.
 //!
-//! A request is found by a hint: [`Port::submit`] puts the slot at the end of a waiting list, and an intake tries the
-//! oldest hints. A hint decides nothing but where the port looks.
+//! A port finds what is posted by itself: an intake passes over the words of the slots. So whoever posts takes no port's
+//! lock.
 #![tactic(auto)]
 
 mod book;

@@ -1,9 +1,8 @@
 //! A book behind a lock.
-ghost use Rattle.std.specs.Prelude.{◌≡◌, ◌+◌, ◌<◌, ◌≤◌, ◌↔◌, ◌++◌, ◌∷◌, [], length, IsTrue};
-ghost use Rattle.std.specs.Prelude as std;
+ghost use Rattle.std.specs.Prelude.{◌≡◌, ◌+◌, ◌≤◌, ◌↔◌, length};
 ghost use Rattle.tl_port.specs.declared.book.Intake.TheVariants.{JournalFull};
 ghost use Rattle.tl_port.specs.Book.{IsLawfulBook};
-ghost use Rattle.tl_port.specs.Steps.{Takes, Serves, TakesAndServes, IsStepAnswer, with_waiting};
+ghost use Rattle.tl_port.specs.Steps.{Takes, Serves, TakesAndServes, IsStepAnswer};
 
 use crate::book::{Book, Intake, Step};
 use std::marker::PhantomData;
@@ -20,14 +19,6 @@ struct Named<N: ArenaName> {
 }
 
 impl<N: ArenaName> Named<N> {
-    fn hint(&mut self, slot: usize) -> bool
-        ensures room { IsTrue result ↔ (length self.old.book.waiting < self.old.book.seat.arena.about.slots) }
-        ensures hinted { IsTrue result → self.new.book ≡ with_waiting self.old.book (self.old.book.waiting ++ slot ∷ []) }
-        ensures refused { result ≡ std.false → self.new.book ≡ self.old.book }
-    {
-        self.book.hint(slot)
-    }
-
     fn intake(&mut self, arena: &Arena) -> Intake
         requires arena { arena.now ≡ N.arena }
         ensures takes { Takes self.old.book result self.new.book }
@@ -72,12 +63,6 @@ impl<N: ArenaName> Port<N> {
                 of: PhantomData,
             }),
         }
-    }
-
-    /// Puts a slot at the end of those that intakes look at. False, with nothing changed, where there are as many as
-    /// slots.
-    pub fn submit(&self, rt: &impl Wait, slot: usize) -> bool {
-        self.lock.lock(rt).hint(slot)
     }
 
     /// Takes one request that is posted to the port.

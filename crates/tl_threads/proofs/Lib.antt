@@ -1,3 +1,4 @@
+pub mod Routed
 pub mod Arrivals
 pub mod Asking
 pub mod Rows

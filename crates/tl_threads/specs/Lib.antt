@@ -1,3 +1,5 @@
+pub mod Bell
+pub mod Context
 pub mod Trace
 pub mod Run
 pub mod Start

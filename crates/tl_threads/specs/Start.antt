@@ -1,5 +1,5 @@
 -- The threads of a run, from their start to their end. All of it is this project's own.
-use Rattle.std.specs.Prelude.{◌≡◌, ℕ, ◌+◌, List, [], ◌∷◌, Vec, length, count_by, eqb, slice_get, Some}
+use Rattle.std.specs.Prelude.{◌≡◌, ℕ, ◌+◌, ◌<◌, List, [], ◌∷◌, Vec, vec_len, length, All, count_by, eqb, slice_get, Some}
 use Rattle.std.specs.List.{flat_map}
 use Rattle.std.specs.Global.{Global}
 use Rattle.std.specs.declared.thread.PromisedHandle.{PromisedHandle}
@@ -14,17 +14,43 @@ use Rattle.tl_arena.specs.Views.{ArenaId, MasterView, PortView, new_master, new_
 use Rattle.tl_port.specs.Book.{BookView, new_book}
 use Rattle.tl_rule.specs.Views.{reset_of}
 use Rattle.tl_threads.specs.declared.start.TraceOf.{TraceOf}
-use Rattle.tl_threads.specs.declared.run.Driver.{Driver}
+use Rattle.tl_threads.specs.declared.run.MasterThread.{MasterThread}
+use Rattle.tl_threads.specs.declared.run.ThreadSet.{ThreadSet}
+use Rattle.tl_threads.specs.declared.run.WorkerThread.{WorkerThread}
+use Rattle.tl_threads.specs.declared.setup.PortListeners.{PortListeners}
+use Rattle.tl_threads.specs.Bell.{HasRoom}
 use Rattle.tl_threads.specs.Trace.{IsTrace, IsIdle}
 
 -- each thing of the list is this of its number, where the first has the number `from`
 abbrev pub AreFrom : {X : Type 0} → (ℕ → X → Type 0) → ℕ → List X → Type 0
 AreFrom {X} P from xs = (k : ℕ) (x : X) → slice_get xs k ≡ Some x → P (from + k) x
 
--- nothing was asked of the driver's master, which has this number, and room for the replies to its operations
-pub record IsNewDriver (arena : ArenaId) (jobs : List (List Job)) (number : ℕ) (d : Driver) : Type 0 where
-  pub idle : IsIdle arena number d.master
-  pub room : (its_jobs : List Job) → slice_get jobs number ≡ Some its_jobs → d.master.limit ≡ length (sends its_jobs)
+-- ---- what threads are handed
+
+-- nothing was asked of the master, which has this number, and there is room for the replies to its operations: in its trace,
+-- and in its bell for a ring each; and it has a bell to ring for each port
+pub record IsNewMasterThread (arena : ArenaId) (s : System) (number : ℕ) (t : MasterThread) : Type 0 where
+  pub idle : IsIdle arena number t.master
+  pub room : (its_jobs : List Job) → slice_get s.jobs number ≡ Some its_jobs → t.master.limit ≡ length (sends its_jobs)
+  pub bell : HasRoom t.master.limit t.bells.own
+  pub rings : vec_len t.bells.others ≡ length s.ranges + 1
+
+-- the thread is one of these ports', and has a bell to ring for each of so many masters
+pub record IsNewWorkerThread (ports masters : ℕ) (t : WorkerThread) : Type 0 where
+  pub port : t.port < ports
+  pub rings : vec_len t.bells.others ≡ masters
+
+-- what the threads of a run are handed: each master's of what its operations need, and each port's
+pub record IsNewThreadSet (arena : ArenaId) (s : System) (t : ThreadSet) : Type 0 where
+  pub masters : AreFrom (IsNewMasterThread arena s) 0 t.masters.items
+  pub all : vec_len t.masters ≡ length s.jobs
+  pub workers : All (IsNewWorkerThread (length s.ranges + 1) (length s.jobs)) t.workers.items
+
+-- so many threads hear the bell of the port, which has room for a ring for each of its requests and a stop for each of them
+pub record IsHeardAt (journals : List ℕ) (workers : ℕ) (p : PortListeners) : Type 0 where
+  pub within : p.port < length journals
+  pub many : vec_len p.listeners ≡ workers
+  pub room : (journal : ℕ) → slice_get journals p.port ≡ Some journal → All (HasRoom (journal + workers)) p.listeners.items
 
 -- ---- how many requests go to each port
 
@@ -76,6 +102,11 @@ pub record IsTraceOf (arena : ArenaId) (ranges : List Range) (jobs : List (List 
   pub its_jobs : List Job
   pub at : slice_get jobs number ≡ Some its_jobs
   pub trace : IsTrace arena ranges number its_jobs t.items
+
+-- a trace of each master
+pub record AreTracesOf (arena : ArenaId) (s : System) (traces : List (Vec Entry Global)) : Type 0 where
+  pub all : length traces ≡ length s.jobs
+  pub each : AreFrom (IsTraceOf arena s.ranges s.jobs) 0 traces
 
 -- the book is of the arena
 abbrev pub IsBookIn : ArenaId → ℕ → BookView → Type 0

@@ -1,5 +1,6 @@
-//! Doorbells: channels under a rule that any message keeps. Nothing is claimed of them: a ring says that a look may be
-//! worth while, and no more.
+//! Doorbells: channels under a rule that any message keeps. Nothing is claimed of what they say: a ring says that a look
+//! may be worth while, and no more. Each has room for all that a run sends to it.
+ghost use Rattle.std.specs.Prelude.{◌≡◌, ◌<◌, ◌≤◌, All, IfOk, length, vec_len};
 ghost use Rattle.crossbeam_channel.specs.Claims.{IsSeatAt};
 ghost use Rattle.crossbeam_channel.specs.Ends.{sends_on, receives_on};
 
@@ -51,27 +52,35 @@ pub(crate) struct Bells {
     pub(crate) others: Vec<Ringer>,
 }
 
-/// A bell with room for so many rings that nobody has heard yet, and for one at least, that so many hear: each ring is
-/// heard by one of them.
-pub(crate) fn bell(
-    alloc: Global,
-    room: usize,
-    listeners: usize,
-) -> Result<(Ringer, Vec<Listener>), Memory> {
-    let (sender, receiver, mut pass) = bounded_with::<Ring, (), Free, Global>(alloc, room.max(1))?;
-    let mut made = Vec::with_capacity(alloc, listeners)?;
-    for _ in 0..listeners {
-        let listener = Listener {
-            receiver: receiver.try_clone()?,
-            pass: sender.another::<Halves>(&mut pass),
-            heard: 0,
-        };
-        made.push(listener)?;
-    }
-    Ok((Ringer { sender, pass }, made))
-}
-
 impl Ringer {
+    ghost use Rattle.tl_threads.specs.Bell.{HasRoom};
+
+    /// A bell with room for so many rings that nobody has heard yet, and for one at least, that so many hear: each ring is
+    /// heard by one of them.
+    pub(crate) fn new(
+        alloc: Global,
+        room: usize,
+        listeners: usize,
+    ) -> Result<(Ringer, Vec<Listener>), Memory>
+        ensures many { IfOk result (λ made. vec_len made.1 ≡ listeners) }
+        ensures room { IfOk result (λ made. All (HasRoom room) made.1.items) }
+    {
+        let (sender, receiver, mut pass) = bounded_with::<Ring, (), Free, Global>(
+            alloc,
+            room.max(1),
+        )?;
+        let mut made = Vec::with_capacity(alloc, listeners)?;
+        for _ in 0..listeners {
+            let listener = Listener {
+                receiver: receiver.try_clone()?,
+                pass: sender.another::<Halves>(&mut pass),
+                heard: 0,
+            };
+            made.push(listener)?;
+        }
+        Ok((Ringer { sender, pass }, made))
+    }
+
     /// Another end that rings the same bell.
     pub(crate) fn again(&mut self) -> Result<Ringer, Memory> {
         let sender = self.sender.try_clone()?;
@@ -98,10 +107,9 @@ impl Listener {
     /// Waits for a ring. A bell that nobody can ring any more says stop.
     pub(crate) fn hear(&mut self, rt: &impl Wait) -> Ring {
         self.heard = usize::saturating_add(self.heard, 1);
-        match self.receiver.recv_as::<Free, _>(rt, &mut self.pass) {
-            Ok(ring) => ring,
-            Err(_) => Ring::Stop,
-        }
+        self.receiver
+            .recv_as::<Free, _>(rt, &mut self.pass)
+            .unwrap_or(Ring::Stop)
     }
 
     /// How often it waited for a ring.
@@ -110,10 +118,10 @@ impl Listener {
     }
 }
 
-/// Rings the bell of this number, where there is one.
-pub(crate) fn ring_at(rt: &impl Wait, bells: &mut [Ringer], number: usize) {
-    if number < bells.len() {
-        let bell = &mut bells[number];
-        bell.ring(rt, Ring::Look);
-    }
+/// Rings the bell of this number.
+pub(crate) fn ring_at(rt: &impl Wait, bells: &mut [Ringer], number: usize)
+    requires { number < length bells.old }
+{
+    let bell = &mut bells[number];
+    bell.ring(rt, Ring::Look);
 }

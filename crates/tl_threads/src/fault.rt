@@ -13,12 +13,12 @@ pub enum ThreadFault {
     Memory,
     #[error("thread refused")]
     NoThread,
-    /// A lock gave back another port's book.
-    #[error("port {0}: stray book")]
-    StrayBook(usize),
     /// The gate never let a port's worker serve, until that served all the same.
     #[error("gate of port {0} held")]
     GateHeld(usize),
+    /// A lock gave back another port's book.
+    #[error("port {0}: stray book")]
+    StrayBook(usize),
 }
 
 impl From<Memory> for ThreadFault {

@@ -5,18 +5,19 @@
 //! and of what it collected at a port one lawful history has just the master's own; book p is port p's and lawful; and
 //! the account is that of an arena at its end. That threads run at once no clause says: tests do, through a [`Gate`].
 //!
-//! `drive` is what a master's thread does, `work` what a port's does, `bell` how they wake each other; `setup` makes
-//! what a run needs, `run` starts and joins the threads, `named` puts the books behind locks and takes them out again.
-//! No memory is taken once the threads run.
+//! `master_thread` is what a master's thread does, `worker_thread` what one of a port's does, `context` what all of them
+//! share, `bell` how they wake each other; `setup` makes what a run needs, `start` and `run` start, join and stop the
+//! threads, `named` puts the books behind locks and takes them out again. No memory is taken once the threads run.
 //!
 //! Read on in `docs/MODEL.md`, "Runs by threads".
 #![tactic(auto)]
 
 mod bell;
-mod drive;
+mod context;
 mod fault;
 mod gate;
 pub mod laws;
+mod master_thread;
 mod named;
 mod run;
 mod setup;
@@ -24,9 +25,9 @@ mod start;
 #[cfg(test)]
 mod tests;
 mod threads;
-mod work;
+mod worker_thread;
 
 pub use fault::ThreadFault;
 pub use gate::{Gate, OpenGate};
-pub use named::Run;
+pub use named::ThreadedRun;
 pub use threads::{MAX_WORKERS, run_threads};

@@ -1,12 +1,14 @@
 //! A run over one arena, which the ports' locks name.
-ghost use Rattle.std.specs.Prelude.{◌≡◌, ◌+◌, ◌≤◌, IfOk, vec_len, vec_capacity, length};
+ghost use Rattle.std.specs.Prelude.{◌≡◌, ◌+◌, ◌≤◌, All, IfOk, vec_len, vec_capacity, length};
 ghost use Rattle.tl_arena.specs.Account.{IsClosing};
+ghost use Rattle.tl_threads.specs.Context.{AreShared};
 ghost use Rattle.tl_threads.specs.Run.{IsBookOf};
-ghost use Rattle.tl_threads.specs.Start.{AreFrom, IsNewDriver, IsNewBook, IsTraceOf, IsBookIn};
+ghost use Rattle.tl_threads.specs.Start.{AreFrom, AreTracesOf, IsBookIn, IsNewBook, IsNewThreadSet};
 
+use crate::context::Shared;
 use crate::fault::ThreadFault;
 use crate::gate::Gate;
-use crate::run::{Ended, Parts, run_in};
+use crate::run::{Ended, ThreadSet, run_in};
 use std::alloc::Global;
 use std::sync::Wait;
 use std::thread;
@@ -18,7 +20,7 @@ use tl_types::{Memory, Trace};
 
 /// What the threads of a run leave: a trace for each master, the book of each port, and the account of the arena.
 #[derive(Drop)]
-pub struct Run {
+pub struct ThreadedRun {
     pub traces: Vec<Trace>,
     pub books: Vec<Book>,
     pub account: Account,
@@ -59,61 +61,78 @@ fn books_of<N: ArenaName>(ports: Vec<Port<N>>, room: Vec<Book>) -> Result<Vec<Bo
 fn run_scope<'x, N: ArenaName + Send + Sync, R: Threads + Wait + Sync, G: Gate + Sync>(
     rt: &'x R,
     alloc: Global,
-    arena: &'x Arena,
-    system: &'x System,
-    ports: &'x Vec<Port<N>>,
-    parts: Parts,
-    gate: &'x G,
+    shared: &Shared<'x, N, G>,
+    threads: ThreadSet,
 ) -> Result<Ended, ThreadFault>
-    requires arena { arena.now ≡ N.arena }
-    requires ports { length system.now.ranges + 1 ≤ arena.now.about.ports }
-    requires drivers { AreFrom (IsNewDriver arena.now system.now.jobs) 0 parts.drivers.items }
-    requires jobs { vec_len parts.drivers ≡ length system.now.jobs }
-    ensures many { IfOk result (λ ended. vec_len ended.traces ≡ vec_len parts.drivers) }
-    ensures traces { IfOk result (λ ended. AreFrom (IsTraceOf arena.now system.now.ranges system.now.jobs) 0 ended.traces.items) }
+    requires { IsNewThreadSet shared.now.arena.now shared.now.system.now threads }
+    ensures { IfOk result (λ ended. AreTracesOf shared.now.arena.now shared.now.system.now
+        ended.traces.items) }
 {
+    let Shared {
+        system,
+        arena,
+        ports,
+        gate,
+    } = *shared;
     thread::scope(
         thread::scope_env(),
         rt,
         |scope| -> Result<Ended, ThreadFault>
-            requires { (arena.now ≡ N.arena) × (length system.now.ranges + 1 ≤ arena.now.about.ports) × AreFrom (IsNewDriver arena.now system.now.jobs) 0 parts.drivers.items × (vec_len parts.drivers ≡ length system.now.jobs) }
-            ensures { IfOk result (λ ended. (vec_len ended.traces ≡ vec_len parts.drivers) × AreFrom (IsTraceOf arena.entry.now system.entry.now.ranges system.entry.now.jobs) 0 ended.traces.items) }
-        { run_in(scope, rt, alloc, arena, system, ports, parts, gate) },
+            requires { AreShared N.arena system.now arena.now (vec_len ports.now)
+                × IsNewThreadSet arena.now system.now threads }
+            ensures { IfOk result (λ ended. AreTracesOf arena.entry.now system.entry.now
+                ended.traces.items) }
+        {
+            let shared = Shared {
+                system,
+                arena,
+                ports,
+                gate,
+            };
+            run_in(scope, rt, alloc, &shared, threads)
+        },
     )
 }
 
 /// A run over the arena that N names.
-pub(crate) fn run_named<'x, N: ArenaName + Send + Sync, R: Threads + Wait + Sync, G: Gate + Sync>(
-    rt: &'x R,
+pub(crate) fn run_named<N: ArenaName + Send + Sync, R: Threads + Wait + Sync, G: Gate + Sync>(
+    rt: &R,
     alloc: Global,
     arena: Arena,
-    system: &'x System,
+    system: &System,
     books: Vec<Book>,
-    parts: Parts,
-    gate: &'x G,
-) -> Result<Run, ThreadFault>
+    threads: ThreadSet,
+    gate: &G,
+) -> Result<ThreadedRun, ThreadFault>
     requires name { arena ≡ N.arena }
     requires ports { length system.now.ranges + 1 ≤ arena.about.ports }
-    requires drivers { AreFrom (IsNewDriver arena system.now.jobs) 0 parts.drivers.items }
-    requires jobs { vec_len parts.drivers ≡ length system.now.jobs }
+    requires threads { IsNewThreadSet arena system.now threads }
     requires books { AreFrom (IsNewBook arena system.now) 0 books.items }
-    ensures many { IfOk result (λ run. vec_len run.traces ≡ vec_len parts.drivers) }
-    ensures traces { IfOk result (λ run. AreFrom (IsTraceOf arena system.now.ranges system.now.jobs) 0 run.traces.items) }
+    requires all_books { vec_len books ≡ length system.now.ranges + 1 }
+    requires counts { length system.now.jobs ≡ length system.now.counts }
+    ensures traces { IfOk result (λ run. AreTracesOf arena system.now run.traces.items) }
     ensures all { IfOk result (λ run. vec_len run.books ≡ vec_len books) }
     ensures books { IfOk result (λ run. AreFrom (IsBookOf arena) 0 run.books.items) }
-    ensures account { IfOk result (λ run. IsClosing arena.about run.account.free.items run.account.held.items run.account.left.items) }
+    ensures account { IfOk result (λ run. IsClosing arena.about run.account.free.items
+        run.account.held.items run.account.left.items) }
 {
     let room = Vec::with_capacity(alloc, books.len())?;
     let ports = ports_of::<N>(alloc, books)?;
-    let Ended { traces, held } = run_scope(rt, alloc, &arena, system, &ports, parts, gate)?;
+    let shared = Shared {
+        system,
+        arena: &arena,
+        ports: &ports,
+        gate,
+    };
+    let Ended { traces, held } = run_scope(rt, alloc, &shared, threads)?;
     let account = arena.close(alloc)?;
-    let books = books_of::<N>(ports, room)?;
-    match held {
-        Some(port) => Err(ThreadFault::GateHeld(port)),
-        None => Ok(Run {
-            traces,
-            books,
-            account,
-        }),
+    if let Some(port) = held {
+        return Err(ThreadFault::GateHeld(port));
     }
+    let books = books_of::<N>(ports, room)?;
+    Ok(ThreadedRun {
+        traces,
+        books,
+        account,
+    })
 }

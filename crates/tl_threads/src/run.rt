@@ -1,8 +1,9 @@
 //! The threads of a run: started, joined, stopped.
-ghost use Rattle.std.specs.Prelude.{◌≡◌, ◌+◌, ◌≤◌, IfOk, vec_len, vec_capacity, length, IsTrue};
-ghost use Rattle.tl_threads.specs.Start.{AreFrom, IsNewDriver, IsPromised, IsTraceOf};
+ghost use Rattle.std.specs.Prelude.{◌≡◌, ◌+◌, ◌≤◌, All, IfOk, vec_len, vec_capacity, length, IsTrue};
+ghost use Rattle.tl_threads.specs.Start.{AreFrom, AreTracesOf, IsNewMasterThread, IsNewThreadSet, IsNewWorkerThread, IsPromised, IsTraceOf};
 
 use crate::bell::{Bells, Ring, Ringer};
+use crate::context::Shared;
 use crate::fault::ThreadFault;
 use crate::gate::Gate;
 use crate::start::{TraceOf, start_master, start_worker};
@@ -11,27 +12,36 @@ use std::sync::Wait;
 use std::thread::{JoinHandle, PromisedHandle, Scope, Threads};
 use tl_arena::{Arena, ArenaName};
 use tl_master::Master;
-use tl_port::Port;
 use tl_script::System;
 use tl_types::Trace;
 
-/// A master and its bells.
+/// What a master's thread is handed: the master and its bells.
 #[derive(Drop)]
-pub(crate) struct Driver {
+pub(crate) struct MasterThread {
     pub(crate) master: Master,
     pub(crate) bells: Bells,
 }
 
-/// The number of a port and the bells of one of its threads.
+/// What one of a port's threads is handed: the port's number and the bells.
 #[derive(Drop)]
-pub(crate) struct Worker {
+pub(crate) struct WorkerThread {
     pub(crate) port: usize,
     pub(crate) bells: Bells,
 }
 
+/// What all threads of a run are handed, the masters' in order, and for the end the bell of each port, which so many
+/// threads hear.
+#[derive(Drop)]
+pub(crate) struct ThreadSet {
+    pub(crate) masters: Vec<MasterThread>,
+    pub(crate) workers: Vec<WorkerThread>,
+    pub(crate) port_bells: Vec<Ringer>,
+    pub(crate) workers_per_port: usize,
+}
+
 /// The threads of masters that were started, in order, and whether they are all.
 #[derive(Drop)]
-struct Started {
+struct StartedMasters {
     handles: Vec<PromisedHandle<Trace, TraceOf>>,
     all: bool,
 }
@@ -40,47 +50,34 @@ struct Started {
 fn start_masters<'s, 'e: 's, N: ArenaName + Send + Sync, R: Threads + Wait + Sync, G: Gate + Sync>(
     scope: &'s Scope<'s, &'e ()>,
     rt: &'e R,
-    arena: &'e Arena,
-    system: &'e System,
-    ports: &'e Vec<Port<N>>,
-    drivers: Vec<Driver>,
-    gate: &'e G,
+    shared: &Shared<'e, N, G>,
+    masters: Vec<MasterThread>,
     handles: Vec<PromisedHandle<Trace, TraceOf>>,
-) -> Started
-    requires ports { length system.now.ranges + 1 ≤ arena.now.about.ports }
-    requires drivers { AreFrom (IsNewDriver arena.now system.now.jobs) 0 drivers.items }
-    requires jobs { vec_len drivers ≡ length system.now.jobs }
+) -> StartedMasters
+    requires masters { AreFrom (IsNewMasterThread shared.now.arena.now shared.now.system.now)
+        0 masters.items }
+    requires jobs { vec_len masters ≡ length shared.now.system.now.jobs }
     requires none { vec_len handles ≡ 0 }
-    requires room { vec_len drivers ≤ vec_capacity handles }
-    ensures promised { AreFrom (IsPromised arena.now system.now.ranges system.now.jobs) 0 result.handles.items }
-    ensures few { vec_len result.handles ≤ vec_len drivers }
-    ensures all { IsTrue result.all → vec_len result.handles ≡ vec_len drivers }
+    requires room { vec_len masters ≤ vec_capacity handles }
+    ensures promised { AreFrom (IsPromised shared.now.arena.now
+        shared.now.system.now.ranges shared.now.system.now.jobs) 0 result.handles.items }
+    ensures few { vec_len result.handles ≤ vec_len masters }
+    ensures all { IsTrue result.all → vec_len result.handles ≡ vec_len masters }
 {
     let mut handles = handles;
-    for driver in drivers {
-        let Driver { master, bells } = driver;
+    for thread in masters {
+        let MasterThread { master, bells } = thread;
         let number = handles.len();
-        let jobs = &system.jobs()[number];
-        let Some(handle) = start_master(
-            scope,
-            rt,
-            master,
-            arena,
-            system.map(),
-            ports,
-            number,
-            jobs,
-            bells,
-            gate,
-        ) else {
-            return Started {
+        let jobs = &shared.system.jobs()[number];
+        let Some(handle) = start_master(scope, rt, shared, number, master, jobs, bells) else {
+            return StartedMasters {
                 handles,
                 all: false,
             };
         };
         handles.push_reserved(handle);
     }
-    Started { handles, all: true }
+    StartedMasters { handles, all: true }
 }
 
 /// Joins the masters, and gives their traces in order.
@@ -91,7 +88,8 @@ fn join_masters<R: Threads>(
     handles: Vec<PromisedHandle<Trace, TraceOf>>,
     traces: Vec<Trace>,
 ) -> Vec<Trace>
-    requires promised { AreFrom (IsPromised arena.now system.now.ranges system.now.jobs) 0 handles.items }
+    requires promised { AreFrom (IsPromised arena.now system.now.ranges system.now.jobs)
+        0 handles.items }
     requires none { vec_len traces ≡ 0 }
     requires room { vec_len handles ≤ vec_capacity traces }
     ensures many { vec_len result ≡ vec_len handles }
@@ -106,7 +104,7 @@ fn join_masters<R: Threads>(
 
 /// The threads of ports that were started, and whether they are all.
 #[derive(Drop)]
-struct Serving {
+struct StartedWorkers {
     handles: Vec<JoinHandle<Option<usize>>>,
     all: bool,
 }
@@ -115,36 +113,27 @@ struct Serving {
 fn start_workers<'s, 'e: 's, N: ArenaName + Send + Sync, R: Threads + Wait + Sync, G: Gate + Sync>(
     scope: &'s Scope<'s, &'e ()>,
     rt: &'e R,
-    arena: &'e Arena,
-    system: &'e System,
-    ports: &'e Vec<Port<N>>,
-    workers: Vec<Worker>,
-    gate: &'e G,
+    shared: &Shared<'e, N, G>,
+    workers: Vec<WorkerThread>,
     handles: Vec<JoinHandle<Option<usize>>>,
-) -> Serving
-    requires arena { arena.now ≡ N.arena }
+) -> StartedWorkers
+    requires workers { All (IsNewWorkerThread
+        (length shared.now.system.now.ranges + 1) (length shared.now.system.now.jobs)) workers.items }
     requires none { vec_len handles ≡ 0 }
     requires room { vec_len workers ≤ vec_capacity handles }
 {
     let mut handles = handles;
     for worker in workers {
-        let Worker { port, bells } = worker;
-        let Some(behind) = ports.get(port) else {
-            return Serving {
-                handles,
-                all: false,
-            };
-        };
-        let sources = system.sources();
-        let Some(handle) = start_worker(scope, rt, port, behind, arena, sources, bells, gate) else {
-            return Serving {
+        let WorkerThread { port, bells } = worker;
+        let Some(handle) = start_worker(scope, rt, shared, port, bells) else {
+            return StartedWorkers {
                 handles,
                 all: false,
             };
         };
         handles.push_reserved(handle);
     }
-    Serving { handles, all: true }
+    StartedWorkers { handles, all: true }
 }
 
 /// Rings a stop for each of a port's threads.
@@ -169,22 +158,12 @@ fn stop_workers<R: Threads + Wait>(
     rt: &R,
     handles: Vec<JoinHandle<Option<usize>>>,
     mut bells: Vec<Ringer>,
-    workers: usize,
+    workers_per_port: usize,
 ) -> Option<usize> {
     for bell in &mut bells {
-        stop(rt, bell, workers);
+        stop(rt, bell, workers_per_port);
     }
     join_workers(rt, handles)
-}
-
-/// What the threads of a run are handed: the masters and the ports' threads with their bells, and for the end the bell
-/// of each port, which so many threads hear.
-#[derive(Drop)]
-pub(crate) struct Parts {
-    pub(crate) drivers: Vec<Driver>,
-    pub(crate) workers: Vec<Worker>,
-    pub(crate) stops: Vec<Ringer>,
-    pub(crate) a_port: usize,
 }
 
 /// The masters' traces, and the lowest port that the gate held.
@@ -205,37 +184,31 @@ pub(crate) fn run_in<
     scope: &'s Scope<'s, &'e ()>,
     rt: &'e R,
     alloc: Global,
-    arena: &'e Arena,
-    system: &'e System,
-    ports: &'e Vec<Port<N>>,
-    parts: Parts,
-    gate: &'e G,
+    shared: &Shared<'e, N, G>,
+    threads: ThreadSet,
 ) -> Result<Ended, ThreadFault>
-    requires arena { arena.now ≡ N.arena }
-    requires ports { length system.now.ranges + 1 ≤ arena.now.about.ports }
-    requires drivers { AreFrom (IsNewDriver arena.now system.now.jobs) 0 parts.drivers.items }
-    requires jobs { vec_len parts.drivers ≡ length system.now.jobs }
-    ensures many { IfOk result (λ ended. vec_len ended.traces ≡ vec_len parts.drivers) }
-    ensures traces { IfOk result (λ ended. AreFrom (IsTraceOf arena.now system.now.ranges system.now.jobs) 0 ended.traces.items) }
+    requires { IsNewThreadSet shared.now.arena.now shared.now.system.now threads }
+    ensures { IfOk result (λ ended. AreTracesOf shared.now.arena.now shared.now.system.now
+        ended.traces.items) }
 {
-    let Parts {
-        drivers,
+    let ThreadSet {
+        masters,
         workers,
-        stops,
-        a_port,
-    } = parts;
-    let handles = Vec::with_capacity(alloc, drivers.len())?;
-    let traces = Vec::with_capacity(alloc, drivers.len())?;
+        port_bells,
+        workers_per_port,
+    } = threads;
+    let handles = Vec::with_capacity(alloc, masters.len())?;
+    let traces = Vec::with_capacity(alloc, masters.len())?;
     let serving = Vec::with_capacity(alloc, workers.len())?;
-    let serving = start_workers(scope, rt, arena, system, ports, workers, gate, serving);
+    let serving = start_workers(scope, rt, shared, workers, serving);
     if !serving.all {
-        stop_workers(rt, serving.handles, stops, a_port);
+        stop_workers(rt, serving.handles, port_bells, workers_per_port);
         return Err(ThreadFault::NoThread);
     }
-    let started = start_masters(scope, rt, arena, system, ports, drivers, gate, handles);
+    let started = start_masters(scope, rt, shared, masters, handles);
     let all = started.all;
-    let traces = join_masters(rt, arena, system, started.handles, traces);
-    let held = stop_workers(rt, serving.handles, stops, a_port);
+    let traces = join_masters(rt, shared.arena, shared.system, started.handles, traces);
+    let held = stop_workers(rt, serving.handles, port_bells, workers_per_port);
     if all {
         Ok(Ended { traces, held })
     } else {

@@ -1,15 +1,19 @@
 //! What a run needs before its threads start: banks, books, masters and bells.
-ghost use Rattle.std.specs.Prelude.{◌≡◌, ◌+◌, ◌^◌, ◌<◌, ◌≤◌, ◌∷◌, ◌++◌, [], ℕ, IfOk, Some, vec_len, length, map, slice_get};
+ghost use Rattle.std.specs.Prelude.{◌≡◌, ◌+◌, ◌*◌, ◌^◌, ◌<◌, ◌≤◌, ◌∷◌, ◌++◌, [], ℕ, All, IfOk, OnOk, Some, vec_len, length, map, slice_get};
 ghost use Rattle.tl_script.specs.System.{store_of, error_store, sends};
 ghost use Rattle.tl_arena.specs.Views.{AreNewMasters, AreNewPorts};
 ghost use Rattle.tl_threads.specs.Trace.{IsIdle};
-ghost use Rattle.tl_threads.specs.Start.{AreFrom, IsNewDriver, IsNewBook, AddsArrivals, AreJournals};
+ghost use Rattle.tl_types.specs.declared.limits.TheConstants.{MAX_MASTERS};
+ghost use Rattle.tl_script.specs.declared.system.TheConstants.{MAX_JOBS};
+ghost use Rattle.tl_threads.specs.declared.threads.TheConstants.{MAX_WORKERS};
+ghost use Rattle.tl_threads.specs.Start.{AddsArrivals, AreFrom, AreJournals, IsHeardAt};
+ghost use Rattle.tl_threads.specs.Start.{IsNewBook, IsNewMasterThread, IsNewThreadSet, IsNewWorkerThread};
 ghost use Rattle.tl_arena.specs.Views.{new_master, new_port};
 ghost use Rattle.tl_port.specs.Book.{new_book};
 ghost use Rattle.tl_rule.specs.Views.{reset_of};
 
-use crate::bell::{Bells, Listener, Ringer, bell};
-use crate::run::{Driver, Parts, Worker};
+use crate::bell::{Bells, Listener, Ringer};
+use crate::run::{MasterThread, ThreadSet, WorkerThread};
 use std::alloc::Global;
 use tl_arena::{Arena, MasterSeat, PortSeat};
 use tl_map::Map;
@@ -70,7 +74,8 @@ fn count_sends(map: &Map, jobs: &[Job], counts: &mut [usize])
 
 /// How many requests of a system go to each port.
 pub(crate) fn journals_of(alloc: Global, system: &System) -> Result<Vec<usize>, Memory>
-    ensures { IfOk result (λ journals. AreJournals system.now journals.items) }
+    ensures counted { IfOk result (λ journals. AreJournals system.now journals.items) }
+    ensures few { IfOk result (λ journals. All (λ n. n ≤ MAX_MASTERS * MAX_JOBS) journals.items) }
 {
     let _few_masters = system.sources().masters();
     let map = system.map();
@@ -92,7 +97,8 @@ fn book_of(
 ) -> Result<Book, Memory>
     requires seat { seat ≡ new_port arena.now number }
     requires bank { bank ≡ reset_of arena.now.about number }
-    ensures { IfOk result (λ book. book ≡ new_book (new_port arena.now number) (reset_of arena.now.about number) journal) }
+    ensures { IfOk result (λ book. book
+        ≡ new_book (new_port arena.now number) (reset_of arena.now.about number) journal) }
 {
     Book::new(alloc, bank, seat, arena.slots(), journal).map_err(|_| Memory)
 }
@@ -127,7 +133,9 @@ pub(crate) fn books_of(
 }
 
 /// Another end of each of these bells.
-fn ringers_of(alloc: Global, bells: &mut [Ringer]) -> Result<Vec<Ringer>, Memory> {
+fn ringers_of(alloc: Global, bells: &mut [Ringer]) -> Result<Vec<Ringer>, Memory>
+    ensures { IfOk result (λ ringers. vec_len ringers ≡ length bells.old) }
+{
     let mut ringers = Vec::with_capacity(alloc, bells.len())?;
     for bell in bells {
         ringers.push(bell.again()?)?;
@@ -135,30 +143,34 @@ fn ringers_of(alloc: Global, bells: &mut [Ringer]) -> Result<Vec<Ringer>, Memory
     Ok(ringers)
 }
 
-/// A new master with its bells, and another end of its bell for those who ring it.
-fn driver_of(
+/// What a new master's thread is handed, and another end of its bell for those who ring it. The bell has room for a ring
+/// for each reply.
+fn master_thread_of(
     alloc: Global,
     arena: &Arena,
     number: usize,
     seat: MasterSeat,
     system: &System,
-    ports: &mut [Ringer],
-) -> Result<(Driver, Ringer), Memory>
+    port_bells: &mut [Ringer],
+) -> Result<(MasterThread, Ringer), Memory>
     requires seat { seat ≡ new_master arena.now number }
     requires sources { arena.now.about.counts ≡ system.now.counts }
     requires jobs { number < length system.now.jobs }
-    ensures { IfOk result (λ made. IsNewDriver arena.now system.now.jobs number made.0) }
+    requires ports { length port_bells.old ≡ length system.now.ranges + 1 }
+    ensures { IfOk result (λ made. IsNewMasterThread arena.now system.now number made.0) }
 {
     let limit = sends_of(&system.jobs()[number]);
-    let (ringer, listeners) = bell(alloc, limit, 1)?;
-    let own = listeners.into_iter().next().ok_or(Memory)?;
+    let (ringer, listeners) = Ringer::new(alloc, limit, 1)?;
+    let Some(own) = listeners.into_iter().next() else {
+        unreachable!()
+    };
     let master = master_of(alloc, arena, number, seat, system, limit)?;
-    let others = ringers_of(alloc, ports)?;
-    let driver = Driver {
+    let others = ringers_of(alloc, port_bells)?;
+    let thread = MasterThread {
         master,
         bells: Bells { own, others },
     };
-    Ok((driver, ringer))
+    Ok((thread, ringer))
 }
 
 /// A new master with room for so many entries.
@@ -176,63 +188,87 @@ fn master_of(
     ensures idle { IfOk result (λ master. IsIdle arena.now number master) }
     ensures room { IfOk result (λ master. master.limit ≡ limit) }
 {
-    match Master::new(alloc, seat, system.sources(), limit) {
-        Ok(master) => Ok(master),
-        Err(_) => Err(Memory),
-    }
+    let master = Master::new(alloc, seat, system.sources(), limit).map_err(|_| Memory)?;
+    Ok(master)
 }
 
-/// A driver for each new master, and an end of each master's bell.
-fn drivers_of(
+/// What the thread of each new master is handed, and an end of each master's bell.
+fn master_threads_of(
     alloc: Global,
     arena: &Arena,
     seats: Vec<MasterSeat>,
     system: &System,
-    ports: &mut [Ringer],
-) -> Result<(Vec<Driver>, Vec<Ringer>), Memory>
+    port_bells: &mut [Ringer],
+) -> Result<(Vec<MasterThread>, Vec<Ringer>), Memory>
     requires seats { AreNewMasters arena.now (length system.now.jobs) seats.items }
     requires sources { arena.now.about.counts ≡ system.now.counts }
+    requires ports { length port_bells.old ≡ length system.now.ranges + 1 }
     ensures many { IfOk result (λ made. vec_len made.0 ≡ length system.now.jobs) }
-    ensures drivers { IfOk result (λ made. AreFrom (IsNewDriver arena.now system.now.jobs) 0 made.0.items) }
+    ensures threads { IfOk result (λ made. AreFrom (IsNewMasterThread arena.now system.now)
+        0 made.0.items) }
+    ensures bells { IfOk result (λ made. vec_len made.1 ≡ length system.now.jobs) }
 {
-    let mut drivers = Vec::with_capacity(alloc, seats.len())?;
+    let mut threads = Vec::with_capacity(alloc, seats.len())?;
     let mut bells = Vec::with_capacity(alloc, seats.len())?;
     for seat in seats {
-        let (driver, ringer) = driver_of(alloc, arena, drivers.len(), seat, system, ports)?;
-        drivers.push_reserved(driver);
+        let (thread, ringer) = master_thread_of(
+            alloc,
+            arena,
+            threads.len(),
+            seat,
+            system,
+            port_bells,
+        )?;
+        threads.push_reserved(thread);
         bells.push(ringer)?;
     }
-    Ok((drivers, bells))
+    Ok((threads, bells))
+}
+
+/// Those who hear the bell of a port: an end for each of its threads.
+#[derive(Drop)]
+pub(crate) struct PortListeners {
+    pub(crate) port: usize,
+    pub(crate) listeners: Vec<Listener>,
 }
 
 /// A bell for each port, with room for a ring for each of its requests and a stop for each of its threads, and the ends
 /// that those hear it by.
-fn port_bells(
+fn port_bells_of(
     alloc: Global,
     journals: &[usize],
     workers: usize,
-) -> Result<(Vec<Ringer>, Vec<Vec<Listener>>), Memory> {
+) -> Result<(Vec<Ringer>, Vec<PortListeners>), Memory>
+    requires few { All (λ n. n ≤ MAX_MASTERS * MAX_JOBS) journals.now }
+    requires workers { workers ≤ MAX_WORKERS }
+    ensures bells { IfOk result (λ made. vec_len made.0 ≡ length journals.now) }
+    ensures heard { IfOk result (λ made. All (IsHeardAt journals.now workers) made.1.items) }
+{
     let mut bells = Vec::with_capacity(alloc, journals.len())?;
-    let mut listeners = Vec::with_capacity(alloc, journals.len())?;
-    for journal in journals {
-        let (ringer, heard) = bell(alloc, usize::saturating_add(*journal, workers), workers)?;
+    let mut heard = Vec::with_capacity(alloc, journals.len())?;
+    for (port, journal) in journals.iter().enumerate() {
+        let (ringer, listeners) = Ringer::new(alloc, *journal + workers, workers)?;
         bells.push(ringer)?;
-        listeners.push(heard)?;
+        heard.push(PortListeners { port, listeners })?;
     }
-    Ok((bells, listeners))
+    Ok((bells, heard))
 }
 
-/// Appends a worker for each of a port's listeners.
+/// Appends what each thread of a port is handed.
 fn push_workers(
     alloc: Global,
-    workers: &mut Vec<Worker>,
-    port: usize,
-    listeners: Vec<Listener>,
-    masters: &mut [Ringer],
-) -> Result<(), Memory> {
+    threads: &mut Vec<WorkerThread>,
+    heard: PortListeners,
+    master_bells: &mut [Ringer],
+) -> Result<(), Memory>
+    ensures { OnOk result ((ports : ℕ) → heard.port < ports
+        → All (IsNewWorkerThread ports (length master_bells.old)) threads.old.items
+        → All (IsNewWorkerThread ports (length master_bells.old)) threads.new.items) }
+{
+    let PortListeners { port, listeners } = heard;
     for own in listeners {
-        let others = ringers_of(alloc, masters)?;
-        workers.push(Worker {
+        let others = ringers_of(alloc, master_bells)?;
+        threads.push(WorkerThread {
             port,
             bells: Bells { own, others },
         })?;
@@ -240,40 +276,54 @@ fn push_workers(
     Ok(())
 }
 
-/// A worker for each listener of each port.
-fn workers_of(
+/// What each thread of each port is handed.
+fn worker_threads_of(
     alloc: Global,
-    listeners: Vec<Vec<Listener>>,
-    masters: &mut [Ringer],
-) -> Result<Vec<Worker>, Memory> {
-    let mut workers = Vec::new(alloc);
-    for (port, heard) in listeners.into_iter().enumerate() {
-        push_workers(alloc, &mut workers, port, heard, masters)?;
+    heard: Vec<PortListeners>,
+    journals: &[usize],
+    workers: usize,
+    master_bells: &mut [Ringer],
+) -> Result<Vec<WorkerThread>, Memory>
+    requires { All (IsHeardAt journals.now workers) heard.items }
+    ensures { IfOk result (λ threads. All
+        (IsNewWorkerThread (length journals.now) (length master_bells.old)) threads.items) }
+{
+    let mut threads = Vec::with_capacity(alloc, usize::saturating_mul(journals.len(), workers))?;
+    for listeners in heard {
+        push_workers(alloc, &mut threads, listeners, master_bells)?;
     }
-    Ok(workers)
+    Ok(threads)
 }
 
 /// What the threads of a run are handed, where a port has so many of them.
-pub(crate) fn parts_of(
+pub(crate) fn threads_of(
     alloc: Global,
     arena: &Arena,
     seats: Vec<MasterSeat>,
     system: &System,
     journals: &[usize],
     workers: usize,
-) -> Result<Parts, Memory>
+) -> Result<ThreadSet, Memory>
     requires seats { AreNewMasters arena.now (length system.now.jobs) seats.items }
     requires sources { arena.now.about.counts ≡ system.now.counts }
-    ensures many { IfOk result (λ parts. vec_len parts.drivers ≡ length system.now.jobs) }
-    ensures drivers { IfOk result (λ parts. AreFrom (IsNewDriver arena.now system.now.jobs) 0 parts.drivers.items) }
+    requires ports { length journals.now ≡ length system.now.ranges + 1 }
+    requires few { All (λ n. n ≤ MAX_MASTERS * MAX_JOBS) journals.now }
+    requires workers { workers ≤ MAX_WORKERS }
+    ensures { IfOk result (IsNewThreadSet arena.now system.now) }
 {
-    let (mut stops, listeners) = port_bells(alloc, journals, workers)?;
-    let (drivers, mut bells) = drivers_of(alloc, arena, seats, system, &mut stops)?;
-    let at_ports = workers_of(alloc, listeners, &mut bells)?;
-    Ok(Parts {
-        drivers,
-        workers: at_ports,
-        stops,
-        a_port: workers,
+    let (mut port_bells, heard) = port_bells_of(alloc, journals, workers)?;
+    let (masters, mut master_bells) = master_threads_of(
+        alloc,
+        arena,
+        seats,
+        system,
+        &mut port_bells,
+    )?;
+    let threads = worker_threads_of(alloc, heard, journals, workers, &mut master_bells)?;
+    Ok(ThreadSet {
+        masters,
+        workers: threads,
+        port_bells,
+        workers_per_port: workers,
     })
 }

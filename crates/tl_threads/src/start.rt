@@ -1,19 +1,20 @@
 //! How the threads of a run are started.
-ghost use Rattle.std.specs.Prelude.{◌≡◌, ◌+◌, ◌≤◌, length, IfSome};
+ghost use Rattle.std.specs.Prelude.{◌≡◌, ◌+◌, ◌<◌, length, vec_len, IfSome};
 ghost use Rattle.tl_script.specs.System.{sends};
+ghost use Rattle.tl_threads.specs.Context.{AreShared};
 ghost use Rattle.tl_threads.specs.Trace.{IsTrace, IsIdle};
 
 use crate::bell::Bells;
-use crate::drive::drive;
+use crate::context::Shared;
 use crate::gate::Gate;
-use crate::work::work;
+use crate::master_thread::run_master;
+use crate::worker_thread::run_worker;
 use std::snapshot::Snapshot;
 use std::sync::Wait;
 use std::thread::{JoinHandle, Promise, PromisedHandle, Scope, Threads};
 use tl_arena::{Arena, ArenaName};
-use tl_map::{Map, Sources};
+use tl_map::Map;
 use tl_master::Master;
-use tl_port::Port;
 use tl_script::Job;
 use tl_types::Trace;
 
@@ -36,30 +37,48 @@ impl Promise<Trace> for TraceOf {
 pub(crate) fn start_master<'s, 'e: 's, N: ArenaName + Send + Sync, R: Wait + Sync, G: Gate + Sync>(
     scope: &'s Scope<'s, &'e ()>,
     rt: &'e R,
-    master: Master,
-    arena: &'e Arena,
-    map: &'e Map,
-    ports: &'e Vec<Port<N>>,
+    shared: &Shared<'e, N, G>,
     number: usize,
+    master: Master,
     jobs: &'e Vec<Job>,
     bells: Bells,
-    gate: &'e G,
 ) -> Option<PromisedHandle<Trace, TraceOf>>
-    requires new { IsIdle arena.now number master }
+    requires new { IsIdle shared.now.arena.now number master }
     requires room { master.limit ≡ length (sends jobs.now.items) }
-    requires ports { length map.now + 1 ≤ arena.now.about.ports }
-    ensures { IfSome result (λ h. (h.promise.number ≡ number) × (h.promise.arena.value ≡ arena.now) × (h.promise.map.value ≡ map.now) × (h.promise.jobs.value ≡ jobs.now)) }
+    requires bells { vec_len bells.others ≡ length shared.now.system.now.ranges + 1 }
+    ensures { IfSome result (λ h. (h.promise.number ≡ number)
+        × (h.promise.arena.value ≡ shared.now.arena.now)
+        × (h.promise.map.value ≡ shared.now.system.now.ranges)
+        × (h.promise.jobs.value ≡ jobs.now)) }
 {
     let promise = TraceOf {
         number,
         jobs: Snapshot::of(jobs),
-        arena: Snapshot::of(arena),
-        map: Snapshot::of(map),
+        arena: Snapshot::of(shared.arena),
+        map: Snapshot::of(shared.system.map()),
     };
+    let Shared {
+        system,
+        arena,
+        ports,
+        gate,
+    } = *shared;
     let run = move || -> Trace
-        requires { IsIdle arena.now number master × (master.limit ≡ length (sends jobs.now.items)) × (length map.now + 1 ≤ arena.now.about.ports) }
-        ensures { IsTrace arena.entry.now map.entry.now number jobs.entry.now.items result.items }
-    { drive(rt, master, arena, map, ports, number, jobs, bells, gate) };
+        requires { AreShared N.arena system.now arena.now (vec_len ports.now)
+            × IsIdle arena.now number master
+            × (master.limit ≡ length (sends jobs.now.items))
+            × (vec_len bells.others ≡ length system.now.ranges + 1) }
+        ensures { IsTrace arena.entry.now system.entry.now.ranges number jobs.entry.now.items
+            result.items }
+    {
+        let shared = Shared {
+            system,
+            arena,
+            ports,
+            gate,
+        };
+        run_master(rt, &shared, number, master, jobs, bells)
+    };
     scope.spawn_with(promise, run).ok()
 }
 
@@ -67,16 +86,31 @@ pub(crate) fn start_master<'s, 'e: 's, N: ArenaName + Send + Sync, R: Wait + Syn
 pub(crate) fn start_worker<'s, 'e: 's, N: ArenaName + Send + Sync, R: Wait + Sync, G: Gate + Sync>(
     scope: &'s Scope<'s, &'e ()>,
     rt: &'e R,
-    number: usize,
-    port: &'e Port<N>,
-    arena: &'e Arena,
-    sources: &'e Sources,
+    shared: &Shared<'e, N, G>,
+    port: usize,
     bells: Bells,
-    gate: &'e G,
 ) -> Option<JoinHandle<Option<usize>>>
-    requires { arena.now ≡ N.arena }
+    requires port { port < length shared.now.system.now.ranges + 1 }
+    requires bells { vec_len bells.others ≡ length shared.now.system.now.jobs }
 {
-    scope
-        .spawn(move || work(rt, number, port, arena, sources, bells, gate))
-        .ok()
+    let Shared {
+        system,
+        arena,
+        ports,
+        gate,
+    } = *shared;
+    let run = move || -> Option<usize>
+        requires { AreShared N.arena system.now arena.now (vec_len ports.now)
+            × (port < length system.now.ranges + 1)
+            × (vec_len bells.others ≡ length system.now.jobs) }
+    {
+        let shared = Shared {
+            system,
+            arena,
+            ports,
+            gate,
+        };
+        run_worker(rt, &shared, port, bells)
+    };
+    scope.spawn(run).ok()
 }

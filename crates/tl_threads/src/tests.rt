@@ -2,7 +2,7 @@ ghost use Rattle.std.specs.Prelude.{◌≤◌};
 
 mod scripts;
 
-use crate::{Gate, OpenGate, Run, ThreadFault, run_threads};
+use crate::{Gate, OpenGate, ThreadFault, ThreadedRun, run_threads};
 use std::alloc::Global;
 use std::sync::Wait;
 use std::sync::atomic::AtomicUsize;
@@ -18,7 +18,7 @@ fn run<R: Threads + Wait + Sync, G: Gate + Sync>(
     script: &[u8],
     workers: usize,
     gate: &G,
-) -> Result<Run, Fail>
+) -> Result<ThreadedRun, Fail>
     requires some { 1 ≤ workers }
     requires few { workers ≤ 4 }
 {

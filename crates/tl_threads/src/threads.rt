@@ -6,8 +6,8 @@ ghost use Rattle.tl_threads.specs.Run.{IsThreadedRun};
 
 use crate::fault::ThreadFault;
 use crate::gate::Gate;
-use crate::named::{Run, run_named};
-use crate::setup::{banks_of, books_of, journals_of, parts_of};
+use crate::named::{ThreadedRun, run_named};
+use crate::setup::{banks_of, books_of, journals_of, threads_of};
 use std::alloc::Global;
 use std::marker::Brand;
 use std::sync::Wait;
@@ -23,8 +23,10 @@ pub const MAX_WORKERS: usize = 4;
 /// A new arena for the masters of a system and for ports with these banks.
 fn arena_of(alloc: Global, system: &System, banks: &[Bank]) -> Result<Made, Memory>
     requires { banks.now ≡ resets system.now }
-    ensures arena { IfOk result (λ made. made.arena.about ≡ about_of system.now.slots system.now.counts (resets system.now)) }
-    ensures masters { IfOk result (λ made. AreNewMasters made.arena (length system.now.jobs) made.masters.items) }
+    ensures arena { IfOk result (λ made. made.arena.about
+        ≡ about_of system.now.slots system.now.counts (resets system.now)) }
+    ensures masters { IfOk result (λ made. AreNewMasters made.arena (length system.now.jobs)
+        made.masters.items) }
     ensures ports { IfOk result (λ made. AreNewPorts made.arena (length banks.now) made.ports.items) }
 {
     let _lawful = system.jobs();
@@ -44,18 +46,19 @@ fn arena_of(alloc: Global, system: &System, banks: &[Bank]) -> Result<Made, Memo
 /// have ended.
 ///
 /// Errors, the first that applies: [`ThreadFault::Memory`] where memory is refused; [`ThreadFault::NoThread`] where a
-/// thread is; [`ThreadFault::StrayBook`] where a lock gave back another port's book; and [`ThreadFault::GateHeld`]
-/// where the gate let a worker wait for ever.
+/// thread is; [`ThreadFault::GateHeld`] where the gate let a worker wait for ever; and [`ThreadFault::StrayBook`] where
+/// a lock gave back another port's book.
 pub fn run_threads<R: Threads + Wait + Sync, G: Gate + Sync>(
     rt: &R,
     alloc: Global,
     system: &System,
     workers: usize,
     gate: &G,
-) -> Result<Run, ThreadFault>
+) -> Result<ThreadedRun, ThreadFault>
     requires some { 1 ≤ workers }
     requires few { workers ≤ MAX_WORKERS }
-    ensures { IfOk result (λ run. IsThreadedRun system.now (lists_of run.traces.items) run.books.items run.account.free.items run.account.held.items run.account.left.items) }
+    ensures { IfOk result (λ run. IsThreadedRun system.now (lists_of run.traces.items)
+        run.books.items run.account.free.items run.account.held.items run.account.left.items) }
 {
     let banks = banks_of(alloc, system.devices())?;
     let Made {
@@ -64,8 +67,8 @@ pub fn run_threads<R: Threads + Wait + Sync, G: Gate + Sync>(
         ports,
     } = arena_of(alloc, system, &banks)?;
     let journals = journals_of(alloc, system)?;
-    let parts = parts_of(alloc, &arena, masters, system, &journals, workers)?;
+    let threads = threads_of(alloc, &arena, masters, system, &journals, workers)?;
     let books = books_of(alloc, &arena, ports, banks, system, &journals)?;
-    let run = run_named::<Brand, R, G>(rt, alloc, arena, system, books, parts, gate)?;
+    let run = run_named::<Brand, R, G>(rt, alloc, arena, system, books, threads, gate)?;
     Ok(run)
 }

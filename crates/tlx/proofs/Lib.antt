@@ -1,4 +1,3 @@
 pub mod Scripts
-pub mod Sending
-pub mod Serving
+pub mod Failing
 mod CommandLine

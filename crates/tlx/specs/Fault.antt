@@ -1,4 +1,4 @@
--- What becomes of the fault of a step.
+-- What becomes of the fault of a step. This project's own.
 use Rattle.std.specs.Prelude.{ℕ}
 use Rattle.tl_script.specs.declared.fault.ScriptFault.{ScriptFault}
 use Rattle.tl_script.specs.declared.fault.ScriptFault.TheVariants as script
@@ -7,7 +7,7 @@ use Rattle.tl_threads.specs.declared.fault.ThreadFault.TheVariants as thread
 use Rattle.tlx.specs.declared.streams.ReadFault.{ReadFault}
 use Rattle.tlx.specs.declared.streams.ReadFault.TheVariants as read
 use Rattle.tlx.specs.declared.fault.RunFault.{RunFault}
-use Rattle.tlx.specs.declared.fault.RunFault.TheVariants.{Script, Read, Write, Memory, NoThread, StrayBook, GateHeld}
+use Rattle.tlx.specs.declared.fault.RunFault.TheVariants.{Script, Read, Write, Memory, NoThread, GateHeld, StrayBook}
 
 -- want of memory is one fault, whichever layer met it
 abbrev pub of_script : ScriptFault → RunFault
@@ -21,8 +21,8 @@ of_read read.Read = Read
 abbrev pub of_thread : ThreadFault → RunFault
 of_thread thread.Memory = Memory
 of_thread thread.NoThread = NoThread
-of_thread (thread.StrayBook port) = StrayBook port
 of_thread (thread.GateHeld port) = GateHeld port
+of_thread (thread.StrayBook port) = StrayBook port
 
 -- the status that the program ends with
 abbrev pub status_of : RunFault → ℕ
@@ -31,5 +31,5 @@ status_of Read = 5
 status_of Write = 5
 status_of Memory = 4
 status_of NoThread = 4
-status_of (StrayBook _) = 5
 status_of (GateHeld _) = 5
+status_of (StrayBook _) = 5

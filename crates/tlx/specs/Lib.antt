@@ -1,6 +1,4 @@
 pub mod Streams
-pub mod Serial
-pub mod Slave
 pub mod Fault
-pub mod Run
+pub mod Engine
 pub mod Options

@@ -1,5 +1,5 @@
 -- The command line: the options that there are, which of them the words ask for, and the status that the program ends with
--- where they ask for none.
+-- where they ask for none. This project's own.
 use Rattle.std.specs.Prelude.{◌≡◌, ℕ, List, [], ◌∷◌, Some, codes, unwrap_or}
 use Rattle.std.specs.Str.{bytes_eq}
 use Rattle.std.specs.Str.Parse.{digits_value, without_leading_plus}
@@ -9,7 +9,7 @@ use Rattle.clap.specs.declared.builder.value_parser.ValueParser.TheVariants as v
 use Rattle.clap.specs.declared.error.ErrorKind.{ErrorKind}
 use Rattle.clap.specs.declared.error.ErrorKind.TheVariants.{DisplayHelp, OutOfMemory}
 use Rattle.tlx.specs.declared.options.Options.{Options}
-use Rattle.tlx.specs.declared.options.TheConstants.{MOST_WORKERS}
+use Rattle.tlx.specs.declared.options.TheConstants.{LINE_WORKERS}
 
 -- `--serial`, a flag
 abbrev pub serial_rule : Rule
@@ -25,7 +25,7 @@ workers_rule = record (new_rule (codes "workers")) {
   long = Some (codes "workers");
   action = Some Set;
   value_names = 1;
-  parser = Some (values.Unsigned 1 MOST_WORKERS);
+  parser = Some (values.Unsigned 1 LINE_WORKERS);
   defaults = codes "1" ∷ [];
 }
 

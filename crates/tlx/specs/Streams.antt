@@ -1,4 +1,4 @@
--- What was taken from a reader and written to a writer, where they tell their bytes.
+-- What was taken from a reader and written to a writer, where they tell their bytes. This project's own.
 use Rattle.std.specs.Prelude.{◌≡◌, ℕ, ◌<◌, ◌≤◌, ◌++◌, List, length, Option}
 use Rattle.std.specs.Io.KnownBytes.{Appends, Consumes, IsAtEnd}
 

@@ -26,12 +26,12 @@ pub enum RunFault {
     /// The system gave no thread.
     #[error("thread refused")]
     NoThread,
-    /// The lock of this port gave back another port's book.
-    #[error("port {0}: stray book")]
-    StrayBook(usize),
     /// The gate of a run never let this port's worker serve.
     #[error("gate of port {0} held")]
     GateHeld(usize),
+    /// The lock of this port gave back another port's book.
+    #[error("port {0}: stray book")]
+    StrayBook(usize),
 }
 
 impl RunFault {
@@ -42,7 +42,7 @@ impl RunFault {
         match self {
             RunFault::Script(_) => 1,
             RunFault::Memory | RunFault::NoThread => 4,
-            RunFault::Read | RunFault::Write | RunFault::StrayBook(_) | RunFault::GateHeld(_) => 5,
+            RunFault::Read | RunFault::Write | RunFault::GateHeld(_) | RunFault::StrayBook(_) => 5,
         }
     }
 }
@@ -84,8 +84,8 @@ impl From<ThreadFault> for RunFault {
         match fault {
             ThreadFault::Memory => RunFault::Memory,
             ThreadFault::NoThread => RunFault::NoThread,
-            ThreadFault::StrayBook(port) => RunFault::StrayBook(port),
             ThreadFault::GateHeld(port) => RunFault::GateHeld(port),
+            ThreadFault::StrayBook(port) => RunFault::StrayBook(port),
         }
     }
 }

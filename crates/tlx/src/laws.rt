@@ -1,8 +1,20 @@
-//! Laws of the command line, each on a function that does nothing but carry it: what the lines ask for, or are refused as,
-//! that the program's documents name.
-ghost use Rattle.std.specs.Prelude.{[], ◌∷◌, codes, true, false};
+//! Laws of the program, each on a function that does nothing but carry it: its limits, and what the command lines that its
+//! documents name ask for or are refused as.
+ghost use Rattle.std.specs.Prelude.{◌≡◌, ◌*◌, ◌+◌, [], ◌∷◌, codes, true, false};
 ghost use Rattle.clap.specs.declared.error.ErrorKind.TheVariants.{DisplayHelp, InvalidValue, UnknownArgument, ValueValidation};
+ghost use Rattle.tl_script.specs.declared.script.TheConstants.{SCRIPT_LIMIT};
+ghost use Rattle.tlx.specs.declared.limited.TheConstants.{READS, RETRIES};
+ghost use Rattle.tlx.specs.declared.options.TheConstants.{LINE_WORKERS};
 ghost use Rattle.tlx.specs.Options.{AskFor, AreRefusedAs};
+
+/// The limits of this crate in numbers: contracts name the constants, so a wrong one would change what they promise. There
+/// are two reads for each byte that a script may have, and for the one that makes it too long.
+pub fn limits_in_numbers()
+    ensures reads { READS ≡ 2097154 }
+    ensures two_a_byte { READS ≡ 2 * (SCRIPT_LIMIT + 1) }
+    ensures retries { RETRIES ≡ 2097154 }
+    ensures workers { LINE_WORKERS ≡ 1 }
+{}
 
 /// The lines that are taken. The first word is the program's name.
 pub fn lines_ask_for_options()

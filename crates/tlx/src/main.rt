@@ -5,55 +5,58 @@
 //! With `--serial` all runs on one thread, and standard output is the traces. A fault is one line on standard error, and
 //! then nothing was written, save for a failed write; a command line that is refused is told by clap's text.
 //!
-//! `threads_engine` (`threaded`) and `serial_engine` (`engine`) carry the theorems: what is written is the text of a run
-//! by threads, or of the serial run, of the system that all of the input spells. `run_serial` (`serial`) is the serial
-//! run, by the definition `IsSerialRun` (`specs/Serial.antt`). `streams` reads and writes within bounds, `options` reads
-//! the command line. Read on in `docs/ARCHITECTURE.md` and `docs/MODEL.md`, "Runs".
+//! `serial_engine` and `threads_engine` (`engine`) carry the theorems: what is written is the text of the serial run
+//! (crate `tl_serial`), or of a run by threads (crate `tl_threads`), of the system that all of the input spells. `input`
+//! reads that, `streams` reads and writes, `limited` bounds how often, and `options` reads the command line. Read on in
+//! `docs/ARCHITECTURE.md` and `docs/MODEL.md`, "Runs".
 #![tactic(auto)]
 
 pub mod engine;
 pub mod fault;
+pub mod input;
 pub mod laws;
+pub mod limited;
 pub mod options;
-pub mod serial;
-pub mod steps;
 pub mod streams;
 #[cfg(test)]
 mod tests;
-pub mod threaded;
 
-ghost use Rattle.std.specs.Prelude.{◌≡◌, ◌≢◌, ◌≤◌, true, false, Err, IfOk, OnOk, IfErr};
-ghost use Rattle.std.specs.Io.KnownBytes.{Keeps};
+ghost use Rattle.std.specs.Prelude.{◌≡◌, ◌≢◌, ◌≤◌, true, false, IfErr, OnOk};
+ghost use Rattle.std.specs.IoError.{error_kind};
 ghost use Rattle.std.specs.Process.{exit_status};
 ghost use Rattle.clap.specs.Words.{kind_of};
-ghost use Rattle.tl_script.specs.declared.fault.ScriptFault.{ScriptFault};
+ghost use Rattle.tl_serial.specs.Text.{IsSerialText};
+ghost use Rattle.tlx.specs.Engine.{IsAnswered, IsThreadedText};
 ghost use Rattle.tlx.specs.Fault.{status_of};
 ghost use Rattle.tlx.specs.Options.{status_of_kind};
-ghost use Rattle.tlx.specs.Run.{AnswersSerially, AnswersByThreads, BeginsToAnswer, HasScriptFault, IsSerialText, IsThreadedText};
 
-use crate::engine::serial_engine;
+use crate::engine::serial::serial_engine;
+use crate::engine::threads::threads_engine;
 use crate::fault::RunFault;
-use crate::options::{MOST_WORKERS, Options, options_status, read_options};
-use crate::threaded::threads_engine;
+use crate::options::{LINE_WORKERS, Options, options_status, read_options};
 use std::alloc::Global;
-use std::env;
-use std::io::{Read, Write};
+use std::io::{ErrorKind, Read, Write};
 use std::process::ExitCode;
 use std::sync::Wait;
 use std::thread::Threads;
+use std::{env, io};
 
 /// The status of a command line that is not text.
 const USAGE: u8 = 2;
 
 fn main(rt: HostRuntime) -> ExitCode {
-    let Ok(words) = env::args(&rt) else {
-        let _ = eprintln!(rt; "arguments are not text");
-        return ExitCode::from(USAGE);
+    let words = match env::args(&rt) {
+        Ok(words) => words.collect::<Vec<String>>(rt.alloc()),
+        Err(error) => return unread(&rt, &error),
     };
-    let Ok(words) = words.collect::<Vec<String>>(rt.alloc()) else {
+    let Ok(words) = words else {
         return ended(&rt, Err(RunFault::Memory));
     };
-    match read_options(rt.alloc(), &words) {
+    let line = words.iter().map(|word| word.as_str());
+    let Ok(line) = line.collect::<Vec<&str>>(rt.alloc()) else {
+        return ended(&rt, Err(RunFault::Memory));
+    };
+    match read_options(rt.alloc(), &line) {
         Ok(options) => ended(
             &rt,
             run(&rt, rt.alloc(), &mut rt.stdin(), &mut rt.stdout(), options),
@@ -77,10 +80,27 @@ fn ended(rt: &HostRuntime, outcome: Result<(), RunFault>) -> ExitCode
     }
 }
 
-/// Prints the help that was asked for, or what is wrong with the command line, and answers its status.
+/// The status of a command line that could not be read: for want of memory, which is a fault of the run, or since a
+/// word is not text.
+fn unread(rt: &HostRuntime, error: &io::Error) -> ExitCode
+    ensures memory { error_kind error.now ≡ ErrorKind.OutOfMemory → exit_status result ≡ 4 }
+    ensures text { error_kind error.now ≢ ErrorKind.OutOfMemory → exit_status result ≡ USAGE }
+{
+    if error.kind() == ErrorKind::OutOfMemory {
+        return ended(rt, Err(RunFault::Memory));
+    }
+    let _ = eprintln!(rt; "arguments are not text");
+    ExitCode::from(USAGE)
+}
+
+/// Prints the help that was asked for, or what is wrong with the command line, and answers its status. Want of memory
+/// is told as that of a run is.
 fn refused(rt: &HostRuntime, error: clap::Error) -> ExitCode
     ensures { exit_status result ≡ status_of_kind (kind_of error) }
 {
+    if error.kind() == clap::error::ErrorKind::OutOfMemory {
+        return ended(rt, Err(RunFault::Memory));
+    }
     let _ = error.print(rt);
     ExitCode::from(options_status(&error))
 }
@@ -94,23 +114,19 @@ fn run<R: Read, W: Write, T: Threads + Wait + Sync>(
     options: Options,
 ) -> Result<(), RunFault>
     requires some { 1 ≤ options.workers }
-    requires few { options.workers ≤ MOST_WORKERS }
+    requires few { options.workers ≤ LINE_WORKERS }
+
     // Which of the two texts is written.
-    ensures serial { options.serial ≡ true → OnOk result (AnswersSerially false (R.remaining reader.old) (R.remaining reader.new) (W.contents writer.old) (W.contents writer.new)) }
-    ensures threads { options.serial ≡ false → OnOk result (AnswersByThreads (R.remaining reader.old) (R.remaining reader.new) (W.contents writer.old) (W.contents writer.new)) }
-
-    // A fault of the script is the first of what was read.
-    ensures script { (fault : ScriptFault) → result ≡ Err (RunFault.Script fault)
-        → HasScriptFault (R.remaining reader.old) (R.remaining reader.new) fault }
-
-    // Nothing is written but by an Ok or before a failed write, which leaves a front of such a text.
-    ensures quiet { IfErr result (λ e. e ≢ RunFault.Write → Keeps (W.contents writer.old) (W.contents writer.new)) }
-    ensures serial_part { options.serial ≡ true → IfErr result (λ e. e ≡ RunFault.Write → BeginsToAnswer (IsSerialText false) (R.remaining reader.old) (R.remaining reader.new) (W.contents writer.old) (W.contents writer.new)) }
-    ensures threads_part { options.serial ≡ false → IfErr result (λ e. e ≡ RunFault.Write → BeginsToAnswer IsThreadedText (R.remaining reader.old) (R.remaining reader.new) (W.contents writer.old) (W.contents writer.new)) }
+    ensures serial { options.serial ≡ true
+        → IsAnswered (IsSerialText false) (R.remaining reader.old) (R.remaining reader.new)
+        (W.contents writer.old) (W.contents writer.new) result }
+    ensures threads { options.serial ≡ false
+        → IsAnswered IsThreadedText (R.remaining reader.old) (R.remaining reader.new)
+        (W.contents writer.old) (W.contents writer.new) result }
 {
     if options.serial {
         serial_engine(alloc, reader, writer, false)
     } else {
-        threads_engine(rt, alloc, reader, writer, options.workers)
+        threads_engine(rt, alloc, reader, writer, options.workers, false)
     }
 }

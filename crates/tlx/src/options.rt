@@ -1,14 +1,17 @@
 //! The command line: `tlx [--serial] [--workers N]`.
-ghost use Rattle.std.specs.Prelude.{◌≡◌, ◌≤◌, IfOk, map, string_bytes};
+ghost use Rattle.std.specs.Prelude.{◌≡◌, ◌≤◌, IfOk, map};
 ghost use Rattle.clap.specs.Words.{FailsBy, app_of, fault_of, kind_of};
 ghost use Rattle.tlx.specs.Options.{command_line, options_in, status_of_kind};
 
 use clap::error::ErrorKind;
 use clap::{Arg, ArgAction, Command, Error, value_parser};
 use std::alloc::{AllocError, Global};
+use tl_threads::MAX_WORKERS;
 
-/// The most threads of a port that the command line takes.
-pub const MOST_WORKERS: usize = 1;
+/// The most threads of a port that the command line takes: fewer than [`MAX_WORKERS`], with which a run can be made.
+pub const LINE_WORKERS: usize = 1;
+
+const _: () = prove!(LINE_WORKERS <= MAX_WORKERS);
 
 /// What the command line asks for.
 #[derive(Clone, Copy, Debug, PartialEq, Eq)]
@@ -23,15 +26,15 @@ pub struct Options {
 ///
 /// Errors: help that was asked for, an unknown option, a stray word, or a number of workers that is none or outside its
 /// range; each is clap's own text.
-pub fn read_options(alloc: Global, words: &[String]) -> Result<Options, Error>
+pub fn read_options(alloc: Global, words: &[&str]) -> Result<Options, Error>
     ensures some { IfOk result (λ options. 1 ≤ options.workers) }
-    ensures few { IfOk result (λ options. options.workers ≤ MOST_WORKERS) }
+    ensures few { IfOk result (λ options. options.workers ≤ LINE_WORKERS) }
 
     // The options are those that the words ask for.
-    ensures asked { IfOk result (λ options. options ≡ options_in (map (λ word. string_bytes word) words.now)) }
+    ensures asked { IfOk result (λ options. options ≡ options_in (map (λ word. word.now) words.now)) }
 
     // The words are taken or refused as the command line says.
-    ensures faults { FailsBy (fault_of command_line (map (λ word. string_bytes word) words.now)) result }
+    ensures faults { FailsBy (fault_of command_line (map (λ word. word.now) words.now)) result }
 {
     let matches = command(alloc)?.try_get_matches_from(words)?;
     Ok(Options {
@@ -53,7 +56,7 @@ fn command<'a>(alloc: Global) -> Result<Command<'a>, AllocError>
         .long("workers")
         .action(ArgAction::Set)
         .value_name("N")
-        .value_parser(value_parser!(usize).range(1..=MOST_WORKERS as i64))
+        .value_parser(value_parser!(usize).range(1..=LINE_WORKERS as i64))
         .default_value("1")
         .help("Threads for each port");
     Command::new(alloc, "tlx").arg(serial)?.arg(workers)

@@ -1,19 +1,13 @@
 //! Reading a whole input and writing a whole output, within bounds.
 ghost use Rattle.std.specs.Prelude.{◌≡◌, ◌≤◌, ◌<◌, ◌+◌, IfOk, OnOk, IfErr, OnErr};
-ghost use Rattle.std.specs.Io.{ReadsAtMost};
-ghost use Rattle.std.specs.Io.KnownBytes.{Appends, ReadConsumes};
+ghost use Rattle.std.specs.Io.KnownBytes.{Appends};
 ghost use Rattle.tlx.specs.declared.streams.ReadFault.TheVariants.{Memory};
 ghost use Rattle.tlx.specs.Streams.{AppendsFront, ReadsUpTo, TakesUpTo};
 
-use crate::steps::Steps;
+use crate::limited::{LimitedReader, LimitedWriter};
 use std::alloc::{AllocError, Global};
-use std::io;
 use std::io::{ErrorKind, Read, Write};
-use std::sync::ledger::Ledger;
 use thiserror::Error;
-
-/// How many reads are made at most, and how many writes that were interrupted are tried again.
-pub const TURNS: u32 = 2_097_154;
 
 /// How many bytes one read asks for at most.
 const CHUNK: usize = 4096;
@@ -40,75 +34,63 @@ impl From<AllocError> for ReadFault {
 #[error("write failed")]
 pub struct WriteFault;
 
-/// The only read: it counts.
-fn read_once<R: Read, L: Ledger>(
-    reader: &mut R,
-    buf: &mut [u8],
-    steps: &mut Steps<L>,
-) -> io::Result<usize>
-    ensures bound { ReadsAtMost result buf.new }
-    ensures bytes { ReadConsumes (R.remaining reader.old) (R.remaining reader.new) result buf.new }
-    ensures cost { steps.new ≡ steps.old + 1 }
-{
-    steps.tick();
-    reader.read(buf)
-}
-
-/// Reads to the end, or to `limit` bytes, in at most `TURNS` reads. A read that was interrupted is made again, and
-/// counts; any other error is the fault at once.
-pub fn read_up_to<R: Read, L: Ledger>(
+/// Reads to the end, or to `limit` bytes. A read that was interrupted is made again, as long as reads are left; any
+/// other error is the fault at once.
+pub(crate) fn read_up_to<R: Read>(
     alloc: Global,
-    reader: &mut R,
+    reader: &mut LimitedReader<'_, R>,
     limit: usize,
-    steps: &mut Steps<L>,
 ) -> Result<Vec<u8>, ReadFault>
-    ensures cost { steps.new ≤ steps.old + TURNS }
-    ensures bytes { IfOk result (λ v. ReadsUpTo limit (R.remaining reader.old) (R.remaining reader.new) v.items) }
+    ensures same { reader.new.reader.ghost_name ≡ reader.old.reader.ghost_name }
+    ensures bytes { IfOk result (λ v. ReadsUpTo limit (R.remaining reader.old.reader.now)
+        (R.remaining reader.new.reader.now) v.items) }
 
     // No more is taken for a fault, and a read was made before one of reading.
-    ensures taken { OnErr result (TakesUpTo limit (R.remaining reader.old) (R.remaining reader.new)) }
-    ensures tried { IfErr result (λ fault. fault ≡ ReadFault.Read → steps.old < steps.new) }
+    ensures taken { OnErr result (TakesUpTo limit (R.remaining reader.old.reader.now)
+        (R.remaining reader.new.reader.now)) }
+    ensures tried { IfErr result (λ fault. fault ≡ ReadFault.Read → 0 < reader.old.reads_left
+        → reader.new.reads_left < reader.old.reads_left) }
 {
     let mut bytes = Vec::new(alloc);
     let mut chunk = [0u8; CHUNK];
-    for _ in 0..TURNS {
-        let room = CHUNK.min(limit - bytes.len());
-        if room == 0 {
-            return Ok(bytes);
+    while bytes.len() < limit {
+        if reader.is_spent() {
+            return Err(ReadFault::Read);
         }
-        match read_once(reader, &mut chunk[..room], steps) {
-            Ok(0) => return Ok(bytes),
+        let room = CHUNK.min(limit - bytes.len());
+        match reader.read(&mut chunk[..room]) {
+            Ok(0) => break,
             Ok(n) => bytes.extend_from_slice(&chunk[..n])?,
             Err(e) if e.kind() == ErrorKind::Interrupted => {}
             Err(_) => return Err(ReadFault::Read),
         }
     }
-    Err(ReadFault::Read)
+    Ok(bytes)
 }
 
-/// Writes all of the bytes. A write that was interrupted is tried again, at most `TURNS` times in all; any other
-/// error, and a write that takes no byte, is the fault at once.
-pub fn write_all<W: Write, L: Ledger>(
-    writer: &mut W,
+/// Writes all of the bytes. A write that was interrupted is made again, as long as tries are left; any other error,
+/// and a write that takes no byte, is the fault at once.
+pub(crate) fn write_all<W: Write>(
+    writer: &mut LimitedWriter<'_, W>,
     bytes: &[u8],
-    steps: &mut Steps<L>,
 ) -> Result<(), WriteFault>
-    ensures cost { steps.new ≤ steps.old + TURNS }
-    ensures bytes { OnOk result (Appends (W.contents writer.old) (W.contents writer.new) bytes.now) }
+    ensures same { writer.new.writer.ghost_name ≡ writer.old.writer.ghost_name }
+    ensures bytes { OnOk result (Appends (W.contents writer.old.writer.now)
+        (W.contents writer.new.writer.now) bytes.now) }
 
     // Whatever fails, what went out is a front of the bytes.
-    ensures front { OnErr result (AppendsFront (W.contents writer.old) (W.contents writer.new) bytes.now) }
+    ensures front { OnErr result (AppendsFront (W.contents writer.old.writer.now)
+        (W.contents writer.new.writer.now) bytes.now) }
 {
     let mut rest = bytes;
-    let mut retries = TURNS;
     while !rest.is_empty() {
+        if writer.is_spent() {
+            return Err(WriteFault);
+        }
         match writer.write(rest) {
             Ok(0) => return Err(WriteFault),
             Ok(n) => rest = &rest[n..],
-            Err(e) if e.kind() == ErrorKind::Interrupted && retries > 0 => {
-                retries -= 1;
-                steps.tick();
-            }
+            Err(e) if e.kind() == ErrorKind::Interrupted => {}
             Err(_) => return Err(WriteFault),
         }
     }

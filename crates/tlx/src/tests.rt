@@ -1,9 +1,9 @@
 ghost use Rattle.std.specs.Prelude.{Some, ◌<◌};
 
 mod options;
-mod threaded;
+mod threads;
 
-use crate::engine::serial_engine;
+use crate::engine::serial::serial_engine;
 use crate::fault::RunFault;
 use std::alloc::Global;
 use std::io;
@@ -34,6 +34,8 @@ enum Trouble {
     At(u32, ErrorKind),
     /// Each call but every `n`th is interrupted.
     Between(u32),
+    /// The first call is interrupted, and every second one behind it.
+    BeforeEach,
     Always(ErrorKind),
 }
 
@@ -43,6 +45,7 @@ impl Trouble {
             Trouble::Never => None,
             Trouble::At(at, kind) => (at == call).then_some(kind),
             Trouble::Between(n) => (n == 0 || call % n != 0).then_some(ErrorKind::Interrupted),
+            Trouble::BeforeEach => (call % 2 == 0).then_some(ErrorKind::Interrupted),
             Trouble::Always(kind) => Some(kind),
         }
     }
@@ -140,55 +143,6 @@ fn first_run(rt: HostRuntime) -> Result<(), Fail> {
 }
 
 #[test]
-fn operations_are_answered_by_their_ports(rt: HostRuntime) -> Result<(), Fail> {
-    let rows = [
-        ("", ""),
-        (
-            "'0 get 0x103f 0', '0 get 0x103f 1', '0 get 0x1001 1'",
-            "m0 s0 get 0x103f 0 -> AccessAckData 00 p0 #0\nm0 s0 get 0x103f 1 -> AccessAckData denied 0000 p3 #0\nm0 s0 get 0x1001 1 -> AccessAckData denied 0000 p0 #1\n",
-        ),
-        (
-            "'0 get 0x2000 6'",
-            "m0 s0 get 0x2000 6 -> AccessAckData denied 00000000000000000000000000000000000000000000000000000000000000000000000000000000000000000000000000000000000000000000000000000000 p3 #0\n",
-        ),
-        (
-            "'0 putfull 0x2000 2 11223344', '0 prefetchr 0x2000 2', '0 get 0x2000 2', '0 get 0x3000 1'",
-            "m0 s0 putfull 0x2000 2 11223344 -> AccessAck denied p1 #0\nm0 s0 prefetchr 0x2000 2 -> HintAck p1 #1\nm0 s0 get 0x2000 2 -> AccessAckData 00010203 p1 #2\nm0 s0 get 0x3000 1 -> AccessAckData denied 0000 p2 #0\n",
-        ),
-        (
-            "'0 get 0x9000 3', '0 prefetchw 0x9000 3', '0 get 18446744073709551615 0'",
-            "m0 s0 get 0x9000 3 -> AccessAckData denied 0000000000000000 p3 #0\nm0 s0 prefetchw 0x9000 3 -> HintAck denied p3 #1\nm0 s0 get 0xffffffffffffffff 0 -> AccessAckData denied 00 p3 #2\n",
-        ),
-        (
-            "'0 putfull 0x1000 2 00000080', '0 max 0x1000 2 01000000', 'wait', '0 maxu 0x1000 2 00000080', '0 get 0x1000 2'",
-            "m0 s0 putfull 0x1000 2 00000080 -> AccessAck p0 #0\nm0 s0 max 0x1000 2 01000000 -> AccessAckData 00000080 p0 #1\nm0 s0 maxu 0x1000 2 00000080 -> AccessAckData 01000000 p0 #2\nm0 s0 get 0x1000 2 -> AccessAckData 00000080 p0 #3\n",
-        ),
-        (
-            "'0 swap 0x1000 4 00112233445566778899aabbccddeeff', '15 add 0x1000 1 0100'",
-            "m0 s0 swap 0x1000 4 00112233445566778899aabbccddeeff -> AccessAckData denied 00000000000000000000000000000000 p0 #0\nm0 s15 add 0x1000 1 0100 -> AccessAckData denied 0000 p0 #1\n",
-        ),
-    ];
-    for (operations, trace) in rows {
-        let script = format!(in rt.alloc(); "{SYSTEM}{operations}] }}]")?;
-        let text = printed(rt.alloc(), script.as_bytes(), false)?;
-        assert_eq!(rt; text.as_slice(), trace.as_bytes());
-    }
-    Ok(())
-}
-
-#[test]
-fn histories_have_wide_sources(rt: HostRuntime) -> Result<(), Fail> {
-    let script =
-        b"slots = 1\nport = [{ kind = 'ram', base = 0x1000, length = 64 }]\nmaster = [{ sources = 3, ops = ['2 putfull 0x1000 2 11223344', 'wait'] }, { sources = 5, ops = ['4 get 0x1000 2', '1 get 0x0 0'] }]\n";
-    let text = printed(rt.alloc(), script, true)?;
-    assert_eq!(rt;
-        text.as_slice(),
-        b"m0 s2 putfull 0x1000 2 11223344 -> AccessAck p0 #0\nm1 s4 get 0x1000 2 -> AccessAckData 11223344 p0 #1\nm1 s1 get 0x0 0 -> AccessAckData denied 00 p1 #0\np0 #0 w2 putfull 0x1000 2 11223344 -> AccessAck\np0 #1 w12 get 0x1000 2 -> AccessAckData 11223344\np1 #0 w9 get 0x0 0 -> AccessAckData denied 00\n".as_slice()
-    );
-    Ok(())
-}
-
-#[test]
 fn faults_have_their_lines_and_statuses(rt: HostRuntime) -> Result<(), Fail> {
     let rows: [(RunFault, &str, u8); 8] = [
         (
@@ -205,8 +159,8 @@ fn faults_have_their_lines_and_statuses(rt: HostRuntime) -> Result<(), Fail> {
         (RunFault::Read, "read failed", 5),
         (RunFault::Write, "write failed", 5),
         (RunFault::NoThread, "thread refused", 4),
-        (RunFault::StrayBook(3), "port 3: stray book", 5),
         (RunFault::GateHeld(2), "gate of port 2 held", 5),
+        (RunFault::StrayBook(3), "port 3: stray book", 5),
     ];
     for (fault, line, status) in &rows {
         assert_eq!(rt; format!(in rt.alloc(); "{fault}")?.as_str(), *line);
@@ -245,6 +199,32 @@ fn the_limit_on_bytes(rt: HostRuntime) -> Result<(), Fail> {
     script.push(b'#')?;
     let fault = printed(rt.alloc(), &script, false);
     assert!(rt; matches!(&fault, Err(RunFault::Script(ScriptFault::TooLong))));
+    Ok(())
+}
+
+/// What becomes of a script of so many comment signs that come one by one, with an interruption before each and before the
+/// end, and how many reads are made.
+fn one_by_one(alloc: Global, length: usize) -> Result<(Option<RunFault>, u32), Fail> {
+    let script = vec![in alloc; b'#'; length]?;
+    let mut reader = reader_of(&script, 1, Trouble::BeforeEach);
+    let mut writer = writer_with(alloc, 64, Trouble::Never);
+    let outcome = serial_engine(alloc, &mut reader, &mut writer, false);
+    Ok((outcome.err(), reader.reads))
+}
+
+#[test]
+fn the_last_read_tells_what_was_read(rt: HostRuntime) -> Result<(), Fail> {
+    let (fault, reads) = one_by_one(rt.alloc(), SCRIPT_LIMIT + 1)?;
+    assert!(rt; matches!(&fault, Some(RunFault::Script(ScriptFault::TooLong))));
+    assert_eq!(rt; reads, 2_097_154);
+    let (fault, reads) = one_by_one(rt.alloc(), SCRIPT_LIMIT)?;
+    assert!(rt;
+        matches!(
+            &fault,
+            Some(RunFault::Script(ScriptFault::Missing(Key::Slots)))
+        )
+    );
+    assert_eq!(rt; reads, 2_097_154);
     Ok(())
 }
 

@@ -28,6 +28,12 @@ impl<'a> Shop<'a> {
         self.arena.accept_at(&mut self.seat, slot)
     }
 
+    /// The slot from which a request is accepted, by one pass.
+    pub(super) fn accept_next(&mut self) -> Option<usize> {
+        let accepted = self.arena.accept(&mut self.seat)?;
+        Some(accepted.slot())
+    }
+
     /// Answers what was accepted, by the memory.
     pub(super) fn answer(&mut self, accepted: Accepted) -> bool
         requires { ask_at self.old.seat.serving accepted.0 ≡ std.Some accepted.1 }

@@ -125,10 +125,6 @@ impl Board {
         self.second.poll(&self.arena, source)
     }
 
-    pub(super) fn hint(&mut self, slot: usize) -> bool {
-        self.book.hint(slot)
-    }
-
     pub(super) fn intake(&mut self) -> Intake {
         self.book.intake(&self.arena)
     }

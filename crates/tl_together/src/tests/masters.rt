@@ -14,9 +14,8 @@ use tl_master::{IssueFault, Issued, Master, Polled};
 use tl_port::Intake;
 use tl_types::Ask;
 
-/// The port takes what is posted in the slot, and answers it.
-fn answer(rt: &impl Abort, board: &mut Board, slot: usize) {
-    assert!(rt; board.hint(slot));
+/// The port takes what is posted for it, and answers it.
+fn answer(rt: &impl Abort, board: &mut Board) {
     assert!(rt; matches!(board.intake(), Intake::Taken(_)));
     assert!(rt; board.serve().is_some());
 }
@@ -41,7 +40,7 @@ fn poll_finds_answer(rt: HostRuntime) -> Result<(), Fail> {
     assert_eq!(rt; board.poll(3), Polled::Idle);
     assert_eq!(rt; board.issue(3)?, Ok(Issued { slot: 0, port: 0 }));
     assert_eq!(rt; board.poll(3), Polled::NotYet);
-    answer(&rt, &mut board, 0);
+    answer(&rt, &mut board);
     assert_eq!(rt; board.poll(3), Polled::Done(0));
     assert_eq!(rt; board.poll(3), Polled::Idle);
     assert_eq!(rt; (board.first.out(), board.first.trace_len()), (0, 1));
@@ -85,10 +84,10 @@ fn issue_finds_free_slot(rt: HostRuntime) -> Result<(), Fail> {
     assert_eq!(rt; board.issue(0)?, Ok(Issued { slot: 0, port: 0 }));
     assert_eq!(rt; board.issue_second(0)?, Err(IssueFault::NoSlot));
     assert_eq!(rt; (board.second.out(), board.second.trace_len()), (0, 0));
-    answer(&rt, &mut board, 0);
+    answer(&rt, &mut board);
     assert_eq!(rt; board.poll(0), Polled::Done(0));
     assert_eq!(rt; board.issue_second(0)?, Ok(Issued { slot: 0, port: 0 }));
-    answer(&rt, &mut board, 0);
+    answer(&rt, &mut board);
     assert_eq!(rt; board.poll_second(0), Polled::Done(0));
     end(&rt, rt.alloc(), board)
 }
@@ -178,7 +177,7 @@ fn two_threads_claim_four_slots(rt: HostRuntime) -> Result<(), Fail> {
     for slot in 0..4 {
         let times = one.iter().chain(two.iter()).filter(|s| **s == slot).count();
         assert_eq!(rt; times, 1);
-        answer(&rt, &mut board, slot);
+        answer(&rt, &mut board);
     }
     collect_all(&rt, rt.alloc(), board)
 }

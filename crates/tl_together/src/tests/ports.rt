@@ -19,13 +19,14 @@ fn post(rt: &impl Abort, board: &mut Board, source: u16) -> Result<usize, Fail> 
     Ok(slot)
 }
 
+/// Nothing but the posting tells the port where to look.
 #[test]
 fn intake_takes_what_is_posted(rt: HostRuntime) -> Result<(), Fail> {
     let mut board = set_up(rt.alloc(), 4, 3)?;
     assert_eq!(rt; board.intake(), Intake::Nothing);
     let slot = post(&rt, &mut board, 5)?;
-    assert!(rt; board.hint(slot));
     assert_eq!(rt; board.intake(), Intake::Taken(5));
+    assert_eq!(rt; board.intake(), Intake::Nothing);
     assert_eq!(rt; board.book.in_flight(0), Some(Flight { source: 5, slot }));
     assert_eq!(rt; board.book.in_flight(1), None);
     assert_eq!(rt; board.serve(), Some(0));
@@ -44,8 +45,7 @@ fn intake_takes_what_is_posted(rt: HostRuntime) -> Result<(), Fail> {
 fn a_full_journal_takes_no_more(rt: HostRuntime) -> Result<(), Fail> {
     let mut board = set_up(rt.alloc(), 4, 3)?;
     for source in 0..3 {
-        let slot = post(&rt, &mut board, source)?;
-        assert!(rt; board.hint(slot));
+        assert_eq!(rt; post(&rt, &mut board, source)?, source as usize);
     }
     for source in 0..3 {
         assert_eq!(rt; board.intake(), Intake::Taken(source));
@@ -62,60 +62,28 @@ fn a_full_journal_takes_no_more(rt: HostRuntime) -> Result<(), Fail> {
 }
 
 #[test]
-fn hints_that_were_tried_go(rt: HostRuntime) -> Result<(), Fail> {
+fn an_intake_takes_from_the_lowest_slot(rt: HostRuntime) -> Result<(), Fail> {
     let mut board = set_up(rt.alloc(), 4, 3)?;
-    assert_eq!(rt; post(&rt, &mut board, 0)?, 0);
-    for slot in [0, 0, 3] {
-        assert!(rt; board.hint(slot));
-    }
-    assert_eq!(rt; board.intake(), Intake::Taken(0));
-    assert_eq!(rt; board.intake(), Intake::Nothing);
-
-    // The list is empty now: it takes as many hints as there are slots.
-    for slot in 0..4 {
-        assert!(rt; board.hint(slot));
-    }
-    assert!(rt; !board.hint(0));
-    Ok(())
-}
-
-/// An intake tries each hint in turn: one that finds nothing costs no other.
-#[test]
-fn an_intake_passes_over_hints_that_find_nothing(rt: HostRuntime) -> Result<(), Fail> {
-    let mut board = set_up(rt.alloc(), 4, 3)?;
-    assert_eq!(rt; post(&rt, &mut board, 7)?, 0);
-    assert_eq!(rt; post(&rt, &mut board, 8)?, 1);
-    for slot in [3, 0, 1] {
-        assert!(rt; board.hint(slot));
-    }
-    assert_eq!(rt; board.intake(), Intake::Taken(7));
+    assert_eq!(rt; post(&rt, &mut board, 8)?, 0);
+    assert_eq!(rt; post(&rt, &mut board, 7)?, 1);
     assert_eq!(rt; board.intake(), Intake::Taken(8));
+    assert_eq!(rt; board.intake(), Intake::Taken(7));
     assert_eq!(rt; board.intake(), Intake::Nothing);
     Ok(())
 }
 
 /// Each call of a port, by one thread: it does what the book's call of that name does.
-fn through_the_lock<N: ArenaName, R: Abort + Wait>(
-    rt: &R,
-    arena: &Arena,
-    book: Book,
-    slot: usize,
-) -> Book
+fn through_the_lock<N: ArenaName, R: Abort + Wait>(rt: &R, arena: &Arena, book: Book) -> Book
     requires arena { arena.now ≡ N.arena }
     requires book { book.seat.arena ≡ N.arena }
 {
     let port = Port::<N>::new(book);
-    assert_eq!(rt; port.intake(rt, arena), Intake::Nothing);
-    assert!(rt; port.submit(rt, slot));
     assert_eq!(rt; port.intake(rt, arena), Intake::Taken(5));
+    assert_eq!(rt; port.intake(rt, arena), Intake::Nothing);
     assert_eq!(rt; port.in_flight_len(rt), 1);
     assert_eq!(rt; port.serve(rt, arena), Some(0));
     assert_eq!(rt; port.in_flight_len(rt), 0);
     assert_eq!(rt; port.serve(rt, arena), None);
-    for hint in [slot, 0, 1, 2] {
-        assert!(rt; port.submit(rt, hint));
-    }
-    assert!(rt; !port.submit(rt, slot));
     let step = port.step(rt, arena);
     assert_eq!(rt;
         (step.intake, step.index, step.source),
@@ -127,9 +95,9 @@ fn through_the_lock<N: ArenaName, R: Abort + Wait>(
 #[test]
 fn a_port_does_what_its_book_does(rt: HostRuntime) -> Result<(), Fail> {
     let mut board = set_up(rt.alloc(), 4, 3)?;
-    let slot = post(&rt, &mut board, 5)?;
+    assert_eq!(rt; post(&rt, &mut board, 5)?, 0);
     let Board { arena, book, .. } = board;
-    let book = through_the_lock::<Brand, HostRuntime>(&rt, &arena, book, slot);
+    let book = through_the_lock::<Brand, HostRuntime>(&rt, &arena, book);
     assert_eq!(rt; (book.history_len(), book.in_flight_len()), (1, 0));
     Ok(())
 }
@@ -148,15 +116,11 @@ fn work<N: ArenaName + Send + Sync, R: Threads + Wait + Sync>(
     rt: &R,
     arena: &Arena,
     book: Book,
-    hints: &[usize],
 ) -> Book
     requires arena { arena.now ≡ N.arena }
     requires book { book.seat.arena ≡ N.arena }
 {
     let port = Port::<N>::new(book);
-    for slot in hints {
-        port.submit(rt, *slot);
-    }
     thread::join(rt, || steps(rt, &port, arena), || steps(rt, &port, arena));
     port.into_book()
 }
@@ -164,12 +128,11 @@ fn work<N: ArenaName + Send + Sync, R: Threads + Wait + Sync>(
 #[test]
 fn two_threads_step_one_port(rt: HostRuntime) -> Result<(), Fail> {
     let mut board = set_up(rt.alloc(), 8, 6)?;
-    let mut hints = [0; 6];
     for source in 0..6 {
-        hints[source] = post(&rt, &mut board, source as u16)?;
+        post(&rt, &mut board, source)?;
     }
     let Board { arena, book, .. } = board;
-    let book = work::<Brand, HostRuntime>(&rt, &arena, book, &hints);
+    let book = work::<Brand, HostRuntime>(&rt, &arena, book);
     assert_eq!(rt; book.history_len(), 6);
     assert_eq!(rt; book.in_flight_len(), 0);
     Ok(())

@@ -1,17 +1,6 @@
 //! The command line.
 use crate::options::{Options, options_status, read_options};
-use clap::Error;
-use std::alloc::Global;
 use std::test::Fail;
-
-/// What the program makes of the words of its command line.
-fn options_of(alloc: Global, words: &[&str]) -> Result<Options, Error> {
-    let mut line = Vec::new(alloc);
-    for word in words {
-        line.push(String::from_str(alloc, word)?)?;
-    }
-    read_options(alloc, &line)
-}
 
 #[test]
 fn words_give_options(rt: HostRuntime) -> Result<(), Fail> {
@@ -24,7 +13,7 @@ fn words_give_options(rt: HostRuntime) -> Result<(), Fail> {
         (&["tlx", "--serial", "--workers=1"], true),
     ];
     for (words, serial) in rows {
-        let options = options_of(rt.alloc(), words)?;
+        let options = read_options(rt.alloc(), words)?;
         assert_eq!(rt; options, Options { serial, workers: 1 });
     }
     Ok(())
@@ -48,7 +37,7 @@ fn other_words_have_a_status(rt: HostRuntime) {
         (&["tlx", "--help"], 0),
     ];
     for (words, status) in rows {
-        match options_of(rt.alloc(), words) {
+        match read_options(rt.alloc(), words) {
             Ok(options) => panic!(&rt; "{options:?}"),
             Err(error) => assert_eq!(rt; options_status(&error), status),
         }

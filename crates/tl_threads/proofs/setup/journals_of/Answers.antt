@@ -1,4 +1,6 @@
-use Rattle.std.proofs.Common.{◌≡◌, ◌≤◌, ◌+◌, ◌∙◌, ℕ, List, length, replicate, take, slice_get, Some, ap, sym, subst, arith}
+use Rattle.std.proofs.lemmas.Option.{slice_get-get_or}
+use Rattle.std.proofs.Math.Nat.{mul-le-mul_right}
+use Rattle.std.proofs.Common.{get_or, ◌≡◌, ◌≤◌, ◌+◌, ◌∙◌, ℕ, List, length, replicate, take, slice_get, Some, ap, sym, subst, arith}
 use Rattle.tl_types.specs.declared.limits.TheConstants.{MAX_MASTERS}
 use Rattle.tl_map.specs.declared.map.Range.{Range}
 use Rattle.tl_script.specs.declared.operation.Job.{Job}
@@ -41,8 +43,23 @@ loop-jobs-preserved c =
       few = few_more s.jobs k MAX_JOBS own here (short_list s c.jobs-jobs-items.ensures.lawful k own here) was.few;
     }
 
-pub returns : goal.returns
-returns c =
+pub returns-clause-counted : goal.returns-clause-counted
+returns-clause-counted c =
     let s = c.args.system.now in
     let many : length s.jobs ≤ c.loop-jobs.jobs-index = omega (arith, listed_many s c.jobs-jobs-items.result.now c.jobs-jobs-items.ensures.value, c.loop-jobs-test.false) in
     journals_are s c.loop-jobs.counts.items c.loop-jobs.jobs-index many c.loop-jobs.invariant.counted
+
+pub returns-clause-few : goal.returns-clause-few
+returns-clause-few c =
+    let s = c.args.system.now in
+    let k = c.loop-jobs.jobs-index in
+    let was = c.loop-jobs.invariant in
+    let asks = all_sends (take k s.jobs) in
+    let many = listed_many s c.jobs-jobs-items.result.now c.jobs-jobs-items.ensures.value in
+    let counts : c.masters-few_masters.result ≡ length s.counts = c.masters-few_masters.ensures.value ∙ ap (λ (l : List ℕ). length l) c.sources.ensures in
+    let masters : k ≤ MAX_MASTERS = omega (arith, many, c.jobs-jobs-items.ensures.lawful.lists, counts, c.masters-few_masters.ensures.in_limit, c.loop-jobs.auto.jobs-index-end) in
+    λ i d within.
+    let at = slice_get-get_or c.loop-jobs.counts.items i d within in
+    let few = from_zero s.ranges asks (length s.ranges + 1) c.loop-jobs.counts.items i (get_or c.loop-jobs.counts.items i d) was.counted at in
+    let less = mul-le-mul_right MAX_JOBS masters in
+    omega (arith, few, was.few, less)

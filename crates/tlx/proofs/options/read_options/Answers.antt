@@ -1,4 +1,4 @@
-use Rattle.std.proofs.Common.{ap, map, refl, string_bytes, sym, ◌∙◌}
+use Rattle.std.proofs.Common.{ap, map, refl, sym, ◌∙◌}
 use Rattle.std.specs.Prelude.{unwrap_or}
 use Rattle.std.specs.Str.Parse.{ExplainsUnsignedError, HasUnsignedDigitsIfOk, ParsesUnsigned}
 use Rattle.clap.specs.Words.{App, fault_of, is_simple_and_free}
@@ -23,8 +23,8 @@ returns c =
     record {
       some = rw number read.some;
       few = rw number read.few;
-      asked = asked_for command matches (map (λ word. string_bytes word) c.args.words.now) c.get_flag.result c.get_one.result c.unwrap.result is
+      asked = asked_for command matches (map (λ word. word.now) c.args.words.now) c.get_flag.result c.get_one.result c.unwrap.result is
           c.in_ok-matches.ensures.parsed c.in_ok-matches.ensures.matches
           c.get_flag.ensures.none c.get_flag.ensures.value c.get_flag.ensures.other read c.unwrap.ensures;
-      faults = ap (λ (app : App). fault_of app (map (λ word. string_bytes word) c.args.words.now)) (sym is) ∙ c.in_ok-matches.ensures.kinds (ap is_simple_and_free is);
+      faults = ap (λ (app : App). fault_of app (map (λ word. word.now) c.args.words.now)) (sym is) ∙ c.in_ok-matches.ensures.kinds (ap is_simple_and_free is);
     }

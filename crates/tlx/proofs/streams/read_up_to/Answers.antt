@@ -1,29 +1,20 @@
--- A read takes bytes from the reader, or leaves it as it was.
-use Rattle.std.proofs.Common.{arith, rules, ◌++◌, take, Result, Ok, Err}
+-- What was read last was taken too.
+use Rattle.std.proofs.Common.{arith, ◌++◌, take, Result, Ok, Err}
 use Rattle.std.specs.Result.{OnErr}
 use Rattle.std.proofs.lemmas.Grind.{common_steps}
-use Rattle.std.proofs.KnownBytes.{Consumes-kept, Consumes-trans}
+use Rattle.std.proofs.KnownBytes.{Consumes-trans}
 use Rattle.tlx.proofs.streams.read_up_to.Goals as goal
-
-pub loop-preserved : goal.loop-preserved
-loop-preserved g c = record {
-  taken = grind (arith, common_steps, Consumes-kept, Consumes-trans);
-  bounded = search rules;
-  cost = omega arith;
-  tried = omega arith;
-}
 
 at_err : {T E P : Type 0} (r : Result T E) → P → OnErr r P
 at_err (Ok x) p = tt
 at_err (Err e) p = p
 
--- what was read last was taken too
 pub returns-in_err-extend_from_slice-in-Ok-clause-taken : goal.returns-in_err-extend_from_slice-in-Ok-clause-taken
 returns-in_err-extend_from_slice-in-Ok-clause-taken g c =
-    let before = c.loop.bytes.items in
-    let last = take c.in-Ok.n c.read_once.new.buf in
+    let before = c.loop-chunk.bytes.items in
+    let last = take c.in-Ok.n c.read.new.buf in
     at_err c.from_residual.result (record {
       bytes = before ++ last;
-      taken = Consumes-trans _ _ _ before last c.loop.invariant.taken c.in-Ok.ensures.bytes.0;
+      taken = Consumes-trans _ _ _ before last c.loop-chunk.invariant.taken c.in-Ok.ensures.bytes.0;
       bounded = grind (arith, common_steps);
     })

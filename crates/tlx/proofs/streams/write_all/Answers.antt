@@ -1,5 +1,5 @@
 -- A write takes the front of the rest.
-use Rattle.std.proofs.Common.{◌≡◌, ◌++◌, take, drop, sym, ap, ◌∙◌, append_assoc, take-append-drop}
+use Rattle.std.proofs.Common.{◌≡◌, ◌++◌, take, drop, sym, ap, ◌∙◌, rules, append_assoc, take-append-drop}
 use Rattle.std.proofs.KnownBytes.{Appends-trans}
 use Rattle.std.proofs.lemmas.List.{take_rest}
 use Rattle.tlx.proofs.streams.write_all.Goals as goal
@@ -11,4 +11,4 @@ loop-rest-preserved-in-Ok g c =
     let n = c.in-Ok.n in
     let moved : c.args.bytes.now ≡ (done ++ take n rest) ++ drop n rest =
     split ∙ ap (λ l. done ++ l) (sym (take-append-drop n rest)) ∙ sym (append_assoc done (take n rest) (drop n rest)) in
-    record { appended = (done ++ take n rest, rw take_rest moved, Appends-trans _ _ _ _ _ appended c.in-Ok.ensures.bytes); cost = c.loop-rest.invariant.cost }
+    record { appended = (done ++ take n rest, rw take_rest moved, Appends-trans _ _ _ _ _ appended c.in-Ok.ensures.bytes); same = search rules }

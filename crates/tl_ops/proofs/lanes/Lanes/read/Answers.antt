@@ -1,0 +1,16 @@
+use Rattle.std.proofs.Common.{rules, ◌≡◌, ◌∙◌, ◌+◌, ◌*◌, ◌/◌, ◌++◌, take, drop, take-add, sym, ap, arith}
+use Rattle.std.proofs.lemmas.List.{drop-drop}
+use Rattle.tl_ops.proofs.Numbers.{to_le_bytes-low}
+use Rattle.tl_ops.proofs.lanes.Lanes.read.Goals as goal
+
+pub loop-k-preserved : goal.loop-k-preserved
+loop-k-preserved c =
+    let lanes = c.args.self.now in
+    let start = c.args.start in
+    let done = 8 * c.loop-k.k in
+    let place : 8 * (start / 8 + c.loop-k.k) ≡ start + done = omega (arith, c.requires.fits.whole_start c.if-width-lt-BUS_BYTES.false) in
+    let more : done + 8 ≡ 8 * (c.loop-k.k + 1) = omega arith in
+    let items : c.try_extend_from_slice.new.self.items ≡ c.loop-k.bytes.items ++ c.to_le_bytes.result = search rules in
+    let word : c.to_le_bytes.result ≡ take 8 (drop done (drop start lanes)) =
+    c.to_le_bytes.ensures ∙ to_le_bytes-low c.word-word.result c.word-word.type_inv ∙ c.word-word.ensures ∙ ap (λ p. take 8 (drop p lanes)) place ∙ ap (take 8) (sym (drop-drop done start lanes)) in
+    items ∙ ap (λ bytes. c.loop-k.bytes.items ++ bytes) word ∙ ap (λ bytes. bytes ++ take 8 (drop done (drop start lanes))) c.loop-k.invariant ∙ sym (take-add done 8 (drop start lanes)) ∙ ap (λ n. take n (drop start lanes)) more

@@ -1,0 +1,6 @@
+use Rattle.std.proofs.Common.{◌≡◌, ◌*◌, take, drop}
+use Rattle.tl_ops.proofs.lanes.Lanes.read.Given as goal
+
+-- the bytes of the words so far
+abbrev pub invariant-loop-k : goal.invariant-loop-k
+invariant-loop-k l = l.bytes.items ≡ take (8 * l.k) (drop l.start l.self)

@@ -1,0 +1,169 @@
+//! Some bytes of one word, next to one another, as one number: a cell, and what a request makes of it.
+ghost use Rattle.std.specs.Prelude.{◌≡◌, ◌+◌, ◌*◌, ◌-◌, ◌^◌, ◌<◌, ◌≤◌, length};
+ghost use Rattle.tl_ops.specs.Number.{signed, low_bytes};
+ghost use Rattle.tl_ops.specs.Window.{operand_of, combine_arith, combine_logic, new_window};
+ghost use Rattle.tl_ops.specs.Cell.{cell_of, with_cell, keep_byte, keep_of};
+
+use tl_types::{Arith, AskOp, BUS_BYTES, Logic};
+
+/// The mask of a cell of so many bytes, at the lowest lanes.
+fn cell_mask(width: usize) -> u64
+    requires some { 0 < width }
+    requires in_word { width ≤ BUS_BYTES }
+    ensures { result ≡ 2 ^ (8 * width) - 1 }
+{
+    u64::MAX >> (64 - 8 * width)
+}
+
+/// The cell of `width` bytes that a word has from `lane` on.
+pub fn cell_of(word: u64, lane: usize, width: usize) -> u64
+    requires some { 0 < width }
+    requires in_word { lane + width ≤ BUS_BYTES }
+    ensures value { result ≡ cell_of word lane width }
+    ensures fits { result < 2 ^ (8 * width) }
+{
+    word >> (8 * lane) & cell_mask(width)
+}
+
+/// The word with another cell there. All other lanes stay as they are.
+pub fn with_cell(word: u64, lane: usize, width: usize, cell: u64) -> u64
+    requires some { 0 < width }
+    requires in_word { lane + width ≤ BUS_BYTES }
+    requires fits { cell < 2 ^ (8 * width) }
+    ensures { result ≡ with_cell word lane width cell }
+{
+    let shift = 8 * lane;
+    let lanes = cell_mask(width) << shift;
+    word & !lanes | cell << shift
+}
+
+/// What a request gives of a cell: the bytes, zero where none is given, and a mask of the lanes that keep theirs.
+pub struct Given {
+    pub bytes: u64,
+    pub keep: u64,
+}
+
+/// The mask of a lane that keeps its byte where none is given.
+fn keep_byte(byte: Option<u8>) -> u8
+    ensures { result ≡ keep_byte byte }
+{
+    if byte.is_none() { u8::MAX } else { 0 }
+}
+
+/// What the bytes of a whole word give.
+fn given_word(given: &[Option<u8>]) -> Given
+    requires { length given.now ≡ BUS_BYTES }
+    ensures bytes { low_bytes (length given.now) result.bytes ≡ operand_of given.now }
+    ensures keep { low_bytes (length given.now) result.keep ≡ keep_of given.now }
+{
+    Given {
+        bytes: u64::from_le_bytes([
+            given[0].unwrap_or(0),
+            given[1].unwrap_or(0),
+            given[2].unwrap_or(0),
+            given[3].unwrap_or(0),
+            given[4].unwrap_or(0),
+            given[5].unwrap_or(0),
+            given[6].unwrap_or(0),
+            given[7].unwrap_or(0),
+        ]),
+        keep: u64::from_le_bytes([
+            keep_byte(given[0]),
+            keep_byte(given[1]),
+            keep_byte(given[2]),
+            keep_byte(given[3]),
+            keep_byte(given[4]),
+            keep_byte(given[5]),
+            keep_byte(given[6]),
+            keep_byte(given[7]),
+        ]),
+    }
+}
+
+/// What the bytes of a cell give.
+fn given_cell(given: &[Option<u8>]) -> Given
+    requires { length given.now ≤ BUS_BYTES }
+    ensures fits { result.bytes < 2 ^ (8 * length given.now) }
+    ensures bytes { low_bytes (length given.now) result.bytes ≡ operand_of given.now }
+    ensures keep { low_bytes (length given.now) result.keep ≡ keep_of given.now }
+{
+    if given.len() == BUS_BYTES {
+        return given_word(given);
+    }
+    let mut bytes = 0u64;
+    let mut keep = 0u64;
+    for k in (0..given.len()).rev() {
+        bytes = bytes << 8 | u64::from(given[k].unwrap_or(0));
+        keep = keep << 8 | u64::from(keep_byte(given[k]));
+    }
+    Given { bytes, keep }
+}
+
+/// A cell of so many bytes in two's complement.
+fn signed(cell: u64, width: usize) -> i128
+    requires in_word { width ≤ BUS_BYTES }
+    requires fits { cell < 2 ^ (8 * width) }
+    ensures { result ≡ signed (low_bytes width cell) }
+{
+    let unsigned = i128::from(cell);
+    let span = 1i128 << (8 * width);
+    if 2 * unsigned < span {
+        unsigned
+    } else {
+        unsigned - span
+    }
+}
+
+/// The cell after a logical operation.
+fn combine_logic(op: Logic, old: u64, operand: u64, width: usize) -> u64
+    requires old { old < 2 ^ (8 * width) }
+    requires operand { operand < 2 ^ (8 * width) }
+    ensures fits { result < 2 ^ (8 * width) }
+    ensures bytes { low_bytes width result
+        ≡ combine_logic op (low_bytes width old) (low_bytes width operand) }
+{
+    match op {
+        Logic::Xor => old ^ operand,
+        Logic::Or => old | operand,
+        Logic::And => old & operand,
+        Logic::Swap => operand,
+    }
+}
+
+/// The cell after an arithmetic operation.
+fn combine_arith(op: Arith, old: u64, operand: u64, width: usize) -> u64
+    requires some { 0 < width }
+    requires in_word { width ≤ BUS_BYTES }
+    requires old { old < 2 ^ (8 * width) }
+    requires operand { operand < 2 ^ (8 * width) }
+    ensures fits { result < 2 ^ (8 * width) }
+    ensures bytes { low_bytes width result
+        ≡ combine_arith op (low_bytes width old) (low_bytes width operand) }
+{
+    let first = match op {
+        Arith::Min => signed(operand, width) < signed(old, width),
+        Arith::Max => signed(old, width) < signed(operand, width),
+        Arith::MinU => operand < old,
+        Arith::MaxU => old < operand,
+        Arith::Add => return old.wrapping_add(operand) & cell_mask(width),
+    };
+    if first { operand } else { old }
+}
+
+/// The cell after a legal request.
+pub fn new_cell(op: AskOp, old: u64, given: &[Option<u8>]) -> u64
+    requires some { 0 < length given.now }
+    requires in_word { length given.now ≤ BUS_BYTES }
+    requires old { old < 2 ^ (8 * length given.now) }
+    ensures fits { result < 2 ^ (8 * length given.now) }
+    ensures bytes { low_bytes (length given.now) result
+        ≡ new_window op (low_bytes (length given.now) old) given.now }
+{
+    let Given { bytes, keep } = given_cell(given);
+    match op {
+        AskOp::PutFull | AskOp::PutPartial => old & keep | bytes,
+        AskOp::Arithmetic(op) => combine_arith(op, old, bytes, given.len()),
+        AskOp::Logical(op) => combine_logic(op, old, bytes, given.len()),
+        AskOp::Get | AskOp::Intent(_) => old,
+    }
+}

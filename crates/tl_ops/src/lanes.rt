@@ -1,0 +1,155 @@
+//! Bytes kept in words of the bus, and read and written a word at a time.
+ghost use Rattle.std.specs.Prelude.{◌≡◌, ◌+◌, ◌-◌, ◌*◌, ◌%◌, ◌^◌, ◌<◌, ◌≤◌, ◌++◌, length, take, drop, replicate, slice_get, Some, IfOk};
+ghost use Rattle.tl_ops.specs.Number.{low_bytes};
+ghost use Rattle.tl_ops.specs.Store.{with_window};
+ghost use Rattle.tl_ops.specs.Window.{merged, new_window};
+ghost use Rattle.tl_ops.specs.Cell.{FitsWords, spare_after};
+
+use crate::cell::{cell_of, new_cell, with_cell};
+use arrayvec::ArrayVec;
+use std::alloc::{AllocError, Global};
+use std::marker::Model;
+use tl_types::{AskOp, BUS_BYTES, MAX_BYTES};
+
+/// The bytes of a window.
+pub type Window = ArrayVec<u8, MAX_BYTES>;
+
+/// Bytes, of which each word keeps as many as the bus has lanes, the first lowest.
+#[derive(Drop)]
+pub struct Lanes {
+    words: Vec<u64>,
+}
+
+impl Model for Lanes {
+    ghost use Rattle.std.specs.Prelude.{List, ℕ};
+    ghost use Rattle.tl_ops.specs.Cell.{lanes_of};
+
+    ghost Value = { List ℕ };
+
+    ghost view = { λ l. lanes_of l.words.items };
+}
+
+impl Lanes {
+    /// As many words of zeros.
+    fn zeros(alloc: Global, count: usize) -> Result<Lanes, AllocError>
+        ensures { IfOk result (λ lanes. lanes ≡ replicate (BUS_BYTES * count) 0) }
+    {
+        Ok(Lanes {
+            words: vec![in alloc; 0; count]?,
+        })
+    }
+
+    /// The cell of `width` bytes from a place on.
+    pub fn cell(&self, start: usize, width: usize) -> u64
+        requires some { 0 < width }
+        requires in_word { start % BUS_BYTES + width ≤ BUS_BYTES }
+        requires inside { start + width ≤ length self.now }
+        ensures bytes { low_bytes width result ≡ take width (drop start self.now) }
+        ensures fits { result < 2 ^ (8 * width) }
+    {
+        cell_of(self.words[start / BUS_BYTES], start % BUS_BYTES, width)
+    }
+
+    /// Serves a request on bytes that one word holds, and answers the cell that was there.
+    pub fn update(&mut self, start: usize, op: AskOp, given: &[Option<u8>]) -> u64
+        requires some { 0 < length given.now }
+        requires in_word { start % BUS_BYTES + length given.now ≤ BUS_BYTES }
+        requires inside { start + length given.now ≤ length self.old }
+        ensures after { let old = take (length given.now) (drop start self.old) in
+            self.new ≡ with_window self.old start (new_window op old given.now) }
+        ensures len { length self.new ≡ length self.old }
+        ensures bytes { low_bytes (length given.now) result
+            ≡ take (length given.now) (drop start self.old) }
+    {
+        let lane = start % BUS_BYTES;
+        let word = self.words[start / BUS_BYTES];
+        let old = cell_of(word, lane, given.len());
+        let new = new_cell(op, old, given);
+        self.words[start / BUS_BYTES] = with_cell(word, lane, given.len(), new);
+        old
+    }
+
+    /// The bytes in memory, after `lead` zeros and before as many as fill the last word.
+    pub fn new(alloc: Global, lead: usize, bytes: &[u8]) -> Result<Lanes, AllocError>
+        requires lead { lead < BUS_BYTES }
+        requires in_limit { length bytes.now ≤ 2 ^ 32 }
+        ensures { IfOk result (λ lanes. lanes ≡ replicate lead 0
+            ++ (bytes.now ++ replicate (spare_after (lead + length bytes.now)) 0)) }
+    {
+        let mut lanes = Lanes::zeros(alloc, (lead + bytes.len()).div_ceil(BUS_BYTES))?;
+        for k in 0..bytes.len() {
+            lanes.update(lead + k, AskOp::PutFull, &[Some(bytes[k])]);
+        }
+        Ok(lanes)
+    }
+
+    /// The byte at a place.
+    pub fn byte(&self, place: usize) -> u8
+        requires { place < length self.now }
+        ensures { slice_get self.now place ≡ Some result }
+    {
+        self.cell(place, 1) as u8
+    }
+
+    /// Word number `i`.
+    fn word(&self, i: usize) -> u64
+        requires { BUS_BYTES * i + BUS_BYTES ≤ length self.now }
+        ensures { low_bytes BUS_BYTES result ≡ take BUS_BYTES (drop (BUS_BYTES * i) self.now) }
+    {
+        self.words[i]
+    }
+
+    /// Puts the given bytes into word number `i`.
+    fn put_word(&mut self, i: usize, given: &[Option<u8>])
+        requires width { length given.now ≡ BUS_BYTES }
+        requires inside { BUS_BYTES * i + BUS_BYTES ≤ length self.old }
+        ensures after { let old = take BUS_BYTES (drop (BUS_BYTES * i) self.old) in
+            self.new ≡ with_window self.old (BUS_BYTES * i) (merged old given.now) }
+        ensures len { length self.new ≡ length self.old }
+    {
+        self.words[i] = new_cell(AskOp::PutPartial, self.words[i], given);
+    }
+
+    /// The bytes from a place on: a cell, or whole words.
+    pub fn read(&self, start: usize, width: usize) -> Window
+        requires fits { FitsWords start width }
+        requires in_limit { width ≤ MAX_BYTES }
+        requires inside { start + width ≤ length self.now }
+        ensures { result.items ≡ take width (drop start self.now) }
+    {
+        if width < BUS_BYTES {
+            return bytes_of(self.cell(start, width), width);
+        }
+        let mut bytes = Window::new();
+        for k in 0..width / BUS_BYTES {
+            let word = self.word(start / BUS_BYTES + k);
+            bytes.try_extend_from_slice(&word.to_le_bytes()).unwrap();
+        }
+        bytes
+    }
+
+    /// Puts the given bytes from a place on: into a cell, or into whole words.
+    pub fn put(&mut self, start: usize, given: &[Option<u8>])
+        requires fits { FitsWords start (length given.now) }
+        requires inside { start + length given.now ≤ length self.old }
+        ensures after { let old = take (length given.now) (drop start self.old) in
+            self.new ≡ with_window self.old start (merged old given.now) }
+    {
+        if given.len() < BUS_BYTES {
+            self.update(start, AskOp::PutPartial, given);
+            return;
+        }
+        for k in 0..given.len() / BUS_BYTES {
+            let from = BUS_BYTES * k;
+            self.put_word(start / BUS_BYTES + k, &given[from..from + BUS_BYTES]);
+        }
+    }
+}
+
+/// The bytes of a cell.
+pub fn bytes_of(cell: u64, width: usize) -> Window
+    requires { width ≤ BUS_BYTES }
+    ensures { result.items ≡ low_bytes width cell }
+{
+    Window::try_from(&cell.to_le_bytes()[..width]).unwrap()
+}

@@ -1,0 +1,4 @@
+pub mod Serial
+pub mod Slave
+pub mod Text
+pub mod Exact

@@ -1,0 +1,57 @@
+-- Where the slaves of a system stand after a list of entries. This project's own.
+use Rattle.std.specs.Prelude.{◌≡◌, ℕ, ◌+◌, Bool, true, List, [], ◌∷◌, length, Option, Some, option_map, unwrap_or, slice_get, IsSomeAnd, map, take}
+use Rattle.tl_map.specs.Block.{IsWide}
+use Rattle.tl_types.specs.declared.trace.Entry.{Entry}
+use Rattle.tl_types.specs.Request.{Request}
+use Rattle.tl_types.specs.Response.{Response}
+use Rattle.tl_ops.specs.Store.{Store}
+use Rattle.tl_ops.specs.History.{replay}
+use Rattle.tl_script.specs.System.{System, sends}
+use Rattle.tl_script.specs.Trace.{trace_text}
+use Rattle.tl_serial.specs.Serial.{requests_at, at_port, asks_in, log_of, AreServedInTurn, IsHistoryOf}
+use Rattle.tl_script.specs.System.{resets}
+use Rattle.tl_serial.specs.declared.run.Slave.{Slave}
+
+-- what a slave port holds
+abbrev pub bank_of : Slave → Store
+bank_of slave = slave.bank
+
+-- what a slave port has served, where it keeps that
+abbrev pub kept_by : Slave → Option (List (Request × Response))
+kept_by slave = option_map (λ history. history.items) slave.history
+
+-- what a slave port has served, or nothing where it does not keep that
+abbrev pub history_of : Slave → List (Request × Response)
+history_of slave = unwrap_or (kept_by slave) []
+
+-- nothing was served yet, and what is served is kept or not
+pub record IsFresh (keeps : Bool) (slave : Slave) : Type 0 where
+  pub served : slave.served ≡ 0
+  pub kept : keeps ≡ true → kept_by slave ≡ Some []
+
+-- the slave of a port after these entries: its bank has replayed the requests there, it has counted them, and where
+-- histories are kept its own is those entries
+pub record HasServed (s : System) (keeps : Bool) (log : List (ℕ × Entry)) (port : ℕ) (slave : Slave) : Type 0 where
+  pub bank : IsSomeAnd (slice_get (resets s) port) (λ reset. slave.bank ≡ replay reset (requests_at port log))
+  pub served : slave.served ≡ length (at_port port log)
+  pub history : keeps ≡ true → IsSomeAnd (kept_by slave) (IsHistoryOf s.counts (at_port port log))
+
+-- each entry's source has a wide one
+abbrev pub HaveWide : List ℕ → List (ℕ × Entry) → Type 0
+HaveWide counts [] = Unit {0}
+HaveWide counts (e ∷ log) = ((wide : ℕ) × IsWide counts e.0 e.1.ask.source wide) × HaveWide counts log
+
+-- the slaves of a system after these entries, which were served in turn
+pub record Stand (s : System) (keeps : Bool) (log : List (ℕ × Entry)) (slaves : List Slave) : Type 0 where
+  pub ports : length slaves ≡ length s.ranges + 1
+  pub served : AreServedInTurn s log
+  pub wide : HaveWide s.counts log
+  pub each : (port : ℕ) (slave : Slave) → slice_get slaves port ≡ Some slave → HasServed s keeps log port slave
+
+-- the text is that of the traces of the first `masters` masters, whose requests took the slaves from the ones to the others
+pub record AreWritten (s : System) (old new : List Slave) (text : List ℕ) (masters : ℕ) : Type 0 where
+  pub traces : List (List Entry)
+  pub counted : length traces ≡ masters
+  pub asked : map asks_in traces ≡ map sends (take masters s.jobs)
+  pub stands : (keeps : Bool) → Stand s keeps [] old → Stand s keeps (log_of traces) new
+  pub is : text ≡ trace_text traces

@@ -1,0 +1,183 @@
+//! The run of a system by one thread.
+ghost use Rattle.std.specs.Prelude.{◌≡◌, ◌++◌, ◌∷◌, [], ◌+◌, ◌<◌, ℕ, Bool, List, length, map, option_map, replicate, IfOk, OnOk, Some, slice_get, IsSomeAnd, All, false};
+ghost use Rattle.tl_types.specs.declared.trace.Entry.{Entry};
+ghost use Rattle.tl_ops.specs.Store.{after, reply};
+ghost use Rattle.tl_script.specs.System.{System, sends, lists_of, store_of, error_store};
+ghost use Rattle.tl_serial.specs.Serial.{IsSerialRun, numbered, asks_in, log_of};
+ghost use Rattle.tl_serial.specs.Slave.{Stand, IsFresh, bank_of, history_of, kept_by};
+
+use std::alloc::Global;
+use tl_ops::{Bank, Kind};
+use tl_script::{Device, Job, System};
+use tl_types::{Ask, Entry, Memory, Reply, Trace};
+
+/// The requests that one port served and their replies, in order, with wide sources.
+pub type History = Vec<(Ask, Reply)>;
+
+/// What one thread makes of a system: a trace for each master, and a history for each port.
+#[derive(Drop)]
+pub struct SerialRun {
+    pub traces: Vec<Trace>,
+    pub histories: Vec<History>,
+}
+
+/// A slave port as one thread serves it.
+#[derive(Drop)]
+pub(crate) struct Slave {
+    bank: Bank,
+    /// How many requests it has served.
+    served: usize,
+    /// These, where histories are kept.
+    history: Option<History>,
+}
+
+impl Slave {
+    /// Serves a request, and puts it into the history with its wide source, where that is kept. The answer is how many
+    /// were served before it, and the reply.
+    fn serve(&mut self, ask: &Ask, wide: u16) -> Result<(usize, Reply), Memory>
+        ensures bank { OnOk result (self.new.bank ≡ after self.old.bank ask.now) }
+        ensures index { IfOk result (λ served. served.0 ≡ self.old.served) }
+        ensures counted { OnOk result (self.new.served ≡ self.old.served + 1) }
+        ensures reply { IfOk result (λ served. served.1 ≡ reply self.old.bank ask.now) }
+        ensures history { IfOk result (λ served. kept_by self.new
+            ≡ option_map
+            (λ h. h ++ (record ask.now { source = wide }, record served.1 { source = wide }) ∷ [])
+            (kept_by self.old)) }
+    {
+        let index = self.served;
+        let reply = self.bank.serve(ask);
+        if let Some(history) = &mut self.history {
+            history.push((ask.with_source(wide), reply.with_source(wide)))?;
+        }
+        self.served = index.checked_add(1).ok_or(Memory)?;
+        Ok((index, reply))
+    }
+}
+
+/// Serves a master's next request.
+fn send(slaves: &mut [Slave], system: &System, master: usize, ask: &Ask) -> Result<Entry, Memory>
+    requires ready { length slaves.old ≡ length system.now.ranges + 1 }
+    requires source { IsSomeAnd (slice_get system.now.counts master) (λ count. ask.now.source < count) }
+    ensures asked { IfOk result (λ entry. entry.ask ≡ ask.now) }
+    ensures stands { IfOk result (λ entry. (keeps : Bool) (log : List (ℕ × Entry))
+        → Stand system.now keeps log slaves.old
+        → Stand system.now keeps (log ++ (master, entry) ∷ []) slaves.new) }
+{
+    let port = system.map().route(ask);
+    let wide = system.sources().widen(master, ask.source()).unwrap();
+    let (index, reply) = slaves[port].serve(ask, wide)?;
+    Ok(Entry {
+        ask: ask.copy(),
+        reply,
+        port,
+        index,
+    })
+}
+
+/// Serves a master's operations in order, and gives its trace.
+pub(crate) fn run_master(
+    alloc: Global,
+    slaves: &mut [Slave],
+    system: &System,
+    master: usize,
+    jobs: &[Job],
+) -> Result<Trace, Memory>
+    requires ready { length slaves.old ≡ length system.now.ranges + 1 }
+    requires source { IsSomeAnd (slice_get system.now.counts master)
+        (λ count. All (λ ask. ask.source < count) (sends jobs.now)) }
+    ensures asked { IfOk result (λ trace. asks_in trace.items ≡ sends jobs.now) }
+    ensures stands { IfOk result (λ trace. (keeps : Bool) (log : List (ℕ × Entry))
+        → Stand system.now keeps log slaves.old
+        → Stand system.now keeps (log ++ numbered master trace.items) slaves.new) }
+{
+    let mut trace = Trace::with_capacity(alloc, jobs.len())?;
+    for job in jobs {
+        match job {
+            Job::Wait => {}
+            Job::Send(ask) => {
+                let entry = send(slaves, system, master, ask)?;
+                trace.push(entry)?;
+            }
+        }
+    }
+    Ok(trace)
+}
+
+/// A slave port at reset.
+fn slave_of(
+    alloc: Global,
+    kind: Kind,
+    base: u64,
+    reset: &[u8],
+    keeps: bool,
+) -> Result<Slave, Memory>
+    ensures bank { IfOk result (λ slave. slave.bank
+        ≡ record { kind = kind; base = base; bytes = reset.now }) }
+    ensures fresh { IfOk result (IsFresh keeps) }
+{
+    let bank = Bank::new(alloc, kind, base, reset).map_err(|_| Memory)?;
+    Ok(Slave {
+        bank,
+        served: 0,
+        history: keeps.then(|| History::new(alloc)),
+    })
+}
+
+/// The slave ports of these devices at reset, and the error port behind them. They keep histories or not.
+pub(crate) fn slaves_of(
+    alloc: Global,
+    devices: &[Device],
+    keeps: bool,
+) -> Result<Vec<Slave>, Memory>
+    ensures banks { IfOk result (λ slaves. map bank_of slaves.items
+        ≡ map store_of devices.now ++ error_store ∷ []) }
+    ensures fresh { IfOk result (λ slaves. All (IsFresh keeps) slaves.items) }
+{
+    let mut slaves = Vec::with_capacity(alloc, devices.len() + 1)?;
+    for device in devices {
+        let slave = slave_of(alloc, device.kind, device.base, &device.reset, keeps)?;
+        slaves.push(slave)?;
+    }
+    let error_port = slave_of(alloc, Kind::NoDevice, 0, &[], keeps)?;
+    slaves.push(error_port)?;
+    Ok(slaves)
+}
+
+/// The histories that slave ports keep, and an empty one of each that keeps none.
+fn histories_of(alloc: Global, slaves: Vec<Slave>) -> Result<Vec<History>, Memory>
+    ensures { IfOk result (λ histories. lists_of histories.items ≡ map history_of slaves.items) }
+{
+    let mut histories = Vec::with_capacity(alloc, slaves.len())?;
+    for slave in slaves {
+        histories.push(slave.history.unwrap_or(History::new(alloc)))?;
+    }
+    Ok(histories)
+}
+
+/// Serves the masters of a system, one after the other, and gives their traces.
+fn run_masters(alloc: Global, slaves: &mut [Slave], system: &System) -> Result<Vec<Trace>, Memory>
+    requires { length slaves.old ≡ length system.now.ranges + 1 }
+    ensures asked { IfOk result (λ traces. map asks_in (lists_of traces.items)
+        ≡ map sends system.now.jobs) }
+    ensures stands { IfOk result (λ traces. (keeps : Bool) → Stand system.now keeps [] slaves.old
+        → Stand system.now keeps (log_of (lists_of traces.items)) slaves.new) }
+{
+    let jobs = system.jobs();
+    let mut traces = Vec::with_capacity(alloc, jobs.len())?;
+    for (master, jobs) in jobs.iter().enumerate() {
+        let trace = run_master(alloc, slaves, system, master, jobs)?;
+        traces.push(trace)?;
+    }
+    Ok(traces)
+}
+
+/// Runs a system on one thread: the masters one after the other, each request answered before the next is sent.
+pub fn run_serial(alloc: Global, system: &System) -> Result<SerialRun, Memory>
+    ensures { IfOk result (λ run. IsSerialRun system.now (lists_of run.traces.items)
+        (lists_of run.histories.items)) }
+{
+    let mut slaves = slaves_of(alloc, system.devices(), true)?;
+    let traces = run_masters(alloc, &mut slaves, system)?;
+    let histories = histories_of(alloc, slaves)?;
+    Ok(SerialRun { traces, histories })
+}

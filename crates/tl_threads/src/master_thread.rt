@@ -1,0 +1,167 @@
+//! What a master's thread does.
+ghost use Rattle.std.specs.Prelude.{◌≡◌, ◌+◌, ◌<◌, length, vec_len};
+ghost use Rattle.tl_script.specs.System.{sends};
+ghost use Rattle.tl_master.specs.Master.{out_of};
+ghost use Rattle.tl_threads.specs.Trace.{IsTrace, IsSame, HasAsked, HasDone, IsIdle};
+
+use crate::bell::{Bells, Listener, Ringer, ring_at};
+use crate::context::Shared;
+use crate::gate::Gate;
+use std::sync::Wait;
+use std::thread::yield_now;
+use tl_arena::ArenaName;
+use tl_master::{Issued, Master, Polled};
+use tl_script::Job;
+use tl_types::{Ask, Trace};
+
+/// Looks once at each source, the lowest first.
+fn look_at_all<N: ArenaName, G: Gate>(shared: &Shared<'_, N, G>, master: &mut Master)
+    requires { master.old.seat.arena ≡ shared.now.arena.now }
+    ensures { IsSame master.old master.new }
+{
+    for source in 0..master.sources() {
+        if let Ok(source) = u16::try_from(source) {
+            look_at(shared, master, source);
+        }
+    }
+}
+
+/// Collects the reply to what is out for a source, where it is there.
+fn look_at<N: ArenaName, G: Gate>(shared: &Shared<'_, N, G>, master: &mut Master, source: u16)
+    requires { master.old.seat.arena ≡ shared.now.arena.now }
+    ensures { IsSame master.old master.new }
+{
+    if let Polled::Done(place) = master.poll(shared.arena, source) {
+        if let Some(entry) = master.entry(place) {
+            shared.gate.collected(master.number(), entry.port);
+        }
+    }
+}
+
+/// Waits for the ring of a reply that is not collected yet. Each reply has one ring, so as many rings as there are entries
+/// tell nothing new.
+fn wait_for_reply<R: Wait>(rt: &R, master: &Master, bell: &mut Listener) {
+    for _ in rt.forever() {
+        bell.hear(rt);
+        if bell.heard() > master.trace_len() {
+            break;
+        }
+    }
+}
+
+/// Collects all that is out.
+fn collect_all<N: ArenaName, R: Wait, G: Gate>(
+    rt: &R,
+    shared: &Shared<'_, N, G>,
+    master: &mut Master,
+    bell: &mut Listener,
+)
+    requires { master.old.seat.arena ≡ shared.now.arena.now }
+    ensures same { IsSame master.old master.new }
+    ensures none { out_of master.new.out ≡ 0 }
+{
+    for _ in rt.forever() {
+        look_at_all(shared, master);
+        if master.out() == 0 {
+            return;
+        }
+        wait_for_reply(rt, master, bell);
+    }
+    unreachable!()
+}
+
+/// Waits for a reply to one of the master's own requests. Where none is out, other masters have the slots: nobody rings
+/// this one when they give them back, so it lets other threads run, and looks again.
+fn wait_for_turn<R: Wait>(rt: &R, master: &Master, bell: &mut Listener) {
+    if master.out() > 0 {
+        wait_for_reply(rt, master, bell);
+    } else {
+        yield_now();
+    }
+}
+
+/// Issues a request, as soon as its source is idle and a slot is free.
+fn issue<N: ArenaName, R: Wait, G: Gate>(
+    rt: &R,
+    shared: &Shared<'_, N, G>,
+    master: &mut Master,
+    ask: &Ask,
+    bell: &mut Listener,
+) -> Issued
+    requires { master.old.seat.arena ≡ shared.now.arena.now }
+    ensures asked { HasAsked shared.now.system.now.ranges master.old ask.now master.new }
+    ensures port { result.port < length shared.now.system.now.ranges + 1 }
+{
+    let map = shared.system.map();
+    for _ in rt.forever() {
+        if let Ok(issued) = master.issue(shared.arena, map, ask) {
+            return issued;
+        }
+        wait_for_turn(rt, master, bell);
+        look_at_all(shared, master);
+    }
+    unreachable!()
+}
+
+/// Tells a port's book where to look until it takes the hint, and rings the port.
+fn tell_port<N: ArenaName, R: Wait, G: Gate>(
+    rt: &R,
+    shared: &Shared<'_, N, G>,
+    issued: Issued,
+    bells: &mut [Ringer],
+)
+    requires port { issued.port < length shared.now.system.now.ranges + 1 }
+    requires bells { length bells.old ≡ length shared.now.system.now.ranges + 1 }
+{
+    let port = &shared.ports[issued.port];
+    for _ in rt.forever() {
+        if port.submit(rt, issued.slot) {
+            break;
+        }
+    }
+    ring_at(rt, bells, issued.port);
+}
+
+/// Does one operation.
+fn do_job<N: ArenaName, R: Wait, G: Gate>(
+    rt: &R,
+    shared: &Shared<'_, N, G>,
+    master: &mut Master,
+    job: &Job,
+    bells: &mut Bells,
+)
+    requires arena { master.old.seat.arena ≡ shared.now.arena.now }
+    requires bells { vec_len bells.old.others ≡ length shared.now.system.now.ranges + 1 }
+    ensures done { HasDone shared.now.system.now.ranges master.old job.now master.new }
+    ensures bells { vec_len bells.new.others ≡ vec_len bells.old.others }
+{
+    match job {
+        Job::Wait => collect_all(rt, shared, master, &mut bells.own),
+        Job::Send(ask) => {
+            let issued = issue(rt, shared, master, ask, &mut bells.own);
+            tell_port(rt, shared, issued, &mut bells.others);
+        }
+    }
+}
+
+/// Does a master's operations in order, collects all that is out, and leaves with the trace, which has room for all
+/// replies.
+pub(crate) fn run_master<N: ArenaName, R: Wait, G: Gate>(
+    rt: &R,
+    shared: &Shared<'_, N, G>,
+    number: usize,
+    mut master: Master,
+    jobs: &[Job],
+    mut bells: Bells,
+) -> Trace
+    requires new { IsIdle shared.now.arena.now number master }
+    requires room { master.limit ≡ length (sends jobs.now) }
+    requires bells { vec_len bells.others ≡ length shared.now.system.now.ranges + 1 }
+    ensures { IsTrace shared.now.arena.now shared.now.system.now.ranges number jobs.now result.items }
+{
+    for job in jobs {
+        do_job(rt, shared, &mut master, job, &mut bells);
+    }
+    collect_all(rt, shared, &mut master, &mut bells.own);
+    master.finish(shared.arena)
+}

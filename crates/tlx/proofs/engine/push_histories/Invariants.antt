@@ -1,8 +1,0 @@
--- The lines so far, and those of the ports that are left.
-use Rattle.std.proofs.Common.{◌≡◌, ◌++◌, drop}
-use Rattle.tl_script.specs.System.{lists_of}
-use Rattle.tlx.specs.Run.{histories_from, histories_text}
-use Rattle.tlx.proofs.engine.push_histories.Given as goal
-
-abbrev pub invariant-loop-port : goal.invariant-loop-port
-invariant-loop-port l = l.text.items ++ histories_from l.port (lists_of (drop l.port l.histories)) ≡ l.initial.text.items ++ histories_text (lists_of l.histories)

@@ -1,8 +1,0 @@
--- The histories so far.
-use Rattle.std.proofs.Common.{◌≡◌, map}
-use Rattle.tl_script.specs.System.{lists_of}
-use Rattle.tlx.specs.Slave.{history_of}
-use Rattle.tlx.proofs.serial.histories_of.Given as goal
-
-abbrev pub invariant-loop-slave : goal.invariant-loop-slave
-invariant-loop-slave l = lists_of l.histories.items ≡ map history_of l.yielded

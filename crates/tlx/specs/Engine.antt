@@ -1,0 +1,66 @@
+-- What an engine reads, and what it writes for that. This project's own.
+use Rattle.std.specs.Prelude.{◌≡◌, ◌≢◌, ℕ, ◌+◌, List, ◌++◌, length, Option, Result, Err, OnOk, IfErr}
+use Rattle.std.specs.Io.KnownBytes.{Appends, Keeps}
+use Rattle.tl_types.specs.declared.trace.Entry.{Entry}
+use Rattle.tl_arena.specs.declared.account.Held.{Held}
+use Rattle.tl_port.specs.Book.{BookView}
+use Rattle.tl_script.specs.History.{account_text}
+use Rattle.tl_script.specs.Script.{Spells, IsFirstScriptFault}
+use Rattle.tl_script.specs.System.{System}
+use Rattle.tl_script.specs.Trace.{trace_text}
+use Rattle.tl_script.specs.declared.fault.ScriptFault.{ScriptFault}
+use Rattle.tl_script.specs.declared.script.TheConstants.{SCRIPT_LIMIT}
+use Rattle.tl_threads.specs.Run.{IsThreadedRun}
+use Rattle.tlx.specs.declared.fault.RunFault.{RunFault}
+use Rattle.tlx.specs.declared.fault.RunFault.TheVariants as run
+use Rattle.tlx.specs.Streams.{AppendsFront, ReadsAll, ReadsUpTo}
+
+-- the text is that of a run of the system by threads: its traces, and how many slots are free and how many held at its end
+pub record IsThreadedText (system : System) (text : List ℕ) : Type 0 where
+  pub traces : List (List Entry)
+  pub books : List BookView
+  pub free : List ℕ
+  pub held : List Held
+  pub left : List ℕ
+  pub run : IsThreadedRun system traces books free held left
+  pub is : text ≡ trace_text traces ++ account_text (length free) (length held)
+
+-- the reader gave bytes that spell the system, and had no others
+pub record GivesSystem (old new : Option (List ℕ)) (system : System) : Type 0 where
+  pub script : List ℕ
+  pub read : ReadsAll old new script
+  pub spelled : Spells script system
+
+-- what was written is such a text of the system that all of what was read spells
+pub record Answers (IsText : System → List ℕ → Type 0) (read_old read_new written_old written_new : Option (List ℕ)) : Type 0 where
+  pub system : System
+  pub text : List ℕ
+  pub given : GivesSystem read_old read_new system
+  pub of_run : IsText system text
+  pub written : Appends written_old written_new text
+
+-- what was written is a front of such a text
+pub record BeginsToAnswer (IsText : System → List ℕ → Type 0) (read_old read_new written_old written_new : Option (List ℕ)) : Type 0 where
+  pub system : System
+  pub text : List ℕ
+  pub given : GivesSystem read_old read_new system
+  pub of_run : IsText system text
+  pub written : AppendsFront written_old written_new text
+
+-- the fault is the first of what was read: of all that the reader had, or of a byte more than a script may have
+pub record HasScriptFault (read_old read_new : Option (List ℕ)) (fault : ScriptFault) : Type 0 where
+  pub script : List ℕ
+  pub read : ReadsUpTo (SCRIPT_LIMIT + 1) read_old read_new script
+  pub first : IsFirstScriptFault script fault
+
+-- what an engine promises of its result, where these are the texts of the runs of a system: what the reader had before and
+-- has after, and what the writer held before and holds after
+pub record IsAnswered (IsText : System → List ℕ → Type 0) (read_old read_new written_old written_new : Option (List ℕ)) (result : Result Unit RunFault) : Type 0 where
+  -- what is written is such a text of the system that all that the reader had spells
+  pub ok : OnOk result (Answers IsText read_old read_new written_old written_new)
+  -- a fault of the script is the first of what was read
+  pub script : (fault : ScriptFault) → result ≡ Err (run.Script fault) → HasScriptFault read_old read_new fault
+  -- nothing is written but by an Ok or before a failed write
+  pub quiet : IfErr result (λ fault. fault ≢ run.Write → Keeps written_old written_new)
+  -- and that leaves a front of such a text
+  pub part : IfErr result (λ fault. fault ≡ run.Write → BeginsToAnswer IsText read_old read_new written_old written_new)
