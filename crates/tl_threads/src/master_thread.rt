@@ -4,7 +4,7 @@ ghost use Rattle.tl_script.specs.System.{sends};
 ghost use Rattle.tl_master.specs.Master.{out_of};
 ghost use Rattle.tl_threads.specs.Trace.{IsTrace, IsSame, HasAsked, HasDone, IsIdle};
 
-use crate::bell::{Bells, Listener, Ringer, ring_at};
+use crate::bell::{Bells, Listener, ring_at};
 use crate::context::Shared;
 use crate::gate::Gate;
 use std::sync::Wait;
@@ -103,25 +103,6 @@ fn issue<N: ArenaName, R: Wait, G: Gate>(
     unreachable!()
 }
 
-/// Tells a port's book where to look until it takes the hint, and rings the port.
-fn tell_port<N: ArenaName, R: Wait, G: Gate>(
-    rt: &R,
-    shared: &Shared<'_, N, G>,
-    issued: Issued,
-    bells: &mut [Ringer],
-)
-    requires port { issued.port < length shared.now.system.now.ranges + 1 }
-    requires bells { length bells.old ≡ length shared.now.system.now.ranges + 1 }
-{
-    let port = &shared.ports[issued.port];
-    for _ in rt.forever() {
-        if port.submit(rt, issued.slot) {
-            break;
-        }
-    }
-    ring_at(rt, bells, issued.port);
-}
-
 /// Does one operation.
 fn do_job<N: ArenaName, R: Wait, G: Gate>(
     rt: &R,
@@ -138,8 +119,8 @@ fn do_job<N: ArenaName, R: Wait, G: Gate>(
     match job {
         Job::Wait => collect_all(rt, shared, master, &mut bells.own),
         Job::Send(ask) => {
-            let issued = issue(rt, shared, master, ask, &mut bells.own);
-            tell_port(rt, shared, issued, &mut bells.others);
+            let port = issue(rt, shared, master, ask, &mut bells.own).port;
+            ring_at(rt, &mut bells.others, port);
         }
     }
 }
