@@ -110,22 +110,21 @@ impl Lanes {
         self.words[i] = new_cell(AskOp::PutPartial, self.words[i], given);
     }
 
-    /// The bytes from a place on: a cell, or whole words.
-    pub fn read(&self, start: usize, width: usize) -> Window
+    /// Appends the bytes from a place on: a cell, or whole words.
+    pub fn read(&self, start: usize, width: usize, bytes: &mut Window)
         requires fits { FitsWords start width }
-        requires in_limit { width ≤ MAX_BYTES }
+        requires room { length bytes.old.items + width ≤ MAX_BYTES }
         requires inside { start + width ≤ length self.now }
-        ensures { result.items ≡ take width (drop start self.now) }
+        ensures { bytes.new.items ≡ bytes.old.items ++ take width (drop start self.now) }
     {
         if width < BUS_BYTES {
-            return bytes_of(self.cell(start, width), width);
+            push_cell(bytes, self.cell(start, width), width);
+            return;
         }
-        let mut bytes = Window::new();
         for k in 0..width / BUS_BYTES {
             let word = self.word(start / BUS_BYTES + k);
             bytes.try_extend_from_slice(&word.to_le_bytes()).unwrap();
         }
-        bytes
     }
 
     /// Puts the given bytes from a place on: into a cell, or into whole words.
@@ -146,10 +145,13 @@ impl Lanes {
     }
 }
 
-/// The bytes of a cell.
-pub fn bytes_of(cell: u64, width: usize) -> Window
-    requires { width ≤ BUS_BYTES }
-    ensures { result.items ≡ low_bytes width cell }
+/// Appends the bytes of a cell.
+pub fn push_cell(bytes: &mut Window, cell: u64, width: usize)
+    requires in_word { width ≤ BUS_BYTES }
+    requires room { length bytes.old.items + width ≤ MAX_BYTES }
+    ensures { bytes.new.items ≡ bytes.old.items ++ low_bytes width cell }
 {
-    Window::try_from(&cell.to_le_bytes()[..width]).unwrap()
+    bytes
+        .try_extend_from_slice(&cell.to_le_bytes()[..width])
+        .unwrap();
 }

@@ -1,5 +1,5 @@
 use Rattle.std.proofs.Common.{rules, ◌≡◌, ◌∙◌, ◌+◌, ◌*◌, ◌/◌, ◌++◌, take, drop, take-add, sym, ap, arith}
-use Rattle.std.proofs.lemmas.List.{drop-drop}
+use Rattle.std.proofs.lemmas.List.{drop-drop, append_assoc}
 use Rattle.tl_ops.proofs.Numbers.{to_le_bytes-low}
 use Rattle.tl_ops.proofs.lanes.Lanes.read.Goals as goal
 
@@ -13,4 +13,10 @@ loop-k-preserved c =
     let items : c.try_extend_from_slice.new.self.items ≡ c.loop-k.bytes.items ++ c.to_le_bytes.result = search rules in
     let word : c.to_le_bytes.result ≡ take 8 (drop done (drop start lanes)) =
     c.to_le_bytes.ensures ∙ to_le_bytes-low c.word-word.result c.word-word.type_inv ∙ c.word-word.ensures ∙ ap (λ p. take 8 (drop p lanes)) place ∙ ap (take 8) (sym (drop-drop done start lanes)) in
-    items ∙ ap (λ bytes. c.loop-k.bytes.items ++ bytes) word ∙ ap (λ bytes. bytes ++ take 8 (drop done (drop start lanes))) c.loop-k.invariant ∙ sym (take-add done 8 (drop start lanes)) ∙ ap (λ n. take n (drop start lanes)) more
+    let was = c.args.bytes.now.items in
+    let rest = drop start lanes in
+    items
+    ∙ ap (λ bytes. c.loop-k.bytes.items ++ bytes) word
+    ∙ ap (λ bytes. bytes ++ take 8 (drop done rest)) c.loop-k.invariant
+    ∙ append_assoc was (take done rest) (take 8 (drop done rest))
+    ∙ ap (λ bytes. was ++ bytes) (sym (take-add done 8 rest) ∙ ap (λ n. take n rest) more)
