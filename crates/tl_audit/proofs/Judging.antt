@@ -12,7 +12,6 @@ use Rattle.tl_audit.proofs.Cells.{cell_of}
 use Rattle.tl_audit.proofs.Counting.{named_again, named_never, named_once}
 
 module _ (traces : List (List Entry)) (histories : List (List (Request × Response))) (rows : List (List Mark)) (counted : AreCounted traces histories rows) where
-
   pub again : (p i : ℕ) → cell rows p i ≡ Some NamedAgain → HasPlace histories p i × (1 < times_named traces p i)
   again p i is =
       let told = cell_of (next_times (times_named traces p i) Unnamed) NamedAgain (cell histories p i) (rw (counted p i) at is) in

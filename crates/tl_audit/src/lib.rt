@@ -13,6 +13,8 @@ mod fault;
 mod marks;
 mod order;
 mod recorded;
+#[cfg(test)]
+mod tests;
 
 pub use audit::audit_lists;
 pub use fault::AuditFault;

@@ -30,11 +30,11 @@ pub loop-master-preserved : goal.loop-master-preserved
 loop-master-preserved c m trace below there = ⊎_elim
     (λ (earlier : m < c.loop-master.master). c.loop-master.invariant m trace earlier there)
     (λ (later : c.loop-master.master ≤ m).
-        let last : m ≡ c.loop-master.master = omega arith in
-        let here : slice_get c.args.traces.now c.loop-master.master ≡ Some c.index-traces-master.result = search (rules, slice_get_read) in
-        let row = row_at c.args.traces.now c.loop-master.master c.index-traces-master.result here in
-        let same : c.index-traces-master.result.items ≡ trace = let there_last = rw last at there in cc in
-        rw (← same) (rw c.deref.ensures.value at (rw c.in_default.is at c.in_ok-first.ensures.none)))
+    let last : m ≡ c.loop-master.master = omega arith in
+    let here : slice_get c.args.traces.now c.loop-master.master ≡ Some c.index-traces-master.result = search (rules, slice_get_read) in
+    let row = row_at c.args.traces.now c.loop-master.master c.index-traces-master.result here in
+    let same : c.index-traces-master.result.items ≡ trace = let there_last = rw last at there in cc in
+    rw (← same) (rw c.deref.ensures.value at (rw c.in_default.is at c.in_ok-first.ensures.none)))
     (cases_lt m c.loop-master.master)
 
 pub returns-clause-ok : goal.returns-clause-ok

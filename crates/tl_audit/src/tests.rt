@@ -1,0 +1,177 @@
+//! Audits of small traces and histories.
+use crate::{AuditFault, audit_lists};
+use std::alloc::Global;
+use std::test::Fail;
+use tl_map::Sources;
+use tl_types::{Ask, AskOp, Entry, Reply, ReplyOp, Trace};
+
+/// One of two messages with their replies: four bytes are put at an address, and got again.
+#[derive(Clone, Copy, Debug, PartialEq, Eq)]
+enum Message {
+    Put,
+    Got,
+}
+
+const DATA: [u8; 4] = [0x11, 0x22, 0x33, 0x44];
+
+fn pair(message: Message, source: u16) -> Result<(Ask, Reply), Fail> {
+    let data = [Some(0x11), Some(0x22), Some(0x33), Some(0x44)];
+    Ok(match message {
+        Message::Put => (
+            Ask::new(AskOp::PutFull, 2, source, 0x1000, &data)?,
+            Reply::new(ReplyOp::AccessAck, 2, source, false, &[])?,
+        ),
+        Message::Got => (
+            Ask::new(AskOp::Get, 2, source, 0x1000, &[])?,
+            Reply::new(ReplyOp::AccessAckData, 2, source, false, &DATA)?,
+        ),
+    })
+}
+
+/// The trace of a master whose source this is: messages at port 0 with their indexes.
+fn trace_of(alloc: Global, source: u16, entries: &[(Message, usize)]) -> Result<Trace, Fail> {
+    let mut trace = Trace::new(alloc);
+    for (message, index) in entries {
+        let (ask, reply) = pair(*message, source)?;
+        trace.push(Entry {
+            ask,
+            reply,
+            port: 0,
+            index: *index,
+        })?;
+    }
+    Ok(trace)
+}
+
+/// The history of a port: messages with the wide sources of those who sent them.
+fn history_of(alloc: Global, messages: &[(Message, u16)]) -> Result<Vec<(Ask, Reply)>, Fail> {
+    let mut history = Vec::new(alloc);
+    for (message, wide) in messages {
+        history.push(pair(*message, *wide)?)?;
+    }
+    Ok(history)
+}
+
+/// What one master's entries at port 0, and that port's history, are audited as.
+struct Case {
+    entries: &'static [(Message, usize)],
+    history: &'static [(Message, u16)],
+    answer: Result<(), AuditFault>,
+}
+
+use Message::{Got, Put};
+
+const BOTH: &[(Message, u16)] = &[(Put, 0), (Got, 0)];
+
+const CASES: [Case; 9] = [
+    Case {
+        entries: &[(Put, 0), (Got, 1)],
+        history: BOTH,
+        answer: Ok(()),
+    },
+    Case {
+        entries: &[(Put, 0), (Got, 1)],
+        history: &[],
+        answer: Err(AuditFault::Missing(0, 0)),
+    },
+    Case {
+        entries: &[(Put, 0), (Put, 0), (Got, 1)],
+        history: BOTH,
+        answer: Err(AuditFault::Twice(0, 0)),
+    },
+    Case {
+        entries: &[(Got, 1), (Put, 0)],
+        history: BOTH,
+        answer: Err(AuditFault::Order(0, 1)),
+    },
+    Case {
+        entries: &[(Put, 0)],
+        history: BOTH,
+        answer: Err(AuditFault::Untraced(0, 1)),
+    },
+    Case {
+        entries: &[],
+        history: BOTH,
+        answer: Err(AuditFault::Untraced(0, 0)),
+    },
+    // Of several faults: an entry that is nowhere, before a place named twice, before one that nobody names.
+    Case {
+        entries: &[(Put, 0), (Put, 0), (Got, 0)],
+        history: BOTH,
+        answer: Err(AuditFault::Missing(0, 2)),
+    },
+    Case {
+        entries: &[(Put, 0), (Put, 0)],
+        history: BOTH,
+        answer: Err(AuditFault::Twice(0, 0)),
+    },
+    // A source that no master has.
+    Case {
+        entries: &[(Put, 0)],
+        history: &[(Put, 1)],
+        answer: Err(AuditFault::Missing(0, 0)),
+    },
+];
+
+#[test]
+fn small_runs_are_audited(rt: HostRuntime) -> Result<(), Fail> {
+    let alloc = rt.alloc();
+    let sources = Sources::new(alloc, &[16])?;
+    for case in &CASES {
+        let traces = vec![in alloc; trace_of(alloc, 0, case.entries)?]?;
+        let history = history_of(alloc, case.history)?;
+        let answer = audit_lists(alloc, &sources, &traces, &[history.as_slice()]);
+        assert_eq!(rt; answer, case.answer);
+    }
+    Ok(())
+}
+
+/// Two masters send from their sources 1; the second one's wide source is 17. Their entries stand in the history of port 0;
+/// port 1 has none.
+#[test]
+fn masters_are_told_apart_by_wide_sources(rt: HostRuntime) -> Result<(), Fail> {
+    let alloc = rt.alloc();
+    let sources = Sources::new(alloc, &[16, 16])?;
+    let first = trace_of(alloc, 1, &[(Put, 1)])?;
+    let second = trace_of(alloc, 1, &[(Put, 0)])?;
+    let traces = vec![in alloc; first, second]?;
+    let right = history_of(alloc, &[(Put, 17), (Put, 1)])?;
+    let wrong = history_of(alloc, &[(Put, 1), (Put, 17)])?;
+    assert_eq!(rt;
+        audit_lists(alloc, &sources, &traces, &[right.as_slice(), &[]]),
+        Ok(())
+    );
+    assert_eq!(rt;
+        audit_lists(alloc, &sources, &traces, &[wrong.as_slice(), &[]]),
+        Err(AuditFault::Missing(0, 0))
+    );
+    Ok(())
+}
+
+const LINES: [(AuditFault, &str); 5] = [
+    (
+        AuditFault::Missing(1, 2),
+        "audit: master 1 entry 2: not in its history",
+    ),
+    (
+        AuditFault::Twice(1, 2),
+        "audit: port 1 entry 2: traced twice",
+    ),
+    (
+        AuditFault::Order(1, 2),
+        "audit: master 1 entry 2: out of order",
+    ),
+    (
+        AuditFault::Untraced(1, 2),
+        "audit: port 1 entry 2: not traced",
+    ),
+    (AuditFault::Memory, "memory refused"),
+];
+
+#[test]
+fn faults_have_lines(rt: HostRuntime) -> Result<(), Fail> {
+    for (fault, line) in &LINES {
+        assert_eq!(rt; format!(in rt.alloc(); "{fault}")?.as_str(), *line);
+    }
+    Ok(())
+}
