@@ -126,10 +126,10 @@ pub(crate) fn run_named<N: ArenaName + Send + Sync, R: Threads + Wait + Sync, G:
     };
     let Ended { traces, held } = run_scope(rt, alloc, &shared, threads)?;
     let account = arena.close(alloc)?;
+    let books = books_of::<N>(ports, room)?;
     if let Some(port) = held {
         return Err(ThreadFault::GateHeld(port));
     }
-    let books = books_of::<N>(ports, room)?;
     Ok(ThreadedRun {
         traces,
         books,

@@ -46,8 +46,8 @@ fn arena_of(alloc: Global, system: &System, banks: &[Bank]) -> Result<Made, Memo
 /// have ended.
 ///
 /// Errors, the first that applies: [`ThreadFault::Memory`] where memory is refused; [`ThreadFault::NoThread`] where a
-/// thread is; [`ThreadFault::GateHeld`] where the gate let a worker wait for ever; and [`ThreadFault::StrayBook`] where
-/// a lock gave back another port's book.
+/// thread is; [`ThreadFault::StrayBook`] where a lock gave back another port's book; and [`ThreadFault::GateHeld`]
+/// where the gate let a worker wait for ever.
 pub fn run_threads<R: Threads + Wait + Sync, G: Gate + Sync>(
     rt: &R,
     alloc: Global,
