@@ -27,7 +27,8 @@ pub(crate) fn account_of_words(
     slots: &[u64],
     leaves: &[u64],
 ) -> Result<Account, AllocError>
-    ensures { IfOk result (λ a. IsAccountOf slots.now leaves.now a.free.items a.held.items a.left.items) }
+    ensures { IfOk result
+        (λ a. IsAccountOf slots.now leaves.now a.free.items a.held.items a.left.items) }
 {
     Ok(Account {
         free: places_of(alloc, slots, word_of(Phase::Free))?,
@@ -38,7 +39,8 @@ pub(crate) fn account_of_words(
 
 /// The places of the words that are this one.
 fn places_of(alloc: Global, words: &[u64], wanted: u64) -> Result<Vec<usize>, AllocError>
-    ensures just { IfOk result (λ places. (i : ℕ) → Contains places.items i ↔ (slice_get words.now i ≡ Some wanted)) }
+    ensures just { IfOk result
+        (λ places. (i : ℕ) → Contains places.items i ↔ (slice_get words.now i ≡ Some wanted)) }
     ensures rising { IfOk result (λ places. IsRisingBy (λ (i : ℕ). i) places.items) }
 {
     let mut places = Vec::new(alloc);

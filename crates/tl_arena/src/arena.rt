@@ -114,10 +114,14 @@ impl Arena {
         sources: &Sources,
         banks: &[Bank],
     ) -> Result<Made, ArenaFault>
-        ensures bad_count { (result ≡ Err BadCount) ↔ (IsInLimits slots (length sources.now) (length banks.now) → ⊥) }
-        ensures arena { IfOk result (λ made. made.arena.about ≡ about_of slots sources.now banks.now) }
-        ensures masters { IfOk result (λ made. AreNewMasters made.arena (length sources.now) made.masters.items) }
-        ensures ports { IfOk result (λ made. AreNewPorts made.arena (length banks.now) made.ports.items) }
+        ensures bad_count { (result ≡ Err BadCount)
+            ↔ (IsInLimits slots (length sources.now) (length banks.now) → ⊥) }
+        ensures arena { IfOk result
+            (λ made. made.arena.about ≡ about_of slots sources.now banks.now) }
+        ensures masters { IfOk result
+            (λ made. AreNewMasters made.arena (length sources.now) made.masters.items) }
+        ensures ports { IfOk result
+            (λ made. AreNewPorts made.arena (length banks.now) made.ports.items) }
     {
         let masters = sources.masters();
         let ports = banks.len();
@@ -141,9 +145,12 @@ impl Arena {
         banks: &[Bank],
     ) -> Result<Made, AllocError>
         requires limits { IsInLimits slots (length sources.now) (length banks.now) }
-        ensures arena { IfOk result (λ made. made.arena.about ≡ about_of slots sources.now banks.now) }
-        ensures masters { IfOk result (λ made. AreNewMasters made.arena (length sources.now) made.masters.items) }
-        ensures ports { IfOk result (λ made. AreNewPorts made.arena (length banks.now) made.ports.items) }
+        ensures arena { IfOk result
+            (λ made. made.arena.about ≡ about_of slots sources.now banks.now) }
+        ensures masters { IfOk result
+            (λ made. AreNewMasters made.arena (length sources.now) made.masters.items) }
+        ensures ports { IfOk result
+            (λ made. AreNewPorts made.arena (length banks.now) made.ports.items) }
     {
         let key = Key {
             slots,
@@ -171,8 +178,10 @@ impl Arena {
         requires table { dealer.old.table_id ≡ self.now.table }
         requires first { dealer.old.me ≡ (Dealer self.now.about 0 0, []) }
         ensures table { IfOk result (λ _. dealer.new.table_id ≡ self.now.table) }
-        ensures dealt { IfOk result (λ _. dealer.new.me ≡ (Dealer self.now.about self.now.about.masters 0, [])) }
-        ensures seats { IfOk result (λ seats. AreNewMasters self.now self.now.about.masters seats.items) }
+        ensures dealt { IfOk result
+            (λ _. dealer.new.me ≡ (Dealer self.now.about self.now.about.masters 0, [])) }
+        ensures seats { IfOk result
+            (λ seats. AreNewMasters self.now self.now.about.masters seats.items) }
     {
         let mut seats = Vec::with_capacity(alloc, self.masters)?;
         for number in 0..self.masters {
@@ -193,7 +202,8 @@ impl Arena {
         requires next { dealer.old.me ≡ (Dealer self.now.about number 0, []) }
         requires more { number < self.now.about.masters }
         ensures table { IfOk result (λ _. dealer.new.table_id ≡ self.now.table) }
-        ensures dealt { IfOk result (λ _. dealer.new.me ≡ (Dealer self.now.about (number + 1) 0, [])) }
+        ensures dealt { IfOk result
+            (λ _. dealer.new.me ≡ (Dealer self.now.about (number + 1) 0, [])) }
         ensures seat { IfOk result (λ seat. seat ≡ new_master self.now number) }
     {
         let order = VecDeque::with_capacity(alloc, self.slots)?;
@@ -211,7 +221,8 @@ impl Arena {
     fn deal_ports(&self, alloc: Global, dealer: &mut TableSeat) -> Result<Vec<PortSeat>, AllocError>
         requires table { dealer.old.table_id ≡ self.now.table }
         requires first { dealer.old.me ≡ (Dealer self.now.about self.now.about.masters 0, []) }
-        ensures seats { IfOk result (λ seats. AreNewPorts self.now self.now.about.ports seats.items) }
+        ensures seats { IfOk result
+            (λ seats. AreNewPorts self.now self.now.about.ports seats.items) }
     {
         let mut seats = Vec::with_capacity(alloc, self.ports)?;
         for number in 0..self.ports {
@@ -232,7 +243,8 @@ impl Arena {
         requires next { dealer.old.me ≡ (Dealer self.now.about self.now.about.masters number, []) }
         requires more { number < self.now.about.ports }
         ensures table { IfOk result (λ _. dealer.new.table_id ≡ self.now.table) }
-        ensures dealt { IfOk result (λ _. dealer.new.me ≡ (Dealer self.now.about self.now.about.masters (number + 1), [])) }
+        ensures dealt { IfOk result
+            (λ _. dealer.new.me ≡ (Dealer self.now.about self.now.about.masters (number + 1), [])) }
         ensures seat { IfOk result (λ seat. seat ≡ new_port self.now number) }
     {
         let order = VecDeque::with_capacity(alloc, self.slots)?;

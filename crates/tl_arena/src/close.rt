@@ -19,7 +19,8 @@ fn words_of(
 ) -> Result<Vec<u64>, AllocError>
     requires full { IsFull closed.now.words }
     requires inside { from + count ≤ slots_len closed.now.words }
-    ensures { IfOk result (λ words. words.items ≡ take count (drop from (slots_items closed.now.words))) }
+    ensures { IfOk result
+        (λ words. words.items ≡ take count (drop from (slots_items closed.now.words))) }
 {
     let mut words = Vec::with_capacity(alloc, count)?;
     for place in 0..count {
@@ -42,7 +43,8 @@ fn give_up(mut closed: Closed<Record, Global>, slots: usize)
 impl Arena {
     /// Ends the arena, and gives the account of its words. Where memory is refused there is no account.
     pub fn close(self, alloc: Global) -> Result<Account, Memory>
-        ensures account { IfOk result (λ a. IsClosing self.about a.free.items a.held.items a.left.items) }
+        ensures account { IfOk result
+            (λ a. IsClosing self.about a.free.items a.held.items a.left.items) }
     {
         let Arena {
             table,

@@ -25,8 +25,11 @@ impl Arena {
     /// A free slot, by one pass from slot 0 upward.
     pub fn claim(&self, master: &mut MasterSeat) -> Option<Claim>
         requires arena { master.old.arena ≡ self.now }
-        ensures some { IfSome result (λ i. (i < length master.old.hand) × (in_hand master.old i ≡ Nothing) × (master.new ≡ with_held master.old i Filled)) }
-        ensures event { IfSome result (λ i. IsMasterStep (event.Claim i master.old.number) master.old master.new) }
+        ensures some { IfSome result
+            (λ i. (i < length master.old.hand) × (in_hand master.old i ≡ Nothing)
+            × (master.new ≡ with_held master.old i Filled)) }
+        ensures event { IfSome result
+            (λ i. IsMasterStep (event.Claim i master.old.number) master.old master.new) }
         ensures none { IfNone result (master.new ≡ master.old) }
     {
         for slot in 0..self.slots {
@@ -41,8 +44,11 @@ impl Arena {
     fn claim_at(&self, master: &mut MasterSeat, slot: usize) -> bool
         requires arena { master.old.arena ≡ self.now }
         requires slot { slot < self.now.about.slots }
-        ensures claimed { result ≡ true → (slot < length master.old.hand) × (in_hand master.old slot ≡ Nothing) × (master.new ≡ with_held master.old slot Filled) }
-        ensures event { result ≡ true → IsMasterStep (event.Claim slot master.old.number) master.old master.new }
+        ensures claimed { result ≡ true
+            → (slot < length master.old.hand) × (in_hand master.old slot ≡ Nothing)
+            × (master.new ≡ with_held master.old slot Filled) }
+        ensures event { result ≡ true
+            → IsMasterStep (event.Claim slot master.old.number) master.old master.new }
         ensures refused { result ≡ false → master.new ≡ master.old }
     {
         let words = &self.table.shared;
@@ -65,9 +71,12 @@ impl Arena {
         requires source { Owns self.now.about master.old.number ask.now.source }
         requires unsent { IsUnsent master.old ask.now.source }
         requires port { port < self.now.about.ports }
-        ensures ticket { result ≡ record { slot = claim; ask = ask.now; port = port; known = length master.old.got } }
-        ensures seat { master.new ≡ with_held master.old claim (Sent ask.now port (length master.old.got)) }
-        ensures event { IsMasterStep (event.Post claim master.old.number port) master.old master.new }
+        ensures ticket { result
+            ≡ record { slot = claim; ask = ask.now; port = port; known = length master.old.got } }
+        ensures seat { master.new
+            ≡ with_held master.old claim (Sent ask.now port (length master.old.got)) }
+        ensures event { IsMasterStep
+            (event.Post claim master.old.number port) master.old master.new }
     {
         let Claim { slot } = claim;
         let words = &self.table.shared;
@@ -87,10 +96,12 @@ impl Arena {
     /// Collects the reply to what was posted, where it is there.
     pub fn collect(&self, master: &mut MasterSeat, ticket: Ticket) -> Result<Served, Ticket>
         requires arena { master.old.arena ≡ self.now }
-        requires ticket { in_hand master.old ticket.slot ≡ Sent ticket.ask ticket.port ticket.known }
+        requires ticket { in_hand master.old ticket.slot
+            ≡ Sent ticket.ask ticket.port ticket.known }
         requires room { length master.old.got < usize.MAX }
         ensures ok { IfOk result (λ s. IsCollected master.old ticket s master.new) }
-        ensures event { IfOk result (λ _. IsMasterStep (event.Collect ticket.slot master.old.number ticket.port) master.old master.new) }
+        ensures event { IfOk result
+            (λ _. IsMasterStep (event.Collect ticket.slot master.old.number ticket.port) master.old master.new) }
         ensures err { IfErr result (λ t. (t ≡ ticket) × (master.new ≡ master.old)) }
     {
         let words = &self.table.shared;
@@ -123,7 +134,8 @@ impl Arena {
         requires arena { master.old.arena ≡ self.now }
         requires taken { in_hand master.old served.slot ≡ Taken served.port }
         ensures seat { master.new ≡ with_held master.old served.slot Nothing }
-        ensures event { IsMasterStep (event.Release served.slot master.old.number served.port) master.old master.new }
+        ensures event { IsMasterStep
+            (event.Release served.slot master.old.number served.port) master.old master.new }
     {
         let Served {
             slot,

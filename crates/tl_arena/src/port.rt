@@ -21,7 +21,9 @@ impl Arena {
     pub fn accept(&self, port: &mut PortSeat) -> Option<Accepted>
         requires arena { port.old.arena ≡ self.now }
         ensures slot { IfSome result (λ a. a.0 < self.now.about.slots) }
-        ensures some { IfSome result (λ a. (ask_at port.old.serving a.0 ≡ std.None) × (port.new ≡ with_accepted port.old a)) }
+        ensures some { IfSome result
+            (λ a. (ask_at port.old.serving a.0 ≡ std.None)
+            × (port.new ≡ with_accepted port.old a)) }
         ensures event { IfSome result (λ a. IsAcceptStep port.old a port.new) }
         ensures none { IfNone result (port.new ≡ port.old) }
         ensures law { IsLawfulPort port.new }
@@ -42,7 +44,9 @@ impl Arena {
     /// word's cache line from its owner.
     pub fn accept_at(&self, port: &mut PortSeat, slot: usize) -> Option<Accepted>
         requires arena { port.old.arena ≡ self.now }
-        ensures some { IfSome result (λ a. (a.0 ≡ slot) × (ask_at port.old.serving slot ≡ std.None) × (port.new ≡ with_accepted port.old a)) }
+        ensures some { IfSome result
+            (λ a. (a.0 ≡ slot) × (ask_at port.old.serving slot ≡ std.None)
+            × (port.new ≡ with_accepted port.old a)) }
         ensures event { IfSome result (λ a. IsAcceptStep port.old a port.new) }
         ensures none { IfNone result (port.new ≡ port.old) }
         ensures law { IsLawfulPort port.new }
@@ -70,7 +74,9 @@ impl Arena {
         requires arena { port.old.arena ≡ self.now }
         requires slot { slot < self.now.about.slots }
         requires small { owner ≤ MAX_AGENT }
-        ensures some { IfSome result (λ a. (a.0 ≡ slot) × (ask_at port.old.serving slot ≡ std.None) × (port.new ≡ with_accepted port.old a)) }
+        ensures some { IfSome result
+            (λ a. (a.0 ≡ slot) × (ask_at port.old.serving slot ≡ std.None)
+            × (port.new ≡ with_accepted port.old a)) }
         ensures event { IfSome result (λ a. IsAcceptStep port.old a port.new) }
         ensures none { IfNone result (port.new ≡ port.old) }
         ensures law { IsLawfulPort port.new }

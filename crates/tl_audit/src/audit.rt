@@ -24,7 +24,8 @@ fn first_unrecorded(
 ) -> Option<usize>
     ensures found { IfSome result (λ place. IsSomeAnd (slice_get trace.now place)
         (λ entry. IsRecorded sources.now (lists_in histories.now) master entry → ⊥)) }
-    ensures none { IfNone result (All (IsRecorded sources.now (lists_in histories.now) master) trace.now) }
+    ensures none { IfNone result
+        (All (IsRecorded sources.now (lists_in histories.now) master) trace.now) }
 {
     trace
         .iter()
@@ -37,8 +38,10 @@ fn check_recorded(
     traces: &[Trace],
     histories: &[&[(Ask, Reply)]],
 ) -> Result<(), AuditFault>
-    ensures ok { OnOk result (AreRecorded sources.now (rows_in traces.now) (lists_in histories.now)) }
-    ensures fault { IfErr result (HasAuditFault sources.now (rows_in traces.now) (lists_in histories.now)) }
+    ensures ok { OnOk result
+        (AreRecorded sources.now (rows_in traces.now) (lists_in histories.now)) }
+    ensures fault { IfErr result
+        (HasAuditFault sources.now (rows_in traces.now) (lists_in histories.now)) }
 {
     for (master, trace) in traces.iter().enumerate() {
         if let Some(place) = first_unrecorded(sources, histories, master, trace) {
@@ -54,8 +57,10 @@ fn marks_of(
     traces: &[Trace],
     histories: &[&[(Ask, Reply)]],
 ) -> Result<Vec<Vec<Mark>>, AllocError>
-    requires { (counts : List ℕ) × AreRecorded counts (rows_in traces.now) (lists_in histories.now) }
-    ensures { IfOk result (λ rows. AreCounted (rows_in traces.now) (lists_in histories.now) (rows_in rows.items)) }
+    requires { (counts : List ℕ)
+        × AreRecorded counts (rows_in traces.now) (lists_in histories.now) }
+    ensures { IfOk result
+        (λ rows. AreCounted (rows_in traces.now) (lists_in histories.now) (rows_in rows.items)) }
 {
     let mut rows = unnamed(alloc, histories)?;
     mark_traces(&mut rows, traces);
@@ -101,7 +106,8 @@ fn check_order(
     requires { AreRecorded sources.now (rows_in traces.now) (lists_in histories.now) }
     ensures ok { OnOk result ((master : ℕ) (trace : List Entry)
         → slice_get (rows_in traces.now) master ≡ Some trace → IsInOrder trace) }
-    ensures fault { IfErr result (HasAuditFault sources.now (rows_in traces.now) (lists_in histories.now)) }
+    ensures fault { IfErr result
+        (HasAuditFault sources.now (rows_in traces.now) (lists_in histories.now)) }
 {
     for (master, trace) in traces.iter().enumerate() {
         let first = first_disordered(alloc, sources, histories.len(), master, trace)?;
@@ -124,7 +130,8 @@ pub fn audit_lists(
     histories: &[&[(Ask, Reply)]],
 ) -> Result<(), AuditFault>
     ensures ok { OnOk result (Agrees sources.now (rows_in traces.now) (lists_in histories.now)) }
-    ensures fault { IfErr result (HasAuditFault sources.now (rows_in traces.now) (lists_in histories.now)) }
+    ensures fault { IfErr result
+        (HasAuditFault sources.now (rows_in traces.now) (lists_in histories.now)) }
 
     // Where they agree nothing but want of memory is answered beside Ok.
     ensures agreed { Agrees sources.now (rows_in traces.now) (lists_in histories.now)

@@ -89,7 +89,8 @@ fn first_in(row: &[Mark], mark: Mark) -> Option<usize>
 /// The first place of the lowest port that has this mark.
 pub(crate) fn first_marked(rows: &[Vec<Mark>], mark: Mark) -> Option<(usize, usize)>
     ensures found { IfSome result (λ at. cell (rows_in rows.now) at.0 at.1 ≡ Some mark) }
-    ensures none { IfNone result ((port index : ℕ) → cell (rows_in rows.now) port index ≡ Some mark → ⊥) }
+    ensures none { IfNone result
+        ((port index : ℕ) → cell (rows_in rows.now) port index ≡ Some mark → ⊥) }
 {
     for (port, row) in rows.iter().enumerate() {
         if let Some(index) = first_in(row, mark) {

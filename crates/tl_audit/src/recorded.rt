@@ -36,7 +36,8 @@ fn is_reply(wide: &Reply, source: u16, own: &Reply) -> bool
 
 /// Whether a request and its reply are an entry's with this source in place of the entry's own.
 fn is_pair(pair: &(Ask, Reply), wide: u16, entry: &Entry) -> bool
-    ensures { IsTrue result ↔ (pair.now ≡ (record entry.now.ask { source = wide }, record entry.now.reply { source = wide })) }
+    ensures { IsTrue result
+        ↔ (pair.now ≡ (record entry.now.ask { source = wide }, record entry.now.reply { source = wide })) }
 {
     is_ask(&pair.0, wide, &entry.ask) && is_reply(&pair.1, wide, &entry.reply)
 }

@@ -181,7 +181,8 @@ impl Master {
 
     /// The entry at a place of the trace, with the master's own source.
     pub fn entry(&self, place: usize) -> Option<&Entry>
-        ensures some { IfSome result (λ entry. slice_get self.now.trace place ≡ std.Some entry.now) }
+        ensures some { IfSome result
+            (λ entry. slice_get self.now.trace place ≡ std.Some entry.now) }
         ensures none { IfNone result (length self.now.trace ≤ place) }
     {
         self.trace.get(place)
@@ -232,7 +233,8 @@ fn post_routed(
     requires unsent { IsUnsent seat.old wide }
     requires ports { length map.now + 1 ≤ arena.now.about.ports }
     ensures posted { IsPosted map.now ask.now wide seat.old claim result.0 result.1 }
-    ensures seat { seat.new ≡ with_held seat.old claim (Sent result.0.ask result.0.port result.0.known) }
+    ensures seat { seat.new
+        ≡ with_held seat.old claim (Sent result.0.ask result.0.port result.0.known) }
 {
     let port = map.route(ask);
     let ticket = arena.post(seat, claim, &ask.with_source(wide), port);

@@ -111,7 +111,8 @@ impl Book {
     pub fn intake(&mut self, arena: &Arena) -> Intake
         requires arena { self.old.seat.arena ≡ arena.now }
         ensures takes { Takes self.old result self.new }
-        ensures full { (result ≡ JournalFull) ↔ (length self.old.history + length self.old.flights ≡ self.old.journal) }
+        ensures full { (result ≡ JournalFull)
+            ↔ (length self.old.history + length self.old.flights ≡ self.old.journal) }
     {
         if self.history.len() + self.flights.len() == self.journal {
             return Intake::JournalFull;
@@ -170,7 +171,9 @@ impl Book {
 
     /// The request in flight at a place, the oldest first.
     pub fn in_flight(&self, place: usize) -> Option<Flight>
-        ensures value { result ≡ option_map (λ f. record { source = f.1.source; slot = f.0 }) (slice_get self.now.flights place) }
+        ensures value { result
+            ≡ option_map (λ f. record { source = f.1.source; slot = f.0 })
+            (slice_get self.now.flights place) }
         ensures lawful { IsLawfulBook self.now }
     {
         let accepted = self.flights.get(place)?;
@@ -190,7 +193,8 @@ impl Book {
 
     /// The request that was served at a place, with its wide source, and its reply.
     pub fn entry(&self, place: usize) -> Option<(&Ask, &Reply)>
-        ensures some { IfSome result (λ e. slice_get self.now.history place ≡ std.Some (e.0.now, e.1.now)) }
+        ensures some { IfSome result
+            (λ e. slice_get self.now.history place ≡ std.Some (e.0.now, e.1.now)) }
         ensures none { IfNone result (length self.now.history ≤ place) }
         ensures lawful { IsLawfulBook self.now }
     {
@@ -209,7 +213,8 @@ impl Book {
 
     /// The byte of the port's memory at an address, where there is one.
     pub fn byte(&self, address: u64) -> Option<u8>
-        ensures inside { self.now.store.base ≤ address → result ≡ slice_get self.now.store.bytes (address - self.now.store.base) }
+        ensures inside { self.now.store.base ≤ address
+            → result ≡ slice_get self.now.store.bytes (address - self.now.store.base) }
         ensures below { address < self.now.store.base → result ≡ std.None }
         ensures lawful { IsLawfulBook self.now }
     {
@@ -222,7 +227,8 @@ fn take_posted(arena: &Arena, seat: &mut PortSeat, flights: &mut VecDeque<Accept
     requires arena { seat.old.arena ≡ arena.now }
     requires serving { flights.old.items ≡ seat.old.serving }
     requires room { seat.old.arena.about.slots ≤ deque_capacity flights.old }
-    ensures some { IfSome result (λ source. AcceptsOne seat.old flights.old.items source seat.new flights.new.items) }
+    ensures some { IfSome result
+        (λ source. AcceptsOne seat.old flights.old.items source seat.new flights.new.items) }
     ensures none { IfNone result ((seat.new ≡ seat.old) × (flights.new.items ≡ flights.old.items)) }
     ensures law { IsLawfulPort seat.new }
     ensures capacity { deque_capacity flights.new ≡ deque_capacity flights.old }
@@ -249,7 +255,8 @@ fn answer_by(
     ensures seat { seat.new ≡ with_answered seat.old accepted (reply bank.old accepted.1) }
     ensures law { IsLawfulPort seat.new }
     ensures bank { bank.new ≡ after bank.old accepted.1 }
-    ensures history { history.new.items ≡ history.old.items ++ (accepted.1, reply bank.old accepted.1) ∷ [] }
+    ensures history { history.new.items
+        ≡ history.old.items ++ (accepted.1, reply bank.old accepted.1) ∷ [] }
     ensures capacity { vec_capacity history.new ≡ vec_capacity history.old }
 {
     let ask = accepted.ask().copy();

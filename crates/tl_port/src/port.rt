@@ -22,7 +22,9 @@ impl<N: ArenaName> Named<N> {
     fn intake(&mut self, arena: &Arena) -> Intake
         requires arena { arena.now ≡ N.arena }
         ensures takes { Takes self.old.book result self.new.book }
-        ensures full { (result ≡ JournalFull) ↔ (length self.old.book.history + length self.old.book.flights ≡ self.old.book.journal) }
+        ensures full { (result ≡ JournalFull)
+            ↔ (length self.old.book.history + length self.old.book.flights
+            ≡ self.old.book.journal) }
     {
         self.book.intake(arena)
     }

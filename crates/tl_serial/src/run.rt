@@ -57,7 +57,8 @@ impl Slave {
 /// Serves a master's next request.
 fn send(slaves: &mut [Slave], system: &System, master: usize, ask: &Ask) -> Result<Entry, Memory>
     requires ready { length slaves.old ≡ length system.now.ranges + 1 }
-    requires source { IsSomeAnd (slice_get system.now.counts master) (λ count. ask.now.source < count) }
+    requires source { IsSomeAnd (slice_get system.now.counts master)
+        (λ count. ask.now.source < count) }
     ensures asked { IfOk result (λ entry. entry.ask ≡ ask.now) }
     ensures stands { IfOk result (λ entry. (keeps : Bool) (log : List (ℕ × Entry))
         → Stand system.now keeps log slaves.old

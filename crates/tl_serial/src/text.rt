@@ -35,7 +35,8 @@ fn traces_text(alloc: Global, system: &System) -> Result<Vec<u8>, Memory>
 
 /// Appends the lines of the histories, port 0 first.
 fn push_histories(alloc: Global, text: &mut Vec<u8>, histories: &[History]) -> Result<(), Memory>
-    ensures { OnOk result (text.new.items ≡ text.old.items ++ histories_text (lists_of histories.now)) }
+    ensures { OnOk result
+        (text.new.items ≡ text.old.items ++ histories_text (lists_of histories.now)) }
 {
     for (port, history) in histories.iter().enumerate() {
         let lines = write_history(alloc, port, history)?;

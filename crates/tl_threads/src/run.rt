@@ -93,7 +93,8 @@ fn join_masters<R: Threads>(
     requires none { vec_len traces ≡ 0 }
     requires room { vec_len handles ≤ vec_capacity traces }
     ensures many { vec_len result ≡ vec_len handles }
-    ensures traces { AreFrom (IsTraceOf arena.now system.now.ranges system.now.jobs) 0 result.items }
+    ensures traces { AreFrom
+        (IsTraceOf arena.now system.now.ranges system.now.jobs) 0 result.items }
 {
     let mut traces = traces;
     for handle in handles {

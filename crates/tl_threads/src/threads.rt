@@ -27,7 +27,8 @@ fn arena_of(alloc: Global, system: &System, banks: &[Bank]) -> Result<Made, Memo
         ≡ about_of system.now.slots system.now.counts (resets system.now)) }
     ensures masters { IfOk result (λ made. AreNewMasters made.arena (length system.now.jobs)
         made.masters.items) }
-    ensures ports { IfOk result (λ made. AreNewPorts made.arena (length banks.now) made.ports.items) }
+    ensures ports { IfOk result
+        (λ made. AreNewPorts made.arena (length banks.now) made.ports.items) }
 {
     let _lawful = system.jobs();
     let _few_masters = system.sources().masters();

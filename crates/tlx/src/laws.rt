@@ -19,10 +19,14 @@ pub fn limits_in_numbers()
 /// The lines that are taken. The first word is the program's name.
 pub fn lines_ask_for_options()
     ensures alone { AskFor (record { serial = false; workers = 1 }) (codes "tlx" ∷ []) }
-    ensures serial { AskFor (record { serial = true; workers = 1 }) (codes "tlx" ∷ codes "--serial" ∷ []) }
-    ensures workers { AskFor (record { serial = false; workers = 1 }) (codes "tlx" ∷ codes "--workers" ∷ codes "1" ∷ []) }
-    ensures attached { AskFor (record { serial = false; workers = 1 }) (codes "tlx" ∷ codes "--workers=1" ∷ []) }
-    ensures both { AskFor (record { serial = true; workers = 1 }) (codes "tlx" ∷ codes "--workers" ∷ codes "1" ∷ codes "--serial" ∷ []) }
+    ensures serial { AskFor (record { serial = true; workers = 1 })
+        (codes "tlx" ∷ codes "--serial" ∷ []) }
+    ensures workers { AskFor (record { serial = false; workers = 1 })
+        (codes "tlx" ∷ codes "--workers" ∷ codes "1" ∷ []) }
+    ensures attached { AskFor (record { serial = false; workers = 1 })
+        (codes "tlx" ∷ codes "--workers=1" ∷ []) }
+    ensures both { AskFor (record { serial = true; workers = 1 })
+        (codes "tlx" ∷ codes "--workers" ∷ codes "1" ∷ codes "--serial" ∷ []) }
 {}
 
 /// The line that asks for help, and mistakes.
@@ -30,7 +34,8 @@ pub fn lines_are_refused()
     ensures help { AreRefusedAs DisplayHelp (codes "tlx" ∷ codes "--help" ∷ []) }
     ensures many { AreRefusedAs ValueValidation (codes "tlx" ∷ codes "--workers" ∷ codes "2" ∷ []) }
     ensures none { AreRefusedAs ValueValidation (codes "tlx" ∷ codes "--workers" ∷ codes "0" ∷ []) }
-    ensures unnumbered { AreRefusedAs ValueValidation (codes "tlx" ∷ codes "--workers" ∷ codes "one" ∷ []) }
+    ensures unnumbered { AreRefusedAs ValueValidation
+        (codes "tlx" ∷ codes "--workers" ∷ codes "one" ∷ []) }
     ensures missing { AreRefusedAs InvalidValue (codes "tlx" ∷ codes "--workers" ∷ []) }
     ensures stray { AreRefusedAs UnknownArgument (codes "tlx" ∷ codes "stray" ∷ []) }
     ensures unknown { AreRefusedAs UnknownArgument (codes "tlx" ∷ codes "--history" ∷ []) }

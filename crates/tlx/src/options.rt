@@ -31,7 +31,8 @@ pub fn read_options(alloc: Global, words: &[&str]) -> Result<Options, Error>
     ensures few { IfOk result (λ options. options.workers ≤ LINE_WORKERS) }
 
     // The options are those that the words ask for.
-    ensures asked { IfOk result (λ options. options ≡ options_in (map (λ word. word.now) words.now)) }
+    ensures asked { IfOk result
+        (λ options. options ≡ options_in (map (λ word. word.now) words.now)) }
 
     // The words are taken or refused as the command line says.
     ensures faults { FailsBy (fault_of command_line (map (λ word. word.now) words.now)) result }

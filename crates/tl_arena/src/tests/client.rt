@@ -34,7 +34,8 @@ impl<'a> Client<'a> {
     /// out.
     pub(super) fn claim(&mut self, ask: &Ask, port: usize) -> Option<(Claim, Ask)>
         ensures claimed { IfSome result (λ c. in_hand self.new.seat c.0 ≡ Filled) }
-        ensures source { IfSome result (λ c. Owns self.new.seat.arena.about self.new.seat.number c.1.source) }
+        ensures source { IfSome result
+            (λ c. Owns self.new.seat.arena.about self.new.seat.number c.1.source) }
         ensures unsent { IfSome result (λ c. IsUnsent self.new.seat c.1.source) }
         ensures port { IfSome result (λ _. port < self.new.seat.arena.about.ports) }
         ensures none { IfNone result (self.new.seat ≡ self.old.seat) }
@@ -60,7 +61,8 @@ impl<'a> Client<'a> {
 
     /// Posts a request of the client's own source, if it has a free slot and nothing is out.
     pub(super) fn send(&mut self, ask: &Ask, port: usize) -> Option<Ticket>
-        ensures some { IfSome result (λ t. in_hand self.new.seat t.slot ≡ Sent t.ask t.port t.known) }
+        ensures some { IfSome result
+            (λ t. in_hand self.new.seat t.slot ≡ Sent t.ask t.port t.known) }
         ensures none { IfNone result (self.new.seat ≡ self.old.seat) }
     {
         let (claim, ask) = self.claim(ask, port)?;

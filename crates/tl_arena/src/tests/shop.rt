@@ -22,7 +22,8 @@ pub(super) struct Shop<'a> {
 impl<'a> Shop<'a> {
     /// Accepts what is posted for the port in a slot.
     pub(super) fn accept(&mut self, slot: usize) -> Option<Accepted>
-        ensures some { IfSome result (λ a. (a.0 ≡ slot) × (ask_at self.new.seat.serving slot ≡ std.Some a.1)) }
+        ensures some { IfSome result
+            (λ a. (a.0 ≡ slot) × (ask_at self.new.seat.serving slot ≡ std.Some a.1)) }
         ensures none { IfNone result (self.new.seat ≡ self.old.seat) }
     {
         self.arena.accept_at(&mut self.seat, slot)

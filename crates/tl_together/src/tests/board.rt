@@ -33,14 +33,17 @@ pub(super) fn read(source: u16) -> Result<Ask, Fail> {
 
 /// The port's memory.
 fn ram(alloc: Global) -> Result<Bank, Fail>
-    ensures { IfOk result (λ bank. bank ≡ record { kind = Ram; base = 0x1000; bytes = replicate 64 0 }) }
+    ensures { IfOk result
+        (λ bank. bank ≡ record { kind = Ram; base = 0x1000; bytes = replicate 64 0 }) }
 {
     Ok(Bank::new(alloc, Kind::Ram, 0x1000, &[0; 64])?)
 }
 
 /// The first and the second of some seats.
 fn two<T: Drop>(seats: Vec<T>) -> Result<(T, T), Fail>
-    ensures { IfOk result (λ pair. (slice_get seats.items 0 ≡ std.Some pair.0) × (slice_get seats.items 1 ≡ std.Some pair.1)) }
+    ensures { IfOk result
+        (λ pair. (slice_get seats.items 0 ≡ std.Some pair.0)
+        × (slice_get seats.items 1 ≡ std.Some pair.1)) }
 {
     let mut seats = seats.into_iter();
     let first = seats.next().ok_or("no seat")?;
@@ -54,8 +57,12 @@ fn seats(
     slots: usize,
     sources: &Sources,
 ) -> Result<(Arena, MasterSeat, MasterSeat, PortSeat), Fail>
-    ensures about { IfOk result (λ all. all.0.about ≡ about_of slots sources.now (record { kind = Ram; base = 0x1000; bytes = replicate 64 0 } ∷ record { kind = NoDevice; base = 0; bytes = [] } ∷ [])) }
-    ensures masters { IfOk result (λ all. (all.1 ≡ new_master all.0 0) × (all.2 ≡ new_master all.0 1)) }
+    ensures about { IfOk result
+        (λ all. all.0.about ≡ about_of slots sources.now
+        (record { kind = Ram; base = 0x1000; bytes = replicate 64 0 }
+        ∷ record { kind = NoDevice; base = 0; bytes = [] } ∷ [])) }
+    ensures masters { IfOk result
+        (λ all. (all.1 ≡ new_master all.0 0) × (all.2 ≡ new_master all.0 1)) }
     ensures port { IfOk result (λ all. all.3 ≡ new_port all.0 0) }
 {
     let banks = [ram(alloc)?, Bank::new(alloc, Kind::NoDevice, 0, &[])?];

@@ -127,11 +127,13 @@ fn issue_at_once<R: Threads + Wait + Sync>(
         thread::join(
             rt,
             || -> (Master, Option<[usize; 2]>)
-                requires { (first.seat.arena ≡ arena.now) × (length map.now + 1 ≤ arena.now.about.ports) }
+                requires { (first.seat.arena ≡ arena.now)
+                    × (length map.now + 1 ≤ arena.now.about.ports) }
                 ensures { result.0.seat.arena ≡ arena.entry.now }
             { issue_two(arena, map, first, asks) },
             || -> (Master, Option<[usize; 2]>)
-                requires { (second.seat.arena ≡ arena.now) × (length map.now + 1 ≤ arena.now.about.ports) }
+                requires { (second.seat.arena ≡ arena.now)
+                    × (length map.now + 1 ≤ arena.now.about.ports) }
                 ensures { result.0.seat.arena ≡ arena.entry.now }
             { issue_two(arena, map, second, asks) },
         )
