@@ -8,6 +8,7 @@ enum Kind {
     Ram,
     Rom,
     Regs,
+    ClearRegs,
     NoDevice,
 }
 
@@ -101,7 +102,7 @@ fn supports(kind: Kind, op: Op, size: u32) -> bool {
         (Kind::Ram, Op::Arith(_) | Op::Logic(_)) => word,
         (Kind::Ram, _) => true,
         (Kind::Rom, Op::Get | Op::Hint(_)) => true,
-        (Kind::Regs, Op::Get | Op::PutFull) => word,
+        (Kind::Regs | Kind::ClearRegs, Op::Get | Op::PutFull) => word,
         _ => false,
     }
 }
@@ -135,6 +136,11 @@ fn serve(bank: &mut Bank, ask: &Ask) -> (bool, Vec<u8>) {
     let operand: Vec<u8> = ask.bytes.iter().map(|byte| byte.unwrap_or(0)).collect();
     match ask.op {
         Op::Get | Op::Hint(_) => {}
+        Op::PutFull if bank.kind == Kind::ClearRegs => {
+            for (byte, ones) in window.iter_mut().zip(&operand) {
+                *byte &= !ones;
+            }
+        }
         Op::PutFull | Op::PutPart => {
             for (byte, given) in window.iter_mut().zip(&ask.bytes) {
                 *byte = given.unwrap_or(*byte);
@@ -195,7 +201,8 @@ fn main() {
             banks.last_mut().unwrap().kind = match kind {
                 "\"ram\"" => Kind::Ram,
                 "\"rom\"" => Kind::Rom,
-                _ => Kind::Regs,
+                "\"regs\"" => Kind::Regs,
+                _ => Kind::ClearRegs,
             };
         } else if let Some(base) = line.strip_prefix("base = ") {
             banks.last_mut().unwrap().base = number(base).unwrap();

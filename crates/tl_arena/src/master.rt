@@ -1,5 +1,5 @@
 //! The calls of a master.
-ghost use Rattle.std.specs.Prelude.{◌≡◌, ◌<◌, length, true, false, IfOk, IfErr, IfSome, IfNone};
+ghost use Rattle.std.specs.Prelude.{◌≡◌, ◌<◌, ◌≤◌, length, true, false, IfOk, IfErr, IfSome, IfNone};
 ghost use Rattle.tl_slots.specs.declared.event.Event.TheVariants as event;
 ghost use Rattle.tl_rule.specs.declared.view.Held.TheVariants.{Nothing, Filled, Sent, Taken};
 ghost use Rattle.tl_rule.specs.Views.{Owns};
@@ -22,7 +22,8 @@ const FREE: u64 = 0;
 const LEFT: u64 = 1;
 
 impl Arena {
-    /// A free slot, by one pass from slot 0 upward.
+    /// A free slot, by one pass over all of them: from the master's own part of the slots upward, and then from slot 0 on.
+    /// So masters look for slots at different places as long as there are enough.
     pub fn claim(&self, master: &mut MasterSeat) -> Option<Claim>
         requires arena { master.old.arena ≡ self.now }
         ensures some { IfSome result
@@ -32,7 +33,25 @@ impl Arena {
             (λ i. IsMasterStep (event.Claim i master.old.number) master.old master.new) }
         ensures none { IfNone result (master.new ≡ master.old) }
     {
-        for slot in 0..self.slots {
+        let first = master.number() * self.slots / self.masters;
+        match self.claim_among(master, first, self.slots) {
+            Some(claim) => Some(claim),
+            None => self.claim_among(master, 0, first),
+        }
+    }
+
+    /// The first free slot from a slot on and before an end.
+    fn claim_among(&self, master: &mut MasterSeat, from: usize, end: usize) -> Option<Claim>
+        requires arena { master.old.arena ≡ self.now }
+        requires slots { end ≤ self.now.about.slots }
+        ensures some { IfSome result
+            (λ i. (i < length master.old.hand) × (in_hand master.old i ≡ Nothing)
+            × (master.new ≡ with_held master.old i Filled)) }
+        ensures event { IfSome result
+            (λ i. IsMasterStep (event.Claim i master.old.number) master.old master.new) }
+        ensures none { IfNone result (master.new ≡ master.old) }
+    {
+        for slot in from..end {
             if self.claim_at(master, slot) {
                 return Some(Claim { slot });
             }

@@ -6,8 +6,9 @@ use Rattle.std.proofs.lemmas.Nat.{and_mask, or_shifted, shl_whole, pow-add}
 use Rattle.std.proofs.lemmas.List.{drop_more}
 use Rattle.tl_types.specs.declared.operation.AskOp.{AskOp}
 use Rattle.tl_types.specs.declared.operation.AskOp.TheVariants.{PutFull, PutPartial}
+use Rattle.tl_ops.specs.declared.kind.Kind.{Kind}
 use Rattle.tl_ops.specs.Number.{low_bytes}
-use Rattle.tl_ops.specs.Window.{merged, operand_of, new_window}
+use Rattle.tl_ops.specs.Window.{merged, operand_of, put_window, new_window}
 use Rattle.tl_ops.specs.Cell.{keep_of}
 
 -- a byte below the bytes that were gathered
@@ -38,7 +39,7 @@ merged_by_masks (Some byte ∷ given) old =
     let replaced : bit_or (bit_and (old % 256) 0) byte ≡ byte = ap (λ n. bit_or n byte) (and_zero_r (old % 256)) ∙ or_zero_l byte in
     rw (replaced, merged_by_masks given (old / 256)) refl
 
--- both puts merge
-pub put_merges : (op : AskOp) (old : List ℕ) (given : List (Option ℕ)) → (op ≡ PutFull) ⊎ (op ≡ PutPartial) → new_window op old given ≡ merged old given
-put_merges op old given (inl full) = rw full refl
-put_merges op old given (inr part) = rw part refl
+-- both puts put
+pub new_window-put : (kind : Kind) (op : AskOp) (old : List ℕ) (given : List (Option ℕ)) → (op ≡ PutFull) ⊎ (op ≡ PutPartial) → new_window kind op old given ≡ put_window kind old given
+new_window-put kind op old given (inl full) = rw full refl
+new_window-put kind op old given (inr part) = rw part refl

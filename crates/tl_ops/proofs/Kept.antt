@@ -1,5 +1,6 @@
 -- A bank's bytes among the lanes of its words: where a window stands there, and what a request leaves.
-use Rattle.std.proofs.Common.{◌≡◌, ℕ, zero, suc, ◌+◌, ◌-◌, ◌%◌, ◌^◌, ◌≤◌, Bool, true, false, if◌then◌else◌, List, ◌++◌, length, take, drop, replicate, Option, ◌⊎◌, inl, inr, refl, sym, ap, ◌∙◌, rules, arith}
+use Rattle.std.proofs.Common.{◌≡◌, ℕ, zero, suc, ◌+◌, ◌-◌, ◌%◌, ◌^◌, ◌≤◌, Bool, true, false, if◌then◌else◌, List, ◌++◌, length, take, drop, replicate, Option, ◌⊎◌, inl, inr, refl, sym, ap, ◌∙◌, lit≤, rules, arith}
+use Rattle.std.proofs.Math.Nat.{pow-le-pow_right}
 use Rattle.std.proofs.lemmas.List.{append_assoc, length-append, length-replicate, length-take-le, length-drop, length-map, take-append-drop, drop-drop}
 use Rattle.tl_types.proofs.Zipped.{zipped_length}
 use Rattle.tl_types.specs.declared.operation.AskOp.{AskOp}
@@ -11,12 +12,12 @@ use Rattle.tl_types.specs.Operation.{byte_count, reply_op_of}
 use Rattle.tl_types.specs.Request.{Request}
 use Rattle.tl_types.specs.Response.{Response}
 use Rattle.tl_ops.specs.declared.kind.Kind.{Kind}
-use Rattle.tl_ops.specs.declared.kind.Kind.TheVariants.{Ram, Rom, Regs, NoDevice}
+use Rattle.tl_ops.specs.declared.kind.Kind.TheVariants.{Ram, Rom, Regs, ClearRegs, NoDevice}
 use Rattle.tl_ops.specs.Support.{supports, ram_supports, rom_supports, regs_supports}
 use Rattle.tl_ops.specs.Bank.{IsKept, bytes_in, lanes_with}
 use Rattle.tl_ops.specs.Cell.{FitsWords, spare_after}
 use Rattle.tl_ops.specs.Store.{Store, legal, window, with_window, after, shown, reply}
-use Rattle.tl_ops.specs.Window.{new_window, operand_of, combine_arith}
+use Rattle.tl_ops.specs.Window.{new_window, put_window, operand_of, combine_arith}
 use Rattle.tl_ops.proofs.Bytes.{length-low_bytes}
 use Rattle.tl_ops.proofs.LaneLists.{middle, middle_replaced, length-with_window}
 use Rattle.tl_ops.proofs.Merges.{length-merged}
@@ -62,12 +63,28 @@ small_from_supports : (kind : Kind) (op : AskOp) (size : ℕ) → supports kind 
 small_from_supports Ram op size is = ram_small op size is
 small_from_supports Rom op size is = rom_small op size is
 small_from_supports Regs op size is = regs_small op size is
+small_from_supports ClearRegs op size is = regs_small op size is
 small_from_supports NoDevice op size is = cc
 
 pub small_from_legal : (store : Store) (ask : Request) → legal store ask ≡ true → ask.size ≤ 6
 small_from_legal store ask is =
     let supported : supports store.kind ask.op ask.size ≡ true = search rules in
     small_from_supports store.kind ask.op ask.size supported
+
+-- where writing a one clears, a legal window is of one word
+regs_words : (op : AskOp) (size : ℕ) → regs_supports op size ≡ true → size ≤ 3
+regs_words PutFull size is = search rules
+regs_words PutPartial size is = cc
+regs_words (Arithmetic _) size is = cc
+regs_words (Logical _) size is = cc
+regs_words Get size is = search rules
+regs_words (Intent _) size is = cc
+
+pub clears_one_word : (store : Store) (ask : Request) → legal store ask ≡ true → store.kind ≡ ClearRegs → 2 ^ ask.size ≤ 8
+clears_one_word store ask is clears =
+    let supported : supports store.kind ask.op ask.size ≡ true = search rules in
+    let small : ask.size ≤ 3 = regs_words ask.op ask.size (rw clears at supported) in
+    pow-le-pow_right (lit≤ tt) small
 
 -- ---- what a request carries and what its reply shows
 
@@ -78,6 +95,11 @@ count_of_put op size (inr part) = rw part refl
 -- an atomic
 abbrev pub IsAtomic : AskOp → Type 0
 IsAtomic op = ((arith : Arith) × (op ≡ Arithmetic arith)) ⊎ ((logic : Logic) × (op ≡ Logical logic))
+
+-- an atomic combines the same at each kind of slave
+pub new_window-atomic : (kind : Kind) (op : AskOp) (old : List ℕ) (given : List (Option ℕ)) → IsAtomic op → new_window Ram op old given ≡ new_window kind op old given
+new_window-atomic kind op old given (inl is) = rw is.1 refl
+new_window-atomic kind op old given (inr is) = rw is.1 refl
 
 pub count_of_atomic : (op : AskOp) (size : ℕ) → IsAtomic op → byte_count op size ≡ 2 ^ size
 count_of_atomic op size (inl is) = rw is.1 refl
@@ -153,13 +175,20 @@ length-combine_arith MinU old x same = length-chosen _ x old same
 length-combine_arith MaxU old x same = length-chosen _ x old same
 length-combine_arith Add old x same = length-low_bytes (length old) _
 
-pub length-new_window : (op : AskOp) (old : List ℕ) (given : List (Option ℕ)) → length given ≡ length old → length (new_window op old given) ≡ length old
-length-new_window PutFull old given same = length-merged old given same
-length-new_window PutPartial old given same = length-merged old given same
-length-new_window (Arithmetic op) old given same = length-combine_arith op old (operand_of given) (length-map given _ ∙ same)
-length-new_window (Logical op) old given same = zipped_length _ old (operand_of given) (length-map given _ ∙ same)
-length-new_window Get old given same = refl
-length-new_window (Intent _) old given same = refl
+length-put_window : (kind : Kind) (old : List ℕ) (given : List (Option ℕ)) → length given ≡ length old → length (put_window kind old given) ≡ length old
+length-put_window Ram old given same = length-merged old given same
+length-put_window Rom old given same = length-merged old given same
+length-put_window Regs old given same = length-merged old given same
+length-put_window ClearRegs old given same = zipped_length _ old (operand_of given) (length-map given _ ∙ same)
+length-put_window NoDevice old given same = length-merged old given same
+
+pub length-new_window : (kind : Kind) (op : AskOp) (old : List ℕ) (given : List (Option ℕ)) → length given ≡ length old → length (new_window kind op old given) ≡ length old
+length-new_window kind PutFull old given same = length-put_window kind old given same
+length-new_window kind PutPartial old given same = length-put_window kind old given same
+length-new_window kind (Arithmetic op) old given same = length-combine_arith op old (operand_of given) (length-map given _ ∙ same)
+length-new_window kind (Logical op) old given same = zipped_length _ old (operand_of given) (length-map given _ ∙ same)
+length-new_window kind Get old given same = refl
+length-new_window kind (Intent _) old given same = refl
 
 -- ---- what a request leaves
 
@@ -173,7 +202,7 @@ pub served : (kind : Kind) (base count : ℕ) (lanes new_lanes : List ℕ) (ask 
     → IsKept base count lanes
     → legal (record { kind = kind; base = base; bytes = bytes_in base count lanes }) ask ≡ true
     → length ask.bytes ≡ 2 ^ ask.size
-    → new_lanes ≡ with_window lanes (base % 8 + (ask.address - base)) (new_window ask.op (take (length ask.bytes) (drop (base % 8 + (ask.address - base)) lanes)) ask.bytes)
+    → new_lanes ≡ with_window lanes (base % 8 + (ask.address - base)) (new_window kind ask.op (take (length ask.bytes) (drop (base % 8 + (ask.address - base)) lanes)) ask.bytes)
     → Serves kind base count lanes new_lanes ask
 served kind base count lanes new_lanes ask kept is counted made =
     let bytes = bytes_in base count lanes in
@@ -185,12 +214,12 @@ served kind base count lanes new_lanes ask kept is counted made =
     let old_long : length old ≡ width = length-take-le width (drop offset bytes) (omega (arith, length-drop offset bytes, stands.inside)) in
     let old_is : take (length ask.bytes) (drop (base % 8 + offset) lanes) ≡ old =
     ap (λ n. take n (drop (base % 8 + offset) lanes)) counted ∙ ap (λ ls. take width (drop (base % 8 + offset) ls)) kept.spare ∙ window_in_lanes base offset width bytes stands.inside in
-    let new = new_window ask.op old ask.bytes in
-    let new_long : length new ≡ width = length-new_window ask.op old ask.bytes (counted ∙ sym old_long) ∙ old_long in
+    let new = new_window kind ask.op old ask.bytes in
+    let new_long : length new ≡ width = length-new_window kind ask.op old ask.bytes (counted ∙ sym old_long) ∙ old_long in
     let inside : offset + length new ≤ length bytes = omega (arith, new_long, stands.inside) in
     let left = with_window bytes offset new in
     let lanes_are : new_lanes ≡ lanes_with base left =
-    made ∙ ap (λ was. with_window lanes (base % 8 + offset) (new_window ask.op was ask.bytes)) old_is ∙ ap (λ ls. with_window ls (base % 8 + offset) new) kept.spare ∙ window_put_in_lanes base offset bytes new inside in
+    made ∙ ap (λ was. with_window lanes (base % 8 + offset) (new_window kind ask.op was ask.bytes)) old_is ∙ ap (λ ls. with_window ls (base % 8 + offset) new) kept.spare ∙ window_put_in_lanes base offset bytes new inside in
     let left_long : length left ≡ count = length-with_window bytes offset new inside ∙ kept.counted in
     let left_is : bytes_in base count new_lanes ≡ left =
     ap (λ ls. bytes_in base count ls) lanes_are ∙ ap (λ n. bytes_in base n (lanes_with base left)) (sym left_long) ∙ bytes_in-lanes_with base left in
@@ -205,7 +234,7 @@ served kind base count lanes new_lanes ask kept is counted made =
     }
 
 -- a request that makes no new bytes leaves the store as it was
-pub unchanged : (store : Store) (ask : Request) → legal store ask ≡ true → new_window ask.op (window store ask) ask.bytes ≡ window store ask → after store ask ≡ store
+pub unchanged : (store : Store) (ask : Request) → legal store ask ≡ true → new_window store.kind ask.op (window store ask) ask.bytes ≡ window store ask → after store ask ≡ store
 unchanged store ask is same =
     let stands = StandsIn-from_legal store ask is in
     rw is (ap (λ bytes. record store { bytes = bytes }) (ap (λ new. with_window store.bytes (ask.address - store.base) new) same ∙ with_window-same store.bytes (ask.address - store.base) (2 ^ ask.size) stands.inside))

@@ -4,7 +4,7 @@ use Rattle.tl_types.specs.declared.operation.AskOp.{AskOp}
 use Rattle.tl_types.specs.declared.operation.AskOp.TheVariants.{PutFull, PutPartial, Arithmetic, Logical, Get, Intent}
 use Rattle.tl_types.specs.declared.limits.TheConstants.{LARGEST_SIZE}
 use Rattle.tl_ops.specs.declared.kind.Kind.{Kind}
-use Rattle.tl_ops.specs.declared.kind.Kind.TheVariants.{Ram, Rom, Regs, NoDevice}
+use Rattle.tl_ops.specs.declared.kind.Kind.TheVariants.{Ram, Rom, Regs, ClearRegs, NoDevice}
 
 -- four bytes or eight: the sizes of atomics and of registers
 abbrev pub is_word_size : ℕ → Bool
@@ -32,7 +32,7 @@ rom_supports (Logical _) size = false
 rom_supports Get size = is_any_size size
 rom_supports (Intent _) size = is_any_size size
 
--- registers: whole words, read and written
+-- registers, also those where writing a one clears: whole words, read and written
 abbrev pub regs_supports : AskOp → ℕ → Bool
 regs_supports PutFull size = is_word_size size
 regs_supports PutPartial size = false
@@ -46,4 +46,5 @@ abbrev pub supports : Kind → AskOp → ℕ → Bool
 supports Ram op size = ram_supports op size
 supports Rom op size = rom_supports op size
 supports Regs op size = regs_supports op size
+supports ClearRegs op size = regs_supports op size
 supports NoDevice op size = false

@@ -1,8 +1,9 @@
 //! Some bytes of one word, next to one another, as one number: a cell, and what a request makes of it.
 ghost use Rattle.std.specs.Prelude.{◌≡◌, ◌+◌, ◌*◌, ◌-◌, ◌^◌, ◌<◌, ◌≤◌, length};
 ghost use Rattle.tl_ops.specs.Number.{signed, low_bytes};
-ghost use Rattle.tl_ops.specs.Window.{operand_of, combine_arith, combine_logic, new_window};
+ghost use Rattle.tl_ops.specs.Window.{operand_of, combine_arith, combine_logic, new_window, cleared};
 ghost use Rattle.tl_ops.specs.Cell.{cell_of, with_cell, keep_byte, keep_of};
+ghost use Rattle.tl_ops.specs.declared.kind.Kind.TheVariants.{Ram};
 
 use tl_types::{Arith, AskOp, BUS_BYTES, Logic};
 
@@ -150,14 +151,27 @@ fn combine_arith(op: Arith, old: u64, operand: u64, width: usize) -> u64
     if first { operand } else { old }
 }
 
-/// The cell after a legal request.
+/// The cell after a put where writing a one clears.
+pub fn cleared_cell(old: u64, given: &[Option<u8>]) -> u64
+    requires some { 0 < length given.now }
+    requires in_word { length given.now ≤ BUS_BYTES }
+    requires old { old < 2 ^ (8 * length given.now) }
+    ensures fits { result < 2 ^ (8 * length given.now) }
+    ensures bytes { low_bytes (length given.now) result
+        ≡ cleared (low_bytes (length given.now) old) (operand_of given.now) }
+{
+    let Given { bytes, keep: _ } = given_cell(given);
+    old & !bytes
+}
+
+/// The cell after a legal request, where a put leaves what it gives.
 pub fn new_cell(op: AskOp, old: u64, given: &[Option<u8>]) -> u64
     requires some { 0 < length given.now }
     requires in_word { length given.now ≤ BUS_BYTES }
     requires old { old < 2 ^ (8 * length given.now) }
     ensures fits { result < 2 ^ (8 * length given.now) }
     ensures bytes { low_bytes (length given.now) result
-        ≡ new_window op (low_bytes (length given.now) old) given.now }
+        ≡ new_window Ram op (low_bytes (length given.now) old) given.now }
 {
     let Given { bytes, keep } = given_cell(given);
     match op {

@@ -2,10 +2,11 @@
 ghost use Rattle.std.specs.Prelude.{◌≡◌, ◌+◌, ◌-◌, ◌*◌, ◌%◌, ◌^◌, ◌<◌, ◌≤◌, ◌++◌, length, take, drop, replicate, slice_get, Some, IfOk};
 ghost use Rattle.tl_ops.specs.Number.{low_bytes};
 ghost use Rattle.tl_ops.specs.Store.{with_window};
-ghost use Rattle.tl_ops.specs.Window.{merged, new_window};
+ghost use Rattle.tl_ops.specs.Window.{merged, new_window, cleared, operand_of};
 ghost use Rattle.tl_ops.specs.Cell.{FitsWords, spare_after};
+ghost use Rattle.tl_ops.specs.declared.kind.Kind.TheVariants.{Ram};
 
-use crate::cell::{cell_of, new_cell, with_cell};
+use crate::cell::{cell_of, cleared_cell, new_cell, with_cell};
 use arrayvec::ArrayVec;
 use std::alloc::{AllocError, Global};
 use std::marker::Model;
@@ -50,23 +51,46 @@ impl Lanes {
         cell_of(self.words[start / BUS_BYTES], start % BUS_BYTES, width)
     }
 
-    /// Serves a request on bytes that one word holds, and answers the cell that was there.
+    /// Replaces the cell of `width` bytes from a place on.
+    fn set_cell(&mut self, start: usize, width: usize, cell: u64)
+        requires some { 0 < width }
+        requires in_word { start % BUS_BYTES + width ≤ BUS_BYTES }
+        requires inside { start + width ≤ length self.old }
+        requires fits { cell < 2 ^ (8 * width) }
+        ensures after { self.new ≡ with_window self.old start (low_bytes width cell) }
+        ensures len { length self.new ≡ length self.old }
+    {
+        let word = self.words[start / BUS_BYTES];
+        self.words[start / BUS_BYTES] = with_cell(word, start % BUS_BYTES, width, cell);
+    }
+
+    /// Serves a request on bytes that one word holds, where a put leaves what it gives, and answers the cell that was
+    /// there.
     pub fn update(&mut self, start: usize, op: AskOp, given: &[Option<u8>]) -> u64
         requires some { 0 < length given.now }
         requires in_word { start % BUS_BYTES + length given.now ≤ BUS_BYTES }
         requires inside { start + length given.now ≤ length self.old }
         ensures after { let old = take (length given.now) (drop start self.old) in
-            self.new ≡ with_window self.old start (new_window op old given.now) }
+            self.new ≡ with_window self.old start (new_window Ram op old given.now) }
         ensures len { length self.new ≡ length self.old }
         ensures bytes { low_bytes (length given.now) result
             ≡ take (length given.now) (drop start self.old) }
     {
-        let lane = start % BUS_BYTES;
-        let word = self.words[start / BUS_BYTES];
-        let old = cell_of(word, lane, given.len());
-        let new = new_cell(op, old, given);
-        self.words[start / BUS_BYTES] = with_cell(word, lane, given.len(), new);
+        let old = self.cell(start, given.len());
+        self.set_cell(start, given.len(), new_cell(op, old, given));
         old
+    }
+
+    /// Clears the bits that are given as ones, in bytes that one word holds.
+    pub fn clear(&mut self, start: usize, given: &[Option<u8>])
+        requires some { 0 < length given.now }
+        requires in_word { start % BUS_BYTES + length given.now ≤ BUS_BYTES }
+        requires inside { start + length given.now ≤ length self.old }
+        ensures { let old = take (length given.now) (drop start self.old) in
+            self.new ≡ with_window self.old start (cleared old (operand_of given.now)) }
+    {
+        let old = self.cell(start, given.len());
+        self.set_cell(start, given.len(), cleared_cell(old, given));
     }
 
     /// The bytes in memory, after `lead` zeros and before as many as fill the last word.

@@ -4,7 +4,7 @@ use Rattle.std.specs.Str.{bytes_eq}
 use Rattle.toml.specs.Data.{Data, Members, get_member}
 use Rattle.tl_ops.specs.Store.{Store}
 use Rattle.tl_ops.specs.declared.kind.Kind as kind_of_slave
-use Rattle.tl_ops.specs.declared.kind.Kind.TheVariants.{Ram, Rom, Regs}
+use Rattle.tl_ops.specs.declared.kind.Kind.TheVariants.{Ram, Rom, Regs, ClearRegs}
 use Rattle.tl_ops.specs.declared.bank.TheConstants.{MAX_LENGTH}
 use Rattle.tl_script.specs.Data.{pair_of}
 use Rattle.tl_script.specs.Key.{key_name}
@@ -20,6 +20,7 @@ kind_of word =
     if bytes_eq word (codes "ram") then Some Ram
     else if bytes_eq word (codes "rom") then Some Rom
     else if bytes_eq word (codes "regs") then Some Regs
+    else if bytes_eq word (codes "w1c") then Some ClearRegs
     else None
 
 unfoldable pub kind_at : Members → Result kind_of_slave.Kind ScriptFault

@@ -29,6 +29,8 @@ fn read_kind(word: &[u8]) -> Option<Kind>
         Some(Kind::Rom)
     } else if word == b"regs".as_slice() {
         Some(Kind::Regs)
+    } else if word == b"w1c".as_slice() {
+        Some(Kind::ClearRegs)
     } else {
         None
     }

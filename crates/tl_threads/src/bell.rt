@@ -8,7 +8,12 @@ use crossbeam_channel::protocol::{Free, Split};
 use crossbeam_channel::{Pass, RuledReceiver, RuledSender, TryRecvError, bounded_with};
 use std::alloc::Global;
 use std::sync::Wait;
+use std::thread::yield_now;
 use tl_types::Memory;
+
+/// How often a thread looks at its bell before it sleeps: waking one takes longer than the ring that it waits for is mostly
+/// away.
+const LOOKS: u32 = 64;
 
 /// What a bell says.
 #[derive(Debug, Clone, Copy, PartialEq, Eq)]
@@ -104,9 +109,16 @@ impl Listener {
         }
     }
 
-    /// Waits for a ring. A bell that nobody can ring any more says stop.
+    /// Waits for a ring: it looks for one some times, and lets other threads run in between, before it sleeps. A bell that
+    /// nobody can ring any more says stop.
     pub(crate) fn hear(&mut self, rt: &impl Wait) -> Ring {
         self.heard = usize::saturating_add(self.heard, 1);
+        for _ in 0..LOOKS {
+            if let Some(ring) = self.look(rt) {
+                return ring;
+            }
+            yield_now();
+        }
         self.receiver
             .recv_as::<Free, _>(rt, &mut self.pass)
             .unwrap_or(Ring::Stop)

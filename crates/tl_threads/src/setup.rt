@@ -3,9 +3,8 @@ ghost use Rattle.std.specs.Prelude.{◌≡◌, ◌+◌, ◌*◌, ◌^◌, ◌<�
 ghost use Rattle.tl_script.specs.System.{store_of, error_store, sends};
 ghost use Rattle.tl_arena.specs.Views.{AreNewMasters, AreNewPorts};
 ghost use Rattle.tl_threads.specs.Trace.{IsIdle};
-ghost use Rattle.tl_types.specs.declared.limits.TheConstants.{MAX_MASTERS};
+ghost use Rattle.tl_types.specs.declared.limits.TheConstants.{MAX_MASTERS, MAX_WORKERS};
 ghost use Rattle.tl_script.specs.declared.system.TheConstants.{MAX_JOBS};
-ghost use Rattle.tl_threads.specs.declared.threads.TheConstants.{MAX_WORKERS};
 ghost use Rattle.tl_threads.specs.Start.{AddsArrivals, AreFrom, AreJournals, IsHeardAt};
 ghost use Rattle.tl_threads.specs.Start.{IsNewBook, IsNewMasterThread, IsNewThreadSet, IsNewWorkerThread};
 ghost use Rattle.tl_arena.specs.Views.{new_master, new_port};

@@ -15,10 +15,7 @@ use std::thread::Threads;
 use tl_arena::{Arena, ArenaFault, Made};
 use tl_ops::Bank;
 use tl_script::System;
-use tl_types::Memory;
-
-/// The most threads of a port.
-pub const MAX_WORKERS: usize = 4;
+use tl_types::{MAX_WORKERS, Memory};
 
 /// A new arena for the masters of a system and for ports with these banks.
 fn arena_of(alloc: Global, system: &System, banks: &[Bank]) -> Result<Made, Memory>

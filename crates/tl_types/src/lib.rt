@@ -23,7 +23,7 @@ mod trace;
 mod wire;
 
 pub use fault::Memory;
-pub use limits::{BUS_BYTES, LARGEST_SIZE, MAX_BYTES, MAX_MASTERS, MAX_PORTS, MAX_SLOTS};
+pub use limits::{BUS_BYTES, LARGEST_SIZE, MAX_BYTES, MAX_MASTERS, MAX_PORTS, MAX_SLOTS, MAX_WORKERS};
 pub use operation::{Arith, AskOp, Hint, Logic, ReplyOp, width};
 pub use reply::{Reply, ReplyFault};
 pub use request::{Ask, AskFault};

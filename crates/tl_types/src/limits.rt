@@ -17,3 +17,6 @@ pub const MAX_PORTS: usize = 16;
 
 /// The most slots of a transaction arena.
 pub const MAX_SLOTS: usize = 256;
+
+/// The most threads that serve one slave port.
+pub const MAX_WORKERS: usize = 4;

@@ -7,7 +7,7 @@
 //!
 //! `serial_engine` and `threads_engine` (`engine`) carry the theorems: what is written is the text of the serial run
 //! (crate `tl_serial`), or of a run by threads (crate `tl_threads`), of the system that all of the input spells. `input`
-//! reads that, `streams` reads and writes, `limited` bounds how often, and `options` reads the command line. Read on in
+//! reads that, `streams` reads and writes, `limited` bounds how often; the crate `tl_options` reads the command line. Read on in
 //! `docs/ARCHITECTURE.md` and `docs/MODEL.md`, "Runs".
 #![tactic(auto)]
 
@@ -16,7 +16,6 @@ pub mod fault;
 pub mod input;
 pub mod laws;
 pub mod limited;
-pub mod options;
 pub mod streams;
 #[cfg(test)]
 mod tests;
@@ -28,18 +27,19 @@ ghost use Rattle.clap.specs.Words.{kind_of};
 ghost use Rattle.tl_serial.specs.Text.{IsSerialText};
 ghost use Rattle.tlx.specs.Engine.{IsAnswered, IsThreadedText};
 ghost use Rattle.tlx.specs.Fault.{status_of};
-ghost use Rattle.tlx.specs.Options.{status_of_kind};
+ghost use Rattle.tl_options.specs.Options.{status_of_kind};
 
 use crate::engine::serial::serial_engine;
 use crate::engine::threads::threads_engine;
 use crate::fault::RunFault;
-use crate::options::{LINE_WORKERS, Options, options_status, read_options};
 use std::alloc::Global;
 use std::io::{ErrorKind, Read, Write};
 use std::process::ExitCode;
 use std::sync::Wait;
 use std::thread::Threads;
 use std::{env, io};
+use tl_options::{Options, options_status, read_options};
+use tl_types::MAX_WORKERS;
 
 /// The status of a command line that is not text.
 const USAGE: u8 = 2;
@@ -114,7 +114,7 @@ fn run<R: Read, W: Write, T: Threads + Wait + Sync>(
     options: Options,
 ) -> Result<(), RunFault>
     requires some { 1 ≤ options.workers }
-    requires few { options.workers ≤ LINE_WORKERS }
+    requires few { options.workers ≤ MAX_WORKERS }
 
     // Which of the two texts is written.
     ensures serial { options.serial ≡ true

@@ -1,6 +1,5 @@
 ghost use Rattle.std.specs.Prelude.{Some, ◌<◌};
 
-mod options;
 mod threads;
 
 use crate::engine::serial::serial_engine;

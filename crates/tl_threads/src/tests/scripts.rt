@@ -71,6 +71,24 @@ fn two_masters_add_to_one_word(rt: HostRuntime) -> Result<(), Fail> {
     Ok(())
 }
 
+#[test]
+fn two_masters_clear_their_own_bits(rt: HostRuntime) -> Result<(), Fail> {
+    let mut script = String::from_str(
+        rt.alloc(),
+        "slots = 2\nport = [{ kind = 'w1c', base = 0x4000, length = 4, reset = 'ffffffff' }]\n",
+    )?;
+    let low = "'0 putfull 0x4000 2 01000000', '1 putfull 0x4000 2 06000000', '0 putfull 0x4000 2 08000000'";
+    let high = "'0 putfull 0x4000 2 10000000', '1 putfull 0x4000 2 60000000', '0 putfull 0x4000 2 80000000'";
+    push_master(&mut script, low)?;
+    push_master(&mut script, high)?;
+    for workers in [1, 4] {
+        let run = run(&rt, rt.alloc(), script.as_bytes(), workers, &OpenGate)?;
+        let book = run.books.first().ok_or("no book")?;
+        assert_eq!(rt; (book.byte(0x4000), book.byte(0x4001)), (Some(0), Some(0xff)));
+    }
+    Ok(())
+}
+
 /// Numbers that look random, and are the same in each run of the tests.
 #[derive(Drop)]
 struct Dice(u32);

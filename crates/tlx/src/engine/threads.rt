@@ -11,7 +11,8 @@ use std::io::{Read, Write};
 use std::sync::Wait;
 use std::thread::Threads;
 use tl_script::{System, write_account, write_trace};
-use tl_threads::{MAX_WORKERS, OpenGate, ThreadFault, run_threads};
+use tl_threads::{OpenGate, ThreadFault, run_threads};
+use tl_types::MAX_WORKERS;
 
 /// The text of a run of a system by threads: its traces, and how many slots are free and how many held at its end.
 fn threaded_text<T: Threads + Wait + Sync>(

@@ -26,8 +26,8 @@ use Rattle.clap.specs.declared.parser.matches.ArgMatches.{ArgMatches}
 use Rattle.clap.specs.declared.parser.matches.Found.{Found}
 use Rattle.clap.specs.declared.parser.matches.MatchedArg.{MatchedArg}
 use Rattle.clap.proofs.CallerLemmas.{default_present, entry_by_id, same_rules_by_id}
-use Rattle.tlx.specs.declared.options.TheConstants.{LINE_WORKERS}
-use Rattle.tlx.specs.Options.{command_line, options_in, value_in, serial_rule, workers_rule}
+use Rattle.tl_types.specs.declared.limits.TheConstants.{MAX_WORKERS}
+use Rattle.tl_options.specs.Options.{command_line, options_in, value_in, serial_rule, workers_rule}
 
 -- ---- an argument of a command that names no group
 
@@ -322,7 +322,7 @@ serial_text old m is p t has =
 
 -- the other option has a text, and it is a number of workers that there may be
 workers_text : (old : Command) (m : ArgMatches) → app_of old ≡ command_line → IsParsedFrom old m
-    → (t : List ℕ) × (one_text (found_of m) (codes "workers") ≡ Some t) × IsUnsignedIn 1 LINE_WORKERS t
+    → (t : List ℕ) × (one_text (found_of m) (codes "workers") ≡ Some t) × IsUnsignedIn 1 MAX_WORKERS t
 workers_text old m is p =
     let two = has_two old is in
     let a = two.workers in
@@ -340,8 +340,8 @@ workers_text old m is p =
     let value = own_value old m p 1 a own none (no_groups_of old is) (no_globals_of old is)
     (ap (λ (r : Rule). r.action) two.workers_is) delim least wants in
     let text = own_text old m p 1 a own none (no_groups_of old is) (no_globals_of old is)
-    (values.Unsigned 1 LINE_WORKERS) (ap (λ (r : Rule). r.parser) two.workers_is) value.0 value.1 in
-    (value.0, subst (λ (w : List ℕ). one_text (found_of m) w ≡ Some value.0) id value.1, subst (IsUnsignedIn 1 LINE_WORKERS) text.1 text.2)
+    (values.Unsigned 1 MAX_WORKERS) (ap (λ (r : Rule). r.parser) two.workers_is) value.0 value.1 in
+    (value.0, subst (λ (w : List ℕ). one_text (found_of m) w ≡ Some value.0) id value.1, subst (IsUnsignedIn 1 MAX_WORKERS) text.1 text.2)
 
 -- the flag that was read is what its text says
 flag_is : (o : Option (List ℕ)) (r : Bool) → (o ≡ None → r ≡ false) → (o ≡ Some (codes "true") → r ≡ true)
@@ -358,7 +358,7 @@ flag_is (Some t) r none set unset says = go (bytes_eq t (codes "true")) refl
         unset (ap Some ((bytes_eq-Decides t (codes "false")).0 says_false)) ∙ sym is
 
 number_is : (E : Type 0) (G : List ℕ → Result ℕ E → Type 0) (t : List ℕ) (r : Option ℕ) → ReadsOne G t r
-    → ((x : Result ℕ E) → G t x → ParsesUnsigned 64 10 t x) → IsUnsignedIn 1 LINE_WORKERS t
+    → ((x : Result ℕ E) → G t x → ParsesUnsigned 64 10 t x) → IsUnsignedIn 1 MAX_WORKERS t
     → r ≡ Some (digits_value 10 (without_leading_plus t))
 number_is E G t None h only passed = absurd (only (Err h.0) h.1 (passed.0, passed.1))
 number_is E G t (Some v) h only passed = ap Some (only (Ok v) h).1
@@ -369,7 +369,7 @@ pub record ReadsNumber (found : Found) (r : Option ℕ) : Type 0 where
   pub has : one_text found (codes "workers") ≡ Some text
   pub is : r ≡ Some (digits_value 10 (without_leading_plus text))
   pub some : 1 ≤ digits_value 10 (without_leading_plus text)
-  pub few : digits_value 10 (without_leading_plus text) ≤ LINE_WORKERS
+  pub few : digits_value 10 (without_leading_plus text) ≤ MAX_WORKERS
 
 pub reads_number : (E : Type 0) (G : List ℕ → Result ℕ E → Type 0) (old : Command) (m : ArgMatches) (r : Option ℕ)
     → app_of old ≡ command_line → IsParsedFrom old m

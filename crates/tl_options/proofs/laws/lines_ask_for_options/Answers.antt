@@ -1,6 +1,6 @@
 use Rattle.std.proofs.Common.{refl}
 use Rattle.clap.proofs.OnLiterals.{clap_on_literals}
-use Rattle.tlx.proofs.laws.lines_ask_for_options.Goals as goal
+use Rattle.tl_options.proofs.laws.lines_ask_for_options.Goals as goal
 
 pub returns : goal.returns
 unfolding clap_on_literals

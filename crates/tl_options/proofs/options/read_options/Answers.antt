@@ -2,8 +2,8 @@ use Rattle.std.proofs.Common.{ap, map, refl, sym, ◌∙◌}
 use Rattle.std.specs.Prelude.{unwrap_or}
 use Rattle.std.specs.Str.Parse.{ExplainsUnsignedError, HasUnsignedDigitsIfOk, ParsesUnsigned}
 use Rattle.clap.specs.Words.{App, fault_of, is_simple_and_free}
-use Rattle.tlx.proofs.CommandLine.{asked_for, reads_number}
-use Rattle.tlx.proofs.options.read_options.Goals as goal
+use Rattle.tl_options.proofs.CommandLine.{asked_for, reads_number}
+use Rattle.tl_options.proofs.options.read_options.Goals as goal
 
 pub unwrap-requires : goal.unwrap-requires
 unwrap-requires c =

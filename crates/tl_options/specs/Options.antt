@@ -1,15 +1,15 @@
 -- The command line: the options that there are, which of them the words ask for, and the status that the program ends with
 -- where they ask for none. This project's own.
-use Rattle.std.specs.Prelude.{◌≡◌, ℕ, List, [], ◌∷◌, Some, codes, unwrap_or}
+use Rattle.std.specs.Prelude.{◌≡◌, ℕ, List, [], ◌∷◌, true, Some, codes, unwrap_or}
 use Rattle.std.specs.Str.{bytes_eq}
 use Rattle.std.specs.Str.Parse.{digits_value, without_leading_plus}
+use Rattle.tl_types.specs.declared.limits.TheConstants.{MAX_WORKERS}
 use Rattle.clap.specs.Words.{App, Rule, Text, fault_of, matches_of, new_app, new_rule, one_of, with_rule}
 use Rattle.clap.specs.declared.builder.action.ArgAction.TheVariants.{Set, SetTrue}
 use Rattle.clap.specs.declared.builder.value_parser.ValueParser.TheVariants as values
 use Rattle.clap.specs.declared.error.ErrorKind.{ErrorKind}
-use Rattle.clap.specs.declared.error.ErrorKind.TheVariants.{DisplayHelp, OutOfMemory}
-use Rattle.tlx.specs.declared.options.Options.{Options}
-use Rattle.tlx.specs.declared.options.TheConstants.{LINE_WORKERS}
+use Rattle.clap.specs.declared.error.ErrorKind.TheVariants.{DisplayHelp, DisplayVersion, OutOfMemory}
+use Rattle.tl_options.specs.declared.options.Options.{Options}
 
 -- `--serial`, a flag
 abbrev pub serial_rule : Rule
@@ -25,13 +25,17 @@ workers_rule = record (new_rule (codes "workers")) {
   long = Some (codes "workers");
   action = Some Set;
   value_names = 1;
-  parser = Some (values.Unsigned 1 LINE_WORKERS);
+  parser = Some (values.Unsigned 1 MAX_WORKERS);
   defaults = codes "1" ∷ [];
 }
 
--- the command line: these two, and `--help`, which clap adds to each
+-- the program, which has a version
+abbrev pub program : App
+program = let plain = new_app (codes "tlx") in record plain { top = record plain.top { has_version = true } }
+
+-- the command line: these two, and `--help` and `--version`, which clap adds
 abbrev pub command_line : App
-command_line = with_rule (with_rule (new_app (codes "tlx")) serial_rule) workers_rule
+command_line = with_rule (with_rule program serial_rule) workers_rule
 
 -- the value that the words give an option, or its own where they give none
 abbrev pub value_in : List Text → Text → Text
@@ -52,8 +56,9 @@ AskFor options words = (fault_of command_line words ≡ []) × (options_in words
 abbrev pub AreRefusedAs : ErrorKind → List Text → Type 0
 AreRefusedAs kind words = fault_of command_line words ≡ kind ∷ []
 
--- the status of help, that of want of memory, and that of all else, which are mistakes
+-- the status of help and of the version, that of want of memory, and that of all else, which are mistakes
 abbrev pub status_of_kind : ErrorKind → ℕ
 status_of_kind DisplayHelp = 0
+status_of_kind DisplayVersion = 0
 status_of_kind OutOfMemory = 4
 status_of_kind _ = 2
