@@ -14,7 +14,8 @@ use Rattle.tl_rule.specs.declared.view.View.TheVariants.{Master, Port}
 use Rattle.tl_rule.specs.Record.{SlotRecord}
 use Rattle.tl_rule.specs.Serving.{ask_at, drop_slot}
 use Rattle.tl_rule.specs.Views.{with_hand, with_serving}
-use Rattle.tl_rule.specs.Moves.{Seat, as_master, as_port, hand_of, handed, service_of, IsLawfulDesk}
+use Rattle.tl_rule.specs.Moves.{Seat, as_master, as_port, handed, service_of, IsLawfulDesk}
+use Rattle.tl_rule.specs.Views.{in_hand}
 use Rattle.tl_rule.specs.Carried.{firsts, is_carried, is_held, CarriesHand, CarriesServed}
 use Rattle.tl_rule.proofs.Carried.{bit, takes_one, gives_one, has_room, held_set, hand_reordered, serves_one, answers_one, service_reordered}
 use Rattle.tl_rule.proofs.Serving.{push_here, push_else, drop_else, drop_here}
@@ -49,7 +50,7 @@ master_recounted m order after capacity now number owned collected e f K = subst
 
 module _ (m : Seat) (order : List ℕ) (capacity number owned collected : ℕ) (K : IsMasterKept m order capacity number owned collected) where
   -- a slot in the hand is one of the table's
-  pub held_inside : (i : ℕ) → hand_of m i ≢ Nothing → i < (as_master m.0).about.slots
+  pub held_inside : (i : ℕ) → in_hand (as_master m.0) i ≢ Nothing → i < (as_master m.0).about.slots
   held_inside i some = let lt = in_hand_of (as_master m.0).hand i some in let w = K.wide in omega arith
 
   -- a step changes one slot of the hand
@@ -71,25 +72,25 @@ module _ (m : Seat) (order : List ℕ) (capacity number owned collected : ℕ) (
   })
 
   -- the records that are out with the seat are not in the way of one more
-  pub master_room : (i : ℕ) → i < length (as_master m.0).hand → is_carried (hand_of m i) ≡ false → length order < capacity
+  pub master_room : (i : ℕ) → i < length (as_master m.0).hand → is_carried (in_hand (as_master m.0) i) ≡ false → length order < capacity
   master_room i lt was = let r = has_room (as_master m.0).hand order i Filled lt was refl K.carried in let w = K.wide in let c = K.room in omega arith
 
-  pub claim_kept : (n : Seat) (i : ℕ) (letter : SlotRecord) → n ≡ (handed m i Filled, (i, letter) ∷ m.1) → hand_of m i ≡ Nothing → i < length (as_master m.0).hand → IsMasterKept n (i ∷ order) capacity number (owned + 1) collected
+  pub claim_kept : (n : Seat) (i : ℕ) (letter : SlotRecord) → n ≡ (handed m i Filled, (i, letter) ∷ m.1) → in_hand (as_master m.0) i ≡ Nothing → i < length (as_master m.0).hand → IsMasterKept n (i ∷ order) capacity number (owned + 1) collected
   claim_kept n i letter e was lt = master_moved n (i ∷ order) (owned + 1) collected i Filled (as_master m.0).got ((i, letter) ∷ m.1) e (ap (λ (l : List ℕ). i ∷ l) K.mirror)
       (takes_one (as_master m.0).hand order i Filled lt (ap is_carried was) refl K.carried)
-      (let s = held_set (as_master m.0).hand order i Filled lt in let b : bit (is_held (hand_of m i)) ≡ 0 = ap (λ h. bit (is_held h)) was in let o = K.owns in omega arith)
+      (let s = held_set (as_master m.0).hand order i Filled lt in let b : bit (is_held (in_hand (as_master m.0) i)) ≡ 0 = ap (λ h. bit (is_held h)) was in let o = K.owns in omega arith)
       K.has_got
 
   pub collect_kept : (n : Seat) (i : ℕ) (blank : SlotRecord) (ask : Request) (p known : ℕ) (e : Entry) → n ≡ (Master (with_hand (as_master m.0) i (Taken p) ((as_master m.0).got ++ e ∷ [])), (i, blank) ∷ m.1)
-      → hand_of m i ≡ Sent ask p known → i < length (as_master m.0).hand → IsMasterKept n (i ∷ order) capacity number owned (collected + 1)
+      → in_hand (as_master m.0) i ≡ Sent ask p known → i < length (as_master m.0).hand → IsMasterKept n (i ∷ order) capacity number owned (collected + 1)
   collect_kept n i blank ask p known e is was lt = master_moved n (i ∷ order) owned (collected + 1) i (Taken p) ((as_master m.0).got ++ e ∷ []) ((i, blank) ∷ m.1) is (ap (λ (l : List ℕ). i ∷ l) K.mirror)
       (takes_one (as_master m.0).hand order i (Taken p) lt (ap is_carried was) refl K.carried)
-      (let s = held_set (as_master m.0).hand order i (Taken p) lt in let b : bit (is_held (hand_of m i)) ≡ 1 = ap (λ h. bit (is_held h)) was in let o = K.owns in omega arith)
+      (let s = held_set (as_master m.0).hand order i (Taken p) lt in let b : bit (is_held (in_hand (as_master m.0) i)) ≡ 1 = ap (λ h. bit (is_held h)) was in let o = K.owns in omega arith)
       (let l = length-append (as_master m.0).got (e ∷ []) in let h = K.has_got in omega arith)
 
   -- a slot that is out is given back
   given_back : (m₁ n : Seat) (mid after : List ℕ) (owns i : ℕ) (x : Held) → IsBrought m m₁ order mid i → after ≡ drop 1 mid → n ≡ (handed m i x, rest m₁.1) → i < length (as_master m.0).hand
-      → is_carried (hand_of m i) ≡ true → is_carried x ≡ false → count_by is_held (set (as_master m.0).hand i x) ≡ owns → IsMasterKept n after capacity number owns collected
+      → is_carried (in_hand (as_master m.0) i) ≡ true → is_carried x ≡ false → count_by is_held (set (as_master m.0).hand i x) ≡ owns → IsMasterKept n after capacity number owns collected
   given_back m₁ n mid after owns i x B left e lt was is many =
       let hand = (as_master m.0).hand in
       let rests = order_left m m₁ order mid after i B left in
@@ -97,25 +98,25 @@ module _ (m : Seat) (order : List ℕ) (capacity number owned collected : ℕ) (
       let carried = subst (λ (l : List ℕ). CarriesHand hand l) there (hand_reordered hand order mid B.members B.many K.carried) in
       master_moved n after owns collected i x (as_master m.0).got (rest m₁.1) e rests (gives_one hand after i x lt was is carried) many K.has_got
 
-  pub post_kept : (m₁ n : Seat) (mid after : List ℕ) (i : ℕ) (ask : Request) (p known : ℕ) → IsBrought m m₁ order mid i → after ≡ drop 1 mid → n ≡ (handed m i (Sent ask p known), rest m₁.1) → hand_of m i ≡ Filled
+  pub post_kept : (m₁ n : Seat) (mid after : List ℕ) (i : ℕ) (ask : Request) (p known : ℕ) → IsBrought m m₁ order mid i → after ≡ drop 1 mid → n ≡ (handed m i (Sent ask p known), rest m₁.1) → in_hand (as_master m.0) i ≡ Filled
       → IsMasterKept n after capacity number owned collected
   post_kept m₁ n mid after i ask p known B left e was =
       let lt = in_hand_of (as_master m.0).hand i (λ z. absurd (cc)) in
       given_back m₁ n mid after owned i (Sent ask p known) B left e lt (ap is_carried was) refl
-      (let s = held_set (as_master m.0).hand order i (Sent ask p known) lt in let b : bit (is_held (hand_of m i)) ≡ 1 = ap (λ h. bit (is_held h)) was in let o = K.owns in omega arith)
+      (let s = held_set (as_master m.0).hand order i (Sent ask p known) lt in let b : bit (is_held (in_hand (as_master m.0) i)) ≡ 1 = ap (λ h. bit (is_held h)) was in let o = K.owns in omega arith)
 
   -- a slot in the hand is one that the seat owns
-  pub owns_some : (i p : ℕ) → hand_of m i ≡ Taken p → 0 < owned
+  pub owns_some : (i p : ℕ) → in_hand (as_master m.0) i ≡ Taken p → 0 < owned
   owns_some i p was =
       let lt = in_hand_of (as_master m.0).hand i (λ z. absurd (cc)) in
-      let s = held_set (as_master m.0).hand order i Nothing lt in let b : bit (is_held (hand_of m i)) ≡ 1 = ap (λ h. bit (is_held h)) was in let o = K.owns in omega arith
+      let s = held_set (as_master m.0).hand order i Nothing lt in let b : bit (is_held (in_hand (as_master m.0) i)) ≡ 1 = ap (λ h. bit (is_held h)) was in let o = K.owns in omega arith
 
-  pub release_kept : (m₁ n : Seat) (mid after : List ℕ) (i p owns : ℕ) → IsBrought m m₁ order mid i → after ≡ drop 1 mid → n ≡ (handed m i Nothing, rest m₁.1) → hand_of m i ≡ Taken p → owns + 1 ≡ owned
+  pub release_kept : (m₁ n : Seat) (mid after : List ℕ) (i p owns : ℕ) → IsBrought m m₁ order mid i → after ≡ drop 1 mid → n ≡ (handed m i Nothing, rest m₁.1) → in_hand (as_master m.0) i ≡ Taken p → owns + 1 ≡ owned
       → IsMasterKept n after capacity number owns collected
   release_kept m₁ n mid after i p owns B left e was one =
       let lt = in_hand_of (as_master m.0).hand i (λ z. absurd (cc)) in
       given_back m₁ n mid after owns i Nothing B left e lt (ap is_carried was) refl
-      (let s = held_set (as_master m.0).hand order i Nothing lt in let b : bit (is_held (hand_of m i)) ≡ 1 = ap (λ h. bit (is_held h)) was in let o = K.owns in omega arith)
+      (let s = held_set (as_master m.0).hand order i Nothing lt in let b : bit (is_held (in_hand (as_master m.0) i)) ≡ 1 = ap (λ h. bit (is_held h)) was in let o = K.owns in omega arith)
 
 -- ---- a port's seat
 

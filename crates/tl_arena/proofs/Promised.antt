@@ -8,7 +8,8 @@ use Rattle.tl_rule.specs.declared.view.View.{View}
 use Rattle.tl_rule.specs.declared.view.Held.TheVariants.{Sent}
 use Rattle.tl_rule.specs.Record.{SlotRecord, Spells, SpellsAnswer}
 use Rattle.tl_rule.specs.Serving.{ask_at}
-use Rattle.tl_rule.specs.Moves.{Seat, Collects, Accepts, hand_of}
+use Rattle.tl_rule.specs.Moves.{Seat, as_master, Collects, Accepts}
+use Rattle.tl_rule.specs.Views as views
 use Rattle.tl_rule.proofs.Facts.{spells_one, answers_one}
 use Rattle.tl_slots.specs.declared.event.Event.{Event}
 use Rattle.tl_rule.specs.declared.view.Desk.{Desk}
@@ -44,7 +45,7 @@ module _ (st : Step SlotRecord) (m n : Seat) (C : Collects st m n) where
     own = C.own;
   }
 
-  pub collected : (table now : TableId) (w : View) (t : TicketView) (index : ℕ) (reply : Response) (letter : SlotRecord) → now ≡ table → w ≡ n.0 → t.slot ≡ st.word → hand_of m st.word ≡ Sent t.ask t.port t.known
+  pub collected : (table now : TableId) (w : View) (t : TicketView) (index : ℕ) (reply : Response) (letter : SlotRecord) → now ≡ table → w ≡ n.0 → t.slot ≡ st.word → views.in_hand (as_master m.0) st.word ≡ Sent t.ask t.port t.known
       → letter ≡ C.letter → index ≡ letter.index → SpellsAnswer letter t.ask.address reply
       → IsCollected (master_view table m.0) t (record { slot = t.slot; ask = t.ask; port = t.port; index = index; reply = reply }) (master_view now w)
   collected table now w t index reply letter same view at sent is place answers =

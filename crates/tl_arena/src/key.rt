@@ -24,7 +24,7 @@ pub(crate) struct ArenaRule;
 
 impl TableRule<Record, View, Key> for ArenaRule {
     ghost use Rattle.tl_rule.specs.Rule.{Fits};
-    ghost use Rattle.tl_rule.specs.Moves.{opening_view};
+    ghost use Rattle.tl_rule.specs.Dealing.{opening_view};
     ghost use Rattle.tl_arena.specs.Key.{about_in};
 
     ghost holds = { λ key. Fits (about_in key) };

@@ -1,4 +1,5 @@
 //! The names of the steps: what each tells is the rule's, and the event of the core that it is.
+ghost use Rattle.tl_rule.specs.Dealing as dealing;
 ghost use Rattle.tl_rule.specs.Moves as moves;
 
 use crate::record::Record;
@@ -50,15 +51,15 @@ impl Play<Record, View> for Leaves {
 pub(crate) struct DealsMaster;
 
 impl Split<View> for DealsMaster {
-    ghost left = { moves.after_master };
+    ghost left = { dealing.after_master };
 
-    ghost right = { moves.next_master };
+    ghost right = { dealing.next_master };
 }
 
 pub(crate) struct DealsPort;
 
 impl Split<View> for DealsPort {
-    ghost left = { moves.after_port };
+    ghost left = { dealing.after_port };
 
-    ghost right = { moves.next_port };
+    ghost right = { dealing.next_port };
 }

@@ -20,7 +20,7 @@ use Rattle.atomic_table.specs.Table.{Splits, opening}
 use Rattle.tl_slots.specs.Machine.{IsInLimits}
 use Rattle.tl_rule.specs.Views.{new_hands, new_desk}
 use Rattle.tl_rule.specs.Rule.{leave_word}
-use Rattle.tl_rule.specs.Moves.{opening_view, after_master, next_master, after_port, next_port}
+use Rattle.tl_rule.specs.Dealing.{opening_view, after_master, next_master, after_port, next_port}
 use Rattle.tl_rule.proofs.Tables.{past}
 use Rattle.tl_rule.proofs.Lists.{end_elim}
 use Rattle.tl_rule.proofs.Allowing.{by_parts}

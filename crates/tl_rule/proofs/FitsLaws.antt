@@ -19,29 +19,29 @@ use Rattle.tl_slots.proofs.Words.{one_phase}
 use Rattle.tl_rule.specs.Rule.{leave_word}
 use Rattle.tl_rule.specs.Seen.{IsOfMasters, SeenFit, JustOwn, at_port, sent_at}
 use Rattle.tl_rule.specs.Moves.{IsLawfulDesk}
-use Rattle.tl_rule.specs.Laws.{HasView, HasHome, IsSeenAnswer, AreArenaWords, ListsAreJustOwn, AnswersAreSeenFit, NoOwnedSlotIsClaimed, HandsAreApart, DesksAreLawful, WordsFit, AllFreeAfterAllLeft}
-use Rattle.tl_rule.proofs.Tables.{at_get, word_at, leaf_at, leave_at, many_words}
+use Rattle.tl_rule.specs.Laws.{HasView, IsTrueListFor, IsSeenAnswer, AreArenaWords, ListsAreJustOwn, AnswersAreSeenFit, NoOwnedSlotIsClaimed, HandsAreApart, DesksAreLawful, WordsFit, AllFreeAfterAllLeft}
+use Rattle.tl_rule.proofs.Tables.{word_at, leaf_at, leave_at, many_words}
 use Rattle.tl_rule.proofs.Facts.{Known, known, known_port, shown, some_master, low_master, low_port, one_named, owner_holds, not_left, in_hand_of, fits_word, free_names_none}
 use Rattle.tl_rule.proofs.Own.{of_masters, just_own, seen_fit}
 use Rattle.tl_rule.proofs.PortSteps.{desk_law}
 use Rattle.tl_rule.proofs.Allowing.{by_parts}
 
 pub lists_law : ListsAreJustOwn
-lists_law a s id at v u F seat desk_seat =
-    by_parts a (λ s. HasView s id (Master v) → HasView s at (Port u) → IsLawfulHistory (reset_of v.about u.number) u.list × IsOfMasters v.about u.list × JustOwn u.list (Owns v.about v.number) (at_port u.number v.got) (sent_at u.number v.hand))
-    (λ c L seat there. let K = known a c L id v seat in let D = known_port a c L at u there in let w = L.shape.master_views v.number K.near in (
-      subst (λ (z : About). IsLawfulHistory (reset_of z u.number) u.list) (sym K.about) (subst (λ (d : Desk). IsLawfulHistory (reset_of a u.number) d.list) D.is (L.lawful u.number)),
-      subst (λ (z : About). IsOfMasters z u.list) (sym K.about) (subst (λ (d : Desk). IsOfMasters a d.list) D.is (of_masters a c L v.number u.number)),
-      subst (λ (d : Desk). JustOwn d.list (Owns v.about v.number) (at_port u.number v.got) (sent_at u.number v.hand)) D.is
-          (subst (λ (x : Hands). JustOwn (desk c.ports u.number).list (Owns x.about x.number) (at_port u.number x.got) (sent_at u.number x.hand)) K.is (just_own a c L v.number u.number w.1 w.0)),
-    )) s F seat desk_seat
+lists_law a s id at v u seats =
+    by_parts a (λ s. HasView s id (Master v) → HasView s at (Port u) → IsTrueListFor v u)
+    (λ c L seat there. let K = known a c L id v seat in let D = known_port a c L at u there in let w = L.shape.master_views v.number K.near in record {
+      lawful = subst (λ (z : About). IsLawfulHistory (reset_of z u.number) u.list) (sym K.about) (subst (λ (d : Desk). IsLawfulHistory (reset_of a u.number) d.list) D.is (L.lawful u.number));
+      masters = subst (λ (z : About). IsOfMasters z u.list) (sym K.about) (subst (λ (d : Desk). IsOfMasters a d.list) D.is (of_masters a c L v.number u.number));
+      own = subst (λ (d : Desk). JustOwn d.list (Owns v.about v.number) (at_port u.number v.got) (sent_at u.number v.hand)) D.is
+          (subst (λ (x : Hands). JustOwn (desk c.ports u.number).list (Owns x.about x.number) (at_port u.number x.got) (sent_at u.number x.hand)) K.is (just_own a c L v.number u.number w.1 w.0));
+    }) s seats.fits seats.master seats.port
 
 pub answers_law : AnswersAreSeenFit
-answers_law a s id at i v u letter F seat desk_seat lt is home =
-    by_parts a (λ s. HasView s id (Master v) → HasView s at (Port u) → get_or s.words i 0 ≡ word (Answered v.number u.number) → HasHome s i letter → IsSeenAnswer v u i letter)
+answers_law a s id at i v u letter seats answered =
+    by_parts a (λ s. HasView s id (Master v) → HasView s at (Port u) → get_or s.words i 0 ≡ word (Answered v.number u.number) → IsHome s.homes i letter → IsSeenAnswer v u i letter)
     (λ c L seat there is home. let K = known a c L id v seat in let D = known_port a c L at u there in let m = v.number in let p = u.number in
-    let ph = shown a c L i (Answered m p) lt (record { owner = (low_master a c L m K.near).1; port = (low_port a c L p D.near).1 }) is in let A = subst (InPhase a c i) ph (L.slots i lt) in
-    let same = one_letter c.homes i A.home.letter letter A.home.at (at_get c.homes i (some letter) none home).1 in
+    let ph = shown a c L i (Answered m p) answered.slot (record { owner = (low_master a c L m K.near).1; port = (low_port a c L p D.near).1 }) is in let A = subst (InPhase a c i) ph (L.slots i answered.slot) in
+    let same = one_letter c.homes i A.home.letter letter A.home.at home in
     let fit : SeenFit u.list A.home.letter.index A.asked.ask A.answer (at_port p (take A.asked.known v.got)) = subst (λ (d : Desk). SeenFit d.list A.home.letter.index A.asked.ask A.answer (at_port p (take A.asked.known v.got))) D.is
     (subst (λ (x : Hands). SeenFit (desk c.ports p).list A.home.letter.index A.asked.ask A.answer (at_port p (take A.asked.known x.got))) K.is (seen_fit a c L m p i A)) in record {
       ask = A.asked.ask;
@@ -51,7 +51,7 @@ answers_law a s id at i v u letter F seat desk_seat lt is home =
       asks = subst (λ (r : SlotRecord). Spells r A.asked.ask) same A.home.spells;
       answers = subst (λ (r : SlotRecord). SpellsAnswer r A.asked.ask.address A.answer) same A.spells;
       seen = subst (λ (r : SlotRecord). SeenFit u.list r.index A.asked.ask A.answer (at_port p (take A.asked.known v.got))) same fit;
-    }) s F seat desk_seat is home
+    }) s seats.fits seats.master seats.port answered.answered answered.home
   where
     one_letter : (homes : List (maybe.Option SlotRecord)) (i : ℕ) (x y : SlotRecord) → IsHome homes i x → IsHome homes i y → x ≡ y
     one_letter homes i x y a b = cc
@@ -61,20 +61,20 @@ named : (a : About) (c : Parts) (L : Lawful a c) (id i : ℕ) (v : Hands) → Kn
 named a c L id i v K h = L.hand v.number i (subst (λ (x : Hands). get_or x.hand i Nothing ≢ Nothing) (sym K.is) h)
 
 pub unclaimed_law : NoOwnedSlotIsClaimed
-unclaimed_law a s id i v F seat h =
+unclaimed_law a s id i v seated h =
     by_parts a (λ s. HasView s id (Master v) → get_or s.words i 0 ≢ word Free)
     (λ c L seat is. let K = known a c L id v seat in let lt : i < a.slots = (let z = in_hand_of v.hand i h in let w = K.wide in omega arith) in
-    let ph = shown a c L i Free lt (record { owner = tt; port = tt }) is in free_names_none v.number (subst (λ f. Names f v.number) ph (named a c L id i v K h))) s F seat
+    let ph = shown a c L i Free lt (record { owner = tt; port = tt }) is in free_names_none v.number (subst (λ f. Names f v.number) ph (named a c L id i v K h))) s seated.fits seated.view
 
 pub apart_law : HandsAreApart
-apart_law a s id other i v w F seat there h g =
+apart_law a s id other i v w seated there h g =
     by_parts a (λ s. HasView s id (Master v) → HasView s other (Master w) → id ≡ other)
     (λ c L seat there. let K = known a c L id v seat in let J = known a c L other w there in
-    K.place ∙ ap suc (one_named (phase c i) v.number w.number (named a c L id i v K h) (named a c L other i w J g)) ∙ sym J.place) s F seat there
+    K.place ∙ ap suc (one_named (phase c i) v.number w.number (named a c L id i v K h) (named a c L other i w J g)) ∙ sym J.place) s seated.fits seated.view there
 
 pub desks_law : DesksAreLawful
-desks_law a s at u F seat =
-    by_parts a (λ s. HasView s at (Port u) → IsLawfulDesk u) (λ c L seat. let D = known_port a c L at u seat in subst IsLawfulDesk D.is (desk_law a c L u.number D.near)) s F seat
+desks_law a s at u seated =
+    by_parts a (λ s. HasView s at (Port u) → IsLawfulDesk u) (λ c L seat. let D = known_port a c L at u seat in subst IsLawfulDesk D.is (desk_law a c L u.number D.near)) s seated.fits seated.view
 
 -- ---- words
 

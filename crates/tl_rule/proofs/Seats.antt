@@ -14,13 +14,14 @@ use Rattle.tl_rule.specs.declared.view.View.{View}
 use Rattle.tl_rule.specs.declared.view.View.TheVariants.{Dealer, Master, Port}
 use Rattle.tl_rule.specs.Record.{SlotRecord, Spells, SpellsAnswer}
 use Rattle.tl_rule.specs.Serving.{drop_slot}
-use Rattle.tl_rule.specs.Views.{Owns, reset_of, with_serving}
+use Rattle.tl_rule.specs.Views.{Owns, reset_of, in_hand, with_serving}
 use Rattle.tl_rule.specs.Rule.{Fits}
 use Rattle.atomic_table.specs.Table.{Splits}
 use Rattle.tl_ops.specs.Store as store
 use Rattle.tl_ops.specs.History.{replay, asks_of}
 use Rattle.tl_slots.specs.declared.word.TheConstants.{MAX_AGENT}
-use Rattle.tl_rule.specs.Moves.{Seat, Tried, Claims, Sends, Accepts, Answers, Collects, Releases, Leaves, IsLawfulDesk, is_master, is_port, as_master, as_port, hand_of, handed, service_of, IsNew, after_master, next_master, after_port, next_port}
+use Rattle.tl_rule.specs.Moves.{Seat, Tried, Claims, Sends, Accepts, Answers, Collects, Releases, Leaves, IsLawfulDesk, is_master, is_port, as_master, as_port, handed, service_of, IsUnsent}
+use Rattle.tl_rule.specs.Dealing.{after_master, next_master, after_port, next_port}
 use Rattle.tl_rule.proofs.Facts.{seat_is, port_seat_is, spells_one, answers_one}
 use Rattle.tl_rule.proofs.MasterSteps.{claims, posts, releases}
 use Rattle.tl_rule.proofs.PortSteps.{accepts}
@@ -59,7 +60,7 @@ pub accepts_at : (a : About) (slots id : ℕ) (m : Seat) (i old new owner : ℕ)
 accepts_at a slots id m i old new owner said is inside small old_is new_is =
     subst (λ (y : Seat). Allows (Fits a) slots id y i (λ n. either (eqb n old) new n) (Tried Accepts (step slots i old new said) y)) (sym (port_seat_is m is)) (accepts a slots id (as_port m.0) m.1 i old new owner said inside small old_is new_is)
 
-pub collects_at : (a : About) (slots id : ℕ) (m : Seat) (i from new : ℕ) (said : maybe.Option SlotRecord) (ask : Request) (p since : ℕ) → is_master m.0 ≡ true → hand_of m i ≡ Sent ask p since
+pub collects_at : (a : About) (slots id : ℕ) (m : Seat) (i from new : ℕ) (said : maybe.Option SlotRecord) (ask : Request) (p since : ℕ) → is_master m.0 ≡ true → in_hand (as_master m.0) i ≡ Sent ask p since
     → from ≡ word (Answered (as_master m.0).number p) → new ≡ word (Taking (as_master m.0).number p)
     → Allows (Fits a) slots id m i (λ n. either (eqb n from) new n) (Tried Collects (step slots i from new said) m)
 collects_at a slots id m i from new said ask p since is sent from_is new_is =
@@ -67,8 +68,8 @@ collects_at a slots id m i from new said ask p since is sent from_is new_is =
 
 -- ---- stores, once the record is written
 
-pub posts_at : (a : About) (slots id : ℕ) (m₀ m : Seat) (i new : ℕ) (letter : SlotRecord) (rs : List (ℕ × SlotRecord)) (ask : Request) (p : ℕ) → m ≡ (m₀.0, (i, letter) ∷ rs) → is_master m₀.0 ≡ true → hand_of m₀ i ≡ Filled
-    → new ≡ word (Posted (as_master m₀.0).number p) → Spells letter ask → p < (as_master m₀.0).about.ports → Owns (as_master m₀.0).about (as_master m₀.0).number ask.source → IsNew m₀ ask.source
+pub posts_at : (a : About) (slots id : ℕ) (m₀ m : Seat) (i new : ℕ) (letter : SlotRecord) (rs : List (ℕ × SlotRecord)) (ask : Request) (p : ℕ) → m ≡ (m₀.0, (i, letter) ∷ rs) → is_master m₀.0 ≡ true → in_hand (as_master m₀.0) i ≡ Filled
+    → new ≡ word (Posted (as_master m₀.0).number p) → Spells letter ask → p < (as_master m₀.0).about.ports → Owns (as_master m₀.0).about (as_master m₀.0).number ask.source → IsUnsent m₀ ask.source
     → Allows (Fits a) slots id m i (λ _. new) (λ _. Sends (step slots i new 0 none) m new)
 posts_at a slots id m₀ m i new letter rs ask p e is filled new_is spells to own fresh =
     subst (λ (y : Seat). Allows (Fits a) slots id y i (λ _. new) (λ _. Sends (step slots i new 0 none) y new)) (sym (master_first m₀ m i letter rs e is))
@@ -95,7 +96,7 @@ told_answered slots m₀ m n i new letter rs ask reply e serves answer told = le
     let replies = answers_one letter ask.address t.reply reply (subst (λ (q : Request). SpellsAnswer letter q.address t.reply) asks t.spells) answer in
     (t.seat ∙ (λ z. (Port (with_serving (as_port m₀.0) (drop_slot i (as_port m₀.0).serving) ((as_port m₀.0).list ++ (asks z, replies z) ∷ [])), rs)), t.law)
 
-pub releases_at : (a : About) (slots id : ℕ) (m₀ m : Seat) (i : ℕ) (letter : SlotRecord) (rs : List (ℕ × SlotRecord)) (p : ℕ) → m ≡ (m₀.0, (i, letter) ∷ rs) → is_master m₀.0 ≡ true → hand_of m₀ i ≡ Taken p
+pub releases_at : (a : About) (slots id : ℕ) (m₀ m : Seat) (i : ℕ) (letter : SlotRecord) (rs : List (ℕ × SlotRecord)) (p : ℕ) → m ≡ (m₀.0, (i, letter) ∷ rs) → is_master m₀.0 ≡ true → in_hand (as_master m₀.0) i ≡ Taken p
     → Allows (Fits a) slots id m i (λ _. 0) (λ _. Releases (step slots i 0 0 none) m 0)
 releases_at a slots id m₀ m i letter rs p e is taken =
     subst (λ (y : Seat). Allows (Fits a) slots id y i (λ _. 0) (λ _. Releases (step slots i 0 0 none) y 0)) (sym (master_first m₀ m i letter rs e is)) (releases a slots id (as_master m₀.0) rs i letter p taken)
@@ -103,7 +104,7 @@ releases_at a slots id m₀ m i letter rs p e is taken =
 pub told_released : (slots : ℕ) (m₀ m n : Seat) (i : ℕ) (letter : SlotRecord) (rs : List (ℕ × SlotRecord)) → m ≡ (m₀.0, (i, letter) ∷ rs) → Releases (step slots i 0 0 none) m 0 n → n ≡ (handed m₀ i Nothing, rs)
 told_released slots m₀ m n i letter rs e told = (subst (λ (y : Seat). Releases (step slots i 0 0 none) y 0 n) e told).seat
 
-pub leaves_at : (a : About) (slots id : ℕ) (m : Seat) (i : ℕ) → is_master m.0 ≡ true → (as_master m.0).left ≡ false → ((j : ℕ) → hand_of m j ≡ Nothing) → i ≡ slots + (as_master m.0).number
+pub leaves_at : (a : About) (slots id : ℕ) (m : Seat) (i : ℕ) → is_master m.0 ≡ true → (as_master m.0).left ≡ false → ((j : ℕ) → in_hand (as_master m.0) j ≡ Nothing) → i ≡ slots + (as_master m.0).number
     → Allows (Fits a) slots id m i (λ _. 1) (λ _. Leaves (step slots i 1 0 none) m 1)
 leaves_at a slots id m i is staying empty at =
     subst (λ (y : Seat). Allows (Fits a) slots id y i (λ _. 1) (λ _. Leaves (step slots i 1 0 none) y 1)) (sym (seat_is m is)) (leaves a slots id (as_master m.0) m.1 i staying empty at)

@@ -1,6 +1,7 @@
 -- The slots that a seat has taken out, by number, in the order in which the seat has them. A seat gives back the slot
 -- that it took last, so it keeps this order beside it. All of it is this project's own.
-use Rattle.std.specs.Prelude.{◌≡◌, ℕ, suc, Bool, true, false, ◌||◌, cond, eqb, List, [], ◌∷◌, length, slice_index_or, count_by, Some}
+use Rattle.std.specs.Prelude.{◌≡◌, ℕ, suc, Bool, true, false, ◌||◌, cond, eqb, List, [], ◌∷◌, length, slice_index_or}
+use Rattle.std.specs.Prelude.{count_by, Some}
 use Rattle.atomic_table.specs.Table.{rest}
 use Rattle.tl_types.specs.Request.{Request}
 use Rattle.tl_rule.specs.declared.view.Held.{Held}

@@ -26,10 +26,10 @@ pub record IsOneEvent (a : About) (event : Event) (s t : State SlotRecord View) 
   pub allowed : machine.IsAllowed (state_of a before) event
   pub leaves : state_of a after ≡ machine.state_after (state_of a before) event
 
--- A seat's step, from the view v to the view w, is this event. It was made in some table that fits, where the seat had v,
--- and left one that fits, where the seat has w and every other seat has what it had. In the state that the words before
--- show, the core accepts the event: so the word found was that of the phase which the event finds. The words after show
--- the state that the event leaves
+-- A seat's step, from the view v to the view w, is this event. It was made in some table that fits, where the seat
+-- had v, and left one that fits, where the seat has w and every other seat has what it had. In the state that the
+-- words before show, the core accepts the event: so the word found was that of the phase which the event finds. The
+-- words after show the state that the event leaves
 pub record IsEventOf (a : About) (event : Event) (v w : View) : Type 0 where
   pub before : State SlotRecord View
   pub after : State SlotRecord View

@@ -5,5 +5,6 @@ pub mod Rule
 pub mod Seen
 pub mod Events
 pub mod Moves
+pub mod Dealing
 pub mod Laws
 pub mod Carried

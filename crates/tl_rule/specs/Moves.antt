@@ -1,14 +1,14 @@
--- What each step tells: of the step, the seat before, the word found (at a store, the word stored) and the seat after. Each
--- is one event of the core. The steps are this project's own; that a source has one request out at a time is of the chapter
--- on channels of the TileLink specification.
-use Rattle.std.specs.Prelude.{◌≡◌, ◌≢◌, ℕ, ◌+◌, ◌<◌, ◌/◌, ◌%◌, List, ◌∷◌, ◌++◌, [], length, slice_index_or, Bool, true, false, Option, Some, None, ◌≤◌, take}
+-- What each step tells: of the step, the seat before, the word found (at a store, the word stored) and the seat
+-- after. Each is one event of the core. The steps are this project's own; that a source has one request out at a time
+-- is of the chapter on channels of the TileLink specification.
+use Rattle.std.specs.Prelude.{◌≡◌, ◌≢◌, ℕ, ◌<◌, ◌/◌, ◌%◌, List, ◌∷◌, ◌++◌, [], length, Bool, true, false, Option}
+use Rattle.std.specs.Prelude.{Some, None, ◌≤◌, take}
 use Rattle.atomic_table.specs.Table.{Me, Step, rest}
 use Rattle.tl_types.specs.Request.{Request}
 use Rattle.tl_types.specs.Response.{Response}
 use Rattle.tl_types.specs.declared.trace.Entry.{Entry}
 use Rattle.tl_ops.specs.History.{IsLawfulHistory}
 use Rattle.tl_slots.specs.declared.event.Event.TheVariants.{Claim, Post, Accept, Answer, Collect, Release, Leave}
-use Rattle.tl_rule.specs.declared.view.About.{About}
 use Rattle.tl_rule.specs.declared.view.Held.{Held}
 use Rattle.tl_rule.specs.declared.view.Held.TheVariants.{Nothing, Filled, Sent, Taken}
 use Rattle.tl_rule.specs.declared.view.Hands.{Hands}
@@ -17,7 +17,7 @@ use Rattle.tl_rule.specs.declared.view.View.{View}
 use Rattle.tl_rule.specs.declared.view.View.TheVariants.{Dealer, Master, Port}
 use Rattle.tl_rule.specs.Record.{SlotRecord, Spells, SpellsAnswer}
 use Rattle.tl_rule.specs.Serving.{ask_at, drop_slot, HasDistinctSlots}
-use Rattle.tl_rule.specs.Views.{Owns, reset_of, new_hands, new_desk, no_hands, no_desk, Above, with_hand, with_serving, gone_hands}
+use Rattle.tl_rule.specs.Views.{Owns, reset_of, no_hands, no_desk, in_hand, Above, with_hand, with_serving, gone_hands}
 use Rattle.tl_rule.specs.Events.{IsEventOf}
 use Rattle.tl_rule.specs.Seen.{IsOfMasters, SeenFit, JustOwn, IsPlaceOf, at_port, sent_at}
 
@@ -47,10 +47,6 @@ as_port (Dealer a m p) = no_desk
 as_port (Master v) = no_desk
 as_port (Port u) = u
 
--- what the seat's hand has of the slot
-abbrev pub hand_of : Seat → ℕ → Held
-hand_of m i = slice_index_or (as_master m.0).hand i Nothing
-
 -- the seat's view, where the hand has x of the slot
 abbrev pub handed : Seat → ℕ → Held → View
 handed m i x = Master (with_hand (as_master m.0) i x (as_master m.0).got)
@@ -68,10 +64,18 @@ top [] = no_record
 top (x ∷ xs) = x.1
 
 -- no request of this source is out: the chapter on channels has it so
-abbrev pub IsNew : Seat → ℕ → Type 0
-IsNew m source = (i p known : ℕ) (ask : Request) → hand_of m i ≡ Sent ask p known → source ≢ ask.source
+abbrev pub IsUnsent : Seat → ℕ → Type 0
+IsUnsent m source = (i p known : ℕ) (ask : Request) → in_hand (as_master m.0) i ≡ Sent ask p known → source ≢ ask.source
 
 -- ---- steps
+
+-- the master and the port that a slot's word names, as `tl_slots` codes them: eight bits behind those of the phase, and
+-- all behind these
+abbrev pub owner_in : ℕ → ℕ
+owner_in word = word / 8 % 256
+
+abbrev pub port_in : ℕ → ℕ
+port_in word = word / 2048
 
 abbrev pub Play : Type 1
 Play = Step SlotRecord → Seat → ℕ → Seat → Type 0
@@ -87,7 +91,7 @@ Tried won st m r n = (r ≡ st.first → won st m n) × (r ≢ st.first → n �
 pub record Claims (st : Step SlotRecord) (m n : Seat) : Type 0 where
   pub letter : SlotRecord
   pub seat : n ≡ (handed m st.word Filled, (st.word, letter) ∷ m.1)
-  pub free : hand_of m st.word ≡ Nothing
+  pub free : in_hand (as_master m.0) st.word ≡ Nothing
   pub inside : st.word < length (as_master m.0).hand
   pub event : IsEventOf (as_master m.0).about (Claim st.word (as_master m.0).number) m.0 n.0
 
@@ -95,32 +99,38 @@ pub record Claims (st : Step SlotRecord) (m n : Seat) : Type 0 where
 pub record Sends (st : Step SlotRecord) (m : Seat) (r : ℕ) (n : Seat) : Type 0 where
   pub ask : Request
   pub spells : Spells (top m.1) ask
-  pub seat : n ≡ (handed m st.word (Sent ask (r / 2048) (length (as_master m.0).got)), rest m.1)
-  pub event : IsEventOf (as_master m.0).about (Post st.word (as_master m.0).number (r / 2048)) m.0 n.0
+  pub seat : n ≡ (handed m st.word (Sent ask (port_in r) (length (as_master m.0).got)), rest m.1)
+  pub event : IsEventOf (as_master m.0).about (Post st.word (as_master m.0).number (port_in r)) m.0 n.0
 
--- a port's view in itself: no slot and no source is served twice, its list is true of its memory, and what it has served
--- and serves are requests of masters alone
+-- a port's view in itself: no slot and no source is served twice, its list is true of its memory, and what it has
+-- served and serves are requests of masters alone
 pub record IsLawfulDesk (u : Desk) : Type 0 where
   pub number : u.number < u.about.ports
   pub slots : HasDistinctSlots u.serving
   pub inside : (i : ℕ) (ask : Request) → ask_at u.serving i ≡ Some ask → i < u.about.slots
   pub few : length u.serving ≤ u.about.slots
-  pub sources : (i j : ℕ) (ask other : Request) → ask_at u.serving i ≡ Some ask → ask_at u.serving j ≡ Some other → ask.source ≡ other.source → i ≡ j
+  pub sources : (i j : ℕ) (ask other : Request) → ask_at u.serving i ≡ Some ask → ask_at u.serving j ≡ Some other
+      → ask.source ≡ other.source → i ≡ j
   pub lawful : IsLawfulHistory (reset_of u.about u.number) u.list
   pub listed : IsOfMasters u.about u.list
   pub served : (i : ℕ) (ask : Request) → ask_at u.serving i ≡ Some ask → (master : ℕ) × Owns u.about master ask.source
 
--- the port serves what the record spells, at a slot and of a source that it did not serve, of the master that the word names
+-- the port serves what the record spells, at a slot and of a source that it did not serve, of the master that the
+-- word names
 pub record Accepts (st : Step SlotRecord) (m n : Seat) : Type 0 where
   pub letter : SlotRecord
   pub ask : Request
   pub spells : Spells letter ask
-  pub seat : n ≡ (Port (with_serving (as_port m.0) ((as_port m.0).serving ++ (st.word, ask) ∷ []) (as_port m.0).list), (st.word, letter) ∷ m.1)
+  pub seat : n
+      ≡ (
+        Port (with_serving (as_port m.0) ((as_port m.0).serving ++ (st.word, ask) ∷ []) (as_port m.0).list),
+        (st.word, letter) ∷ m.1,
+      )
   pub free : service_of m st.word ≡ None
-  pub owner : Owns (as_port m.0).about (st.first / 8 % 256) ask.source
+  pub owner : Owns (as_port m.0).about (owner_in st.first) ask.source
   pub apart : (j : ℕ) (other : Request) → service_of m j ≡ Some other → ask.source ≢ other.source
   pub law : IsLawfulDesk (as_port n.0)
-  pub event : IsEventOf (as_port m.0).about (Accept st.word (st.first / 8 % 256) (as_port m.0).number) m.0 n.0
+  pub event : IsEventOf (as_port m.0).about (Accept st.word (owner_in st.first) (as_port m.0).number) m.0 n.0
 
 -- the request that was served at the slot, of the master that the word names, and the reply that the record spells, are
 -- the last of the list
@@ -129,39 +139,51 @@ pub record Answers (st : Step SlotRecord) (m : Seat) (r : ℕ) (n : Seat) : Type
   pub serves : service_of m st.word ≡ Some ask
   pub reply : Response
   pub spells : SpellsAnswer (top m.1) ask.address reply
-  pub seat : n ≡ (Port (with_serving (as_port m.0) (drop_slot st.word (as_port m.0).serving) ((as_port m.0).list ++ (ask, reply) ∷ [])), rest m.1)
-  pub owner : Owns (as_port m.0).about (r / 8 % 256) ask.source
+  pub seat : n
+      ≡ (
+        Port (with_serving (as_port m.0) (drop_slot st.word (as_port m.0).serving)
+            ((as_port m.0).list ++ (ask, reply) ∷ [])),
+        rest m.1,
+      )
+  pub owner : Owns (as_port m.0).about (owner_in r) ask.source
   pub law : IsLawfulDesk (as_port n.0)
-  pub event : IsEventOf (as_port m.0).about (Answer st.word (r / 8 % 256) (as_port m.0).number) m.0 n.0
+  pub event : IsEventOf (as_port m.0).about (Answer st.word (owner_in r) (as_port m.0).number) m.0 n.0
 
 abbrev pub entry : ℕ → ℕ → Request → Response → Entry
 entry p index ask reply = record { ask = ask; reply = reply; port = p; index = index }
 
 -- The reply to what was sent is collected. In one lawful history of the port's reset, of requests of masters alone, it
--- stands after all that had been collected there when it was sent, and of the master's own requests are just those that it made
+-- stands after all that had been collected there when it was sent, and of the master's own requests are just those
+-- that it made
 pub record Collects (st : Step SlotRecord) (m n : Seat) : Type 0 where
   pub letter : SlotRecord
   pub ask : Request
   pub port : ℕ
   pub known : ℕ
   pub reply : Response
-  pub was : hand_of m st.word ≡ Sent ask port known
+  pub was : in_hand (as_master m.0) st.word ≡ Sent ask port known
   pub spells : Spells letter ask
   pub answer : SpellsAnswer letter ask.address reply
-  pub seat : n ≡ (Master (with_hand (as_master m.0) st.word (Taken port) ((as_master m.0).got ++ entry port letter.index ask reply ∷ [])), (st.word, letter) ∷ m.1)
+  pub seat : n
+      ≡ (
+        Master (with_hand (as_master m.0) st.word (Taken port)
+            ((as_master m.0).got ++ entry port letter.index ask reply ∷ [])),
+        (st.word, letter) ∷ m.1,
+      )
   pub fresh : IsPlaceOf (at_port port (as_master m.0).got) letter.index → ⊥
   pub above : Above (as_master m.0).got known port letter.index
   pub history : List (Request × Response)
   pub lawful : IsLawfulHistory (reset_of (as_master m.0).about port) history
   pub masters : IsOfMasters (as_master m.0).about history
   pub seen : SeenFit history letter.index ask reply (at_port port (take known (as_master m.0).got))
-  pub own : JustOwn history (Owns (as_master m.0).about (as_master m.0).number) (at_port port (as_master n.0).got) (sent_at port (as_master n.0).hand)
+  pub own : JustOwn history (Owns (as_master m.0).about (as_master m.0).number)
+      (at_port port (as_master n.0).got) (sent_at port (as_master n.0).hand)
   pub event : IsEventOf (as_master m.0).about (Collect st.word (as_master m.0).number port) m.0 n.0
 
 -- the hand loses the slot, whose reply was collected
 pub record Releases (st : Step SlotRecord) (m : Seat) (r : ℕ) (n : Seat) : Type 0 where
   pub port : ℕ
-  pub was : hand_of m st.word ≡ Taken port
+  pub was : in_hand (as_master m.0) st.word ≡ Taken port
   pub seat : n ≡ (handed m st.word Nothing, rest m.1)
   pub event : IsEventOf (as_master m.0).about (Release st.word (as_master m.0).number port) m.0 n.0
 
@@ -178,29 +200,3 @@ pub record Leaves (st : Step SlotRecord) (m : Seat) (r : ℕ) (n : Seat) : Type 
   pub seat : n ≡ (Master (gone_hands (as_master m.0)), m.1)
   pub owns_all : (p : ℕ) → OwnsAll (as_master m.0) p
   pub event : IsEventOf (as_master m.0).about (Leave (as_master m.0).number) m.0 n.0
-
--- ---- the dealing of seats
-
-abbrev pub opening_view : About → View
-opening_view a = Dealer a 0 0
-
--- what the dealer's view becomes, and the new seat's, where the next master or the next port gets its seat
-abbrev pub after_master : View → View
-after_master (Dealer a m p) = Dealer a (m + 1) p
-after_master (Master v) = Master v
-after_master (Port u) = Port u
-
-abbrev pub next_master : View → View
-next_master (Dealer a m p) = Master (new_hands a m)
-next_master (Master v) = Master v
-next_master (Port u) = Port u
-
-abbrev pub after_port : View → View
-after_port (Dealer a m p) = Dealer a m (p + 1)
-after_port (Master v) = Master v
-after_port (Port u) = Port u
-
-abbrev pub next_port : View → View
-next_port (Dealer a m p) = Port (new_desk a p)
-next_port (Master v) = Master v
-next_port (Port u) = Port u

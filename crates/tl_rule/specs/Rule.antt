@@ -1,8 +1,9 @@
 -- The rule of the arena's table: what the words, the records at home and the seats' views are between any two steps.
--- All of it is this project's own, but for three rules of the TileLink specification: a source has one request out at a time
--- (the chapter on channels), beats spell a request and its reply (the chapter "Beats and bursts"), and a reply is the memory's
--- (the chapter "TL-UL and TL-UH operations").
-use Rattle.std.specs.Prelude.{◌≡◌, ◌≢◌, ℕ, ◌<◌, ◌≤◌, ◌⊎◌, Bool, true, false, cond, List, ◌∷◌, ◌++◌, map, length, slice_get, slice_index_or, Some}
+-- All of it is this project's own, but for three rules of the TileLink specification: a source has one request out at
+-- a time (the chapter on channels), beats spell a request and its reply (the chapter "Beats and bursts"), and a reply
+-- is the memory's (the chapter "TL-UL and TL-UH operations").
+use Rattle.std.specs.Prelude.{◌≡◌, ◌≢◌, ℕ, ◌<◌, ◌≤◌, ◌⊎◌, Bool, true, false, cond, List, ◌∷◌, ◌++◌, map, length}
+use Rattle.std.specs.Prelude.{slice_get, slice_index_or, Some}
 use mathlib.Core.Option as maybe
 use Rattle.atomic_table.specs.Table.{State}
 use Rattle.tl_types.specs.Request.{Request}
@@ -44,7 +45,11 @@ abbrev pub views_of : About → List Hands → List Desk → List View
 views_of a ms ps = Dealer a (length ms) (length ps) ∷ (map Master ms ++ map Port ps)
 
 abbrev pub table_of : About → Parts → State SlotRecord View
-table_of a c = record { words = map word c.phases ++ map leave_word c.left; homes = c.homes; views = views_of a c.masters c.ports }
+table_of a c = record {
+  words = map word c.phases ++ map leave_word c.left;
+  homes = c.homes;
+  views = views_of a c.masters c.ports;
+}
 
 abbrev pub phase : Parts → ℕ → Phase
 phase c i = slice_index_or c.phases i Free
@@ -124,7 +129,8 @@ module _ (a : About) (c : Parts) where
     pub port : entry.port ≡ p
     pub index : entry.index ≡ k
 
-  -- the place k of the list of p, with this request, is that of an answered slot or of a collected reply of the master whose source it is
+  -- the place k of the list of p, with this request, is that of an answered slot or of a collected reply of the
+  -- master whose source it is
   pub record Placed (p k : ℕ) (ask : Request) : Type 0 where
     pub master : ℕ
     pub owns : Owns a master ask.source
@@ -137,7 +143,8 @@ module _ (a : About) (c : Parts) where
     pub got : (m j : ℕ) (e : Entry) → slice_get (hands c.masters m).got j ≡ Some e
         → (slice_get (desk c.ports e.port).list e.index ≡ Some (e.ask, e.reply)) × Owns a m e.ask.source
     -- no two collected replies have one place
-    pub got_once : (m j k : ℕ) (e f : Entry) → slice_get (hands c.masters m).got j ≡ Some e → slice_get (hands c.masters m).got k ≡ Some f
+    pub got_once : (m j k : ℕ) (e f : Entry) → slice_get (hands c.masters m).got j ≡ Some e
+        → slice_get (hands c.masters m).got k ≡ Some f
         → e.port ≡ f.port → e.index ≡ f.index → j ≡ k
     -- nor have a collected reply and an answered slot
     pub apart : (m p i j : ℕ) (r : SlotRecord) (e : Entry) → phase c i ≡ Answered m p → IsHome c.homes i r
@@ -156,7 +163,9 @@ module _ (a : About) (c : Parts) where
     pub ports : length c.ports ≤ a.ports
     pub dealt : length c.masters < a.masters → length c.ports ≡ 0
     -- no two views are of one master or of one port: each stands at its number
-    pub master_views : (m : ℕ) → m < length c.masters → ((hands c.masters m).number ≡ m) × ((hands c.masters m).about ≡ a) × (length (hands c.masters m).hand ≡ a.slots)
+    pub master_views : (m : ℕ) → m < length c.masters
+        → ((hands c.masters m).number ≡ m) × ((hands c.masters m).about ≡ a)
+        × (length (hands c.masters m).hand ≡ a.slots)
     pub port_views : (p : ℕ) → p < length c.ports → ((desk c.ports p).number ≡ p) × ((desk c.ports p).about ≡ a)
 
   pub record Lawful : Type 0 where
@@ -174,11 +183,12 @@ module _ (a : About) (c : Parts) where
     -- a port serves a slot once: so an answer ends the service
     pub serves_once : (p : ℕ) → HasDistinctSlots (desk c.ports p).serving
     -- what a master has sent has distinct sources: so a reply is of one request
-    pub sources : (m i j p q known since : ℕ) (ask other : Request) → held c.masters m i ≡ Sent ask p known → held c.masters m j ≡ Sent other q since
-        → ask.source ≡ other.source → i ≡ j
+    pub sources : (m i j p q known other_known : ℕ) (ask other : Request) → held c.masters m i ≡ Sent ask p known
+        → held c.masters m j ≡ Sent other q other_known → ask.source ≡ other.source → i ≡ j
     -- and of the master's own: so requests of two masters are never mixed up
     pub block : (m i p known : ℕ) (ask : Request) → held c.masters m i ≡ Sent ask p known → Owns a m ask.source
-    -- each place of a list is that of one answered slot or of one collected reply: so no reply is invented, lost or given twice
+    -- each place of a list is that of one answered slot or of one collected reply: so no reply is invented, lost or
+    -- given twice
     pub places : Places
     -- each list is true of the port's memory: so what is collected from it is the sequential memory's reply
     pub lawful : (p : ℕ) → IsLawfulHistory (reset_of a p) (desk c.ports p).list

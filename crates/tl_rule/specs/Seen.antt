@@ -1,5 +1,5 @@
--- What a master knows of a port's history, from what it has seen. All of it is this project's own; which reply is lawful in a
--- history is of the chapter "TL-UL and TL-UH operations" of the TileLink specification.
+-- What a master knows of a port's history, from what it has seen. All of it is this project's own; which reply is
+-- lawful in a history is of the chapter "TL-UL and TL-UH operations" of the TileLink specification.
 use Rattle.std.specs.Prelude.{◌≡◌, ◌≢◌, ℕ, ◌<◌, ◌++◌, cond, eqb, filter, Contains, List, [], ◌∷◌, ◌⊎◌, slice_get, Some}
 use Rattle.tl_types.specs.Request.{Request}
 use Rattle.tl_types.specs.Response.{Response}
@@ -12,7 +12,8 @@ use Rattle.tl_rule.specs.Views.{Owns}
 -- ---- a history after what was seen
 
 -- place `index` of h is this request and reply, and each entry that was seen stands before it
-pub record SeenFit (h : List (Request × Response)) (index : ℕ) (ask : Request) (reply : Response) (seen : List Entry) : Type 0 where
+pub record SeenFit (h : List (Request × Response)) (index : ℕ) (ask : Request) (reply : Response) (seen : List Entry)
+    : Type 0 where
   pub place : slice_get h index ≡ Some (ask, reply)
   pub before : (e : Entry) → Contains seen e → (e.index < index) × (slice_get h e.index ≡ Some (e.ask, e.reply))
 
@@ -20,7 +21,8 @@ pub record SeenFit (h : List (Request × Response)) (index : ℕ) (ask : Request
 
 -- every request of h is of a wide source of some master: so no other request can have changed what a master reads
 abbrev pub IsOfMasters : About → List (Request × Response) → Type 0
-IsOfMasters about h = (k : ℕ) (x : Request × Response) → slice_get h k ≡ Some x → (master : ℕ) × Owns about master x.0.source
+IsOfMasters about h =
+    (k : ℕ) (x : Request × Response) → slice_get h k ≡ Some x → (master : ℕ) × Owns about master x.0.source
 
 -- ---- a history with just a master's own requests
 
@@ -30,12 +32,15 @@ pub record IsPlaceOf (got : List Entry) (k : ℕ) : Type 0 where
   pub is : Contains got entry
   pub at : entry.index ≡ k
 
--- each entry of `got` stands at its index of h; what else h has of the master's own sources is of requests of `out`; and
--- of two places with one source of the master's own, one at least is that of an entry of `got`
-pub record JustOwn (h : List (Request × Response)) (own : ℕ → Type 0) (got : List Entry) (out : List Request) : Type 0 where
+-- each entry of `got` stands at its index of h; what else h has of the master's own sources is of requests of `out`;
+-- and of two places with one source of the master's own, one at least is that of an entry of `got`
+pub record JustOwn (h : List (Request × Response)) (own : ℕ → Type 0) (got : List Entry) (out : List Request)
+    : Type 0 where
   pub stand : (e : Entry) → Contains got e → slice_get h e.index ≡ Some (e.ask, e.reply)
-  pub others : (k : ℕ) (x : Request × Response) → slice_get h k ≡ Some x → own x.0.source → IsPlaceOf got k ⊎ Contains out x.0
-  pub once : (k l : ℕ) (x y : Request × Response) → slice_get h k ≡ Some x → slice_get h l ≡ Some y → own x.0.source → x.0.source ≡ y.0.source
+  pub others : (k : ℕ) (x : Request × Response) → slice_get h k ≡ Some x → own x.0.source
+      → IsPlaceOf got k ⊎ Contains out x.0
+  pub once : (k l : ℕ) (x y : Request × Response) → slice_get h k ≡ Some x → slice_get h l ≡ Some y
+      → own x.0.source → x.0.source ≡ y.0.source
       → k ≢ l → IsPlaceOf got k ⊎ IsPlaceOf got l
 
 -- ---- what a master has to do with one port

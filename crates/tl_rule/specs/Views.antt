@@ -1,5 +1,6 @@
 -- The views of seats: what is looked up in them, and how a step changes them. All of it is this project's own.
-use Rattle.std.specs.Prelude.{◌≡◌, ℕ, ◌<◌, false, true, List, [], slice_get, slice_index_or, slice_set, replicate, Option, Some}
+use Rattle.std.specs.Prelude.{◌≡◌, ℕ, ◌<◌, false, true, List, [], slice_get, slice_index_or, slice_set, replicate}
+use Rattle.std.specs.Prelude.{Option, Some}
 use Rattle.tl_types.specs.Request.{Request}
 use Rattle.tl_types.specs.Response.{Response}
 use Rattle.tl_types.specs.declared.trace.Entry.{Entry}
@@ -56,6 +57,10 @@ desk ps p = slice_index_or ps p no_desk
 abbrev pub held : List Hands → ℕ → ℕ → Held
 held ms m i = slice_index_or (hands ms m).hand i Nothing
 
+-- what this view of a master's has in hand of the slot
+abbrev pub in_hand : Hands → ℕ → Held
+in_hand v i = slice_index_or v.hand i Nothing
+
 -- the request that the port serves at the slot
 abbrev pub served : List Desk → ℕ → ℕ → Option Request
 served ps p i = ask_at (desk ps p).serving i
@@ -68,7 +73,13 @@ Above got known p index = (j : ℕ) (e : Entry) → j < known → slice_get got 
 
 -- the hand has x of the slot, and these replies were collected
 abbrev pub with_hand : Hands → ℕ → Held → List Entry → Hands
-with_hand v i x got = record { number = v.number; about = v.about; hand = slice_set v.hand i x; got = got; left = v.left }
+with_hand v i x got = record {
+  number = v.number;
+  about = v.about;
+  hand = slice_set v.hand i x;
+  got = got;
+  left = v.left;
+}
 
 -- the port serves these slots, and has this list
 abbrev pub with_serving : Desk → List (ℕ × Request) → List (Request × Response) → Desk

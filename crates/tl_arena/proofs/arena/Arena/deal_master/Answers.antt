@@ -1,7 +1,8 @@
 use Rattle.std.proofs.Common.{arith, sym, ap, subst, ◌∙◌, [], ◌<◌}
 use Rattle.tl_rule.specs.declared.view.View.TheVariants.{Dealer}
 use Rattle.tl_rule.specs.declared.view.About.{About}
-use Rattle.tl_rule.specs.Moves.{Seat, next_master}
+use Rattle.tl_rule.specs.Moves.{Seat}
+use Rattle.tl_rule.specs.Dealing.{next_master}
 use Rattle.tl_rule.proofs.Seats.{deals_master_at}
 use Rattle.tl_arena.specs.Views.{ArenaId}
 use Rattle.tl_arena.specs.Key.{about_in}

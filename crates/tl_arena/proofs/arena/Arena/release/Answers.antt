@@ -3,7 +3,8 @@ use Rattle.std.specs.VecDeque.{deque_capacity}
 use Rattle.tl_rule.specs.declared.view.About.{About}
 use Rattle.tl_rule.specs.declared.view.Held.TheVariants.{Taken}
 use Rattle.atomic_table.specs.Table.{rest}
-use Rattle.tl_rule.specs.Moves.{hand_of}
+use Rattle.tl_rule.specs.Moves.{as_master}
+use Rattle.tl_rule.specs.Views as views
 use Rattle.tl_rule.proofs.Seats.{releases_at}
 use Rattle.tl_arena.specs.Views.{MasterView, ServedView, in_hand}
 use Rattle.tl_arena.specs.Key.{about_in}
@@ -22,7 +23,7 @@ store-requires c =
     let slots = ap (λ (a : About). a.slots) arena.1 in
     let k = c.served.inside in
     let served : ServedView = record { slot = k.slot; ask = k.ask; port = k.port; index = k.index; reply = k.reply } in
-    let taken : hand_of me i ≡ Taken k.port = subst (λ (v : MasterView). in_hand v i ≡ Taken k.port) (sym c.master.view_is) (subst (λ (x : ServedView). in_hand c.args.master.now x.slot ≡ Taken x.port) (sym c.served.view_is) c.requires.taken) in
+    let taken : views.in_hand (as_master me.0) i ≡ Taken k.port = subst (λ (v : MasterView). in_hand v i ≡ Taken k.port) (sym c.master.view_is) (subst (λ (x : ServedView). in_hand c.args.master.now x.slot ≡ Taken x.port) (sym c.served.view_is) c.requires.taken) in
     let lt = held_inside me c.master.inside.order.items (deque_capacity c.master.inside.order) c.master.inside.number c.master.inside.owned c.master.inside.collected m i (λ e. absurd (cc)) in
     let top = c.bring.ensures.brought.top in
     let now : c.bring.new.seat.me ≡ (me.0, (i, top.0) ∷ rest c.bring.new.seat.me.1) = (λ t. (c.bring.ensures.brought.view t, top.1 t)) in (
