@@ -61,3 +61,22 @@ fn a_pass_goes_to_the_last_slot(rt: HostRuntime) -> Result<(), Fail> {
     assert_eq!(rt; near.accept_next(), Some(1));
     Ok(())
 }
+
+#[test]
+fn a_claim_goes_on_from_the_first_slot(rt: HostRuntime) -> Result<(), Fail> {
+    let sources = sources_of(rt.alloc(), 4)?;
+    let banks = banks_of(rt.alloc(), 2)?;
+    let Floor {
+        arena,
+        sources,
+        mut masters,
+        ports: _,
+        banks: _,
+    } = floor_of(rt.alloc(), 2, sources, banks)?;
+    let mut fourth = client(&arena, &sources, &mut masters)?;
+    let mut third = client(&arena, &sources, &mut masters)?;
+    let mut second = client(&arena, &sources, &mut masters)?;
+    assert_eq!(rt; (post(&mut fourth, 0)?, post(&mut third, 0)?), (1, 0));
+    assert!(rt; second.send(&read(BASE)?, 0).is_none());
+    Ok(())
+}
