@@ -81,7 +81,8 @@ fn two_masters_clear_their_own_bits(rt: HostRuntime) -> Result<(), Fail> {
     let high = "'0 putfull 0x4000 2 10000000', '1 putfull 0x4000 2 60000000', '0 putfull 0x4000 2 80000000'";
     push_master(&mut script, low)?;
     push_master(&mut script, high)?;
-    for workers in [1, 4] {
+    for turn in 0..2u32 {
+        let workers = if turn == 0 { 1 } else { 4 };
         let run = run(&rt, rt.alloc(), script.as_bytes(), workers, &OpenGate)?;
         let book = run.books.first().ok_or("no book")?;
         assert_eq!(rt; (book.byte(0x4000), book.byte(0x4001)), (Some(0), Some(0xff)));
