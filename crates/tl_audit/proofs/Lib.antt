@@ -5,3 +5,4 @@ mod Counting
 mod Ordering
 mod Entries
 mod Judging
+pub mod Reader

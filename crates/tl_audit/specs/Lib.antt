@@ -1,3 +1,4 @@
 pub mod Agrees
 pub mod Marks
 pub mod Order
+pub mod Reader

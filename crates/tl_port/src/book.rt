@@ -191,6 +191,14 @@ impl Book {
         self.history.len()
     }
 
+    /// All that was served, in order: requests with wide sources, and their replies.
+    pub fn history(&self) -> &[(Ask, Reply)]
+        ensures value { result.now ≡ self.now.history }
+        ensures lawful { IsLawfulBook self.now }
+    {
+        &self.history
+    }
+
     /// The request that was served at a place, with its wide source, and its reply.
     pub fn entry(&self, place: usize) -> Option<(&Ask, &Reply)>
         ensures some { IfSome result

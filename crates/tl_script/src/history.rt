@@ -24,7 +24,22 @@ fn push_line(
     Ok(())
 }
 
-/// The text of a port's history: a line for each request that it served, from index 0 on. The sources are wide ones.
+/// Appends the lines of a port's history: one for each request that it served, from index 0 on. The sources are wide ones.
+pub fn push_history(
+    text: &mut String,
+    port: usize,
+    history: &[(Ask, Reply)],
+) -> Result<(), AllocError>
+    ensures { OnOk result
+        (string_bytes text.new ≡ string_bytes text.old ++ history_text port history.now) }
+{
+    for (index, (ask, reply)) in history.iter().enumerate() {
+        push_line(text, port, index, ask, reply)?;
+    }
+    Ok(())
+}
+
+/// The text of a port's history.
 pub fn write_history(
     alloc: Global,
     port: usize,
@@ -33,10 +48,17 @@ pub fn write_history(
     ensures { IfOk result (λ text. text.items ≡ history_text port history.now) }
 {
     let mut text = String::new(alloc);
-    for (index, (ask, reply)) in history.iter().enumerate() {
-        push_line(&mut text, port, index, ask, reply)?;
-    }
+    push_history(&mut text, port, history)?;
     Ok(text.into_bytes())
+}
+
+/// Appends the line of how many slots are free and how many are held.
+pub fn push_account(text: &mut String, free: usize, held: usize) -> Result<(), AllocError>
+    ensures { OnOk result
+        (string_bytes text.new ≡ string_bytes text.old ++ account_text free held) }
+{
+    write!(text, "free {free} held {held}\n")?;
+    Ok(())
 }
 
 /// The line of how many slots are free and how many are held.
@@ -44,6 +66,6 @@ pub fn write_account(alloc: Global, free: usize, held: usize) -> Result<Vec<u8>,
     ensures { IfOk result (λ text. text.items ≡ account_text free held) }
 {
     let mut text = String::new(alloc);
-    write!(text, "free {free} held {held}\n")?;
+    push_account(&mut text, free, held)?;
     Ok(text.into_bytes())
 }

@@ -125,14 +125,24 @@ pub fn push_trace(text: &mut String, master: usize, entries: &[Entry]) -> Result
     Ok(())
 }
 
+/// Appends the lines of the traces, those of master 0 first.
+pub fn push_traces(text: &mut String, traces: &[Trace]) -> Result<(), AllocError>
+    ensures { OnOk result
+        (string_bytes text.new
+        ≡ string_bytes text.old ++ trace_text (map (λ trace. trace.items) traces.now)) }
+{
+    for (master, entries) in traces.iter().enumerate() {
+        push_trace(text, master, entries)?;
+    }
+    Ok(())
+}
+
 /// The text of the traces, that of master 0 first: a line for each entry.
 pub fn write_trace(alloc: Global, traces: &[Trace]) -> Result<Vec<u8>, Memory>
     ensures { IfOk result
         (λ text. text.items ≡ trace_text (map (λ trace. trace.items) traces.now)) }
 {
     let mut text = String::new(alloc);
-    for (master, entries) in traces.iter().enumerate() {
-        push_trace(&mut text, master, entries)?;
-    }
+    push_traces(&mut text, traces)?;
     Ok(text.into_bytes())
 }

@@ -5,8 +5,8 @@ ghost use Rattle.tl_serial.specs.Text.{histories_text, IsSerialText};
 ghost use Rattle.tl_serial.specs.Slave.{AreWritten};
 
 use crate::run::{History, Slave, run_master, run_serial, slaves_of};
-use std::alloc::Global;
-use tl_script::{System, push_trace, write_history, write_trace};
+use std::alloc::{AllocError, Global};
+use tl_script::{System, push_history, push_trace, push_traces};
 use tl_types::Memory;
 
 /// Serves the masters of a system, one after the other, and gives the lines of their traces.
@@ -34,13 +34,13 @@ fn traces_text(alloc: Global, system: &System) -> Result<Vec<u8>, Memory>
 }
 
 /// Appends the lines of the histories, port 0 first.
-fn push_histories(alloc: Global, text: &mut Vec<u8>, histories: &[History]) -> Result<(), Memory>
+fn push_histories(text: &mut String, histories: &[History]) -> Result<(), AllocError>
     ensures { OnOk result
-        (text.new.items ≡ text.old.items ++ histories_text (lists_of histories.now)) }
+        (string_bytes text.new
+        ≡ string_bytes text.old ++ histories_text (lists_of histories.now)) }
 {
     for (port, history) in histories.iter().enumerate() {
-        let lines = write_history(alloc, port, history)?;
-        text.extend_from_slice(&lines)?;
+        push_history(text, port, history)?;
     }
     Ok(())
 }
@@ -53,7 +53,8 @@ pub fn write_serial(alloc: Global, system: &System, history: bool) -> Result<Vec
         return traces_text(alloc, system);
     }
     let run = run_serial(alloc, system)?;
-    let mut text = write_trace(alloc, &run.traces)?;
-    push_histories(alloc, &mut text, &run.histories)?;
-    Ok(text)
+    let mut text = String::new(alloc);
+    push_traces(&mut text, &run.traces)?;
+    push_histories(&mut text, &run.histories)?;
+    Ok(text.into_bytes())
 }

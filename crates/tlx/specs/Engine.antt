@@ -1,29 +1,50 @@
 -- What an engine reads, and what it writes for that. This project's own.
-use Rattle.std.specs.Prelude.{◌≡◌, ◌≢◌, ℕ, ◌+◌, List, ◌++◌, length, Option, Result, Err, OnOk, IfErr}
+use Rattle.std.specs.Prelude.{◌≡◌, ◌≢◌, ℕ, ◌+◌, Bool, List, ◌++◌, length, Option, Result, Err, OnOk, IfErr}
 use Rattle.std.specs.Io.KnownBytes.{Appends, Keeps}
 use Rattle.tl_types.specs.declared.trace.Entry.{Entry}
 use Rattle.tl_arena.specs.declared.account.Held.{Held}
 use Rattle.tl_port.specs.Book.{BookView}
+use Rattle.tl_audit.specs.Agrees.{Agrees, HasAuditFault}
+use Rattle.tl_audit.specs.Reader.{histories_of}
+use Rattle.tl_audit.specs.declared.fault.AuditFault.{AuditFault}
+use Rattle.tl_audit.specs.declared.fault.AuditFault.TheVariants as audit
 use Rattle.tl_script.specs.History.{account_text}
 use Rattle.tl_script.specs.Script.{Spells, IsFirstScriptFault}
 use Rattle.tl_script.specs.System.{System}
-use Rattle.tl_script.specs.Trace.{trace_text}
 use Rattle.tl_script.specs.declared.fault.ScriptFault.{ScriptFault}
 use Rattle.tl_script.specs.declared.script.TheConstants.{SCRIPT_LIMIT}
+use Rattle.tl_serial.specs.Text.{run_text}
 use Rattle.tl_threads.specs.Run.{IsThreadedRun}
 use Rattle.tlx.specs.declared.fault.RunFault.{RunFault}
 use Rattle.tlx.specs.declared.fault.RunFault.TheVariants as run
 use Rattle.tlx.specs.Streams.{AppendsFront, ReadsAll, ReadsUpTo}
 
--- the text is that of a run of the system by threads: its traces, and how many slots are free and how many held at its end
-pub record IsThreadedText (system : System) (text : List ℕ) : Type 0 where
+-- the text is that of a run of the system by threads whose traces and histories agree: its traces, its histories where they
+-- are asked for, and how many slots are free and how many held at its end
+pub record IsThreadedText (history : Bool) (system : System) (text : List ℕ) : Type 0 where
   pub traces : List (List Entry)
   pub books : List BookView
   pub free : List ℕ
   pub held : List Held
   pub left : List ℕ
   pub run : IsThreadedRun system traces books free held left
-  pub is : text ≡ trace_text traces ++ account_text (length free) (length held)
+  pub agrees : Agrees system.counts traces (histories_of books)
+  pub is : text ≡ run_text history traces (histories_of books) ++ account_text (length free) (length held)
+
+-- the traces and histories of a run of the system by threads have this fault, which is not want of memory
+pub record HasThreadedFault (system : System) (fault : AuditFault) : Type 0 where
+  pub traces : List (List Entry)
+  pub books : List BookView
+  pub free : List ℕ
+  pub held : List Held
+  pub left : List ℕ
+  pub run : IsThreadedRun system traces books free held left
+  pub has : HasAuditFault system.counts traces (histories_of books) fault
+  pub told : fault ≢ audit.Memory
+
+-- no run has a fault
+abbrev pub HasNoFault : System → AuditFault → Type 0
+HasNoFault system fault = ⊥
 
 -- the reader gave bytes that spell the system, and had no others
 pub record GivesSystem (old new : Option (List ℕ)) (system : System) : Type 0 where
@@ -53,13 +74,21 @@ pub record HasScriptFault (read_old read_new : Option (List ℕ)) (fault : Scrip
   pub read : ReadsUpTo (SCRIPT_LIMIT + 1) read_old read_new script
   pub first : IsFirstScriptFault script fault
 
--- what an engine promises of its result, where these are the texts of the runs of a system: what the reader had before and
--- has after, and what the writer held before and holds after
-pub record IsAnswered (IsText : System → List ℕ → Type 0) (read_old read_new written_old written_new : Option (List ℕ)) (result : Result Unit RunFault) : Type 0 where
+-- a run of the system that all of what was read spells has this fault of an audit
+pub record FailsAudit (HasFault : System → AuditFault → Type 0) (read_old read_new : Option (List ℕ)) (fault : AuditFault) : Type 0 where
+  pub system : System
+  pub given : GivesSystem read_old read_new system
+  pub has : HasFault system fault
+
+-- what an engine promises of its result, where these are the texts of the runs of a system, and the faults that a run may
+-- have: what the reader had before and has after, and what the writer held before and holds after
+pub record IsAnswered (IsText : System → List ℕ → Type 0) (HasFault : System → AuditFault → Type 0) (read_old read_new written_old written_new : Option (List ℕ)) (result : Result Unit RunFault) : Type 0 where
   -- what is written is such a text of the system that all that the reader had spells
   pub ok : OnOk result (Answers IsText read_old read_new written_old written_new)
   -- a fault of the script is the first of what was read
   pub script : (fault : ScriptFault) → result ≡ Err (run.Script fault) → HasScriptFault read_old read_new fault
+  -- a fault of an audit is one of a run
+  pub audit : (fault : AuditFault) → result ≡ Err (run.Audit fault) → FailsAudit HasFault read_old read_new fault
   -- nothing is written but by an Ok or before a failed write
   pub quiet : IfErr result (λ fault. fault ≢ run.Write → Keeps written_old written_new)
   -- and that leaves a front of such a text

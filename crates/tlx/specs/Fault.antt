@@ -1,5 +1,7 @@
 -- What becomes of the fault of a step. This project's own.
 use Rattle.std.specs.Prelude.{ℕ}
+use Rattle.tl_audit.specs.declared.fault.AuditFault.{AuditFault}
+use Rattle.tl_audit.specs.declared.fault.AuditFault.TheVariants as audit
 use Rattle.tl_script.specs.declared.fault.ScriptFault.{ScriptFault}
 use Rattle.tl_script.specs.declared.fault.ScriptFault.TheVariants as script
 use Rattle.tl_threads.specs.declared.fault.ThreadFault.{ThreadFault}
@@ -7,12 +9,16 @@ use Rattle.tl_threads.specs.declared.fault.ThreadFault.TheVariants as thread
 use Rattle.tlx.specs.declared.streams.ReadFault.{ReadFault}
 use Rattle.tlx.specs.declared.streams.ReadFault.TheVariants as read
 use Rattle.tlx.specs.declared.fault.RunFault.{RunFault}
-use Rattle.tlx.specs.declared.fault.RunFault.TheVariants.{Script, Read, Write, Memory, NoThread, GateHeld, StrayBook}
+use Rattle.tlx.specs.declared.fault.RunFault.TheVariants.{Script, Read, Write, Audit, Memory, NoThread, GateHeld, StrayBook}
 
 -- want of memory is one fault, whichever layer met it
 abbrev pub of_script : ScriptFault → RunFault
 of_script script.Memory = Memory
 of_script fault = Script fault
+
+abbrev pub of_audit : AuditFault → RunFault
+of_audit audit.Memory = Memory
+of_audit fault = Audit fault
 
 abbrev pub of_read : ReadFault → RunFault
 of_read read.Memory = Memory
@@ -29,6 +35,7 @@ abbrev pub status_of : RunFault → ℕ
 status_of (Script _) = 1
 status_of Read = 5
 status_of Write = 5
+status_of (Audit _) = 3
 status_of Memory = 4
 status_of NoThread = 4
 status_of (GateHeld _) = 5

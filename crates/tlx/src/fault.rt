@@ -1,10 +1,11 @@
 //! Why a run has no text.
 ghost use Rattle.std.specs.Prelude.{◌≡◌};
-ghost use Rattle.tlx.specs.Fault.{of_script, of_read, of_thread, status_of};
+ghost use Rattle.tlx.specs.Fault.{of_audit, of_read, of_script, of_thread, status_of};
 ghost use Rattle.tlx.specs.declared.fault.RunFault.TheVariants.{Write, Memory as WantOfMemory};
 
 use crate::streams::{ReadFault, WriteFault};
 use thiserror::Error;
+use tl_audit::AuditFault;
 use tl_script::ScriptFault;
 use tl_threads::ThreadFault;
 use tl_types::Memory;
@@ -20,6 +21,9 @@ pub enum RunFault {
     /// Nothing is said of how much went out.
     #[error("write failed")]
     Write,
+    /// The traces and histories of the run don't agree: the audit's first fault, but for want of memory.
+    #[error("{0}")]
+    Audit(AuditFault),
     /// Want of memory, in whichever layer it was met.
     #[error("memory refused")]
     Memory,
@@ -41,6 +45,7 @@ impl RunFault {
     {
         match self {
             RunFault::Script(_) => 1,
+            RunFault::Audit(_) => 3,
             RunFault::Memory | RunFault::NoThread => 4,
             RunFault::Read | RunFault::Write | RunFault::GateHeld(_) | RunFault::StrayBook(_) => 5,
         }
@@ -54,6 +59,17 @@ impl From<ScriptFault> for RunFault {
         match fault {
             ScriptFault::Memory => RunFault::Memory,
             other => RunFault::Script(other),
+        }
+    }
+}
+
+impl From<AuditFault> for RunFault {
+    ghost from_gives = { λ fault e. e ≡ of_audit fault };
+
+    fn from(fault: AuditFault) -> RunFault {
+        match fault {
+            AuditFault::Memory => RunFault::Memory,
+            other => RunFault::Audit(other),
         }
     }
 }

@@ -1,5 +1,6 @@
 //! The input of the program: a script, and the system that it spells.
 ghost use Rattle.std.specs.Prelude.{◌≡◌, ◌≢◌, IfOk, IfErr, Err};
+ghost use Rattle.tl_audit.specs.declared.fault.AuditFault.{AuditFault};
 ghost use Rattle.tl_script.specs.declared.fault.ScriptFault.{ScriptFault};
 ghost use Rattle.tlx.specs.Engine.{GivesSystem, HasScriptFault};
 
@@ -20,6 +21,7 @@ pub(crate) fn read_whole_system<R: Read>(
         (R.remaining reader.new.reader.now)) }
     ensures script { (fault : ScriptFault) → result ≡ Err (RunFault.Script fault)
         → HasScriptFault (R.remaining reader.old.reader.now) (R.remaining reader.new.reader.now) fault }
+    ensures unaudited { (fault : AuditFault) → result ≢ Err (RunFault.Audit fault) }
     ensures unwritten { IfErr result (λ fault. fault ≢ RunFault.Write) }
 {
     let script = read_up_to(alloc, reader, SCRIPT_LIMIT + 1)?;

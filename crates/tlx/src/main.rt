@@ -25,7 +25,7 @@ ghost use Rattle.std.specs.IoError.{error_kind};
 ghost use Rattle.std.specs.Process.{exit_status};
 ghost use Rattle.clap.specs.Words.{kind_of};
 ghost use Rattle.tl_serial.specs.Text.{IsSerialText};
-ghost use Rattle.tlx.specs.Engine.{IsAnswered, IsThreadedText};
+ghost use Rattle.tlx.specs.Engine.{HasNoFault, HasThreadedFault, IsAnswered, IsThreadedText};
 ghost use Rattle.tlx.specs.Fault.{status_of};
 ghost use Rattle.tl_options.specs.Options.{status_of_kind};
 
@@ -118,10 +118,12 @@ fn run<R: Read, W: Write, T: Threads + Wait + Sync>(
 
     // Which of the two texts is written.
     ensures serial { options.serial ≡ true
-        → IsAnswered (IsSerialText false) (R.remaining reader.old) (R.remaining reader.new)
+        → IsAnswered (IsSerialText false) HasNoFault
+        (R.remaining reader.old) (R.remaining reader.new)
         (W.contents writer.old) (W.contents writer.new) result }
     ensures threads { options.serial ≡ false
-        → IsAnswered IsThreadedText (R.remaining reader.old) (R.remaining reader.new)
+        → IsAnswered (IsThreadedText false) HasThreadedFault
+        (R.remaining reader.old) (R.remaining reader.new)
         (W.contents writer.old) (W.contents writer.new) result }
 {
     if options.serial {

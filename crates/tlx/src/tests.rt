@@ -8,6 +8,7 @@ use std::alloc::Global;
 use std::io;
 use std::io::{ErrorKind, Read, Write};
 use std::test::Fail;
+use tl_audit::AuditFault;
 use tl_script::{Key, SCRIPT_LIMIT, ScriptFault};
 
 /// The first example, and what it must print.
@@ -143,7 +144,7 @@ fn first_run(rt: HostRuntime) -> Result<(), Fail> {
 
 #[test]
 fn faults_have_their_lines_and_statuses(rt: HostRuntime) -> Result<(), Fail> {
-    let rows: [(RunFault, &str, u8); 8] = [
+    let rows: [(RunFault, &str, u8); 10] = [
         (
             RunFault::Script(ScriptFault::BadOp(0, 2)),
             "script: master 0 operation 2: bad operation",
@@ -157,6 +158,16 @@ fn faults_have_their_lines_and_statuses(rt: HostRuntime) -> Result<(), Fail> {
         (RunFault::Memory, "memory refused", 4),
         (RunFault::Read, "read failed", 5),
         (RunFault::Write, "write failed", 5),
+        (
+            RunFault::Audit(AuditFault::Missing(1, 2)),
+            "audit: master 1 entry 2: not in its history",
+            3,
+        ),
+        (
+            RunFault::Audit(AuditFault::Untraced(1, 2)),
+            "audit: port 1 entry 2: not traced",
+            3,
+        ),
         (RunFault::NoThread, "thread refused", 4),
         (RunFault::GateHeld(2), "gate of port 2 held", 5),
         (RunFault::StrayBook(3), "port 3: stray book", 5),

@@ -1,6 +1,6 @@
 //! The serial engine: from the bytes of a script to the text of its run on one thread.
 ghost use Rattle.std.specs.Prelude.{◌≡◌};
-ghost use Rattle.tlx.specs.Engine.{IsAnswered};
+ghost use Rattle.tlx.specs.Engine.{HasNoFault, IsAnswered};
 ghost use Rattle.tl_serial.specs.Text.{IsSerialText};
 
 use crate::fault::RunFault;
@@ -20,7 +20,8 @@ pub fn serial_engine<R: Read, W: Write>(
     writer: &mut W,
     history: bool,
 ) -> Result<(), RunFault>
-    ensures { IsAnswered (IsSerialText history) (R.remaining reader.old) (R.remaining reader.new)
+    ensures { IsAnswered (IsSerialText history) HasNoFault
+        (R.remaining reader.old) (R.remaining reader.new)
         (W.contents writer.old) (W.contents writer.new) result }
 {
     let mut reader = LimitedReader::new(reader);
@@ -37,7 +38,7 @@ fn run_script<R: Read, W: Write>(
 ) -> Result<(), RunFault>
     ensures same_reader { reader.new.reader.ghost_name ≡ reader.old.reader.ghost_name }
     ensures same_writer { writer.new.writer.ghost_name ≡ writer.old.writer.ghost_name }
-    ensures answered { IsAnswered (IsSerialText history)
+    ensures answered { IsAnswered (IsSerialText history) HasNoFault
         (R.remaining reader.old.reader.now) (R.remaining reader.new.reader.now)
         (W.contents writer.old.writer.now) (W.contents writer.new.writer.now) result }
 {

@@ -1,43 +1,56 @@
 //! The threaded engine: from the bytes of a script to the text of a run by threads.
-ghost use Rattle.std.specs.Prelude.{◌≡◌, ◌≤◌, IfOk, false};
-ghost use Rattle.tlx.specs.Engine.{IsAnswered, IsThreadedText};
+ghost use Rattle.std.specs.Prelude.{◌≡◌, ◌≤◌, ◌++◌, IfOk, OnOk, length, string_bytes};
+ghost use Rattle.tl_audit.specs.Reader.{histories_of};
+ghost use Rattle.tl_script.specs.History.{account_text};
+ghost use Rattle.tl_script.specs.System.{lists_of};
+ghost use Rattle.tl_serial.specs.Text.{histories_text, run_text};
+ghost use Rattle.tlx.specs.Engine.{HasThreadedFault, IsAnswered, IsThreadedText};
 
 use crate::fault::RunFault;
 use crate::input::read_whole_system;
 use crate::limited::{LimitedReader, LimitedWriter};
 use crate::streams::write_all;
-use std::alloc::Global;
+use std::alloc::{AllocError, Global};
 use std::io::{Read, Write};
 use std::sync::Wait;
 use std::thread::Threads;
-use tl_script::{System, write_account, write_trace};
-use tl_threads::{OpenGate, ThreadFault, run_threads};
-use tl_types::MAX_WORKERS;
+use tl_audit::audit;
+use tl_port::Book;
+use tl_script::{push_account, push_history, push_traces};
+use tl_threads::{OpenGate, ThreadedRun, run_threads};
+use tl_types::{MAX_WORKERS, Memory};
 
-/// The text of a run of a system by threads: its traces, and how many slots are free and how many held at its end.
-fn threaded_text<T: Threads + Wait + Sync>(
-    rt: &T,
-    alloc: Global,
-    system: &System,
-    workers: usize,
-) -> Result<Vec<u8>, ThreadFault>
-    requires some { 1 ≤ workers }
-    requires few { workers ≤ MAX_WORKERS }
-    ensures { IfOk result (λ text. IsThreadedText system.now text.items) }
+/// Appends the lines of the books' histories, port 0's first.
+fn push_histories(text: &mut String, books: &[Book]) -> Result<(), AllocError>
+    ensures { OnOk result
+        (string_bytes text.new
+        ≡ string_bytes text.old ++ histories_text (histories_of books.now)) }
 {
-    let run = run_threads(rt, alloc, system, workers, &OpenGate)?;
-    let mut text = write_trace(alloc, &run.traces)?;
-    let account = write_account(alloc, run.account.free.len(), run.account.held.len())?;
-    text.extend_from_slice(&account)?;
-    Ok(text)
+    for (port, book) in books.iter().enumerate() {
+        push_history(text, port, book.history())?;
+    }
+    Ok(())
+}
+
+/// The text of a run: its traces, its histories where they are asked for, and how many slots are free and how many held.
+fn text_of(alloc: Global, run: &ThreadedRun, history: bool) -> Result<Vec<u8>, Memory>
+    ensures { IfOk result (λ text. text.items
+        ≡ run_text history (lists_of run.now.traces.items) (histories_of run.now.books.items)
+        ++ account_text (length run.now.account.free.items) (length run.now.account.held.items)) }
+{
+    let mut text = String::new(alloc);
+    push_traces(&mut text, &run.traces)?;
+    if history {
+        push_histories(&mut text, &run.books)?;
+    }
+    push_account(&mut text, run.account.free.len(), run.account.held.len())?;
+    Ok(text.into_bytes())
 }
 
 /// Reads a script to its end, runs its system by threads, each master on one of its own and each port on as many as
-/// there are workers, and writes the traces and the account of the slots. It returns when all threads have ended, and
-/// nothing is written before the whole text is made. At most [`READS`](crate::limited::READS) reads are made, and at
-/// most [`RETRIES`](crate::limited::RETRIES) writes tried again.
-///
-/// The histories of a run by threads are not written yet: a caller asks for none.
+/// there are workers, audits the run, and writes the traces, the histories where they are asked for, and the account of
+/// the slots. It returns when all threads have ended, and nothing is written before the whole text is made. At most
+/// [`READS`](crate::limited::READS) reads are made, and at most [`RETRIES`](crate::limited::RETRIES) writes tried again.
 pub fn threads_engine<R: Read, W: Write, T: Threads + Wait + Sync>(
     rt: &T,
     alloc: Global,
@@ -48,14 +61,13 @@ pub fn threads_engine<R: Read, W: Write, T: Threads + Wait + Sync>(
 ) -> Result<(), RunFault>
     requires some { 1 ≤ workers }
     requires few { workers ≤ MAX_WORKERS }
-    requires no_history { history ≡ false }
-    ensures { IsAnswered IsThreadedText (R.remaining reader.old) (R.remaining reader.new)
+    ensures { IsAnswered (IsThreadedText history) HasThreadedFault
+        (R.remaining reader.old) (R.remaining reader.new)
         (W.contents writer.old) (W.contents writer.new) result }
 {
-    let _ = history;
     let mut reader = LimitedReader::new(reader);
     let mut writer = LimitedWriter::new(writer);
-    run_script(rt, alloc, &mut reader, &mut writer, workers)
+    run_script(rt, alloc, &mut reader, &mut writer, workers, history)
 }
 
 /// The same, through what limits the reads and the retried writes.
@@ -65,17 +77,20 @@ fn run_script<R: Read, W: Write, T: Threads + Wait + Sync>(
     reader: &mut LimitedReader<'_, R>,
     writer: &mut LimitedWriter<'_, W>,
     workers: usize,
+    history: bool,
 ) -> Result<(), RunFault>
     requires some { 1 ≤ workers }
     requires few { workers ≤ MAX_WORKERS }
     ensures same_reader { reader.new.reader.ghost_name ≡ reader.old.reader.ghost_name }
     ensures same_writer { writer.new.writer.ghost_name ≡ writer.old.writer.ghost_name }
-    ensures answered { IsAnswered IsThreadedText
+    ensures answered { IsAnswered (IsThreadedText history) HasThreadedFault
         (R.remaining reader.old.reader.now) (R.remaining reader.new.reader.now)
         (W.contents writer.old.writer.now) (W.contents writer.new.writer.now) result }
 {
     let system = read_whole_system(alloc, reader)?;
-    let text = threaded_text(rt, alloc, &system, workers)?;
+    let run = run_threads(rt, alloc, &system, workers, &OpenGate)?;
+    audit(alloc, system.sources(), &run.traces, &run.books)?;
+    let text = text_of(alloc, &run, history)?;
     write_all(writer, &text)?;
     Ok(())
 }

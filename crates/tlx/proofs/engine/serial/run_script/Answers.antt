@@ -9,6 +9,7 @@ returns-in_err-write_all-clause-answered g c =
     record {
       ok = search rules;
       script = search rules;
+      audit = search rules;
       quiet = search rules;
       part = at_err _ c.from_residual-in_err-write_all.result (λ e is. record {
         system = c.in_ok-system.system;

@@ -2,7 +2,7 @@ use Rattle.std.proofs.Common.{◌≡◌, ◌<◌, ℕ, List, Some, slice_get}
 use Rattle.tl_types.specs.declared.trace.Entry.{Entry}
 use Rattle.tl_audit.specs.Agrees.{IsInOrder}
 use Rattle.tl_audit.specs.Marks.{rows_in}
-use Rattle.tl_audit.proofs.audit.check_order.Given as goal
+use Rattle.tl_audit.proofs.lists.check_order.Given as goal
 
 -- the traces of the masters so far are in order
 abbrev pub invariant-loop-master : goal.invariant-loop-master

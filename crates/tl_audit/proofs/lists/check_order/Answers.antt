@@ -6,7 +6,7 @@ use Rattle.tl_types.specs.declared.trace.Entry.{Entry}
 use Rattle.tl_audit.specs.Agrees.{HasEntry, IsInOrder, lists_in}
 use Rattle.tl_audit.specs.Marks.{rows_in}
 use Rattle.tl_audit.proofs.Cells.{cell_within, row_at}
-use Rattle.tl_audit.proofs.audit.check_order.Goals as goal
+use Rattle.tl_audit.proofs.lists.check_order.Goals as goal
 
 pub first_disordered-requires : goal.first_disordered-requires
 first_disordered-requires c k e at =

@@ -1,7 +1,7 @@
 use Rattle.tl_audit.specs.Agrees.{lists_in}
 use Rattle.tl_audit.specs.Marks.{rows_in}
 use Rattle.tl_audit.proofs.Judging.{again, never, once}
-use Rattle.tl_audit.proofs.audit.audit_lists.Goals as goal
+use Rattle.tl_audit.proofs.lists.audit_lists.Goals as goal
 
 pub returns-in-Some-clause-fault : goal.returns-in-Some-clause-fault
 returns-in-Some-clause-fault c =

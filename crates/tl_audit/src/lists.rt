@@ -1,4 +1,4 @@
-//! The audit of traces and histories.
+//! The audit of traces and lists of histories.
 ghost use Rattle.std.specs.Prelude.{◌≡◌, ℕ, List, All, IfErr, IfNone, IfOk, IfSome, IsSomeAnd, OnOk, Some, replicate, slice_get};
 ghost use Rattle.std.specs.Prelude as std;
 ghost use Rattle.tl_types.specs.declared.trace.Entry.{Entry};

@@ -4,7 +4,7 @@ use Rattle.tl_audit.specs.Marks.{cell, rows_in, next_times}
 use Rattle.tl_audit.specs.declared.marks.Mark.TheVariants.{Unnamed}
 use Rattle.tl_audit.proofs.Cells.{all_written, blank_cell}
 use Rattle.tl_audit.proofs.Counting.{counted}
-use Rattle.tl_audit.proofs.audit.marks_of.Goals as goal
+use Rattle.tl_audit.proofs.lists.marks_of.Goals as goal
 
 pub mark_traces-requires : goal.mark_traces-requires
 mark_traces-requires c m trace there k e at =

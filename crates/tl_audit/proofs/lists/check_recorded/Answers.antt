@@ -6,7 +6,7 @@ use Rattle.tl_audit.specs.Agrees.{HasEntry, IsRecorded, lists_in}
 use Rattle.tl_audit.specs.Marks.{rows_in}
 use Rattle.tl_audit.proofs.Cells.{row_at}
 use Rattle.tl_audit.proofs.Entries.{entry_in, has_master, of_all}
-use Rattle.tl_audit.proofs.audit.check_recorded.Goals as goal
+use Rattle.tl_audit.proofs.lists.check_recorded.Goals as goal
 
 pub loop-master-preserved : goal.loop-master-preserved
 loop-master-preserved c m k e below has = ⊎_elim

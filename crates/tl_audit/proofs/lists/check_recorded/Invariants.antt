@@ -2,7 +2,7 @@ use Rattle.std.proofs.Common.{◌<◌, ℕ}
 use Rattle.tl_types.specs.declared.trace.Entry.{Entry}
 use Rattle.tl_audit.specs.Agrees.{HasEntry, IsRecorded, lists_in}
 use Rattle.tl_audit.specs.Marks.{rows_in}
-use Rattle.tl_audit.proofs.audit.check_recorded.Given as goal
+use Rattle.tl_audit.proofs.lists.check_recorded.Given as goal
 
 -- each entry of the masters so far is the one at its port and index
 abbrev pub invariant-loop-master : goal.invariant-loop-master

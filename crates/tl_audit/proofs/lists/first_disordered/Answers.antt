@@ -1,6 +1,6 @@
 use Rattle.std.proofs.Common.{◌≡◌, ◌<◌, ℕ, Option, Some, None, IsSomeAnd, unwrap_or, refl}
 use Rattle.tl_audit.proofs.Cells.{square_cell}
-use Rattle.tl_audit.proofs.audit.first_disordered.Goals as goal
+use Rattle.tl_audit.proofs.lists.first_disordered.Goals as goal
 
 below_it : (o : Option ℕ) (source : ℕ) → IsSomeAnd o (λ count. source < count) → source < unwrap_or o 0
 below_it None source is = absurd is
