@@ -27,7 +27,7 @@ use Rattle.clap.specs.declared.parser.matches.Found.{Found}
 use Rattle.clap.specs.declared.parser.matches.MatchedArg.{MatchedArg}
 use Rattle.clap.proofs.CallerLemmas.{default_present, entry_by_id, same_rules_by_id}
 use Rattle.tl_types.specs.declared.limits.TheConstants.{MAX_WORKERS}
-use Rattle.tl_options.specs.Options.{command_line, options_in, value_in, serial_rule, workers_rule}
+use Rattle.tl_options.specs.Options.{command_line, history_rule, options_in, value_in, serial_rule, workers_rule}
 
 -- ---- an argument of a command that names no group
 
@@ -209,24 +209,27 @@ is_none None e = refl
 is_none (Some x) e = cc
 
 -- what is read off a command's arguments where their rules are the program's
-record HasTwo (old : Command) : Type 0 where
+record HasThree (old : Command) : Type 0 where
   serial : Arg
+  history : Arg
   workers : Arg
-  are : args_of old ≡ serial ∷ workers ∷ []
+  are : args_of old ≡ serial ∷ history ∷ workers ∷ []
   serial_is : rule_of serial ≡ serial_rule
+  history_is : rule_of history ≡ history_rule
   workers_is : rule_of workers ≡ workers_rule
 
-two_of : {X Y : Type 0} (f : X → Y) (xs : List X) (p q : Y) → map f xs ≡ p ∷ q ∷ []
-    → (a : X) × (b : X) × (xs ≡ a ∷ b ∷ []) × (f a ≡ p) × (f b ≡ q)
-two_of f [] p q e = cc
-two_of f (a ∷ []) p q e = cc
-two_of f (a ∷ b ∷ []) p q e = (a, b, refl, cc, cc)
-two_of f (a ∷ b ∷ x ∷ xs) p q e = cc
+three_of : {X Y : Type 0} (f : X → Y) (xs : List X) (p q r : Y) → map f xs ≡ p ∷ q ∷ r ∷ []
+    → (a : X) × (b : X) × (c : X) × (xs ≡ a ∷ b ∷ c ∷ []) × (f a ≡ p) × (f b ≡ q) × (f c ≡ r)
+three_of f [] p q r e = cc
+three_of f (a ∷ []) p q r e = cc
+three_of f (a ∷ b ∷ []) p q r e = cc
+three_of f (a ∷ b ∷ c ∷ []) p q r e = (a, b, c, refl, cc, cc, cc)
+three_of f (a ∷ b ∷ c ∷ x ∷ xs) p q r e = cc
 
-has_two : (old : Command) → app_of old ≡ command_line → HasTwo old
-has_two old is =
-    let two = two_of rule_of (args_of old) serial_rule workers_rule (ap (λ (app : App). app.top.rules) is) in
-    record { serial = two.0; workers = two.1; are = two.2; serial_is = two.3; workers_is = two.4 }
+has_three : (old : Command) → app_of old ≡ command_line → HasThree old
+has_three old is =
+    let three = three_of rule_of (args_of old) serial_rule history_rule workers_rule (ap (λ (app : App). app.top.rules) is) in
+    record { serial = three.0; history = three.1; workers = three.2; are = three.3; serial_is = three.4; history_is = three.5; workers_is = three.6 }
 
 no_groups_of : (old : Command) → app_of old ≡ command_line → groups_of old ≡ []
 no_groups_of old is = no_items (groups_of old) (both _ _ (ap (λ (app : App). app.top.is_plain) is)).0
@@ -237,110 +240,146 @@ no_globals_of old is = is_not _ (both _ _ (both _ _ (both _ _ (ap (λ (app : App
 simple_groups : (a : Arg) → (rule_of a).is_simple ≡ true → a.groups.items ≡ []
 simple_groups a is = no_items a.groups.items (both _ _ (both _ _ (both _ _ is).1).1).0
 
-names_none : (old : Command) → HasTwo old → NamesNoGroup old
-names_none old two k d lt = go k lt
+names_none : (old : Command) → HasThree old → NamesNoGroup old
+names_none old three k d lt = go k lt
   where
     go : (k : ℕ) → k < length (args_of old) → (slice_index_or (args_of old) k d).groups.items ≡ []
-    go zero lt = rw two.are (simple_groups two.serial (ap (λ (r : Rule). r.is_simple) two.serial_is))
-    go (suc zero) lt = rw two.are (simple_groups two.workers (ap (λ (r : Rule). r.is_simple) two.workers_is))
-    go (suc (suc k)) lt =
-        let bad : suc (suc k) < 2 = subst (λ (xs : List Arg). suc (suc k) < length xs) two.are lt in
+    go zero lt = rw three.are (simple_groups three.serial (ap (λ (r : Rule). r.is_simple) three.serial_is))
+    go (suc zero) lt = rw three.are (simple_groups three.history (ap (λ (r : Rule). r.is_simple) three.history_is))
+    go (suc (suc zero)) lt = rw three.are (simple_groups three.workers (ap (λ (r : Rule). r.is_simple) three.workers_is))
+    go (suc (suc (suc k))) lt =
+        let bad : suc (suc (suc k)) < 3 = subst (λ (xs : List Arg). suc (suc (suc k)) < length xs) three.are lt in
         absurd (omega (arith, bad))
 
-first_alone : (xs : List Arg) (a b : Arg) → xs ≡ a ∷ b ∷ [] → bytes_eq b.id.now a.id.now ≡ false
-    → (j : ℕ) (e : Arg) → j < length xs → bytes_eq (slice_index_or xs j e).id.now a.id.now ≡ true → j ≡ 0
-first_alone xs a b are apart zero e lt same = refl
-first_alone xs a b are apart (suc zero) e lt same =
-    let bad : bytes_eq b.id.now a.id.now ≡ true = rw are at same in
-    cc
-first_alone xs a b are apart (suc (suc j)) e lt same =
-    let bad : suc (suc j) < 2 = subst (λ (ys : List Arg). suc (suc j) < length ys) are lt in
+-- of three arguments with ids apart, that with an id stands at its own place
+place_of : (xs : List Arg) (a b c x : Arg) (k : ℕ) → xs ≡ a ∷ b ∷ c ∷ []
+    → (bytes_eq a.id.now x.id.now ≡ true → 0 ≡ k) → (bytes_eq b.id.now x.id.now ≡ true → 1 ≡ k) → (bytes_eq c.id.now x.id.now ≡ true → 2 ≡ k)
+    → (j : ℕ) (e : Arg) → j < length xs → bytes_eq (slice_index_or xs j e).id.now x.id.now ≡ true → j ≡ k
+place_of xs a b c x k are first second third zero e lt same = first (rw are at same)
+place_of xs a b c x k are first second third (suc zero) e lt same = second (rw are at same)
+place_of xs a b c x k are first second third (suc (suc zero)) e lt same = third (rw are at same)
+place_of xs a b c x k are first second third (suc (suc (suc j))) e lt same =
+    let bad : suc (suc (suc j)) < 3 = subst (λ (ys : List Arg). suc (suc (suc j)) < length ys) are lt in
     absurd (omega (arith, bad))
 
-second_alone : (xs : List Arg) (a b : Arg) → xs ≡ a ∷ b ∷ [] → bytes_eq a.id.now b.id.now ≡ false
-    → (j : ℕ) (e : Arg) → j < length xs → bytes_eq (slice_index_or xs j e).id.now b.id.now ≡ true → j ≡ 1
-second_alone xs a b are apart zero e lt same =
-    let bad : bytes_eq a.id.now b.id.now ≡ true = rw are at same in
+-- an id that is neither `help` nor `version` is the caller's own
+not_auto : (a : Arg) (t : List ℕ) → a.id.now ≡ t → bytes_eq t (codes "help") ≡ false → bytes_eq t (codes "version") ≡ false → IsAuto a → ⊥
+not_auto a t id help version (inl h) =
+    let bad : bytes_eq t (codes "help") ≡ true = subst (λ (u : List ℕ). bytes_eq u (codes "help") ≡ true) (sym h ∙ id) refl in
     cc
-second_alone xs a b are apart (suc zero) e lt same = refl
-second_alone xs a b are apart (suc (suc j)) e lt same =
-    let bad : suc (suc j) < 2 = subst (λ (ys : List Arg). suc (suc j) < length ys) are lt in
-    absurd (omega (arith, bad))
+not_auto a t id help version (inr h) =
+    let bad : bytes_eq t (codes "version") ≡ true = subst (λ (u : List ℕ). bytes_eq u (codes "version") ≡ true) (sym h ∙ id) refl in
+    cc
 
--- an id that begins with none of the letters of `help` and `version` is the caller's own
-not_auto : (a : Arg) (n : ℕ) → slice_index a.id.now 0 ≡ n → n ≢ 104 → n ≢ 118 → IsAuto a → ⊥
-not_auto a n is other another (inl h) = other (sym is ∙ ap (λ (t : List ℕ). slice_index t 0) h)
-not_auto a n is other another (inr h) = another (sym is ∙ ap (λ (t : List ℕ). slice_index t 0) h)
+not_empty : (a : Arg) (n : ℕ) (t : List ℕ) → a.id.now ≡ n ∷ t → a.id.now ≡ [] → ⊥
+not_empty a n t id h = let bad : n ∷ t ≡ [] = sym id ∙ h in cc
 
-not_empty : (a : Arg) (n : ℕ) → slice_index a.id.now 0 ≡ suc n → a.id.now ≡ [] → ⊥
-not_empty a n is h =
-    let bad : 0 ≡ suc n = sym (ap (λ (t : List ℕ). slice_index t 0) h) ∙ is in
-    omega (arith, bad)
+-- the ids of the three
+serial_id : (old : Command) (three : HasThree old) → three.serial.id.now ≡ codes "serial"
+serial_id old three = ap (λ (r : Rule). r.id) three.serial_is
 
-serial_own : (old : Command) (two : HasTwo old) → IsOwn old 0 two.serial
-serial_own old two =
-    let id : two.serial.id.now ≡ codes "serial" = ap (λ (r : Rule). r.id) two.serial_is in
-    let other : two.workers.id.now ≡ codes "workers" = ap (λ (r : Rule). r.id) two.workers_is in
-    let first : slice_index two.serial.id.now 0 ≡ 115 = rw id refl in
+history_id : (old : Command) (three : HasThree old) → three.history.id.now ≡ codes "history"
+history_id old three = ap (λ (r : Rule). r.id) three.history_is
+
+workers_id : (old : Command) (three : HasThree old) → three.workers.id.now ≡ codes "workers"
+workers_id old three = ap (λ (r : Rule). r.id) three.workers_is
+
+-- two ids that are told apart are not the same
+apart : (a b : Arg) (s t : List ℕ) (j k : ℕ) → a.id.now ≡ s → b.id.now ≡ t → bytes_eq s t ≡ false → bytes_eq a.id.now b.id.now ≡ true → j ≡ k
+apart a b s t j k first second other same =
+    let bad : bytes_eq s t ≡ true = rw (first, second) at same in
+    cc
+
+serial_own : (old : Command) (three : HasThree old) → IsOwn old 0 three.serial
+serial_own old three =
+    let id = serial_id old three in
     record {
-      within = rw two.are (omega arith);
-      at = λ d. rw two.are refl;
-      unique = first_alone (args_of old) two.serial two.workers two.are (rw (id, other) refl);
-      own = not_auto two.serial 115 first (omega arith) (omega arith);
-      named = not_empty two.serial 114 first;
+      within = rw three.are (omega arith);
+      at = λ d. rw three.are refl;
+      unique = place_of (args_of old) three.serial three.history three.workers three.serial 0 three.are (λ same. refl)
+          (apart three.history three.serial _ _ 1 0 (history_id old three) id refl)
+          (apart three.workers three.serial _ _ 2 0 (workers_id old three) id refl);
+      own = not_auto three.serial (codes "serial") id refl refl;
+      named = not_empty three.serial _ _ id;
     }
 
-workers_own : (old : Command) (two : HasTwo old) → IsOwn old 1 two.workers
-workers_own old two =
-    let other : two.serial.id.now ≡ codes "serial" = ap (λ (r : Rule). r.id) two.serial_is in
-    let id : two.workers.id.now ≡ codes "workers" = ap (λ (r : Rule). r.id) two.workers_is in
-    let first : slice_index two.workers.id.now 0 ≡ 119 = rw id refl in
+history_own : (old : Command) (three : HasThree old) → IsOwn old 1 three.history
+history_own old three =
+    let id = history_id old three in
     record {
-      within = rw two.are (omega arith);
-      at = λ d. rw two.are refl;
-      unique = second_alone (args_of old) two.serial two.workers two.are (rw (id, other) refl);
-      own = not_auto two.workers 119 first (omega arith) (omega arith);
-      named = not_empty two.workers 118 first;
+      within = rw three.are (omega arith);
+      at = λ d. rw three.are refl;
+      unique = place_of (args_of old) three.serial three.history three.workers three.history 1 three.are
+          (apart three.serial three.history _ _ 0 1 (serial_id old three) id refl) (λ same. refl)
+          (apart three.workers three.history _ _ 2 1 (workers_id old three) id refl);
+      own = not_auto three.history (codes "history") id refl refl;
+      named = not_empty three.history _ _ id;
     }
 
--- ---- what is read of the two
+workers_own : (old : Command) (three : HasThree old) → IsOwn old 2 three.workers
+workers_own old three =
+    let id = workers_id old three in
+    record {
+      within = rw three.are (omega arith);
+      at = λ d. rw three.are refl;
+      unique = place_of (args_of old) three.serial three.history three.workers three.workers 2 three.are
+          (apart three.serial three.workers _ _ 0 2 (serial_id old three) id refl)
+          (apart three.history three.workers _ _ 1 2 (history_id old three) id refl) (λ same. refl);
+      own = not_auto three.workers (codes "workers") id refl refl;
+      named = not_empty three.workers _ _ id;
+    }
+
+-- ---- what is read of the three
 
 has_items : (xs : List (Bor (List ℕ))) (t : List ℕ) → texts xs ≡ t ∷ [] → 0 < length xs
 has_items [] t e = cc
 has_items (x ∷ xs) t e = omega arith
 
--- the flag's text, where it has one, says true or false
+-- the text of a flag, where it has one, says true or false
+flag_text : (old : Command) (m : ArgMatches) → app_of old ≡ command_line → IsParsedFrom old m → (k : ℕ) (a : Arg) → IsOwn old k a → a.value_parser ≡ Some values.Bool
+    → (id : List ℕ) → a.id.now ≡ id → (t : List ℕ) → one_text (found_of m) id ≡ Some t
+    → (bytes_eq t (codes "true") || bytes_eq t (codes "false")) ≡ true
+flag_text old m is p k a own parser id id_is t has =
+    let three = has_three old is in
+    let text = own_text old m p k a own (names_none old three) (no_groups_of old is) (no_globals_of old is)
+    values.Bool parser t (subst (λ (w : List ℕ). one_text (found_of m) w ≡ Some t) (sym id_is) has) in
+    subst (λ (w : List ℕ). (bytes_eq w (codes "true") || bytes_eq w (codes "false")) ≡ true) text.1 text.2
+
 serial_text : (old : Command) (m : ArgMatches) → app_of old ≡ command_line → IsParsedFrom old m
     → (t : List ℕ) → one_text (found_of m) (codes "serial") ≡ Some t
     → (bytes_eq t (codes "true") || bytes_eq t (codes "false")) ≡ true
-serial_text old m is p t has =
-    let two = has_two old is in
-    let id : two.serial.id.now ≡ codes "serial" = ap (λ (r : Rule). r.id) two.serial_is in
-    let own = own_text old m p 0 two.serial (serial_own old two) (names_none old two) (no_groups_of old is) (no_globals_of old is)
-    values.Bool (ap (λ (r : Rule). r.parser) two.serial_is) t (subst (λ (w : List ℕ). one_text (found_of m) w ≡ Some t) (sym id) has) in
-    subst (λ (w : List ℕ). (bytes_eq w (codes "true") || bytes_eq w (codes "false")) ≡ true) own.1 own.2
+serial_text old m is p =
+    let three = has_three old is in
+    flag_text old m is p 0 three.serial (serial_own old three) (ap (λ (r : Rule). r.parser) three.serial_is) (codes "serial") (serial_id old three)
 
--- the other option has a text, and it is a number of workers that there may be
+history_text : (old : Command) (m : ArgMatches) → app_of old ≡ command_line → IsParsedFrom old m
+    → (t : List ℕ) → one_text (found_of m) (codes "history") ≡ Some t
+    → (bytes_eq t (codes "true") || bytes_eq t (codes "false")) ≡ true
+history_text old m is p =
+    let three = has_three old is in
+    flag_text old m is p 1 three.history (history_own old three) (ap (λ (r : Rule). r.parser) three.history_is) (codes "history") (history_id old three)
+
+-- the third option has a text, and it is a number of workers that there may be
 workers_text : (old : Command) (m : ArgMatches) → app_of old ≡ command_line → IsParsedFrom old m
     → (t : List ℕ) × (one_text (found_of m) (codes "workers") ≡ Some t) × IsUnsignedIn 1 MAX_WORKERS t
 workers_text old m is p =
-    let two = has_two old is in
-    let a = two.workers in
-    let id : a.id.now ≡ codes "workers" = ap (λ (r : Rule). r.id) two.workers_is in
-    let simple = ap (λ (r : Rule). r.is_simple) two.workers_is in
+    let three = has_three old is in
+    let a = three.workers in
+    let id : a.id.now ≡ codes "workers" = ap (λ (r : Rule). r.id) three.workers_is in
+    let simple = ap (λ (r : Rule). r.is_simple) three.workers_is in
     let after = both _ _ (both _ _ simple).1 in
     let delim : a.val_delim ≡ None = is_none a.val_delim (both _ _ (both _ _ after.1).1).0 in
-    let range : a.num_vals ≡ None = ap (λ (r : Rule). r.range) two.workers_is in
+    let range : a.num_vals ≡ None = ap (λ (r : Rule). r.range) three.workers_is in
     let one : 1 ≤ 1 = omega arith in
     let least : 1 ≤ least_values a = subst (λ (r : Option ValueRange). 1 ≤ (unwrap_or_range r).start_inclusive) (sym range) one in
-    let defaults : texts (items_of a.default_vals) ≡ codes "1" ∷ [] = ap (λ (r : Rule). r.defaults) two.workers_is in
+    let defaults : texts (items_of a.default_vals) ≡ codes "1" ∷ [] = ap (λ (r : Rule). r.defaults) three.workers_is in
     let wants : WantsDefault a = (no_items a.default_vals_ifs.items after.0, has_items (items_of a.default_vals) (codes "1") defaults) in
-    let own = workers_own old two in
-    let none = names_none old two in
-    let value = own_value old m p 1 a own none (no_groups_of old is) (no_globals_of old is)
-    (ap (λ (r : Rule). r.action) two.workers_is) delim least wants in
-    let text = own_text old m p 1 a own none (no_groups_of old is) (no_globals_of old is)
-    (values.Unsigned 1 MAX_WORKERS) (ap (λ (r : Rule). r.parser) two.workers_is) value.0 value.1 in
+    let own = workers_own old three in
+    let none = names_none old three in
+    let value = own_value old m p 2 a own none (no_groups_of old is) (no_globals_of old is)
+    (ap (λ (r : Rule). r.action) three.workers_is) delim least wants in
+    let text = own_text old m p 2 a own none (no_groups_of old is) (no_globals_of old is)
+    (values.Unsigned 1 MAX_WORKERS) (ap (λ (r : Rule). r.parser) three.workers_is) value.0 value.1 in
     (value.0, subst (λ (w : List ℕ). one_text (found_of m) w ≡ Some value.0) id value.1, subst (IsUnsignedIn 1 MAX_WORKERS) text.1 text.2)
 
 -- the flag that was read is what its text says
@@ -392,18 +431,42 @@ value_read : (old : Command) (m : ArgMatches) (words : List (List ℕ)) → app_
 value_read old m words is has id = one_text-rows (found_of m) id ∙ ap (one_of id) (has (ap is_simple is)).0
     ∙ ap (λ (app : App). one_of id (matches_of app words)) is
 
--- the options that were read are those that the words ask for
-pub asked_for : (old : Command) (m : ArgMatches) (words : List (List ℕ)) (serial : Bool) (r : Option ℕ) (workers : ℕ)
-    → app_of old ≡ command_line → IsParsedFrom old m → HasMatchesOf (app_of old) words m
+-- a flag that was read is what the words say of it
+flag_asked : (old : Command) (m : ArgMatches) (words : List (List ℕ)) → app_of old ≡ command_line → HasMatchesOf (app_of old) words m → (id : List ℕ) (flag : Bool)
+    → (one_text (found_of m) id ≡ None → flag ≡ false)
+    → (one_text (found_of m) id ≡ Some (codes "true") → flag ≡ true)
+    → (one_text (found_of m) id ≡ Some (codes "false") → flag ≡ false)
+    → ((t : List ℕ) → one_text (found_of m) id ≡ Some t → (bytes_eq t (codes "true") || bytes_eq t (codes "false")) ≡ true)
+    → flag ≡ bytes_eq (value_in words id) (codes "true")
+flag_asked old m words is has id flag none set unset says =
+    flag_is (one_text (found_of m) id) flag none set unset says
+    ∙ ap (λ (o : Option (List ℕ)). bytes_eq (unwrap_or o []) (codes "true")) (value_read old m words is has id)
+
+pub serial_asked : (old : Command) (m : ArgMatches) (words : List (List ℕ)) → app_of old ≡ command_line → IsParsedFrom old m → HasMatchesOf (app_of old) words m → (serial : Bool)
     → (one_text (found_of m) (codes "serial") ≡ None → serial ≡ false)
     → (one_text (found_of m) (codes "serial") ≡ Some (codes "true") → serial ≡ true)
     → (one_text (found_of m) (codes "serial") ≡ Some (codes "false") → serial ≡ false)
+    → serial ≡ bytes_eq (value_in words (codes "serial")) (codes "true")
+serial_asked old m words is p has serial none set unset =
+    flag_asked old m words is has (codes "serial") serial none set unset (serial_text old m is p)
+
+pub history_asked : (old : Command) (m : ArgMatches) (words : List (List ℕ)) → app_of old ≡ command_line → IsParsedFrom old m → HasMatchesOf (app_of old) words m → (history : Bool)
+    → (one_text (found_of m) (codes "history") ≡ None → history ≡ false)
+    → (one_text (found_of m) (codes "history") ≡ Some (codes "true") → history ≡ true)
+    → (one_text (found_of m) (codes "history") ≡ Some (codes "false") → history ≡ false)
+    → history ≡ bytes_eq (value_in words (codes "history")) (codes "true")
+history_asked old m words is p has history none set unset =
+    flag_asked old m words is has (codes "history") history none set unset (history_text old m is p)
+
+-- the options that were read are those that the words ask for
+pub asked_for : (old : Command) (m : ArgMatches) (words : List (List ℕ)) (serial history : Bool) (r : Option ℕ) (workers : ℕ)
+    → app_of old ≡ command_line → HasMatchesOf (app_of old) words m
+    → serial ≡ bytes_eq (value_in words (codes "serial")) (codes "true")
+    → history ≡ bytes_eq (value_in words (codes "history")) (codes "true")
     → ReadsNumber (found_of m) r → r ≡ Some workers
-    → record { serial = serial; workers = workers } ≡ options_in words
-asked_for old m words serial r workers is p has none set unset read is_number =
-    let flag : serial ≡ bytes_eq (value_in words (codes "serial")) (codes "true") =
-    flag_is (one_text (found_of m) (codes "serial")) serial none set unset (serial_text old m is p)
-    ∙ ap (λ (o : Option (List ℕ)). bytes_eq (unwrap_or o []) (codes "true")) (value_read old m words is has (codes "serial")) in
+    → record { serial = serial; history = history; workers = workers } ≡ options_in words
+asked_for old m words serial history r workers is has flag other read is_number =
     let text : read.text ≡ value_in words (codes "workers") = ap (λ (o : Option (List ℕ)). unwrap_or o []) (sym read.has ∙ value_read old m words is has (codes "workers")) in
     let number : workers ≡ digits_value 10 (without_leading_plus read.text) = ap (λ (o : Option ℕ). unwrap_or o 0) (sym is_number ∙ read.is) in
-    ap₂ (λ (s : Bool) (n : ℕ). record { serial = s; workers = n }) flag (number ∙ ap (λ (t : List ℕ). digits_value 10 (without_leading_plus t)) text)
+    let asked : workers ≡ digits_value 10 (without_leading_plus (value_in words (codes "workers"))) = number ∙ ap (λ (t : List ℕ). digits_value 10 (without_leading_plus t)) text in
+    rw (flag, other, asked) refl

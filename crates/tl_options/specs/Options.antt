@@ -19,6 +19,14 @@ serial_rule = record (new_rule (codes "serial")) {
   parser = Some values.Bool;
 }
 
+-- `--history`, a flag
+abbrev pub history_rule : Rule
+history_rule = record (new_rule (codes "history")) {
+  long = Some (codes "history");
+  action = Some SetTrue;
+  parser = Some values.Bool;
+}
+
 -- `--workers N`, a number from 1 to the most that there may be, and 1 where it is not given
 abbrev pub workers_rule : Rule
 workers_rule = record (new_rule (codes "workers")) {
@@ -33,9 +41,9 @@ workers_rule = record (new_rule (codes "workers")) {
 abbrev pub program : App
 program = let plain = new_app (codes "tlx") in record plain { top = record plain.top { has_version = true } }
 
--- the command line: these two, and `--help` and `--version`, which clap adds
+-- the command line: these three, and `--help` and `--version`, which clap adds
 abbrev pub command_line : App
-command_line = with_rule (with_rule program serial_rule) workers_rule
+command_line = with_rule (with_rule (with_rule program serial_rule) history_rule) workers_rule
 
 -- the value that the words give an option, or its own where they give none
 abbrev pub value_in : List Text → Text → Text
@@ -45,6 +53,7 @@ value_in words option = unwrap_or (one_of option (matches_of command_line words)
 abbrev pub options_in : List Text → Options
 options_in words = record {
   serial = bytes_eq (value_in words (codes "serial")) (codes "true");
+  history = bytes_eq (value_in words (codes "history")) (codes "true");
   workers = digits_value 10 (without_leading_plus (value_in words (codes "workers")));
 }
 

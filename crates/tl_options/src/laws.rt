@@ -6,15 +6,20 @@ ghost use Rattle.tl_options.specs.Options.{AskFor, AreRefusedAs};
 
 /// The lines that are taken. The first word is the program's name.
 pub fn lines_ask_for_options()
-    ensures alone { AskFor (record { serial = false; workers = 1 }) (codes "tlx" ∷ []) }
-    ensures serial { AskFor (record { serial = true; workers = 1 })
+    ensures alone { AskFor (record { serial = false; history = false; workers = 1 })
+        (codes "tlx" ∷ []) }
+    ensures serial { AskFor (record { serial = true; history = false; workers = 1 })
         (codes "tlx" ∷ codes "--serial" ∷ []) }
-    ensures workers { AskFor (record { serial = false; workers = 3 })
+    ensures history { AskFor (record { serial = false; history = true; workers = 1 })
+        (codes "tlx" ∷ codes "--history" ∷ []) }
+    ensures workers { AskFor (record { serial = false; history = false; workers = 3 })
         (codes "tlx" ∷ codes "--workers" ∷ codes "3" ∷ []) }
-    ensures attached { AskFor (record { serial = false; workers = 4 })
+    ensures attached { AskFor (record { serial = false; history = false; workers = 4 })
         (codes "tlx" ∷ codes "--workers=4" ∷ []) }
-    ensures both { AskFor (record { serial = true; workers = 2 })
-        (codes "tlx" ∷ codes "--workers" ∷ codes "2" ∷ codes "--serial" ∷ []) }
+    ensures both { AskFor (record { serial = true; history = true; workers = 1 })
+        (codes "tlx" ∷ codes "--serial" ∷ codes "--history" ∷ []) }
+    ensures all { AskFor (record { serial = true; history = true; workers = 2 })
+        (codes "tlx" ∷ codes "--history" ∷ codes "--workers" ∷ codes "2" ∷ codes "--serial" ∷ []) }
 {}
 
 /// The lines that ask for help or the version, and mistakes.
@@ -27,5 +32,5 @@ pub fn lines_are_refused()
         (codes "tlx" ∷ codes "--workers" ∷ codes "one" ∷ []) }
     ensures missing { AreRefusedAs InvalidValue (codes "tlx" ∷ codes "--workers" ∷ []) }
     ensures stray { AreRefusedAs UnknownArgument (codes "tlx" ∷ codes "stray" ∷ []) }
-    ensures unknown { AreRefusedAs UnknownArgument (codes "tlx" ∷ codes "--history" ∷ []) }
+    ensures unknown { AreRefusedAs UnknownArgument (codes "tlx" ∷ codes "--verbose" ∷ []) }
 {}

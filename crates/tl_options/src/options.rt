@@ -1,7 +1,7 @@
-//! The command line: `tlx [--serial] [--workers N]`.
+//! The command line: `tlx [--serial] [--history] [--workers N]`.
 ghost use Rattle.std.specs.Prelude.{◌≡◌, ◌≤◌, IfOk, map, false};
 ghost use Rattle.clap.specs.Words.{FailsBy, app_of, fault_of, kind_of, rule_of};
-ghost use Rattle.tl_options.specs.Options.{command_line, options_in, program, serial_rule, status_of_kind, workers_rule};
+ghost use Rattle.tl_options.specs.Options.{command_line, history_rule, options_in, program, serial_rule, status_of_kind, workers_rule};
 
 use clap::error::ErrorKind;
 use clap::{Arg, ArgAction, Command, Error, value_parser};
@@ -20,13 +20,16 @@ The script comes on standard input:
   sources = 16
   ops = [\"0 putfull 0x1000 2 11223344\", \"0 get 0x1000 2\"]
 
-Status: 0 done, 1 a fault of the script, 2 of the command line, 4 memory or a thread refused, 5 a read or a write failed.";
+Status: 0 done, 1 a fault of the script, 2 of the command line, 3 of the audit, 4 memory or a thread refused, 5 a read or a
+write failed.";
 
 /// What the command line asks for.
 #[derive(Clone, Copy, Debug, PartialEq, Eq)]
 pub struct Options {
     /// Runs all masters one after the other, on one thread.
     pub serial: bool,
+    /// Prints the histories behind the traces.
+    pub history: bool,
     /// How many threads serve each port, where the masters are threads.
     pub workers: usize,
 }
@@ -49,6 +52,7 @@ pub fn read_options(alloc: Global, words: &[&str]) -> Result<Options, Error>
     let matches = command(alloc)?.try_get_matches_from(words)?;
     Ok(Options {
         serial: matches.get_flag("serial"),
+        history: matches.get_flag("history"),
         workers: matches.get_one::<usize>("workers").unwrap(),
     })
 }
@@ -75,6 +79,18 @@ fn serial_flag<'a>(alloc: Global) -> Arg<'a>
         .help("Run the masters one after the other, on one thread")
 }
 
+/// `--history`.
+fn history_flag<'a>(alloc: Global) -> Arg<'a>
+    ensures rule { rule_of result ≡ history_rule }
+    ensures local { result.global ≡ false }
+{
+    Arg::new(alloc, "history")
+        .long("history")
+        .action(ArgAction::SetTrue)
+        .value_parser(value_parser!(bool))
+        .help("Print what each port has served behind the traces")
+}
+
 /// `--workers N`.
 fn workers_option<'a>(alloc: Global) -> Arg<'a>
     ensures rule { rule_of result ≡ workers_rule }
@@ -95,6 +111,7 @@ fn command<'a>(alloc: Global) -> Result<Command<'a>, AllocError>
 {
     program(alloc)
         .arg(serial_flag(alloc))?
+        .arg(history_flag(alloc))?
         .arg(workers_option(alloc))
 }
 

@@ -4,31 +4,42 @@ use std::test::Fail;
 
 #[test]
 fn words_give_options(rt: HostRuntime) -> Result<(), Fail> {
-    let rows: [(&[&str], bool, usize); 6] = [
-        (&["tlx"], false, 1),
-        (&["tlx", "--serial"], true, 1),
-        (&["tlx", "--workers", "1"], false, 1),
-        (&["tlx", "--workers=4"], false, 4),
-        (&["tlx", "--workers", "2", "--serial"], true, 2),
-        (&["tlx", "--serial", "--workers=3"], true, 3),
+    let rows: [(&[&str], bool, bool, usize); 9] = [
+        (&["tlx"], false, false, 1),
+        (&["tlx", "--serial"], true, false, 1),
+        (&["tlx", "--history"], false, true, 1),
+        (&["tlx", "--serial", "--history"], true, true, 1),
+        (&["tlx", "--history", "--workers", "1"], false, true, 1),
+        (&["tlx", "--workers=4"], false, false, 4),
+        (&["tlx", "--workers", "2", "--serial"], true, false, 2),
+        (&["tlx", "--serial", "--workers=3"], true, false, 3),
+        (&["tlx", "--serial", "--workers=4", "--history"], true, true, 4),
     ];
-    for (words, serial, workers) in rows {
+    for (words, serial, history, workers) in rows {
         let options = read_options(rt.alloc(), words)?;
-        assert_eq!(rt; options, Options { serial, workers });
+        assert_eq!(rt;
+            options,
+            Options {
+                serial,
+                history,
+                workers,
+            }
+        );
     }
     Ok(())
 }
 
 #[test]
 fn other_words_have_a_status(rt: HostRuntime) {
-    let rows: [(&[&str], u8); 12] = [
+    let rows: [(&[&str], u8); 13] = [
         (&["tlx", "--workers", "5"], 2),
         (&["tlx", "--workers", "0"], 2),
         (&["tlx", "--workers", "-1"], 2),
         (&["tlx", "--workers", "one"], 2),
         (&["tlx", "--workers"], 2),
         (&["tlx", "--workers=1", "--workers=1"], 2),
-        (&["tlx", "--history"], 2),
+        (&["tlx", "--history=yes"], 2),
+        (&["tlx", "--history", "--history"], 2),
         (&["tlx", "--serial=yes"], 2),
         (&["tlx", "--version"], 0),
         (&["tlx", "stray"], 2),

@@ -1,9 +1,10 @@
 //! tlx: runs a script of requests over a TileLink crossbar, and prints what each is answered.
 //!
 //! Standard input is a script, a TOML document of ports, masters and their operations. Each master is a thread, and
-//! each port has as many as `--workers` says; standard output is the traces of the run and the account of its slots.
-//! With `--serial` all runs on one thread, and standard output is the traces. A fault is one line on standard error, and
-//! then nothing was written, save for a failed write; a command line that is refused is told by clap's text.
+//! each port has as many as `--workers` says; standard output is the traces of the run, with `--history` the histories of
+//! its ports, and the account of its slots. With `--serial` all runs on one thread, and there is no account. A fault is one
+//! line on standard error, and then nothing was written, save for a failed write; a command line that is refused is told by
+//! clap's text.
 //!
 //! `serial_engine` and `threads_engine` (`engine`) carry the theorems: what is written is the text of the serial run
 //! (crate `tl_serial`), or of a run by threads (crate `tl_threads`), of the system that all of the input spells. `input`
@@ -118,17 +119,24 @@ fn run<R: Read, W: Write, T: Threads + Wait + Sync>(
 
     // Which of the two texts is written.
     ensures serial { options.serial ≡ true
-        → IsAnswered (IsSerialText false) HasNoFault
+        → IsAnswered (IsSerialText options.history) HasNoFault
         (R.remaining reader.old) (R.remaining reader.new)
         (W.contents writer.old) (W.contents writer.new) result }
     ensures threads { options.serial ≡ false
-        → IsAnswered (IsThreadedText false) HasThreadedFault
+        → IsAnswered (IsThreadedText options.history) HasThreadedFault
         (R.remaining reader.old) (R.remaining reader.new)
         (W.contents writer.old) (W.contents writer.new) result }
 {
     if options.serial {
-        serial_engine(alloc, reader, writer, false)
+        serial_engine(alloc, reader, writer, options.history)
     } else {
-        threads_engine(rt, alloc, reader, writer, options.workers, false)
+        threads_engine(
+            rt,
+            alloc,
+            reader,
+            writer,
+            options.workers,
+            options.history,
+        )
     }
 }

@@ -7,7 +7,9 @@ unfolding clap_on_literals
 returns c = record {
   alone = (refl, refl);
   serial = (refl, refl);
+  history = (refl, refl);
   workers = (refl, refl);
   attached = (refl, refl);
   both = (refl, refl);
+  all = (refl, refl);
 }
