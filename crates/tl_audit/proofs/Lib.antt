@@ -1,4 +1,3 @@
-mod Same
 mod Pairs
 mod Cells
 mod Counting

@@ -5,13 +5,6 @@ ghost use Rattle.tl_audit.specs.Agrees.{IsRecorded, lists_in, pair_at};
 use tl_map::Sources;
 use tl_types::{Ask, Entry, Reply};
 
-/// Whether two requests carry the same bytes.
-fn are_same(one: &[Option<u8>], other: &[Option<u8>]) -> bool
-    ensures { IsTrue result ↔ (one.now ≡ other.now) }
-{
-    one == other
-}
-
 /// Whether a request is another but for the source, which is this one.
 fn is_ask(wide: &Ask, source: u16, own: &Ask) -> bool
     ensures { IsTrue result ↔ (wide.now ≡ record own.now { source = source }) }
@@ -20,7 +13,7 @@ fn is_ask(wide: &Ask, source: u16, own: &Ask) -> bool
         && wide.op() == own.op()
         && wide.size() == own.size()
         && wide.address() == own.address()
-        && are_same(wide.bytes(), own.bytes())
+        && wide.bytes().is_same(own.bytes())
 }
 
 /// Whether a reply is another but for the source, which is this one.

@@ -9,7 +9,7 @@ use Rattle.tl_types.specs.Response.{Response}
 use Rattle.tl_types.specs.declared.operation.ReplyOp.{ReplyOp}
 use Rattle.tl_beats.specs.Replies.{IsLawfulFlag}
 use Rattle.tl_beats.specs.Beats.{low, lane_of, IsActive}
-use Rattle.tl_beats.specs.Packing.{reply_byte_at}
+use Rattle.tl_beats.specs.Packing.{plain_at_place}
 use Rattle.tl_beats.proofs.Places.{place_beat, place_is_active}
 use Rattle.tl_beats.proofs.Words.{slice_get-word}
 
@@ -22,45 +22,45 @@ slice_index-word bytes s n k e starts in_bus =
     sym (unwrap_or-slice_get (take n (drop s bytes)) k 0) ∙ ap (λ o. unwrap_or o 0) (slice_get-word bytes s n k e starts in_bus) ∙ unwrap_or-slice_get bytes (s + k) 0
 
 -- byte j is at the place first + j, and none before
-pub reply_byte_at-first : (bytes : List ℕ) (first j place : ℕ) → place ≡ first + j → reply_byte_at bytes first place ≡ slice_index bytes j
-reply_byte_at-first bytes first j place e =
+pub plain_at_place-first : (bytes : List ℕ) (first j place : ℕ) → place ≡ first + j → plain_at_place bytes first place ≡ slice_index bytes j
+plain_at_place-first bytes first j place e =
     let above : nat_lt place first ≡ false = grind (arith, nat_tests) in
     let index : place - first ≡ j = omega arith in
     rw (above, index) refl
 
-pub reply_byte_at-before : (bytes : List ℕ) (first place : ℕ) → place < first → reply_byte_at bytes first place ≡ 0
-reply_byte_at-before bytes first place h =
+pub plain_at_place-before : (bytes : List ℕ) (first place : ℕ) → place < first → plain_at_place bytes first place ≡ 0
+plain_at_place-before bytes first place h =
     let below : nat_lt place first ≡ true = grind (arith, nat_tests) in
     rw below refl
 
-pub reply_byte_at-past : (bytes : List ℕ) (first place : ℕ) → first + length bytes ≤ place → reply_byte_at bytes first place ≡ 0
-reply_byte_at-past bytes first place h =
-    reply_byte_at-first bytes first (place - first) place (omega arith) ∙ slice_index-past bytes (place - first) (omega arith)
+pub plain_at_place-past : (bytes : List ℕ) (first place : ℕ) → first + length bytes ≤ place → plain_at_place bytes first place ≡ 0
+plain_at_place-past bytes first place h =
+    plain_at_place-first bytes first (place - first) place (omega arith) ∙ slice_index-past bytes (place - first) (omega arith)
 
 -- what stands at a lane of beat b, seen from its own bytes and from those of the reply
-pub reply_byte_at-word : (bytes : List ℕ) (first b n k : ℕ) → (first ≡ 0) ⊎ (b ≡ 0) → n ≡ min (length bytes) (8 * b + 8) - 8 * b → 8 * b ≤ length bytes → k < 8 → reply_byte_at (take n (drop (8 * b) bytes)) first k ≡ reply_byte_at bytes first (8 * b + k)
-reply_byte_at-word bytes first b n k aligned e starts in_bus = go aligned (cases_lt k first)
+pub plain_at_place-word : (bytes : List ℕ) (first b n k : ℕ) → (first ≡ 0) ⊎ (b ≡ 0) → n ≡ min (length bytes) (8 * b + 8) - 8 * b → 8 * b ≤ length bytes → k < 8 → plain_at_place (take n (drop (8 * b) bytes)) first k ≡ plain_at_place bytes first (8 * b + k)
+plain_at_place-word bytes first b n k aligned e starts in_bus = go aligned (cases_lt k first)
   where
-    go : (first ≡ 0) ⊎ (b ≡ 0) → (k < first) ⊎ (first ≤ k) → reply_byte_at (take n (drop (8 * b) bytes)) first k ≡ reply_byte_at bytes first (8 * b + k)
+    go : (first ≡ 0) ⊎ (b ≡ 0) → (k < first) ⊎ (first ≤ k) → plain_at_place (take n (drop (8 * b) bytes)) first k ≡ plain_at_place bytes first (8 * b + k)
     go (inl at_zero) (inl below) = absurd (omega (arith, at_zero, below))
     go (inr only) (inl below) =
-        reply_byte_at-before (take n (drop (8 * b) bytes)) first k below ∙ sym (reply_byte_at-before bytes first (8 * b + k) (omega (arith, only, below)))
+        plain_at_place-before (take n (drop (8 * b) bytes)) first k below ∙ sym (plain_at_place-before bytes first (8 * b + k) (omega (arith, only, below)))
     go _ (inr above) =
-        reply_byte_at-first (take n (drop (8 * b) bytes)) first (k - first) k (omega (arith, above)) ∙ slice_index-word bytes (8 * b) n (k - first) e starts (omega (arith, in_bus)) ∙ sym (reply_byte_at-first bytes first (8 * b + (k - first)) (8 * b + k) (omega (arith, above)))
+        plain_at_place-first (take n (drop (8 * b) bytes)) first (k - first) k (omega (arith, above)) ∙ slice_index-word bytes (8 * b) n (k - first) e starts (omega (arith, in_bus)) ∙ sym (plain_at_place-first bytes first (8 * b + (k - first)) (8 * b + k) (omega (arith, above)))
 
 -- where all bytes are zero, each place is
-pub reply_byte_at-zero : (bytes : List ℕ) (first place : ℕ) → All (λ byte. byte ≡ 0) bytes → reply_byte_at bytes first place ≡ 0
-reply_byte_at-zero bytes first place zero = go (cases_lt place first)
+pub plain_at_place-zero : (bytes : List ℕ) (first place : ℕ) → All (λ byte. byte ≡ 0) bytes → plain_at_place bytes first place ≡ 0
+plain_at_place-zero bytes first place zero = go (cases_lt place first)
   where
     within : (i : ℕ) → (i < length bytes) ⊎ (length bytes ≤ i) → slice_index bytes i ≡ 0
     within i (inl h) = zero i 0 h
     within i (inr h) = slice_index-past bytes i h
 
-    go : (place < first) ⊎ (first ≤ place) → reply_byte_at bytes first place ≡ 0
-    go (inl below) = reply_byte_at-before bytes first place below
-    go (inr above) = reply_byte_at-first bytes first (place - first) place (omega (arith, above)) ∙ within (place - first) (cases_lt _ _)
+    go : (place < first) ⊎ (first ≤ place) → plain_at_place bytes first place ≡ 0
+    go (inl below) = plain_at_place-before bytes first place below
+    go (inr above) = plain_at_place-first bytes first (place - first) place (omega (arith, above)) ∙ within (place - first) (cases_lt _ _)
 
-module _ (reply : Response) (address b : ℕ) (lanes : List ℕ) (counted : length reply.bytes ≡ 2 ^ reply.size) (beat : b < max 1 (2 ^ reply.size / 8)) (filled : (k : ℕ) → k < 8 → slice_index lanes k ≡ reply_byte_at reply.bytes (low address reply.size % 8) (8 * b + k)) where
+module _ (reply : Response) (address b : ℕ) (lanes : List ℕ) (counted : length reply.bytes ≡ 2 ^ reply.size) (beat : b < max 1 (2 ^ reply.size / 8)) (filled : (k : ℕ) → k < 8 → slice_index lanes k ≡ plain_at_place reply.bytes (low address reply.size % 8) (8 * b + k)) where
   -- each byte of beat b stands where it is to stand
   pub reply_bytes_stand : (j byte : ℕ) → slice_get reply.bytes j ≡ Some byte → j / 8 ≡ b → slice_index lanes (lane_of address reply.size j) ≡ byte
   reply_bytes_stand j byte at in_beat =
@@ -69,15 +69,15 @@ module _ (reply : Response) (address b : ℕ) (lanes : List ℕ) (counted : leng
       let lane = lane_of address reply.size j in
       let same_beat : (first + j) / 8 ≡ j / 8 = place_beat address reply.size j (omega arith) in
       let place : 8 * b + lane ≡ first + j = omega arith in
-      filled lane (omega arith) ∙ reply_byte_at-first reply.bytes first j (8 * b + lane) place ∙ get_or_from_slice_get reply.bytes j byte 0 at
+      filled lane (omega arith) ∙ plain_at_place-first reply.bytes first j (8 * b + lane) place ∙ get_or_from_slice_get reply.bytes j byte 0 at
 
   -- no byte stands at a lane that is not active
   pub reply_idle : (k : ℕ) → k < 8 → (IsActive address reply.size k → ⊥) → slice_index lanes k ≡ 0
   reply_idle k in_bus idle = filled k in_bus ∙ go (cases_lt _ _) (cases_lt _ _)
     where
-      go : (8 * b + k < low address reply.size % 8) ⊎ (low address reply.size % 8 ≤ 8 * b + k) → (8 * b + k < low address reply.size % 8 + 2 ^ reply.size) ⊎ (low address reply.size % 8 + 2 ^ reply.size ≤ 8 * b + k) → reply_byte_at reply.bytes (low address reply.size % 8) (8 * b + k) ≡ 0
-      go (inl before) _ = reply_byte_at-before reply.bytes _ _ before
-      go (inr above) (inr past) = reply_byte_at-past reply.bytes _ _ (rw counted past)
+      go : (8 * b + k < low address reply.size % 8) ⊎ (low address reply.size % 8 ≤ 8 * b + k) → (8 * b + k < low address reply.size % 8 + 2 ^ reply.size) ⊎ (low address reply.size % 8 + 2 ^ reply.size ≤ 8 * b + k) → plain_at_place reply.bytes (low address reply.size % 8) (8 * b + k) ≡ 0
+      go (inl before) _ = plain_at_place-before reply.bytes _ _ before
+      go (inr above) (inr past) = plain_at_place-past reply.bytes _ _ (rw counted past)
       go (inr above) (inl below) =
           let active = place_is_active address reply.size b k in_bus beat above below in
           absurd (idle record { above = active.0; below = active.1 })

@@ -1,15 +1,15 @@
 //! Beats to requests.
-ghost use Rattle.std.specs.Prelude.{◌≡◌, ◌+◌, ◌<◌, ◌≤◌, ◌↔◌, length, Ok, IsTrue, IfOk, IfErr};
+ghost use Rattle.std.specs.Prelude.{◌≡◌, ℕ, ◌+◌, ◌%◌, ◌<◌, ◌≤◌, ◌↔◌, length, Ok, IsTrue, IfOk, IfErr};
+ghost use Rattle.std.specs.Int.{bit_at};
 ghost use Rattle.tl_types.specs.Operation.{carries_bytes};
 ghost use Rattle.tl_types.specs.Request.{Request, IsLawfulRequest};
-ghost use Rattle.tl_beats.specs.Beats.{beat_count, IsLawfulMask, StandsAt, SpellsAsk};
+ghost use Rattle.tl_beats.specs.Beats.{beat_count, active_mask, IsLawfulMask, StandsAt, SpellsAsk};
 ghost use Rattle.tl_beats.specs.Faults.{SameFields, IsFirstBeatFault};
 ghost use Rattle.tl_beats.specs.Reading.{GainsLanes, IsReadFrom, IsFaultOfBeats};
 
 use crate::beat::{ABeat, BeatFault};
 use crate::bus::{active_mask, beat_count, first_failing, first_lane};
-use arrayvec::ArrayVec;
-use tl_types::{Ask, AskOp, BUS_BYTES, LARGEST_SIZE, MAX_BYTES, read_op};
+use tl_types::{Ask, AskOp, BUS_BYTES, Bytes, LARGEST_SIZE, MAX_BYTES, read_op};
 
 /// Whether two beats have the same shared fields.
 fn same_fields(first: &ABeat, beat: &ABeat) -> bool
@@ -27,7 +27,14 @@ fn is_lawful_mask(mask: u8, op: AskOp, size: u8, address: u64) -> bool
     requires { size ≤ LARGEST_SIZE }
     ensures { IsTrue result ↔ IsLawfulMask op size address mask }
 {
-    let active = active_mask(address, size);
+    sets_active(mask, op, active_mask(address, size))
+}
+
+/// Whether a mask sets just the active lanes, or some of them where bytes may be left unset.
+fn sets_active(mask: u8, op: AskOp, active: u8) -> bool
+    ensures { (size address : ℕ) → active ≡ active_mask address size
+        → (IsTrue result ↔ IsLawfulMask op size address mask) }
+{
     if op.may_leave_unset() {
         mask & active == mask
     } else {
@@ -47,25 +54,25 @@ fn byte_at(beat: &ABeat, lane: usize) -> Option<u8>
     }
 }
 
-/// Appends all lanes of a beat whose mask sets every lane.
-fn push_word(bytes: &mut ArrayVec<Option<u8>, MAX_BYTES>, beat: &ABeat)
-    requires full { beat.now.mask ≡ 255 }
-    requires room { length bytes.old.items + BUS_BYTES ≤ MAX_BYTES }
-    ensures { GainsLanes beat.now 0 BUS_BYTES bytes.old.items bytes.new.items }
+/// Whether a mask sets all of so many lanes from `first` on.
+fn sets_all(mask: u8, first: usize, count: usize) -> bool
+    requires some { 0 < count }
+    requires in_bus { first + count ≤ BUS_BYTES }
+    ensures { IsTrue result → (k : ℕ) → k < count → bit_at mask (first + k) ≡ 1 }
 {
-    for lane in 0..BUS_BYTES {
-        bytes.push(Some(beat.lanes[lane]));
-    }
+    let ones = u8::MAX >> (BUS_BYTES - count);
+    mask >> first & ones == ones
 }
 
 /// Appends what stands at some lanes of a beat.
-fn push_lanes(bytes: &mut ArrayVec<Option<u8>, MAX_BYTES>, beat: &ABeat, first: usize, count: usize)
+fn push_lanes(bytes: &mut Bytes, beat: &ABeat, first: usize, count: usize)
+    requires aligned { length bytes.old % BUS_BYTES ≡ 0 }
     requires in_bus { first + count ≤ BUS_BYTES }
-    requires room { length bytes.old.items + count ≤ MAX_BYTES }
-    ensures { GainsLanes beat.now first count bytes.old.items bytes.new.items }
+    requires room { length bytes.old + count ≤ MAX_BYTES }
+    ensures { GainsLanes beat.now first count bytes.old bytes.new }
 {
-    if count == BUS_BYTES && beat.mask == u8::MAX {
-        push_word(bytes, beat);
+    if count > 0 && sets_all(beat.mask, first, count) {
+        bytes.push_given(&beat.lanes[first..first + count]);
         return;
     }
     for k in 0..count {
@@ -74,25 +81,22 @@ fn push_lanes(bytes: &mut ArrayVec<Option<u8>, MAX_BYTES>, beat: &ABeat, first: 
 }
 
 /// The bytes that stand in the beats of a request, or the first fault that shows from beat to beat.
-fn read_beats(
-    beats: &[ABeat],
-    first: &ABeat,
-    op: AskOp,
-) -> Result<ArrayVec<Option<u8>, MAX_BYTES>, BeatFault>
+fn read_beats(beats: &[ABeat], first: &ABeat, op: AskOp) -> Result<Bytes, BeatFault>
     requires in_limit { first.now.size ≤ LARGEST_SIZE }
     requires count { length beats.now ≡ beat_count (carries_bytes op) first.now.size }
-    ensures ok { IfOk result (λ bytes. IsReadFrom beats.now first.now op bytes.items) }
+    ensures ok { IfOk result (λ bytes. IsReadFrom beats.now first.now op bytes) }
     ensures fault { IfErr result (IsFaultOfBeats beats.now first.now op) }
 {
     let wanted = op.byte_count(first.size);
     let lane = first_lane(first.address, first.size);
-    let mut bytes = ArrayVec::new();
+    let active = active_mask(first.address, first.size);
+    let mut bytes = Bytes::new();
     let mut bad_mask = None;
     for (b, beat) in beats.iter().enumerate() {
         if !same_fields(first, beat) {
             return Err(BeatFault::Changed(b));
         }
-        let lawful = is_lawful_mask(beat.mask, op, first.size, first.address);
+        let lawful = sets_active(beat.mask, op, active);
         bad_mask = first_failing(bad_mask, lawful, b);
         let count = (wanted - bytes.len()).min(BUS_BYTES);
         push_lanes(&mut bytes, beat, lane, count);

@@ -1,6 +1,7 @@
 //! Where the bytes of a message stand on the bus.
-ghost use Rattle.std.specs.Prelude.{◌≡◌, ◌%◌, ◌<◌, ◌≤◌};
+ghost use Rattle.std.specs.Prelude.{◌≡◌, ℕ, ◌+◌, ◌%◌, ◌<◌, ◌≤◌, length, slice_index};
 ghost use Rattle.tl_beats.specs.Beats.{low, beat_count, active_mask};
+ghost use Rattle.tl_beats.specs.Packing.{plain_at_place};
 ghost use Rattle.tl_beats.specs.Reading.{first_failing};
 
 use crate::beat::MAX_BEATS;
@@ -48,4 +49,20 @@ pub fn first_failing(failed: Option<usize>, passes: bool, b: usize) -> Option<us
     } else {
         failed
     }
+}
+
+/// The lanes of a beat whose bytes begin at the lane `first`, with zeros on all others.
+pub fn placed(given: &[u8], first: usize) -> [u8; BUS_BYTES]
+    requires { first + length given.now ≤ BUS_BYTES }
+    ensures { (k : ℕ) → k < BUS_BYTES → slice_index result k ≡ plain_at_place given.now first k }
+{
+    let mut lanes = [0; BUS_BYTES];
+    if given.len() == BUS_BYTES {
+        lanes.copy_from_slice(given);
+        return lanes;
+    }
+    for k in 0..given.len() {
+        lanes[first + k] = given[k];
+    }
+    lanes
 }

@@ -1,12 +1,12 @@
 //! Replies to beats.
-ghost use Rattle.std.specs.Prelude.{◌≡◌, ℕ, ◌+◌, ◌<◌, ◌≤◌, length, slice_index, All};
+ghost use Rattle.std.specs.Prelude.{◌≡◌, ◌%◌, ◌<◌, All};
 ghost use Rattle.tl_types.specs.Operation.{reply_carries_bytes};
-ghost use Rattle.tl_beats.specs.Beats.{beat_count};
+ghost use Rattle.tl_beats.specs.Beats.{beat_count, low};
 ghost use Rattle.tl_beats.specs.Replies.{IsReplyBeatOf, IsCleanReply, SpellsReply};
-ghost use Rattle.tl_beats.specs.Packing.{reply_byte_at, IsBlankReplyOf};
+ghost use Rattle.tl_beats.specs.Packing.{IsBlankReplyOf};
 
 use crate::beat::{DBeat, MAX_BEATS};
-use crate::bus::{beat_count, first_lane};
+use crate::bus::{beat_count, first_lane, placed};
 use arrayvec::ArrayVec;
 use tl_types::{BUS_BYTES, Reply, reply_opcode};
 
@@ -25,25 +25,10 @@ fn blank_reply_beat(reply: &Reply) -> DBeat
     }
 }
 
-/// The lanes of a beat whose bytes begin at the lane `first`.
-fn place_reply_bytes(given: &[u8], first: usize) -> [u8; BUS_BYTES]
-    requires { first + length given.now ≤ BUS_BYTES }
-    ensures { (k : ℕ) → k < BUS_BYTES → slice_index result k ≡ reply_byte_at given.now first k }
-{
-    let mut lanes = [0; BUS_BYTES];
-    if given.len() == BUS_BYTES {
-        lanes.copy_from_slice(given);
-        return lanes;
-    }
-    for k in 0..given.len() {
-        lanes[first + k] = given[k];
-    }
-    lanes
-}
-
-/// Beat number `b` of a reply to a request at the address.
-fn reply_beat(reply: &Reply, address: u64, blank: &DBeat, b: usize) -> DBeat
+/// Beat number `b` of a reply whose bytes begin at the lane `first`, which is that of the address.
+fn reply_beat(reply: &Reply, address: u64, blank: &DBeat, first: usize, b: usize) -> DBeat
     requires blank { IsBlankReplyOf reply.now blank.now }
+    requires first { first ≡ low address reply.now.size % BUS_BYTES }
     requires beat { b < beat_count (reply_carries_bytes reply.now.op) reply.now.size }
     ensures spells { IsReplyBeatOf reply.now address b result }
     ensures clean { IsCleanReply reply.now address result }
@@ -55,7 +40,7 @@ fn reply_beat(reply: &Reply, address: u64, blank: &DBeat, b: usize) -> DBeat
     let start = BUS_BYTES * b;
     let given = &bytes[start..bytes.len().min(start + BUS_BYTES)];
     DBeat {
-        lanes: place_reply_bytes(given, first_lane(address, reply.size())),
+        lanes: placed(given, first),
         ..*blank
     }
 }
@@ -68,9 +53,10 @@ pub fn pack_reply(reply: &Reply, address: u64) -> ArrayVec<DBeat, MAX_BEATS>
     ensures clean { All (λ beat. IsCleanReply reply.now address beat) result.items }
 {
     let blank = blank_reply_beat(reply);
+    let first = first_lane(address, reply.size());
     let mut beats = ArrayVec::new();
     for b in 0..beat_count(reply.op().carries_bytes(), reply.size()) {
-        beats.push(reply_beat(reply, address, &blank, b));
+        beats.push(reply_beat(reply, address, &blank, first, b));
     }
     beats
 }

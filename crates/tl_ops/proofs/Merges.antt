@@ -67,13 +67,10 @@ window_grows bytes start m n given inside enough =
 
 -- a byte put after the first ones, where a zero stood
 pub byte_put : (front done rest : List ℕ) (was byte place : ℕ) → length (front ++ done) ≡ place
-    → with_window (front ++ (done ++ (was ∷ rest))) place (merged (take 1 (drop place (front ++ (done ++ (was ∷ rest))))) (Some byte ∷ [])) ≡ front ++ ((done ++ byte ∷ []) ++ rest)
+    → with_window (front ++ (done ++ (was ∷ rest))) place (byte ∷ []) ≡ front ++ ((done ++ byte ∷ []) ++ rest)
 byte_put front done rest was byte place at =
-    let bytes = front ++ (done ++ (was ∷ rest)) in
-    let grouped : bytes ≡ (front ++ done) ++ ((was ∷ []) ++ rest) = sym (append_assoc front done (was ∷ rest)) in
-    let window : take 1 (drop place bytes) ≡ was ∷ [] = ap (λ bs. take 1 (drop place bs)) grouped ∙ middle (front ++ done) (was ∷ []) rest place 1 at refl in
+    let grouped : front ++ (done ++ (was ∷ rest)) ≡ (front ++ done) ++ ((was ∷ []) ++ rest) = sym (append_assoc front done (was ∷ rest)) in
     let regrouped : (front ++ done) ++ ((byte ∷ []) ++ rest) ≡ front ++ ((done ++ byte ∷ []) ++ rest) = simp append_assoc in
-    ap (λ old. with_window bytes place (merged old (Some byte ∷ []))) window
-    ∙ ap (λ bs. with_window bs place (byte ∷ [])) grouped
+    ap (λ bs. with_window bs place (byte ∷ [])) grouped
     ∙ middle_replaced (front ++ done) (was ∷ []) rest (byte ∷ []) place at refl
     ∙ regrouped

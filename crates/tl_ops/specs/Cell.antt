@@ -1,6 +1,6 @@
 -- Bytes in words of the bus: this project's own words. A cell is some bytes of one word, next to one another, as one
 -- number, the lowest byte first.
-use Rattle.std.specs.Prelude.{◌≡◌, ℕ, ◌<◌, ◌≤◌, ◌+◌, ◌*◌, ◌/◌, ◌%◌, ◌^◌, ◌-◌, List, map, Option, None, Some}
+use Rattle.std.specs.Prelude.{◌≡◌, ℕ, ◌<◌, ◌≤◌, ◌+◌, ◌*◌, ◌/◌, ◌%◌, ◌^◌, ◌-◌, List, map, take, drop, Option, None, Some}
 use Rattle.std.specs.List.{flat_map}
 use Rattle.tl_types.specs.declared.limits.TheConstants.{BUS_BYTES}
 use Rattle.tl_ops.specs.Number.{low_bytes}
@@ -21,6 +21,10 @@ cell_of word lane width = word / 2 ^ (8 * lane) % 2 ^ (8 * width)
 abbrev pub with_cell : ℕ → ℕ → ℕ → ℕ → ℕ
 with_cell word lane width cell =
     (word / 2 ^ (8 * lane) / 2 ^ (8 * width) * 2 ^ (8 * width) + cell) * 2 ^ (8 * lane) + word % 2 ^ (8 * lane)
+
+-- the part of a request's bytes that one word has
+abbrev pub word_of : List (Option ℕ) → ℕ → List (Option ℕ)
+word_of given word = take BUS_BYTES (drop (BUS_BYTES * word) given)
 
 -- a byte of a mask: all bits where the old byte is kept, since none is given
 abbrev pub keep_byte : Option ℕ → ℕ

@@ -1,11 +1,11 @@
 //! Some bytes of one word, next to one another, as one number: a cell, and what a request makes of it.
-ghost use Rattle.std.specs.Prelude.{◌≡◌, ◌+◌, ◌*◌, ◌-◌, ◌^◌, ◌<◌, ◌≤◌, length};
+ghost use Rattle.std.specs.Prelude.{◌≡◌, ◌+◌, ◌*◌, ◌-◌, ◌^◌, ◌<◌, ◌≤◌, length, take, drop};
 ghost use Rattle.tl_ops.specs.Number.{signed, low_bytes};
 ghost use Rattle.tl_ops.specs.Window.{operand_of, combine_arith, combine_logic, new_window, cleared};
-ghost use Rattle.tl_ops.specs.Cell.{cell_of, with_cell, keep_byte, keep_of};
+ghost use Rattle.tl_ops.specs.Cell.{cell_of, with_cell, keep_byte, keep_of, word_of};
 ghost use Rattle.tl_ops.specs.declared.kind.Kind.TheVariants.{Ram};
 
-use tl_types::{Arith, AskOp, BUS_BYTES, Logic};
+use tl_types::{Arith, AskOp, BUS_BYTES, Bytes, Logic, MAX_BYTES};
 
 /// The mask of a cell of so many bytes, at the lowest lanes.
 fn cell_mask(width: usize) -> u64
@@ -51,53 +51,59 @@ fn keep_byte(byte: Option<u8>) -> u8
     if byte.is_none() { u8::MAX } else { 0 }
 }
 
-/// What the bytes of a whole word give.
-fn given_word(given: &[Option<u8>]) -> Given
-    requires { length given.now ≡ BUS_BYTES }
-    ensures bytes { low_bytes (length given.now) result.bytes ≡ operand_of given.now }
-    ensures keep { low_bytes (length given.now) result.keep ≡ keep_of given.now }
+/// The cell that these bytes spell.
+fn spelled(bytes: &[u8]) -> u64
+    requires { length bytes.now ≤ BUS_BYTES }
+    ensures fits { result < 2 ^ (8 * length bytes.now) }
+    ensures value { low_bytes (length bytes.now) result ≡ bytes.now }
 {
-    Given {
-        bytes: u64::from_le_bytes([
-            given[0].unwrap_or(0),
-            given[1].unwrap_or(0),
-            given[2].unwrap_or(0),
-            given[3].unwrap_or(0),
-            given[4].unwrap_or(0),
-            given[5].unwrap_or(0),
-            given[6].unwrap_or(0),
-            given[7].unwrap_or(0),
-        ]),
-        keep: u64::from_le_bytes([
-            keep_byte(given[0]),
-            keep_byte(given[1]),
-            keep_byte(given[2]),
-            keep_byte(given[3]),
-            keep_byte(given[4]),
-            keep_byte(given[5]),
-            keep_byte(given[6]),
-            keep_byte(given[7]),
-        ]),
+    if bytes.len() == BUS_BYTES {
+        return u64::from_le_bytes([
+            bytes[0], bytes[1], bytes[2], bytes[3], bytes[4], bytes[5], bytes[6], bytes[7],
+        ]);
     }
+    let mut cell = 0u64;
+    for k in (0..bytes.len()).rev() {
+        cell = cell << 8 | u64::from(bytes[k]);
+    }
+    cell
 }
 
-/// What the bytes of a cell give.
-fn given_cell(given: &[Option<u8>]) -> Given
-    requires { length given.now ≤ BUS_BYTES }
-    ensures fits { result.bytes < 2 ^ (8 * length given.now) }
-    ensures bytes { low_bytes (length given.now) result.bytes ≡ operand_of given.now }
-    ensures keep { low_bytes (length given.now) result.keep ≡ keep_of given.now }
+/// The mask of the lanes that keep their byte, for so many bytes of a request.
+fn kept(bytes: &Bytes, from: usize, count: usize) -> u64
+    requires in_word { count ≤ BUS_BYTES }
+    requires in_limit { from ≤ MAX_BYTES }
+    requires inside { from + count ≤ length bytes.now }
+    ensures { low_bytes count result ≡ keep_of (take count (drop from bytes.now)) }
 {
-    if given.len() == BUS_BYTES {
-        return given_word(given);
-    }
-    let mut bytes = 0u64;
     let mut keep = 0u64;
-    for k in (0..given.len()).rev() {
-        bytes = bytes << 8 | u64::from(given[k].unwrap_or(0));
-        keep = keep << 8 | u64::from(keep_byte(given[k]));
+    for k in (0..count).rev() {
+        keep = keep << 8 | u64::from(keep_byte(bytes.get(from + k)));
     }
-    Given { bytes, keep }
+    keep
+}
+
+/// What a word of a request's bytes gives.
+fn given_word(bytes: &Bytes, word: usize) -> Given
+    requires { BUS_BYTES * word < length bytes.now }
+    ensures fits { result.bytes < 2 ^ (8 * length (word_of bytes.now word)) }
+    ensures bytes { let given = word_of bytes.now word in
+        low_bytes (length given) result.bytes ≡ operand_of given }
+    ensures keep { let given = word_of bytes.now word in
+        low_bytes (length given) result.keep ≡ keep_of given }
+{
+    let len = bytes.len();
+    let from = BUS_BYTES * word;
+    let count = (len - from).min(BUS_BYTES);
+    let all_given = bytes.mask(word) == u8::MAX >> (BUS_BYTES - count);
+    Given {
+        bytes: spelled(&bytes.plain()[from..from + count]),
+        keep: if all_given {
+            0
+        } else {
+            kept(bytes, from, count)
+        },
+    }
 }
 
 /// A cell of so many bytes in two's complement.
@@ -152,7 +158,7 @@ fn combine_arith(op: Arith, old: u64, operand: u64, width: usize) -> u64
 }
 
 /// The cell after a put where writing a one clears.
-pub fn cleared_cell(old: u64, given: &[Option<u8>]) -> u64
+pub fn cleared_cell(old: u64, given: &Bytes) -> u64
     requires some { 0 < length given.now }
     requires in_word { length given.now ≤ BUS_BYTES }
     requires old { old < 2 ^ (8 * length given.now) }
@@ -160,24 +166,28 @@ pub fn cleared_cell(old: u64, given: &[Option<u8>]) -> u64
     ensures bytes { low_bytes (length given.now) result
         ≡ cleared (low_bytes (length given.now) old) (operand_of given.now) }
 {
-    let Given { bytes, keep: _ } = given_cell(given);
+    let Given { bytes, keep: _ } = given_word(given, 0);
     old & !bytes
 }
 
-/// The cell after a legal request, where a put leaves what it gives.
-pub fn new_cell(op: AskOp, old: u64, given: &[Option<u8>]) -> u64
-    requires some { 0 < length given.now }
-    requires in_word { length given.now ≤ BUS_BYTES }
-    requires old { old < 2 ^ (8 * length given.now) }
-    ensures fits { result < 2 ^ (8 * length given.now) }
-    ensures bytes { low_bytes (length given.now) result
-        ≡ new_window Ram op (low_bytes (length given.now) old) given.now }
+/// The cell after a legal request, of whose bytes it takes a word, where a put leaves what it gives.
+pub fn new_cell(op: AskOp, old: u64, bytes: &Bytes, word: usize) -> u64
+    requires some { BUS_BYTES * word < length bytes.now }
+    requires old { old < 2 ^ (8 * length (word_of bytes.now word)) }
+    ensures fits { result < 2 ^ (8 * length (word_of bytes.now word)) }
+    ensures bytes { let given = word_of bytes.now word in
+        low_bytes (length given) result ≡ new_window Ram op (low_bytes (length given) old) given }
 {
-    let Given { bytes, keep } = given_cell(given);
+    let len = bytes.len();
+    let width = (len - BUS_BYTES * word).min(BUS_BYTES);
+    let Given {
+        bytes: operand,
+        keep,
+    } = given_word(bytes, word);
     match op {
-        AskOp::PutFull | AskOp::PutPartial => old & keep | bytes,
-        AskOp::Arithmetic(op) => combine_arith(op, old, bytes, given.len()),
-        AskOp::Logical(op) => combine_logic(op, old, bytes, given.len()),
+        AskOp::PutFull | AskOp::PutPartial => old & keep | operand,
+        AskOp::Arithmetic(op) => combine_arith(op, old, operand, width),
+        AskOp::Logical(op) => combine_logic(op, old, operand, width),
         AskOp::Get | AskOp::Intent(_) => old,
     }
 }

@@ -1,16 +1,16 @@
 //! Bytes kept in words of the bus, and read and written a word at a time.
-ghost use Rattle.std.specs.Prelude.{◌≡◌, ◌+◌, ◌-◌, ◌*◌, ◌%◌, ◌^◌, ◌<◌, ◌≤◌, ◌++◌, length, take, drop, replicate, slice_get, Some, IfOk};
+ghost use Rattle.std.specs.Prelude.{◌≡◌, ◌+◌, ◌-◌, ◌*◌, ◌%◌, ◌^◌, ◌<◌, ◌≤◌, ◌++◌, ◌∷◌, [], length, take, drop, replicate, slice_get, Some, IfOk};
 ghost use Rattle.tl_ops.specs.Number.{low_bytes};
 ghost use Rattle.tl_ops.specs.Store.{with_window};
 ghost use Rattle.tl_ops.specs.Window.{merged, new_window, cleared, operand_of};
-ghost use Rattle.tl_ops.specs.Cell.{FitsWords, spare_after};
+ghost use Rattle.tl_ops.specs.Cell.{FitsWords, spare_after, word_of};
 ghost use Rattle.tl_ops.specs.declared.kind.Kind.TheVariants.{Ram};
 
 use crate::cell::{cell_of, cleared_cell, new_cell, with_cell};
 use arrayvec::ArrayVec;
 use std::alloc::{AllocError, Global};
 use std::marker::Model;
-use tl_types::{AskOp, BUS_BYTES, MAX_BYTES};
+use tl_types::{AskOp, BUS_BYTES, Bytes, MAX_BYTES};
 
 /// The bytes of a window.
 pub type Window = ArrayVec<u8, MAX_BYTES>;
@@ -66,7 +66,7 @@ impl Lanes {
 
     /// Serves a request on bytes that one word holds, where a put leaves what it gives, and answers the cell that was
     /// there.
-    pub fn update(&mut self, start: usize, op: AskOp, given: &[Option<u8>]) -> u64
+    pub fn update(&mut self, start: usize, op: AskOp, given: &Bytes) -> u64
         requires some { 0 < length given.now }
         requires in_word { start % BUS_BYTES + length given.now ≤ BUS_BYTES }
         requires inside { start + length given.now ≤ length self.old }
@@ -76,21 +76,31 @@ impl Lanes {
         ensures bytes { low_bytes (length given.now) result
             ≡ take (length given.now) (drop start self.old) }
     {
-        let old = self.cell(start, given.len());
-        self.set_cell(start, given.len(), new_cell(op, old, given));
+        let width = given.len();
+        let old = self.cell(start, width);
+        self.set_cell(start, width, new_cell(op, old, given, 0));
         old
     }
 
     /// Clears the bits that are given as ones, in bytes that one word holds.
-    pub fn clear(&mut self, start: usize, given: &[Option<u8>])
+    pub fn clear(&mut self, start: usize, given: &Bytes)
         requires some { 0 < length given.now }
         requires in_word { start % BUS_BYTES + length given.now ≤ BUS_BYTES }
         requires inside { start + length given.now ≤ length self.old }
         ensures { let old = take (length given.now) (drop start self.old) in
             self.new ≡ with_window self.old start (cleared old (operand_of given.now)) }
     {
-        let old = self.cell(start, given.len());
-        self.set_cell(start, given.len(), cleared_cell(old, given));
+        let width = given.len();
+        let old = self.cell(start, width);
+        self.set_cell(start, width, cleared_cell(old, given));
+    }
+
+    /// Puts a byte at a place.
+    pub fn put_byte(&mut self, place: usize, byte: u8)
+        requires { place < length self.old }
+        ensures { self.new ≡ with_window self.old place (byte ∷ []) }
+    {
+        self.set_cell(place, 1, u64::from(byte));
     }
 
     /// The bytes in memory, after `lead` zeros and before as many as fill the last word.
@@ -102,7 +112,7 @@ impl Lanes {
     {
         let mut lanes = Lanes::zeros(alloc, (lead + bytes.len()).div_ceil(BUS_BYTES))?;
         for k in 0..bytes.len() {
-            lanes.update(lead + k, AskOp::PutFull, &[Some(bytes[k])]);
+            lanes.put_byte(lead + k, bytes[k]);
         }
         Ok(lanes)
     }
@@ -123,15 +133,16 @@ impl Lanes {
         self.words[i]
     }
 
-    /// Puts the given bytes into word number `i`.
-    fn put_word(&mut self, i: usize, given: &[Option<u8>])
-        requires width { length given.now ≡ BUS_BYTES }
+    /// Puts word number `k` of the given bytes into word number `i`.
+    fn put_word(&mut self, i: usize, given: &Bytes, k: usize)
+        requires width { BUS_BYTES * k + BUS_BYTES ≤ length given.now }
         requires inside { BUS_BYTES * i + BUS_BYTES ≤ length self.old }
         ensures after { let old = take BUS_BYTES (drop (BUS_BYTES * i) self.old) in
-            self.new ≡ with_window self.old (BUS_BYTES * i) (merged old given.now) }
+            self.new ≡ with_window self.old (BUS_BYTES * i) (merged old (word_of given.now k)) }
         ensures len { length self.new ≡ length self.old }
     {
-        self.words[i] = new_cell(AskOp::PutPartial, self.words[i], given);
+        let word = self.words[i];
+        self.words[i] = new_cell(AskOp::PutPartial, word, given, k);
     }
 
     /// Appends the bytes from a place on: a cell, or whole words.
@@ -152,19 +163,19 @@ impl Lanes {
     }
 
     /// Puts the given bytes from a place on: into a cell, or into whole words.
-    pub fn put(&mut self, start: usize, given: &[Option<u8>])
+    pub fn put(&mut self, start: usize, given: &Bytes)
         requires fits { FitsWords start (length given.now) }
         requires inside { start + length given.now ≤ length self.old }
         ensures after { let old = take (length given.now) (drop start self.old) in
             self.new ≡ with_window self.old start (merged old given.now) }
     {
-        if given.len() < BUS_BYTES {
+        let width = given.len();
+        if width < BUS_BYTES {
             self.update(start, AskOp::PutPartial, given);
             return;
         }
-        for k in 0..given.len() / BUS_BYTES {
-            let from = BUS_BYTES * k;
-            self.put_word(start / BUS_BYTES + k, &given[from..from + BUS_BYTES]);
+        for k in 0..width / BUS_BYTES {
+            self.put_word(start / BUS_BYTES + k, given, k);
         }
     }
 }

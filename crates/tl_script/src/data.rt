@@ -1,25 +1,21 @@
 //! DATA: the bytes that a word spells.
-ghost use Rattle.std.specs.Prelude.{◌≡◌, ◌≤◌, length, option_map, IfSome};
+ghost use Rattle.std.specs.Prelude.{◌≡◌, ◌≤◌, length, IfSome};
 ghost use Rattle.tl_script.specs.Data.{byte_of, pair_of};
 ghost use Rattle.tl_script.specs.Operation.{counted_data_of};
 
-use arrayvec::ArrayVec;
-use tl_types::MAX_BYTES;
-
-/// The bytes of an operation. One that is unset is `None`.
-pub type Bytes = ArrayVec<Option<u8>, MAX_BYTES>;
+use tl_types::{Bytes, MAX_BYTES};
 
 /// The bytes that a word spells, if it spells this many.
 #[tactic(auto, unfolding(crate::specs::Operation::counted_data_of))]
 pub fn read_data(word: &[u8], count: usize) -> Option<Bytes>
     requires { count ≤ MAX_BYTES }
-    ensures value { option_map (λ bytes. bytes.items) result ≡ counted_data_of count word.now }
-    ensures counted { IfSome result (λ bytes. length bytes.items ≡ count) }
+    ensures value { result ≡ counted_data_of count word.now }
+    ensures counted { IfSome result (λ bytes. length bytes ≡ count) }
 {
     if word.len() != 2 * count {
         return None;
     }
-    let mut bytes = ArrayVec::new();
+    let mut bytes = Bytes::new();
     let mut rest = word;
     while let [high, low, more @ ..] = rest {
         bytes.push(read_byte(*high, *low)?);

@@ -1,17 +1,17 @@
 //! The operation that a line of a script spells.
-ghost use Rattle.std.specs.Prelude.{◌≡◌, ◌≤◌, ◌<◌, ◌^◌, ◌||◌, IfOk, IfSome, is_some, map, option_map};
+ghost use Rattle.std.specs.Prelude.{◌≡◌, ◌≤◌, ◌<◌, ◌^◌, ◌||◌, IfOk, IfSome, is_some, map};
 ghost use Rattle.std.specs.List.{list_all};
 ghost use Rattle.tl_types.specs.Operation.{may_leave_unset};
 ghost use Rattle.tl_types.specs.Request.{IsLawfulRequest};
 ghost use Rattle.tl_script.specs.Operation.{address_of, bytes_of, operation_of, request_of, size_of, source_of};
 ghost use Rattle.tl_script.specs.System.{IsFrom};
 
-use crate::data::{Bytes, read_data};
+use crate::data::read_data;
 use crate::name::read_name;
 use crate::number::read_number;
 use crate::words::split_words;
 use std::alloc::{AllocError, Global};
-use tl_types::{Ask, AskOp, LARGEST_SIZE, width};
+use tl_types::{Ask, AskOp, Bytes, LARGEST_SIZE, width};
 
 /// One step of a master.
 #[derive(Debug, Drop)]
@@ -92,9 +92,8 @@ fn read_size(word: &[u8]) -> Option<u8>
 #[tactic(auto, unfolding(crate::specs::Operation::bytes_of))]
 fn read_bytes(op: AskOp, size: u8, words: &[&[u8]]) -> Option<Bytes>
     requires { size ≤ LARGEST_SIZE }
-    ensures value { option_map (λ bytes. bytes.items) result
-        ≡ bytes_of op size (map (λ word. word.now) words.now) }
-    ensures lawful { IfSome result (λ bytes. IsLawfulRequest op size bytes.items) }
+    ensures value { result ≡ bytes_of op size (map (λ word. word.now) words.now) }
+    ensures lawful { IfSome result (λ bytes. IsLawfulRequest op size bytes) }
 {
     match words {
         [] if !op.carries_bytes() => Some(Bytes::new()),
@@ -111,14 +110,18 @@ fn read_bytes(op: AskOp, size: u8, words: &[&[u8]]) -> Option<Bytes>
 }
 
 /// Whether the operation may carry these bytes, some of which may be unset.
-fn may_carry(op: AskOp, bytes: &[Option<u8>]) -> bool
+fn may_carry(op: AskOp, bytes: &Bytes) -> bool
     ensures { result ≡ (may_leave_unset op || list_all is_some bytes.now) }
 {
     op.may_leave_unset() || all_set(bytes)
 }
 
-fn all_set(bytes: &[Option<u8>]) -> bool
+fn all_set(bytes: &Bytes) -> bool
     ensures { result ≡ list_all is_some bytes.now }
 {
-    bytes.iter().all(|byte| byte.is_some())
+    let mut all = true;
+    for place in 0..bytes.len() {
+        all &= bytes.get(place).is_some();
+    }
+    all
 }

@@ -6,7 +6,7 @@ ghost use Rattle.tl_script.specs.Trace.{ask_text, bytes_part, denied_text, lines
 
 use crate::name::{reply_word, word};
 use std::alloc::{AllocError, Global};
-use tl_types::{Ask, Entry, Memory, Reply, Trace};
+use tl_types::{Ask, Bytes, Entry, Memory, Reply, Trace};
 
 /// The character of a hexadecimal digit.
 fn hex_digit(digit: u8) -> char
@@ -35,14 +35,14 @@ fn push_byte(text: &mut String, byte: Option<u8>) -> Result<(), AllocError>
 }
 
 /// A space and the bytes of a request, where it carries any.
-fn push_data(text: &mut String, bytes: &[Option<u8>]) -> Result<(), AllocError>
+fn push_data(text: &mut String, bytes: &Bytes) -> Result<(), AllocError>
     ensures { OnOk result (string_bytes text.new ≡ string_bytes text.old ++ bytes_part bytes.now) }
 {
     if !bytes.is_empty() {
         text.push_str(" ")?;
     }
-    for byte in bytes {
-        push_byte(text, *byte)?;
+    for place in 0..bytes.len() {
+        push_byte(text, bytes.get(place))?;
     }
     Ok(())
 }

@@ -10,8 +10,22 @@ mod texts;
 
 use crate::{ScriptFault, read_system};
 use std::alloc::Global;
+use tl_types::Bytes;
 
 /// The fault of a script, if it has one.
 fn fault_of(alloc: Global, script: &[u8]) -> Option<ScriptFault> {
     read_system(alloc, script).err()
+}
+
+/// Whether these are the bytes.
+fn are(bytes: &Bytes, given: &[Option<u8>]) -> bool {
+    if bytes.len() != given.len() {
+        return false;
+    }
+    for place in 0..bytes.len() {
+        if bytes.get(place) != given[place] {
+            return false;
+        }
+    }
+    true
 }

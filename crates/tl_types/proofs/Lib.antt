@@ -1,3 +1,4 @@
+pub mod Given
 pub mod Lists
 pub mod Operations
 pub mod Zipped

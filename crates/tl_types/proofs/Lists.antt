@@ -1,5 +1,5 @@
 -- What is read at a place of a list, after a write, of a front part, and after a push.
-use Rattle.std.proofs.Common.{◌≡◌, ℕ, zero, suc, ◌<◌, List, [], ◌∷◌, ◌++◌, length, take, set, Some, slice_get, refl, ap, arith, inl, inr, ◌⊎◌, ⊎_elim}
+use Rattle.std.proofs.Common.{◌≡◌, ℕ, zero, suc, ◌+◌, ◌<◌, List, [], ◌∷◌, ◌++◌, length, take, drop, set, Some, slice_get, refl, ap, ◌∙◌, arith, inl, inr, ◌⊎◌, ⊎_elim}
 
 pub slice_get-set_same : {X : Type 0} (xs : List X) (i : ℕ) (x : X) → i < length xs → slice_get (set xs i x) i ≡ Some x
 slice_get-set_same [] i x within = absurd (omega (arith, within))
@@ -18,6 +18,11 @@ slice_get-take zero xs k below = absurd (omega (arith, below))
 slice_get-take (suc n) [] k below = refl
 slice_get-take (suc n) (x ∷ xs) zero below = refl
 slice_get-take (suc n) (x ∷ xs) (suc k) below = slice_get-take n xs k (omega (arith, below))
+
+pub slice_get-drop : {X : Type 0} (s : ℕ) (xs : List X) (k : ℕ) → slice_get (drop s xs) k ≡ slice_get xs (s + k)
+slice_get-drop zero xs k = let e : k ≡ 0 + k = omega arith in ap (λ i. slice_get xs i) e
+slice_get-drop (suc s) [] k = refl
+slice_get-drop (suc s) (x ∷ xs) k = let e : suc (s + k) ≡ suc s + k = omega arith in slice_get-drop s xs k ∙ ap (λ i. slice_get (x ∷ xs) i) e
 
 -- what is read after a push was read before, or is the pushed element
 pub slice_get-push : {X : Type 0} (xs : List X) (x y : X) (k : ℕ) → slice_get (xs ++ x ∷ []) k ≡ Some y → (slice_get xs k ≡ Some y) ⊎ ((k ≡ length xs) × (x ≡ y))

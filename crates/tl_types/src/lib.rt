@@ -11,6 +11,7 @@
 //! Read on in `docs/MODEL.md`, "Messages".
 #![tactic(auto)]
 
+mod bytes;
 mod fault;
 pub mod laws;
 mod limits;
@@ -22,8 +23,11 @@ mod tests;
 mod trace;
 mod wire;
 
+pub use bytes::Bytes;
 pub use fault::Memory;
-pub use limits::{BUS_BYTES, LARGEST_SIZE, MAX_BYTES, MAX_MASTERS, MAX_PORTS, MAX_SLOTS, MAX_WORKERS};
+pub use limits::{
+    BUS_BYTES, LARGEST_SIZE, MAX_BYTES, MAX_MASTERS, MAX_PORTS, MAX_SLOTS, MAX_WORKERS,
+};
 pub use operation::{Arith, AskOp, Hint, Logic, ReplyOp, width};
 pub use reply::{Reply, ReplyFault};
 pub use request::{Ask, AskFault};

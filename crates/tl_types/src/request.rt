@@ -3,9 +3,9 @@ ghost use Rattle.std.specs.Prelude.{◌≡◌, ◌↔◌, ◌<◌, ◌≤◌, �
 ghost use Rattle.tl_types.specs.Operation.{byte_count};
 ghost use Rattle.tl_types.specs.Request.{IsLawfulRequest, IsFirstAskFault};
 
+use crate::bytes::Bytes;
 use crate::limits::{LARGEST_SIZE, MAX_BYTES};
 use crate::operation::{AskOp, width};
-use arrayvec::ArrayVec;
 use std::marker::Model;
 use thiserror::Error;
 
@@ -16,7 +16,7 @@ pub struct Ask {
     size: u8,
     source: u16,
     address: u64,
-    bytes: ArrayVec<Option<u8>, MAX_BYTES>,
+    bytes: Bytes,
 }
 
 /// Why parts make no request.
@@ -40,10 +40,10 @@ impl Model for Ask {
       size = a.size;
       source = a.source;
       address = a.address;
-      bytes = a.bytes.items;
+      bytes = a.bytes;
     } };
 
-    ghost invariant = { λ a. IsLawfulRequest a.op a.size a.bytes.items };
+    ghost invariant = { λ a. IsLawfulRequest a.op a.size a.bytes };
 }
 
 impl Ask {
@@ -79,25 +79,19 @@ impl Ask {
             size,
             source,
             address,
-            bytes: ArrayVec::try_from(bytes).unwrap(),
+            bytes: Bytes::of(bytes),
         })
     }
 
     /// The request of these parts, which make one.
-    pub fn from_parts(
-        op: AskOp,
-        size: u8,
-        source: u16,
-        address: u64,
-        bytes: ArrayVec<Option<u8>, MAX_BYTES>,
-    ) -> Ask
-        requires { IsLawfulRequest op size bytes.items }
+    pub fn from_parts(op: AskOp, size: u8, source: u16, address: u64, bytes: Bytes) -> Ask
+        requires { IsLawfulRequest op size bytes }
         ensures { result ≡ record {
           op = op;
           size = size;
           source = source;
           address = address;
-          bytes = bytes.items;
+          bytes = bytes;
         } }
     {
         Ask {
@@ -148,11 +142,11 @@ impl Ask {
     }
 
     /// The bytes that the request carries.
-    pub fn bytes(&self) -> &[Option<u8>]
+    pub fn bytes(&self) -> &Bytes
         ensures value { result.now ≡ self.now.bytes }
         ensures lawful { IsLawfulRequest self.now.op self.now.size self.now.bytes }
     {
-        self.bytes.as_slice()
+        &self.bytes
     }
 
     /// The same request.
@@ -171,7 +165,7 @@ impl Ask {
             size: self.size,
             source,
             address: self.address,
-            bytes: ArrayVec::try_from(self.bytes.as_slice()).unwrap(),
+            bytes: self.bytes.copy(),
         }
     }
 }

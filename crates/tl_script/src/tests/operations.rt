@@ -1,4 +1,5 @@
 //! The lines of operations.
+use crate::tests::are;
 use crate::{Job, read_operation};
 use std::alloc::{AllocError, Global};
 use std::test::Fail;
@@ -143,7 +144,7 @@ fn is_spelled(alloc: Global, form: &Form) -> Result<bool, AllocError> {
         ask.source() == form.source
             && ask.address() == form.address
             && ask.size() == form.size
-            && ask.bytes() == form.bytes,
+            && are(ask.bytes(), form.bytes),
     )
 }
 

@@ -1,4 +1,5 @@
 //! The systems that scripts describe.
+use crate::tests::are;
 use crate::{Job, ScriptFault, System, read_system};
 use std::alloc::Global;
 use std::test::Fail;
@@ -105,7 +106,7 @@ fn sent(system: &System, master: usize, operation: usize) -> Option<&Ask> {
 /// Whether there is a request, and it has these parts.
 fn has_parts(ask: Option<&Ask>, op: AskOp, address: u64, bytes: &[Option<u8>]) -> bool {
     match ask {
-        Some(ask) => ask.op() == op && ask.address() == address && ask.bytes() == bytes,
+        Some(ask) => ask.op() == op && ask.address() == address && are(ask.bytes(), bytes),
         None => false,
     }
 }

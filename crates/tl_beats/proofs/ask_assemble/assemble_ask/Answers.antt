@@ -55,7 +55,7 @@ pub from_parts-requires : goal.from_parts-requires
 from_parts-requires c =
     let first = c.in_ok-first.first.now in
     let op = c.in_ok-op.op in
-    let bytes = c.in_ok-bytes.bytes.items in
+    let bytes = c.in_ok-bytes.bytes in
     let begun : IsBegun c.args.beats.now first op = record {
       head = search rules;
       code = search rules;
@@ -68,7 +68,7 @@ pub returns-clause-ok : goal.returns-clause-ok
 returns-clause-ok c =
     let first = c.in_ok-first.first.now in
     let op = c.in_ok-op.op in
-    let bytes = c.in_ok-bytes.bytes.items in
+    let bytes = c.in_ok-bytes.bytes in
     let begun : IsBegun c.args.beats.now first op = record {
       head = search rules;
       code = search rules;
@@ -82,7 +82,7 @@ pub returns-clause-all : goal.returns-clause-all
 returns-clause-all c ask lawful spells =
     let first = c.in_ok-first.first.now in
     let op = c.in_ok-op.op in
-    let bytes = c.in_ok-bytes.bytes.items in
+    let bytes = c.in_ok-bytes.bytes in
     let begun : IsBegun c.args.beats.now first op = record {
       head = search rules;
       code = search rules;

@@ -3,4 +3,4 @@ use Rattle.tl_beats.proofs.ask_assemble.push_lanes.Given as goal
 
 -- the first k lanes are appended
 abbrev pub invariant-loop-k : goal.invariant-loop-k
-invariant-loop-k l = GainsLanes l.beat l.first l.k l.initial.bytes.items l.bytes.items
+invariant-loop-k l = GainsLanes l.beat l.first l.k l.initial.bytes l.bytes

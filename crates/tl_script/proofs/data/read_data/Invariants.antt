@@ -5,8 +5,8 @@ use Rattle.tl_script.proofs.data.read_data.Given as goal
 
 abbrev pub invariant-loop-rest : goal.invariant-loop-rest
 invariant-loop-rest l = record {
-  bytes : option_map (λ more. l.bytes.items ++ more) (data_of l.rest) ≡ data_of l.word;
-  room : 2 * length l.bytes.items + length l.rest ≡ 2 * l.count;
+  bytes : option_map (λ more. l.bytes ++ more) (data_of l.rest) ≡ data_of l.word;
+  room : 2 * length l.bytes + length l.rest ≡ 2 * l.count;
 }
 
 abbrev pub decreases-loop-rest : goal.decreases-loop-rest

@@ -3,5 +3,5 @@ use Rattle.std.proofs.Common.{◌≡◌, ◌++◌, flat_map, string_bytes, take}
 use Rattle.tl_script.specs.Data.{byte_text}
 use Rattle.tl_script.proofs.print.push_data.Given as goal
 
-abbrev pub invariant-loop-byte : goal.invariant-loop-byte
-invariant-loop-byte l = string_bytes l.text ≡ string_bytes l.initial.text ++ flat_map byte_text (take l.byte-index l.bytes)
+abbrev pub invariant-loop-place : goal.invariant-loop-place
+invariant-loop-place l = string_bytes l.text ≡ string_bytes l.initial.text ++ flat_map byte_text (take l.place l.bytes)

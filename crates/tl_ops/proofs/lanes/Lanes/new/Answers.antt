@@ -1,8 +1,7 @@
-use Rattle.std.proofs.Common.{◌≡◌, ℕ, ◌∙◌, ◌+◌, ◌-◌, ◌++◌, ◌∷◌, [], suc, length, take, drop, replicate, get_or, Some, sym, ap, arith}
+use Rattle.std.proofs.Common.{◌≡◌, ℕ, ◌∙◌, ◌+◌, ◌-◌, ◌++◌, ◌∷◌, [], suc, length, take, replicate, get_or, sym, ap, arith}
 use Rattle.std.proofs.lemmas.List.{take_more, length-append, length-replicate, length-take-le}
 use Rattle.tl_ops.specs.Cell.{spare_after}
 use Rattle.tl_ops.specs.Store.{with_window}
-use Rattle.tl_ops.specs.Window.{merged}
 use Rattle.tl_ops.proofs.Merges.{byte_put}
 use Rattle.tl_ops.proofs.lanes.Lanes.new.Goals as goal
 
@@ -19,7 +18,7 @@ loop-k-preserved c =
     let lanes : c.loop-k.lanes ≡ zeros ++ (take k bytes ++ (0 ∷ replicate rest 0)) = c.loop-k.invariant ∙ ap (λ n. zeros ++ (take k bytes ++ replicate n 0)) one in
     let long : length (zeros ++ take k bytes) ≡ place = length-append zeros (take k bytes) ∙ omega (arith, length-replicate {A = ℕ} c.args.lead 0, length-take-le k bytes (omega arith)) in
     let more : take (k + 1) bytes ≡ take k bytes ++ byte ∷ [] = take_more bytes k 0 (omega arith) in
-    c.update.ensures.after
-    ∙ ap (λ l. with_window l place (merged (take 1 (drop place l)) (Some byte ∷ []))) lanes
+    c.put_byte.ensures
+    ∙ ap (λ l. with_window l place (byte ∷ [])) lanes
     ∙ byte_put zeros (take k bytes) (replicate rest 0) 0 byte place long
     ∙ ap (λ done. zeros ++ (done ++ replicate rest 0)) (sym more)

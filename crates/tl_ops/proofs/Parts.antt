@@ -1,0 +1,87 @@
+-- The part of a request's bytes that one word has.
+use Rattle.std.proofs.Common.{◌≡◌, ℕ, zero, suc, ◌+◌, ◌-◌, ◌*◌, ◌/◌, ◌%◌, ◌^◌, ◌<◌, ◌≤◌, min, List, [], ◌∷◌, length, take, drop, map, get_or, slice_get, Option, Some, None, unwrap_or, refl, sym, ap, ◌∙◌, arith}
+use Rattle.std.specs.Int.{bit_at}
+use Rattle.std.proofs.lemmas.Grind.{same_number_lists}
+use Rattle.std.proofs.lemmas.List.{length-take, length-drop, length-map, get_or-map, take_all}
+use Rattle.std.proofs.lemmas.Nat.Bits.{bit_at_ones, ones_shr}
+use Rattle.std.proofs.lemmas.Option.{unwrap_or-slice_get, get_or_from_slice_get}
+use Rattle.tl_types.proofs.Lists.{slice_get-take, slice_get-drop}
+use Rattle.tl_types.specs.Bytes.{mask_bit, plain_of, IsMaskOf}
+use Rattle.tl_ops.specs.Number.{low_bytes}
+use Rattle.tl_ops.specs.Window.{operand_of}
+use Rattle.tl_ops.specs.Cell.{keep_byte, keep_of, word_of}
+use Rattle.tl_ops.proofs.Bytes.{length-low_bytes}
+
+take_short : {X : Type 0} (n : ℕ) (xs : List X) → take (min (length xs) n) xs ≡ take n xs
+take_short {X} zero [] = let e : min (length {A = X} []) 0 ≡ 0 = omega arith in let none : List X = [] in ap (λ m. take m none) e
+take_short {X} (suc n) [] = let e : min (length {A = X} []) (suc n) ≡ 0 = omega arith in let none : List X = [] in ap (λ m. take m none) e
+take_short {X} zero (x ∷ xs) = let e : min (length (x ∷ xs)) 0 ≡ 0 = omega arith in ap (λ m. take m (x ∷ xs)) e
+take_short {X} (suc n) (x ∷ xs) = let e : min (suc (length xs)) (suc n) ≡ suc (min (length xs) n) = omega arith in ap (λ m. take m (x ∷ xs)) e ∙ ap (λ ys. x ∷ ys) (take_short n xs)
+
+-- what a word has is as many bytes as are left, eight at most
+pub word_of-taken : (given : List (Option ℕ)) (word count : ℕ) → count ≡ min (length given - 8 * word) 8 → word_of given word ≡ take count (drop (8 * word) given)
+word_of-taken given word count is = sym (take_short 8 (drop (8 * word) given)) ∙ ap (λ n. take n (drop (8 * word) given)) (omega (arith, is, length-drop (8 * word) given))
+
+pub length-word_of : (given : List (Option ℕ)) (word count : ℕ) → count ≡ min (length given - 8 * word) 8 → length (word_of given word) ≡ count
+length-word_of given word count is = omega (arith, is, length-take 8 (drop (8 * word) given), length-drop (8 * word) given)
+
+-- the only word of a request is all of it
+pub word_of-only : (given : List (Option ℕ)) → length given ≤ 8 → word_of given 0 ≡ given
+word_of-only given short = take_all 8 given short
+
+-- a part of the plain bytes is the operand of the part
+pub plain_part : (given : List (Option ℕ)) (from count : ℕ) → take count (drop from (plain_of given)) ≡ operand_of (take count (drop from given))
+plain_part given from count = ap (take count) (drop-map given from) ∙ take-map (drop from given) count
+  where
+    drop-map : (xs : List (Option ℕ)) (n : ℕ) → drop n (plain_of xs) ≡ plain_of (drop n xs)
+    drop-map xs zero = refl
+    drop-map [] (suc n) = refl
+    drop-map (x ∷ xs) (suc n) = drop-map xs n
+
+    take-map : (xs : List (Option ℕ)) (n : ℕ) → take n (plain_of xs) ≡ plain_of (take n xs)
+    take-map xs zero = refl
+    take-map [] (suc n) = refl
+    take-map (x ∷ xs) (suc n) = ap (λ ys. unwrap_or x 0 ∷ ys) (take-map xs n)
+
+-- where a mask has all ones, no lane keeps its byte
+pub none_kept : (given : List (Option ℕ)) (word mask count : ℕ) → IsMaskOf given word mask → count ≡ min (length given - 8 * word) 8 → mask ≡ 255 / 2 ^ (8 - count) → low_bytes count 0 ≡ keep_of (word_of given word)
+none_kept given word mask count is count_is ones =
+    let part = word_of given word in
+    let long : length part ≡ count = length-word_of given word count count_is in
+    same_number_lists (low_bytes count 0) (keep_of part) (length-low_bytes count 0 ∙ sym (length-map part keep_byte ∙ long)) (λ k h. zero_at count k ∙ sym (given_at part k (omega (arith, h, length-low_bytes count 0, long)) (set k (omega (arith, h, length-low_bytes count 0)))))
+  where
+    zero_at : (n k : ℕ) → get_or (low_bytes n 0) k 0 ≡ 0
+    zero_at zero k = refl
+    zero_at (suc n) zero = refl
+    zero_at (suc n) (suc k) = zero_at n k
+
+    given_at : (part : List (Option ℕ)) (k : ℕ) → k < length part → mask_bit (unwrap_or (slice_get part k) None) ≡ 1 → get_or (keep_of part) k 0 ≡ 0
+    given_at part k within one = get_or-map keep_byte part k None 0 within ∙ ap keep_byte (sym (unwrap_or-slice_get part k None)) ∙ drops (unwrap_or (slice_get part k) None) one
+      where
+        drops : (byte : Option ℕ) → mask_bit byte ≡ 1 → keep_byte byte ≡ 0
+        drops None one = absurd (omega (arith, one))
+        drops (Some byte) one = refl
+
+    set : (k : ℕ) → k < count → mask_bit (unwrap_or (slice_get (word_of given word) k) None) ≡ 1
+    set k below =
+        let small : k < 8 = omega (arith, below, count_is) in
+        let back : 8 - (8 - count) ≡ count = omega (arith, count_is) in
+        let same : slice_get (word_of given word) k ≡ slice_get given (8 * word + k) = slice_get-take 8 (drop (8 * word) given) k small ∙ slice_get-drop (8 * word) given k in
+        ap (λ o. mask_bit (unwrap_or o None)) same ∙ sym (is k small) ∙ ap (λ m. bit_at m k) (ones ∙ ones_shr 8 (8 - count) (omega arith) ∙ ap (λ n. 2 ^ n - 1) back) ∙ bit_at_ones count k below
+
+-- the byte that is read at a place of a part
+pub read_in_part : (given : List (Option ℕ)) (from count k : ℕ) (byte : Option ℕ) → k < count → slice_get given (from + k) ≡ Some byte → get_or (take count (drop from given)) k None ≡ byte
+read_in_part given from count k byte below at = get_or_from_slice_get (take count (drop from given)) k byte None (slice_get-take count (drop from given) k below ∙ slice_get-drop from given k ∙ at)
+
+-- the number that the plain bytes of a word spell has the bytes of the operand
+pub spelled_word : (given : List (Option ℕ)) (plain : List ℕ) (word n m number : ℕ) → plain ≡ plain_of given → n ≡ min (length given - 8 * word) 8 → m ≡ n → low_bytes (length (take m (drop (8 * word) plain))) number ≡ take m (drop (8 * word) plain) → low_bytes (length (word_of given word)) number ≡ operand_of (word_of given word)
+spelled_word given plain word n m number plain_is n_is m_is spells =
+    let part = take m (drop (8 * word) plain) in
+    let part_is : part ≡ operand_of (word_of given word) =
+    ap (λ k. take k (drop (8 * word) plain)) m_is ∙ ap (λ bs. take n (drop (8 * word) bs)) plain_is ∙ plain_part given (8 * word) n ∙ ap operand_of (sym (word_of-taken given word n n_is)) in
+    let long : length part ≡ length (word_of given word) = ap length part_is ∙ length-map (word_of given word) (λ byte. unwrap_or byte 0) in
+    ap (λ k. low_bytes k number) (sym long) ∙ spells ∙ part_is
+
+pub length-plain_word : (given : List (Option ℕ)) (plain : List ℕ) (word n m : ℕ) → plain ≡ plain_of given → n ≡ min (length given - 8 * word) 8 → m ≡ n → length (take m (drop (8 * word) plain)) ≡ length (word_of given word)
+length-plain_word given plain word n m plain_is n_is m_is =
+    ap (λ k. length (take k (drop (8 * word) plain))) m_is ∙ ap (λ bs. length (take n (drop (8 * word) bs))) plain_is ∙ ap length (plain_part given (8 * word) n ∙ ap operand_of (sym (word_of-taken given word n n_is))) ∙ length-map (word_of given word) (λ byte. unwrap_or byte 0)

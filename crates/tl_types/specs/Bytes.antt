@@ -1,0 +1,41 @@
+-- Bytes of which some may be left unset: this project's own words. They are kept as plain bytes and a mask for each word
+-- of the bus, and seen as a list in which a byte that is left unset is None.
+use Rattle.std.specs.Prelude.{◌≡◌, ℕ, zero, suc, ◌+◌, ◌*◌, ◌/◌, ◌%◌, ◌^◌, ◌<◌, ◌≤◌, List, [], ◌∷◌, length, map, Option, None, Some, slice_get, slice_index, unwrap_or}
+use Rattle.std.specs.Int.{bit_at}
+use Rattle.tl_types.specs.declared.limits.TheConstants.{BUS_BYTES}
+use Rattle.tl_types.specs.declared.bytes.TheConstants.{MAX_WORDS}
+
+-- the bit of a mask for a byte that may be there
+abbrev pub mask_bit : Option ℕ → ℕ
+mask_bit None = 0
+mask_bit (Some byte) = 1
+
+-- a byte, given where a bit is set
+abbrev pub given_byte : ℕ → ℕ → Option ℕ
+given_byte zero byte = None
+given_byte (suc _) byte = Some byte
+
+-- bytes, of which those are given whose bits are set
+abbrev pub given_in : (ℕ → ℕ) → List ℕ → List (Option ℕ)
+given_in bits [] = []
+given_in bits (byte ∷ bytes) = given_byte (bits 0) byte ∷ given_in (λ k. bits (suc k)) bytes
+
+-- the bytes, zero where none is given
+abbrev pub plain_of : List (Option ℕ) → List ℕ
+plain_of given = map (λ byte. unwrap_or byte 0) given
+
+-- the mask of a word of the bytes: a bit for each byte that is given, and none for one that is left unset or is not there
+abbrev pub IsMaskOf : List (Option ℕ) → ℕ → ℕ → Type 0
+IsMaskOf given word mask =
+    (k : ℕ) → k < BUS_BYTES → bit_at mask k ≡ mask_bit (unwrap_or (slice_get given (BUS_BYTES * word + k)) None)
+
+-- the bit of a place among masks of words
+unfoldable pub bit_in : List ℕ → ℕ → ℕ
+bit_in masks place = bit_at (slice_index masks (place / BUS_BYTES)) (place % BUS_BYTES)
+
+-- there is a mask for each word, of a bit for each of its bytes; a byte that is left unset is zero, and no bit is set past the last byte
+pub record AreKept (plain masks : List ℕ) : Type 0 where
+  pub counted : length masks ≡ MAX_WORDS
+  pub small : (word : ℕ) → slice_index masks word < 2 ^ BUS_BYTES
+  pub unset : (place : ℕ) → bit_in masks place ≡ 0 → slice_index plain place ≡ 0
+  pub past : (place : ℕ) → length plain ≤ place → bit_in masks place ≡ 0

@@ -1,0 +1,143 @@
+//! The bytes of a request, some of which may be left unset.
+ghost use Rattle.std.specs.Prelude.{◌≡◌, ◌↔◌, ◌+◌, ◌*◌, ◌%◌, ◌<◌, ◌≤◌, ◌==◌, ◌++◌, ◌∷◌, [], length, slice_get, Some, IsTrue, map};
+ghost use Rattle.std.specs.Int.{bit_at};
+ghost use Rattle.tl_types.specs.Bytes.{IsMaskOf, given_in, plain_of};
+
+use crate::limits::{BUS_BYTES, MAX_BYTES};
+use arrayvec::ArrayVec;
+use std::marker::Model;
+
+/// The most words of the bus that a message has.
+const MAX_WORDS: usize = MAX_BYTES / BUS_BYTES;
+
+/// The bytes of a request, of which some may be left unset.
+///
+/// They are plain bytes, zero where one is left unset, and a mask for each word of the bus.
+#[derive(Debug, Drop)]
+pub struct Bytes {
+    plain: ArrayVec<u8, MAX_BYTES>,
+    masks: [u8; MAX_WORDS],
+}
+
+impl Model for Bytes {
+    ghost use Rattle.std.specs.Prelude.{List, ℕ, Option};
+    ghost use Rattle.tl_types.specs.Bytes.{AreKept, bit_in, given_in};
+
+    ghost Value = { List (Option ℕ) };
+
+    ghost view = { λ b. given_in (bit_in b.masks) b.plain.items };
+
+    ghost invariant = { λ b. AreKept b.plain.items b.masks };
+}
+
+impl Bytes {
+    /// No bytes.
+    pub fn new() -> Bytes
+        ensures { result ≡ [] }
+    {
+        Bytes {
+            plain: ArrayVec::new(),
+            masks: [0; MAX_WORDS],
+        }
+    }
+
+    /// Appends a byte that is given, or one that is left unset.
+    pub fn push(&mut self, byte: Option<u8>)
+        requires { length self.old < MAX_BYTES }
+        ensures { self.new ≡ self.old ++ byte ∷ [] }
+    {
+        let place = self.plain.len();
+        match byte {
+            Some(byte) => {
+                self.masks[place / BUS_BYTES] |= 1 << (place % BUS_BYTES);
+                self.plain.push(byte);
+            }
+            None => self.plain.push(0),
+        }
+    }
+
+    /// Appends a word, or the front of one, all of whose bytes are given.
+    pub fn push_given(&mut self, bytes: &[u8])
+        requires some { 0 < length bytes.now }
+        requires aligned { length self.old % BUS_BYTES ≡ 0 }
+        requires in_word { length bytes.now ≤ BUS_BYTES }
+        requires room { length self.old + length bytes.now ≤ MAX_BYTES }
+        ensures { self.new ≡ self.old ++ map (λ byte. Some byte) bytes.now }
+    {
+        let word = self.plain.len() / BUS_BYTES;
+        self.masks[word] = u8::MAX >> (BUS_BYTES - bytes.len());
+        self.plain.try_extend_from_slice(bytes).unwrap();
+    }
+
+    /// These bytes.
+    pub fn of(given: &[Option<u8>]) -> Bytes
+        requires { length given.now ≤ MAX_BYTES }
+        ensures { result ≡ given.now }
+    {
+        let mut bytes = Bytes::new();
+        for byte in given {
+            bytes.push(*byte);
+        }
+        bytes
+    }
+
+    /// How many bytes there are, those that are left unset among them.
+    pub fn len(&self) -> usize
+        ensures value { result ≡ length self.now }
+        ensures in_limit { result ≤ MAX_BYTES }
+    {
+        self.plain.len()
+    }
+
+    /// Whether there is no byte.
+    pub fn is_empty(&self) -> bool
+        ensures { result ≡ (length self.now == 0) }
+    {
+        self.plain.is_empty()
+    }
+
+    /// The byte at a place, if it is given.
+    pub fn get(&self, place: usize) -> Option<u8>
+        requires { place < length self.now }
+        ensures { slice_get self.now place ≡ Some result }
+    {
+        let byte = self.plain[place];
+        if self.masks[place / BUS_BYTES] >> (place % BUS_BYTES) & 1 == 1 {
+            Some(byte)
+        } else {
+            None
+        }
+    }
+
+    /// The bytes, zero where one is left unset.
+    pub fn plain(&self) -> &[u8]
+        ensures { result.now ≡ plain_of self.now }
+    {
+        self.plain.as_slice()
+    }
+
+    /// The mask of a word of the bytes: bit k is set where its byte k is given.
+    pub fn mask(&self, word: usize) -> u8
+        requires { BUS_BYTES * word < MAX_BYTES }
+        ensures { IsMaskOf self.now word result }
+    {
+        self.masks[word]
+    }
+
+    /// Whether these bytes are those.
+    pub fn is_same(&self, other: &Bytes) -> bool
+        ensures { IsTrue result ↔ (self.now ≡ other.now) }
+    {
+        self.masks == other.masks && self.plain.as_slice() == other.plain.as_slice()
+    }
+
+    /// The same bytes.
+    pub fn copy(&self) -> Bytes
+        ensures { result ≡ self.now }
+    {
+        Bytes {
+            plain: ArrayVec::try_from(self.plain.as_slice()).unwrap(),
+            masks: self.masks,
+        }
+    }
+}
