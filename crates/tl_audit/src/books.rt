@@ -13,10 +13,7 @@ use tl_port::Book;
 use tl_types::{Ask, Reply, Trace};
 
 /// The histories of books.
-fn histories_in<'a>(
-    alloc: Global,
-    books: &'a [Book],
-) -> Result<Vec<&'a [(Ask, Reply)]>, AllocError>
+fn histories_in<'a>(alloc: Global, books: &'a [Book]) -> Result<Vec<&'a [(Ask, Reply)]>, AllocError>
     ensures { IfOk result (λ histories. lists_in histories.items ≡ histories_of books.now) }
 {
     let mut histories = Vec::with_capacity(alloc, books.len())?;

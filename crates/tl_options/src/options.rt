@@ -63,7 +63,9 @@ fn program<'a>(alloc: Global) -> Command<'a>
 {
     Command::new(alloc, "tlx")
         .version("0.1.0")
-        .about("Runs a script of requests over a TileLink crossbar, and prints what each is answered")
+        .about(
+            "Runs a script of requests over a TileLink crossbar, and prints what each is answered",
+        )
         .after_help(AFTER_HELP)
 }
 

@@ -13,7 +13,12 @@ fn words_give_options(rt: HostRuntime) -> Result<(), Fail> {
         (&["tlx", "--workers=4"], false, false, 4),
         (&["tlx", "--workers", "2", "--serial"], true, false, 2),
         (&["tlx", "--serial", "--workers=3"], true, false, 3),
-        (&["tlx", "--serial", "--workers=4", "--history"], true, true, 4),
+        (
+            &["tlx", "--serial", "--workers=4", "--history"],
+            true,
+            true,
+            4,
+        ),
     ];
     for (words, serial, history, workers) in rows {
         let options = read_options(rt.alloc(), words)?;

@@ -130,13 +130,6 @@ fn run<R: Read, W: Write, T: Threads + Wait + Sync>(
     if options.serial {
         serial_engine(alloc, reader, writer, options.history)
     } else {
-        threads_engine(
-            rt,
-            alloc,
-            reader,
-            writer,
-            options.workers,
-            options.history,
-        )
+        threads_engine(rt, alloc, reader, writer, options.workers, options.history)
     }
 }

@@ -38,7 +38,10 @@ fn printed<T: Threads + Wait + Sync>(
 
 #[test]
 fn a_run_by_threads_has_an_account(rt: HostRuntime) -> Result<(), Fail> {
-    assert_eq!(rt; printed(&rt, rt.alloc(), FIRST, 1, false)?.as_slice(), FIRST_OUTPUT);
+    assert_eq!(rt;
+        printed(&rt, rt.alloc(), FIRST, 1, false)?.as_slice(),
+        FIRST_OUTPUT
+    );
     let with_history = printed(&rt, rt.alloc(), FIRST, 1, true)?;
     assert_eq!(rt; with_history.as_slice(), FIRST_OUTPUT_WITH_HISTORY);
     let script = format!(in rt.alloc(); "{SYSTEM}] }}]")?;
@@ -115,11 +118,27 @@ fn storm(alloc: Global) -> Result<String, Fail> {
             let source = (k + master) % 4;
             let word = 4 * (k % 20);
             match k % 7 {
-                0 | 1 => write!(&mut operations, "'{source} add {} 2 01000000', ", 0x1000 + word)?,
-                2 => write!(&mut operations, "'{source} swap {} 3 0011223344556677', ", 0x1000 + word)?,
+                0 | 1 => write!(
+                    &mut operations,
+                    "'{source} add {} 2 01000000', ",
+                    0x1000 + word
+                )?,
+                2 => write!(
+                    &mut operations,
+                    "'{source} swap {} 3 0011223344556677', ",
+                    0x1000 + word
+                )?,
                 3 | 4 => write!(&mut operations, "'{source} get {} 2', ", 0x2000 + word)?,
-                5 => write!(&mut operations, "'{source} putfull {} 2 {master:02x}000000', ", 0x3000 + word)?,
-                _ => write!(&mut operations, "'{source} putpart {} 2 aa--cc--', ", 0x1000 + word)?,
+                5 => write!(
+                    &mut operations,
+                    "'{source} putfull {} 2 {master:02x}000000', ",
+                    0x3000 + word
+                )?,
+                _ => write!(
+                    &mut operations,
+                    "'{source} putpart {} 2 aa--cc--', ",
+                    0x1000 + word
+                )?,
             }
         }
         push_master(&mut script, &operations)?;
