@@ -77,15 +77,20 @@ fn two_masters_clear_their_own_bits(rt: HostRuntime) -> Result<(), Fail> {
         rt.alloc(),
         "slots = 2\nport = [{ kind = 'w1c', base = 0x4000, length = 4, reset = 'ffffffff' }]\n",
     )?;
-    let low = "'0 putfull 0x4000 2 01000000', '1 putfull 0x4000 2 06000000', '0 putfull 0x4000 2 08000000'";
-    let high = "'0 putfull 0x4000 2 10000000', '1 putfull 0x4000 2 60000000', '0 putfull 0x4000 2 80000000'";
+    let low =
+        "'0 putfull 0x4000 2 01000000', '1 putfull 0x4000 2 06000000', '0 putfull 0x4000 2 08000000'";
+    let high =
+        "'0 putfull 0x4000 2 10000000', '1 putfull 0x4000 2 60000000', '0 putfull 0x4000 2 80000000'";
     push_master(&mut script, low)?;
     push_master(&mut script, high)?;
     for turn in 0..2u32 {
         let workers = if turn == 0 { 1 } else { 4 };
         let run = run(&rt, rt.alloc(), script.as_bytes(), workers, &OpenGate)?;
         let book = run.books.first().ok_or("no book")?;
-        assert_eq!(rt; (book.byte(0x4000), book.byte(0x4001)), (Some(0), Some(0xff)));
+        assert_eq!(rt;
+            (book.byte(0x4000), book.byte(0x4001)),
+            (Some(0), Some(0xff))
+        );
     }
     Ok(())
 }
