@@ -186,7 +186,11 @@ pub fn push_cell(bytes: &mut Window, cell: u64, width: usize)
     requires room { length bytes.old.items + width ≤ MAX_BYTES }
     ensures { bytes.new.items ≡ bytes.old.items ++ low_bytes width cell }
 {
-    bytes
-        .try_extend_from_slice(&cell.to_le_bytes()[..width])
-        .unwrap();
+    let word = cell.to_le_bytes();
+    if width == BUS_BYTES {
+        // one move, since the length is known here
+        bytes.try_extend_from_slice(&word).unwrap();
+        return;
+    }
+    bytes.try_extend_from_slice(&word[..width]).unwrap();
 }

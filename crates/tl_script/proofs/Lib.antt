@@ -1,6 +1,7 @@
 pub mod DataLemmas
 pub mod NumberLemmas
 pub mod Views
+pub mod WordLemmas
 pub mod Jobs
 pub mod Resets
 pub mod Systems

@@ -59,8 +59,10 @@ abbrev pub is_wait : List (List ℕ) → Bool
 is_wait (word ∷ []) = bytes_eq word (codes "wait")
 is_wait _ = false
 
--- the operation that a line spells, for a master with this many sources
+-- the operation that words spell, for a master with this many sources
+unfoldable pub operation_in : ℕ → List (List ℕ) → Option Job
+operation_in sources words = if is_wait words then Some Wait else option_map Send (request_of sources words)
+
+-- the operation that a line spells
 unfoldable pub operation_of : ℕ → List ℕ → Option Job
-operation_of sources line =
-    let words = words_of line in
-    if is_wait words then Some Wait else option_map Send (request_of sources words)
+operation_of sources line = operation_in sources (words_of line)

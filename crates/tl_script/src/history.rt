@@ -1,37 +1,41 @@
 //! The lines of histories, and of the slots' account.
-ghost use Rattle.std.specs.Prelude.{◌≡◌, ◌++◌, IfOk, OnOk, string_bytes};
+ghost use Rattle.std.specs.Prelude.{◌≡◌, ◌++◌, IfOk, OnOk};
 ghost use Rattle.tl_script.specs.History.{account_text, history_line, history_text};
 
+use crate::digits::push_field;
 use crate::print::push_message;
 use std::alloc::{AllocError, Global};
 use tl_types::{Ask, Memory, Reply};
 
 #[tactic(auto, unfolding(crate::specs::History::history_line))]
 fn push_line(
-    text: &mut String,
+    text: &mut Vec<u8>,
     port: usize,
     index: usize,
     ask: &Ask,
     reply: &Reply,
 ) -> Result<(), AllocError>
     ensures { OnOk result
-        (string_bytes text.new
-        ≡ string_bytes text.old ++ history_line port index (ask.now, reply.now)) }
+        (text.new.items
+        ≡ text.old.items ++ history_line port index (ask.now, reply.now)) }
 {
-    write!(text, "p{port} #{index} w{} ", ask.source())?;
+    push_field(text, b"p", port as u64)?;
+    push_field(text, b" #", index as u64)?;
+    push_field(text, b" w", u64::from(ask.source()))?;
+    text.push(b' ')?;
     push_message(text, ask, reply)?;
-    text.push_str("\n")?;
+    text.push(b'\n')?;
     Ok(())
 }
 
 /// Appends the lines of a port's history: one for each request that it served, from index 0 on. The sources are wide ones.
 pub fn push_history(
-    text: &mut String,
+    text: &mut Vec<u8>,
     port: usize,
     history: &[(Ask, Reply)],
 ) -> Result<(), AllocError>
     ensures { OnOk result
-        (string_bytes text.new ≡ string_bytes text.old ++ history_text port history.now) }
+        (text.new.items ≡ text.old.items ++ history_text port history.now) }
 {
     for (index, (ask, reply)) in history.iter().enumerate() {
         push_line(text, port, index, ask, reply)?;
@@ -47,17 +51,19 @@ pub fn write_history(
 ) -> Result<Vec<u8>, Memory>
     ensures { IfOk result (λ text. text.items ≡ history_text port history.now) }
 {
-    let mut text = String::new(alloc);
+    let mut text = Vec::new(alloc);
     push_history(&mut text, port, history)?;
-    Ok(text.into_bytes())
+    Ok(text)
 }
 
 /// Appends the line of how many slots are free and how many are held.
-pub fn push_account(text: &mut String, free: usize, held: usize) -> Result<(), AllocError>
+pub fn push_account(text: &mut Vec<u8>, free: usize, held: usize) -> Result<(), AllocError>
     ensures { OnOk result
-        (string_bytes text.new ≡ string_bytes text.old ++ account_text free held) }
+        (text.new.items ≡ text.old.items ++ account_text free held) }
 {
-    write!(text, "free {free} held {held}\n")?;
+    push_field(text, b"free ", free as u64)?;
+    push_field(text, b" held ", held as u64)?;
+    text.push(b'\n')?;
     Ok(())
 }
 
@@ -65,7 +71,7 @@ pub fn push_account(text: &mut String, free: usize, held: usize) -> Result<(), A
 pub fn write_account(alloc: Global, free: usize, held: usize) -> Result<Vec<u8>, Memory>
     ensures { IfOk result (λ text. text.items ≡ account_text free held) }
 {
-    let mut text = String::new(alloc);
+    let mut text = Vec::new(alloc);
     push_account(&mut text, free, held)?;
-    Ok(text.into_bytes())
+    Ok(text)
 }

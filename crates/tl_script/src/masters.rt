@@ -79,7 +79,7 @@ fn read_operations(alloc: Global, m: usize, master: &Master<'_>) -> Result<Vec<J
 {
     let mut jobs = Vec::with_capacity(alloc, master.lines.len())?;
     for (n, line) in master.lines.iter().enumerate() {
-        match read_operation(alloc, line.as_bytes(), master.sources)? {
+        match read_operation(line.as_bytes(), master.sources) {
             Some(job) => jobs.push(job)?,
             None => return Err(ScriptFault::BadOp(m, n)),
         }

@@ -1,16 +1,15 @@
 //! The operation that a line of a script spells.
-ghost use Rattle.std.specs.Prelude.{◌≡◌, ◌≤◌, ◌<◌, ◌^◌, ◌||◌, IfOk, IfSome, is_some, map};
+ghost use Rattle.std.specs.Prelude.{◌≡◌, ◌≤◌, ◌<◌, ◌^◌, ◌||◌, IfSome, is_some, map};
 ghost use Rattle.std.specs.List.{list_all};
 ghost use Rattle.tl_types.specs.Operation.{may_leave_unset};
 ghost use Rattle.tl_types.specs.Request.{IsLawfulRequest};
-ghost use Rattle.tl_script.specs.Operation.{address_of, bytes_of, operation_of, request_of, size_of, source_of};
+ghost use Rattle.tl_script.specs.Operation.{address_of, bytes_of, operation_in, operation_of, request_of, size_of, source_of};
 ghost use Rattle.tl_script.specs.System.{IsFrom};
 
 use crate::data::read_data;
 use crate::name::read_name;
 use crate::number::read_number;
 use crate::words::split_words;
-use std::alloc::{AllocError, Global};
 use tl_types::{Ask, AskOp, Bytes, LARGEST_SIZE, width};
 
 /// One step of a master.
@@ -23,18 +22,24 @@ pub enum Job {
 }
 
 /// The operation that a line spells, for a master that has this many sources; none for every other line.
-#[tactic(auto, unfolding(crate::specs::Operation::operation_of))]
-pub fn read_operation(alloc: Global, line: &[u8], sources: u16) -> Result<Option<Job>, AllocError>
-    ensures value { IfOk result (λ job. job ≡ operation_of sources line.now) }
-    ensures source { IfOk result (λ job. IfSome job (IsFrom sources)) }
+pub fn read_operation(line: &[u8], sources: u16) -> Option<Job>
+    ensures value { result ≡ operation_of sources line.now }
+    ensures source { IfSome result (IsFrom sources) }
 {
-    let words = split_words(alloc, line)?;
-    if let [word] = words.as_slice() {
+    read_words(split_words(line).as_slice(), sources)
+}
+
+#[tactic(auto, unfolding(crate::specs::Operation::operation_in))]
+fn read_words(words: &[&[u8]], sources: u16) -> Option<Job>
+    ensures value { result ≡ operation_in sources (map (λ word. word.now) words.now) }
+    ensures source { IfSome result (IsFrom sources) }
+{
+    if let [word] = words {
         if *word == b"wait".as_slice() {
-            return Ok(Some(Job::Wait));
+            return Some(Job::Wait);
         }
     }
-    Ok(read_request(&words, sources).map(Job::Send))
+    read_request(words, sources).map(Job::Send)
 }
 
 #[tactic(auto, unfolding(crate::specs::Operation::request_of))]

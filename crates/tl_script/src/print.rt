@@ -1,45 +1,31 @@
 //! The lines of traces.
-ghost use Rattle.std.specs.Prelude.{◌≡◌, ◌<◌, ◌++◌, false, IfOk, OnOk, map, string_bytes, Some};
+ghost use Rattle.std.specs.Prelude.{◌≡◌, ◌<◌, ◌++◌, false, IfOk, OnOk, map, Some};
 ghost use Rattle.std.specs.Fmt.{digit_glyph};
 ghost use Rattle.tl_script.specs.Data.{byte_text};
 ghost use Rattle.tl_script.specs.Trace.{ask_text, bytes_part, denied_text, lines_of, message_text, reply_text, trace_line, trace_text};
 
+use crate::digits::{hex_digit, push_decimal, push_field, push_hex};
 use crate::name::{reply_word, word};
 use std::alloc::{AllocError, Global};
 use tl_types::{Ask, Bytes, Entry, Memory, Reply, Trace};
 
-/// The character of a hexadecimal digit.
-fn hex_digit(digit: u8) -> char
-    requires { digit < 16 }
-    ensures value { result ≡ digit_glyph false digit }
-    ensures ascii { result < 128 }
+/// Appends a byte as two hexadecimal digits, or an unset one as dashes.
+fn push_byte(text: &mut Vec<u8>, byte: Option<u8>) -> Result<(), AllocError>
+    ensures { OnOk result (text.new.items ≡ text.old.items ++ byte_text byte) }
 {
-    if digit < 10 {
-        char::from(b'0' + digit)
-    } else {
-        char::from(b'a' - 10 + digit)
-    }
-}
-
-#[tactic(auto, using(std::proofs::lemmas::Str::encode_ascii))]
-fn push_byte(text: &mut String, byte: Option<u8>) -> Result<(), AllocError>
-    ensures { OnOk result (string_bytes text.new ≡ string_bytes text.old ++ byte_text byte) }
-{
-    match byte {
-        Some(byte) => {
-            text.push(hex_digit(byte / 16))?;
-            text.push(hex_digit(byte % 16))
-        }
-        None => text.push_str("--"),
-    }
+    let digits = match byte {
+        Some(byte) => [hex_digit(byte / 16), hex_digit(byte % 16)],
+        None => [b'-', b'-'],
+    };
+    text.extend_from_slice(&digits)
 }
 
 /// A space and the bytes of a request, where it carries any.
-fn push_data(text: &mut String, bytes: &Bytes) -> Result<(), AllocError>
-    ensures { OnOk result (string_bytes text.new ≡ string_bytes text.old ++ bytes_part bytes.now) }
+fn push_data(text: &mut Vec<u8>, bytes: &Bytes) -> Result<(), AllocError>
+    ensures { OnOk result (text.new.items ≡ text.old.items ++ bytes_part bytes.now) }
 {
     if !bytes.is_empty() {
-        text.push_str(" ")?;
+        text.push(b' ')?;
     }
     for place in 0..bytes.len() {
         push_byte(text, bytes.get(place))?;
@@ -48,13 +34,13 @@ fn push_data(text: &mut String, bytes: &Bytes) -> Result<(), AllocError>
 }
 
 /// A space and the bytes of a reply, where it carries any.
-fn push_plain(text: &mut String, bytes: &[u8]) -> Result<(), AllocError>
+fn push_plain(text: &mut Vec<u8>, bytes: &[u8]) -> Result<(), AllocError>
     ensures { OnOk result
-        (string_bytes text.new
-        ≡ string_bytes text.old ++ bytes_part (map (λ byte. Some byte) bytes.now)) }
+        (text.new.items
+        ≡ text.old.items ++ bytes_part (map (λ byte. Some byte) bytes.now)) }
 {
     if !bytes.is_empty() {
-        text.push_str(" ")?;
+        text.push(b' ')?;
     }
     for byte in bytes {
         push_byte(text, Some(*byte))?;
@@ -62,18 +48,15 @@ fn push_plain(text: &mut String, bytes: &[u8]) -> Result<(), AllocError>
     Ok(())
 }
 
-fn push_ask(text: &mut String, ask: &Ask) -> Result<(), AllocError>
-    ensures { OnOk result (string_bytes text.new ≡ string_bytes text.old ++ ask_text ask.now) }
+fn push_ask(text: &mut Vec<u8>, ask: &Ask) -> Result<(), AllocError>
+    ensures { OnOk result (text.new.items ≡ text.old.items ++ ask_text ask.now) }
 {
-    write!(
-        text,
-        "{} 0x{:x} {}",
-        word(ask.op()),
-        ask.address(),
-        ask.size()
-    )?;
-    push_data(text, ask.bytes())?;
-    Ok(())
+    text.extend_from_slice(word(ask.op()).as_bytes())?;
+    text.extend_from_slice(b" 0x")?;
+    push_hex(text, ask.address())?;
+    text.push(b' ')?;
+    push_decimal(text, u64::from(ask.size()))?;
+    push_data(text, ask.bytes())
 }
 
 fn denied_word(denied: bool) -> &'static str
@@ -82,54 +65,76 @@ fn denied_word(denied: bool) -> &'static str
     if denied { " denied" } else { "" }
 }
 
-fn push_reply(text: &mut String, reply: &Reply) -> Result<(), AllocError>
-    ensures { OnOk result (string_bytes text.new ≡ string_bytes text.old ++ reply_text reply.now) }
+fn push_reply(text: &mut Vec<u8>, reply: &Reply) -> Result<(), AllocError>
+    ensures { OnOk result (text.new.items ≡ text.old.items ++ reply_text reply.now) }
 {
-    text.push_str(reply_word(reply.op()))?;
-    text.push_str(denied_word(reply.denied()))?;
-    push_plain(text, reply.bytes())?;
-    Ok(())
+    text.extend_from_slice(reply_word(reply.op()).as_bytes())?;
+    text.extend_from_slice(denied_word(reply.denied()).as_bytes())?;
+    push_plain(text, reply.bytes())
 }
 
 /// A request and its reply, as the lines of traces and of histories have them.
 #[tactic(auto, unfolding(crate::specs::Trace::message_text))]
-pub fn push_message(text: &mut String, ask: &Ask, reply: &Reply) -> Result<(), AllocError>
+pub fn push_message(text: &mut Vec<u8>, ask: &Ask, reply: &Reply) -> Result<(), AllocError>
     ensures { OnOk result
-        (string_bytes text.new ≡ string_bytes text.old ++ message_text ask.now reply.now) }
+        (text.new.items ≡ text.old.items ++ message_text ask.now reply.now) }
 {
     push_ask(text, ask)?;
-    text.push_str(" -> ")?;
-    push_reply(text, reply)?;
-    Ok(())
+    text.extend_from_slice(b" -> ")?;
+    push_reply(text, reply)
 }
 
+/// Appends the line of a master's request that a port served as its request of this index, with its reply.
 #[tactic(auto, unfolding(crate::specs::Trace::trace_line))]
-fn push_line(text: &mut String, master: usize, entry: &Entry) -> Result<(), AllocError>
-    ensures { OnOk result
-        (string_bytes text.new ≡ string_bytes text.old ++ trace_line master entry.now) }
+pub fn push_entry(
+    text: &mut Vec<u8>,
+    master: usize,
+    ask: &Ask,
+    reply: &Reply,
+    port: usize,
+    index: usize,
+) -> Result<(), AllocError>
+    ensures { OnOk result (text.new.items
+        ≡ text.old.items ++ trace_line master (record {
+          ask = ask.now;
+          reply = reply.now;
+          port = port;
+          index = index;
+        })) }
 {
-    write!(text, "m{master} s{} ", entry.ask.source())?;
-    push_message(text, &entry.ask, &entry.reply)?;
-    write!(text, " p{} #{}\n", entry.port, entry.index)?;
+    push_field(text, b"m", master as u64)?;
+    push_field(text, b" s", u64::from(ask.source()))?;
+    text.push(b' ')?;
+    push_message(text, ask, reply)?;
+    push_field(text, b" p", port as u64)?;
+    push_field(text, b" #", index as u64)?;
+    text.push(b'\n')?;
     Ok(())
 }
 
 /// Appends the lines of a master's trace.
-pub fn push_trace(text: &mut String, master: usize, entries: &[Entry]) -> Result<(), AllocError>
+pub fn push_trace(text: &mut Vec<u8>, master: usize, entries: &[Entry]) -> Result<(), AllocError>
     ensures { OnOk result
-        (string_bytes text.new ≡ string_bytes text.old ++ lines_of master entries.now) }
+        (text.new.items ≡ text.old.items ++ lines_of master entries.now) }
 {
     for entry in entries {
-        push_line(text, master, entry)?;
+        push_entry(
+            text,
+            master,
+            &entry.ask,
+            &entry.reply,
+            entry.port,
+            entry.index,
+        )?;
     }
     Ok(())
 }
 
 /// Appends the lines of the traces, those of master 0 first.
-pub fn push_traces(text: &mut String, traces: &[Trace]) -> Result<(), AllocError>
+pub fn push_traces(text: &mut Vec<u8>, traces: &[Trace]) -> Result<(), AllocError>
     ensures { OnOk result
-        (string_bytes text.new
-        ≡ string_bytes text.old ++ trace_text (map (λ trace. trace.items) traces.now)) }
+        (text.new.items
+        ≡ text.old.items ++ trace_text (map (λ trace. trace.items) traces.now)) }
 {
     for (master, entries) in traces.iter().enumerate() {
         push_trace(text, master, entries)?;
@@ -142,7 +147,7 @@ pub fn write_trace(alloc: Global, traces: &[Trace]) -> Result<Vec<u8>, Memory>
     ensures { IfOk result
         (λ text. text.items ≡ trace_text (map (λ trace. trace.items) traces.now)) }
 {
-    let mut text = String::new(alloc);
+    let mut text = Vec::new(alloc);
     push_traces(&mut text, traces)?;
-    Ok(text.into_bytes())
+    Ok(text)
 }

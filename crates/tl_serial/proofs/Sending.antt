@@ -2,6 +2,7 @@
 use Rattle.std.proofs.Common.{◌≡◌, ◌∙◌, ℕ, suc, zero, ◌+◌, ◌<◌, List, [], ◌∷◌, ◌++◌, length, take, map, Option, Some, None, IsSomeAnd, slice_get, ap, append_assoc, sym, arith}
 use Rattle.std.specs.Prelude.{All}
 use Rattle.std.proofs.lemmas.List.{append-nil, take_more, map-append}
+use Rattle.std.proofs.lemmas.List.Concat.{flat_map-append}
 use Rattle.std.proofs.lemmas.List.Elements.{filter_map-append, All-head, All-tail}
 use Rattle.std.proofs.lemmas.Option.{slice_get_within, get_or_from_slice_get}
 use Rattle.tl_types.specs.Request.{Request}
@@ -9,7 +10,7 @@ use Rattle.tl_types.specs.declared.trace.Entry.{Entry}
 use Rattle.tl_script.specs.System.{sent_by, sends}
 use Rattle.tl_script.specs.declared.operation.Job.{Job}
 use Rattle.tl_script.specs.declared.operation.Job.TheVariants.{Wait, Send}
-use Rattle.tl_script.specs.Trace.{lines_of, traces_from, trace_text}
+use Rattle.tl_script.specs.Trace.{lines_of, trace_line, traces_from, trace_text}
 use Rattle.tl_serial.specs.Serial.{asks_in, numbered, log_from, log_of}
 
 pub take_next : {A : Type 0} (xs : List A) (i : ℕ) (x : A) → slice_get xs i ≡ Some x → take (i + 1) xs ≡ take i xs ++ x ∷ []
@@ -66,6 +67,12 @@ asked_more traces entries lists m jobs at before last =
     map-append asks_in traces (entries ∷ []) ∙ ap (λ (asks : List (List Request)). asks ++ asks_in entries ∷ []) before
     ∙ ap (λ (asks : List Request). map sends (take m lists) ++ asks ∷ []) last
     ∙ sym (ap (map sends) (take_next lists m jobs at) ∙ map-append sends (take m lists) (jobs ∷ []))
+
+-- a line more of a master's
+pub lines_of-push : (master : ℕ) (entries : List Entry) (e : Entry) (before : List ℕ) → before ++ lines_of master (entries ++ e ∷ []) ≡ (before ++ lines_of master entries) ++ trace_line master e
+lines_of-push master entries e before =
+    ap (λ (text : List ℕ). before ++ text) (flat_map-append (trace_line master) entries (e ∷ []) ∙ ap (λ (text : List ℕ). lines_of master entries ++ text) (append-nil (trace_line master e)))
+    ∙ sym (append_assoc before (lines_of master entries) (trace_line master e))
 
 -- a master's lines more
 traces_from-push : (master : ℕ) (traces : List (List Entry)) (entries : List Entry) → traces_from master (traces ++ entries ∷ []) ≡ traces_from master traces ++ lines_of (master + length traces) entries

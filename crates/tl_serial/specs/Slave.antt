@@ -1,5 +1,5 @@
 -- Where the slaves of a system stand after a list of entries. This project's own.
-use Rattle.std.specs.Prelude.{◌≡◌, ℕ, ◌+◌, Bool, true, List, [], ◌∷◌, length, Option, Some, option_map, unwrap_or, slice_get, IsSomeAnd, map, take}
+use Rattle.std.specs.Prelude.{◌≡◌, ℕ, ◌+◌, Bool, true, List, [], ◌∷◌, ◌++◌, length, Option, Some, option_map, unwrap_or, slice_get, IsSomeAnd, map, take}
 use Rattle.tl_map.specs.Block.{IsWide}
 use Rattle.tl_types.specs.declared.trace.Entry.{Entry}
 use Rattle.tl_types.specs.Request.{Request}
@@ -7,9 +7,11 @@ use Rattle.tl_types.specs.Response.{Response}
 use Rattle.tl_ops.specs.Store.{Store}
 use Rattle.tl_ops.specs.History.{replay}
 use Rattle.tl_script.specs.System.{System, sends}
-use Rattle.tl_script.specs.Trace.{trace_text}
-use Rattle.tl_serial.specs.Serial.{requests_at, at_port, asks_in, log_of, AreServedInTurn, IsHistoryOf}
+use Rattle.tl_script.specs.Trace.{lines_of, trace_text}
+use Rattle.tl_serial.specs.Serial.{requests_at, at_port, asks_in, log_of, numbered, AreServedInTurn, IsHistoryOf}
 use Rattle.tl_script.specs.System.{resets}
+use Rattle.tl_script.specs.declared.operation.Job.{Job}
+use Rattle.tl_serial.specs.declared.run.Served.{Served}
 use Rattle.tl_serial.specs.declared.run.Slave.{Slave}
 
 -- what a slave port holds
@@ -47,6 +49,17 @@ pub record Stand (s : System) (keeps : Bool) (log : List (ℕ × Entry)) (slaves
   pub served : AreServedInTurn s log
   pub wide : HaveWide s.counts log
   pub each : (port : ℕ) (slave : Slave) → slice_get slaves port ≡ Some slave → HasServed s keeps log port slave
+
+-- the entry of a request that was served so
+abbrev pub entry_of : Request → Served → Entry
+entry_of ask served = record { ask = ask; reply = served.reply; port = served.port; index = served.index }
+
+-- a master's operations took the slaves from the ones to the others, and the lines of its entries were put behind the text
+pub record IsAppended (s : System) (master : ℕ) (jobs : List Job) (old new : List Slave) (before text : List ℕ) : Type 0 where
+  pub entries : List Entry
+  pub asked : asks_in entries ≡ sends jobs
+  pub stands : (keeps : Bool) (log : List (ℕ × Entry)) → Stand s keeps log old → Stand s keeps (log ++ numbered master entries) new
+  pub is : text ≡ before ++ lines_of master entries
 
 -- the text is that of the traces of the first `masters` masters, whose requests took the slaves from the ones to the others
 pub record AreWritten (s : System) (old new : List Slave) (text : List ℕ) (masters : ℕ) : Type 0 where

@@ -4,7 +4,7 @@ ghost use Rattle.tl_types.specs.declared.trace.Entry.{Entry};
 ghost use Rattle.tl_ops.specs.Store.{after, reply};
 ghost use Rattle.tl_script.specs.System.{System, sends, lists_of, store_of, error_store};
 ghost use Rattle.tl_serial.specs.Serial.{IsSerialRun, numbered, asks_in, log_of};
-ghost use Rattle.tl_serial.specs.Slave.{Stand, IsFresh, bank_of, history_of, kept_by};
+ghost use Rattle.tl_serial.specs.Slave.{Stand, IsFresh, bank_of, entry_of, history_of, kept_by};
 
 use std::alloc::Global;
 use tl_ops::{Bank, Kind};
@@ -54,29 +54,48 @@ impl Slave {
     }
 }
 
+/// Where a request was served, and what it was answered.
+#[derive(Drop)]
+pub(crate) struct Served {
+    pub(crate) port: usize,
+    pub(crate) index: usize,
+    pub(crate) reply: Reply,
+}
+
 /// Serves a master's next request.
-fn send(slaves: &mut [Slave], system: &System, master: usize, ask: &Ask) -> Result<Entry, Memory>
+pub(crate) fn send(
+    slaves: &mut [Slave],
+    system: &System,
+    master: usize,
+    ask: &Ask,
+) -> Result<Served, Memory>
     requires ready { length slaves.old ≡ length system.now.ranges + 1 }
     requires source { IsSomeAnd (slice_get system.now.counts master)
         (λ count. ask.now.source < count) }
-    ensures asked { IfOk result (λ entry. entry.ask ≡ ask.now) }
-    ensures stands { IfOk result (λ entry. (keeps : Bool) (log : List (ℕ × Entry))
+    ensures { IfOk result (λ served. (keeps : Bool) (log : List (ℕ × Entry))
         → Stand system.now keeps log slaves.old
-        → Stand system.now keeps (log ++ (master, entry) ∷ []) slaves.new) }
+        → Stand system.now keeps (log ++ (master, entry_of ask.now served) ∷ []) slaves.new) }
 {
     let port = system.map().route(ask);
     let wide = system.sources().widen(master, ask.source()).unwrap();
     let (index, reply) = slaves[port].serve(ask, wide)?;
-    Ok(Entry {
+    Ok(Served { port, index, reply })
+}
+
+/// The entry of a request that was served so.
+fn entry(ask: &Ask, served: Served) -> Entry
+    ensures { result ≡ entry_of ask.now served }
+{
+    Entry {
         ask: ask.copy(),
-        reply,
-        port,
-        index,
-    })
+        reply: served.reply,
+        port: served.port,
+        index: served.index,
+    }
 }
 
 /// Serves a master's operations in order, and gives its trace.
-pub(crate) fn run_master(
+fn run_master(
     alloc: Global,
     slaves: &mut [Slave],
     system: &System,
@@ -96,8 +115,8 @@ pub(crate) fn run_master(
         match job {
             Job::Wait => {}
             Job::Send(ask) => {
-                let entry = send(slaves, system, master, ask)?;
-                trace.push(entry)?;
+                let served = send(slaves, system, master, ask)?;
+                trace.push(entry(ask, served))?;
             }
         }
     }

@@ -1,43 +1,69 @@
 //! The text of the run of a system by one thread.
-ghost use Rattle.std.specs.Prelude.{◌≡◌, ◌+◌, ◌++◌, length, IfOk, OnOk, false, string_bytes};
-ghost use Rattle.tl_script.specs.System.{lists_of};
+ghost use Rattle.std.specs.Prelude.{◌≡◌, ◌+◌, ◌++◌, ◌<◌, All, length, IfOk, IsSomeAnd, OnOk, false, slice_get};
+ghost use Rattle.tl_script.specs.System.{lists_of, sends};
 ghost use Rattle.tl_serial.specs.Text.{histories_text, IsSerialText};
-ghost use Rattle.tl_serial.specs.Slave.{AreWritten};
+ghost use Rattle.tl_serial.specs.Slave.{AreWritten, IsAppended};
 
-use crate::run::{History, Slave, run_master, run_serial, slaves_of};
+use crate::run::{History, Slave, run_serial, send, slaves_of};
 use std::alloc::{AllocError, Global};
-use tl_script::{System, push_history, push_trace, push_traces};
+use tl_script::{Job, System, push_entry, push_history, push_traces};
 use tl_types::Memory;
 
+/// Serves a master's operations in order, and appends the lines of its trace: each request is printed as it is answered,
+/// and none is kept.
+fn write_master(
+    text: &mut Vec<u8>,
+    slaves: &mut [Slave],
+    system: &System,
+    master: usize,
+    jobs: &[Job],
+) -> Result<(), Memory>
+    requires ready { length slaves.old ≡ length system.now.ranges + 1 }
+    requires source { IsSomeAnd (slice_get system.now.counts master)
+        (λ count. All (λ ask. ask.source < count) (sends jobs.now)) }
+    ensures { OnOk result (IsAppended system.now master jobs.now slaves.old slaves.new
+        text.old.items text.new.items) }
+{
+    for job in jobs {
+        match job {
+            Job::Wait => {}
+            Job::Send(ask) => {
+                let served = send(slaves, system, master, ask)?;
+                push_entry(text, master, ask, &served.reply, served.port, served.index)?;
+            }
+        }
+    }
+    Ok(())
+}
+
 /// Serves the masters of a system, one after the other, and gives the lines of their traces.
-fn write_masters(alloc: Global, slaves: &mut [Slave], system: &System) -> Result<String, Memory>
+fn write_masters(alloc: Global, slaves: &mut [Slave], system: &System) -> Result<Vec<u8>, Memory>
     requires { length slaves.old ≡ length system.now.ranges + 1 }
-    ensures { IfOk result (λ text. AreWritten system.now slaves.old slaves.new (string_bytes text)
+    ensures { IfOk result (λ text. AreWritten system.now slaves.old slaves.new text.items
         (length system.now.jobs)) }
 {
     let jobs = system.jobs();
-    let mut text = String::new(alloc);
+    let mut text = Vec::new(alloc);
     for (master, jobs) in jobs.iter().enumerate() {
-        let trace = run_master(alloc, slaves, system, master, jobs)?;
-        push_trace(&mut text, master, &trace)?;
+        write_master(&mut text, slaves, system, master, jobs)?;
     }
     Ok(text)
 }
 
-/// The text of the traces of the run. No history takes memory, and one master's trace at a time.
+/// The text of the traces of the run. Nothing that was served is kept.
 fn traces_text(alloc: Global, system: &System) -> Result<Vec<u8>, Memory>
     ensures { IfOk result (λ text. IsSerialText false system.now text.items) }
 {
     let mut slaves = slaves_of(alloc, system.devices(), false)?;
     let text = write_masters(alloc, &mut slaves, system)?;
-    Ok(text.into_bytes())
+    Ok(text)
 }
 
 /// Appends the lines of the histories, port 0 first.
-fn push_histories(text: &mut String, histories: &[History]) -> Result<(), AllocError>
+fn push_histories(text: &mut Vec<u8>, histories: &[History]) -> Result<(), AllocError>
     ensures { OnOk result
-        (string_bytes text.new
-        ≡ string_bytes text.old ++ histories_text (lists_of histories.now)) }
+        (text.new.items
+        ≡ text.old.items ++ histories_text (lists_of histories.now)) }
 {
     for (port, history) in histories.iter().enumerate() {
         push_history(text, port, history)?;
@@ -53,8 +79,8 @@ pub fn write_serial(alloc: Global, system: &System, history: bool) -> Result<Vec
         return traces_text(alloc, system);
     }
     let run = run_serial(alloc, system)?;
-    let mut text = String::new(alloc);
+    let mut text = Vec::new(alloc);
     push_traces(&mut text, &run.traces)?;
     push_histories(&mut text, &run.histories)?;
-    Ok(text.into_bytes())
+    Ok(text)
 }

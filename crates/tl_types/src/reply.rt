@@ -9,13 +9,14 @@ use std::marker::Model;
 use thiserror::Error;
 
 /// A reply, of lawful size and byte count, whose bytes are zero where it is denied.
+// The bytes stand first, as in a request.
 #[derive(Debug, Drop)]
 pub struct Reply {
-    op: ReplyOp,
-    size: u8,
-    source: u16,
-    denied: bool,
     bytes: ArrayVec<u8, MAX_BYTES>,
+    source: u16,
+    size: u8,
+    denied: bool,
+    op: ReplyOp,
 }
 
 /// Why parts make no reply.

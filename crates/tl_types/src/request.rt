@@ -10,13 +10,15 @@ use std::marker::Model;
 use thiserror::Error;
 
 /// A request, of lawful size and byte count.
+// The bytes stand first and the small fields last: a move copies whole words, and padding before a large field would make
+// each move wait for the stores of the one before it.
 #[derive(Debug, Drop)]
 pub struct Ask {
-    op: AskOp,
-    size: u8,
-    source: u16,
-    address: u64,
     bytes: Bytes,
+    address: u64,
+    source: u16,
+    size: u8,
+    op: AskOp,
 }
 
 /// Why parts make no request.

@@ -1,27 +1,25 @@
 //! The lines of operations.
 use crate::tests::are;
 use crate::{Job, read_operation};
-use std::alloc::{AllocError, Global};
 use std::test::Fail;
 use tl_types::{Arith, Ask, AskOp, Hint, Logic};
 
 /// The request that a line spells for a master with this many sources; none for another line.
-fn request(alloc: Global, line: &str, sources: u16) -> Result<Option<Ask>, AllocError> {
-    match read_operation(alloc, line.as_bytes(), sources)? {
-        Some(Job::Send(ask)) => Ok(Some(ask)),
-        _ => Ok(None),
+fn request(line: &str, sources: u16) -> Option<Ask> {
+    match read_operation(line.as_bytes(), sources) {
+        Some(Job::Send(ask)) => Some(ask),
+        _ => None,
     }
 }
 
 /// Whether a line is the word `wait`, for a master with one source.
-fn is_wait(alloc: Global, line: &str) -> Result<bool, AllocError> {
-    let job = read_operation(alloc, line.as_bytes(), 1)?;
-    Ok(matches!(&job, Some(Job::Wait)))
+fn is_wait(line: &str) -> bool {
+    matches!(&read_operation(line.as_bytes(), 1), Some(Job::Wait))
 }
 
 /// Whether a line is no operation, for a master with 16 sources.
-fn is_refused(alloc: Global, line: &str) -> Result<bool, AllocError> {
-    Ok(read_operation(alloc, line.as_bytes(), 16)?.is_none())
+fn is_refused(line: &str) -> bool {
+    read_operation(line.as_bytes(), 16).is_none()
 }
 
 const WAITS: [&str; 3] = ["wait", " wait", "\twait \t"];
@@ -29,7 +27,7 @@ const WAITS: [&str; 3] = ["wait", " wait", "\twait \t"];
 #[test]
 fn a_line_may_be_a_wait(rt: HostRuntime) -> Result<(), Fail> {
     for line in &WAITS {
-        assert!(rt; is_wait(rt.alloc(), line)?, "{line}");
+        assert!(rt; is_wait(line), "{line}");
     }
     Ok(())
 }
@@ -52,17 +50,17 @@ const NAMES: [(&str, AskOp); 14] = [
 ];
 
 /// Whether the line spells a request of this operation at address 16, for a master with one source.
-fn names(alloc: Global, line: &str, op: AskOp) -> Result<bool, AllocError> {
-    match request(alloc, line, 1)? {
-        Some(ask) => Ok(ask.op() == op && ask.address() == 16),
-        None => Ok(false),
+fn names(line: &str, op: AskOp) -> bool {
+    match request(line, 1) {
+        Some(ask) => ask.op() == op && ask.address() == 16,
+        None => false,
     }
 }
 
 #[test]
 fn each_operation_has_a_name(rt: HostRuntime) -> Result<(), Fail> {
     for (line, op) in &NAMES {
-        assert!(rt; names(rt.alloc(), line, *op)?, "{line}");
+        assert!(rt; names(line, *op), "{line}");
     }
     Ok(())
 }
@@ -136,22 +134,20 @@ const FORMS: [Form; 8] = [
 ];
 
 /// Whether the line spells the request, for a master with 256 sources.
-fn is_spelled(alloc: Global, form: &Form) -> Result<bool, AllocError> {
-    let Some(ask) = request(alloc, form.line, 256)? else {
-        return Ok(false);
+fn is_spelled(form: &Form) -> bool {
+    let Some(ask) = request(form.line, 256) else {
+        return false;
     };
-    Ok(
-        ask.source() == form.source
-            && ask.address() == form.address
-            && ask.size() == form.size
-            && are(ask.bytes(), form.bytes),
-    )
+    ask.source() == form.source
+        && ask.address() == form.address
+        && ask.size() == form.size
+        && are(ask.bytes(), form.bytes)
 }
 
 #[test]
 fn parts_are_read_in_each_form(rt: HostRuntime) -> Result<(), Fail> {
     for form in &FORMS {
-        assert!(rt; is_spelled(rt.alloc(), form)?, "{}", form.line);
+        assert!(rt; is_spelled(form), "{}", form.line);
     }
     Ok(())
 }
@@ -202,7 +198,7 @@ const OTHERS: [&str; 35] = [
 #[test]
 fn every_other_line_is_refused(rt: HostRuntime) -> Result<(), Fail> {
     for line in &OTHERS {
-        assert!(rt; is_refused(rt.alloc(), line)?, "{line}");
+        assert!(rt; is_refused(line), "{line}");
     }
     Ok(())
 }

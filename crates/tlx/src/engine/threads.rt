@@ -1,5 +1,5 @@
 //! The threaded engine: from the bytes of a script to the text of a run by threads.
-ghost use Rattle.std.specs.Prelude.{◌≡◌, ◌≤◌, ◌++◌, IfOk, OnOk, length, string_bytes};
+ghost use Rattle.std.specs.Prelude.{◌≡◌, ◌≤◌, ◌++◌, IfOk, OnOk, length};
 ghost use Rattle.tl_audit.specs.Reader.{histories_of};
 ghost use Rattle.tl_script.specs.History.{account_text};
 ghost use Rattle.tl_script.specs.System.{lists_of};
@@ -21,10 +21,10 @@ use tl_threads::{OpenGate, ThreadedRun, run_threads};
 use tl_types::{MAX_WORKERS, Memory};
 
 /// Appends the lines of the books' histories, port 0's first.
-fn push_histories(text: &mut String, books: &[Book]) -> Result<(), AllocError>
+fn push_histories(text: &mut Vec<u8>, books: &[Book]) -> Result<(), AllocError>
     ensures { OnOk result
-        (string_bytes text.new
-        ≡ string_bytes text.old ++ histories_text (histories_of books.now)) }
+        (text.new.items
+        ≡ text.old.items ++ histories_text (histories_of books.now)) }
 {
     for (port, book) in books.iter().enumerate() {
         push_history(text, port, book.history())?;
@@ -38,13 +38,13 @@ fn text_of(alloc: Global, run: &ThreadedRun, history: bool) -> Result<Vec<u8>, M
         ≡ run_text history (lists_of run.now.traces.items) (histories_of run.now.books.items)
         ++ account_text (length run.now.account.free.items) (length run.now.account.held.items)) }
 {
-    let mut text = String::new(alloc);
+    let mut text = Vec::new(alloc);
     push_traces(&mut text, &run.traces)?;
     if history {
         push_histories(&mut text, &run.books)?;
     }
     push_account(&mut text, run.account.free.len(), run.account.held.len())?;
-    Ok(text.into_bytes())
+    Ok(text)
 }
 
 /// Reads a script to its end, runs its system by threads, each master on one of its own and each port on as many as

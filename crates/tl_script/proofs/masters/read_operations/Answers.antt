@@ -6,7 +6,7 @@ use Rattle.tl_script.proofs.masters.read_operations.Goals as goal
 
 pub loop-n-preserved : goal.loop-n-preserved
 loop-n-preserved c =
-    let source = rw c.in-Some.is at c.in_ok-job.ensures.source in
+    let source = rw c.in-Some.is at c.read_operation.ensures.source in
     record {
       read = grind (arith, common_steps);
       counted = grind (arith, common_steps);

@@ -1,8 +1,7 @@
 -- One more byte is printed.
-use Rattle.std.proofs.Common.{◌≡◌, ◌∙◌, ◌<◌, ◌++◌, length, get_or, None, sym, ap, arith, string_bytes, rules}
+use Rattle.std.proofs.Common.{◌≡◌, ◌<◌, length, get_or, None, arith}
 use Rattle.std.proofs.lemmas.Grind.{common_steps}
 use Rattle.std.proofs.lemmas.Option.{get_or_from_slice_get}
-use Rattle.tl_script.specs.Data.{byte_text}
 use Rattle.tl_script.proofs.print.push_data.Goals as goal
 
 pub loop-place-preserved : goal.loop-place-preserved

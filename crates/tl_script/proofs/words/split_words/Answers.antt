@@ -1,14 +1,14 @@
--- The parts between the blanks, but for the empty ones.
-use Rattle.std.proofs.Common.{ap, ◌∙◌, rules, tests}
-use Rattle.std.specs.Slice.Iter.{split_rest, split_done, split_callee}
-use Rattle.std.proofs.lemmas.Iterator.Consumers.{YieldsList-from_filter, map_from_collect}
-use Rattle.std.proofs.lemmas.Iterator.Splits.{YieldsList-from_slice_split}
-use Rattle.tl_script.specs.Word.{is_blank, has_bytes}
+-- There are as many words as are looked at.
+use Rattle.std.proofs.Common.{◌≡◌, ◌∙◌, List, ℕ, length, map, take, rules, sym, ap}
+use Rattle.std.specs.Borrow.{Bor}
+use Rattle.std.proofs.lemmas.List.{length-map, take_at}
+use Rattle.tl_script.specs.Word.{words_of}
+use Rattle.tl_script.specs.declared.words.TheConstants.{MOST_WORDS}
 use Rattle.tl_script.proofs.words.split_words.Goals as goal
 
 pub returns : goal.returns
 returns c =
-    let source = c.filter.ensures.source in
-    map_from_collect _ c.collect.ensures.ran (YieldsList-from_filter _ has_bytes
-    (YieldsList-from_slice_split _ is_blank c.args.line.now (ap split_rest source ∙ c.split.ensures.rest) (ap split_done source ∙ c.split.ensures.done) (ap split_callee source ∙ c.split.ensures.closure) (λ x r q k. search (rules, tests)))
-    c.filter.ensures.closure (λ x r q k. search (rules, tests)))
+    let words : List (List ℕ) = map (λ (word : Bor (List ℕ)). word.now) c.loop-rest.words.items in
+    let full : length c.loop-rest.words.items ≡ MOST_WORDS = search rules in
+    sym (take_at words (words_of c.loop-rest.rest.now) MOST_WORDS (length-map c.loop-rest.words.items (λ (word : Bor (List ℕ)). word.now) ∙ full))
+    ∙ ap (take MOST_WORDS) c.loop-rest.invariant.words

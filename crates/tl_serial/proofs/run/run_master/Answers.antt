@@ -1,13 +1,13 @@
-use Rattle.std.proofs.Common.{rules, ◌≡◌, ◌∙◌, ◌++◌, ◌∷◌, [], List, Some, slice_get, sym, ap, take}
+use Rattle.std.proofs.Common.{rules, ◌≡◌, ◌∙◌, ◌++◌, ◌∷◌, [], List, Some, slice_get, sym, ap}
 use Rattle.std.proofs.lemmas.Option.{slice_get-get_or}
 use Rattle.tl_types.specs.Request.{Request}
 use Rattle.tl_script.specs.declared.operation.Job.{Job}
 use Rattle.tl_script.specs.declared.operation.Job.TheVariants.{Send}
-use Rattle.tl_script.specs.System.{sends}
 use Rattle.tl_serial.specs.Serial.{asks_in, numbered}
+use Rattle.tl_serial.specs.Slave.{entry_of}
 use Rattle.tl_serial.proofs.Sending.{sends-send, sends-wait, asks_in-push, numbered-push, some_sent}
 use Rattle.tl_serial.proofs.run.run_master.Goals as goal
-use Rattle.tl_serial.proofs.run.run_master.Goals.{in-Wait, in-Send+in_ok-entry-in-Send+in_ok-push-in-Send}
+use Rattle.tl_serial.proofs.run.run_master.Goals.{in-Wait, in-Send+in_ok-served-in-Send+in_ok-push-in-Send}
 
 pub send-requires-clause-source : goal.send-requires-clause-source
 send-requires-clause-source c =
@@ -26,17 +26,16 @@ loop-job-preserved c =
         asked = rw w.trace-is (c.loop-job.invariant.asked ∙ sym (sends-wait jobs i (here ∙ ap (λ (j : Job). Some j) w.in-Wait.is)));
         stands = λ keeps log stand. rw (w.trace-is, w.slaves-is) (c.loop-job.invariant.stands keeps log stand);
       }
-      | in-Send+in_ok-entry-in-Send+in_ok-push-in-Send w ↦
+      | in-Send+in_ok-served-in-Send+in_ok-push-in-Send w ↦
           let ask = w.in-Send.ask in
-          let entry = w.in_ok-entry-in-Send.entry in
+          let entry = entry_of ask w.in_ok-served-in-Send.served in
           let at : slice_get jobs i ≡ Some (Send ask) = here ∙ ap (λ (j : Job). Some j) w.in-Send.is in
           let pushed : c.match-job.trace.items ≡ c.loop-job.trace.items ++ entry ∷ [] = search rules in
           let before = c.loop-job.trace.items in
-          let same : entry.ask ≡ ask = search rules in
           record {
             asked = ap asks_in pushed ∙ asks_in-push before entry ∙ ap (λ (asks : List Request). asks ++ entry.ask ∷ []) c.loop-job.invariant.asked
-                ∙ ap (λ (a : Request). sends (take i jobs) ++ a ∷ []) same ∙ sym (sends-send jobs i ask at);
+                ∙ sym (sends-send jobs i ask at);
             stands = λ keeps log stand. rw (pushed, w.slaves-is, numbered-push log c.args.master before entry)
-                (w.in_ok-entry-in-Send.ensures.stands keeps (log ++ numbered c.args.master before) (c.loop-job.invariant.stands keeps log stand));
+                (w.in_ok-served-in-Send.ensures keeps (log ++ numbered c.args.master before) (c.loop-job.invariant.stands keeps log stand));
           }
     ]

@@ -17,8 +17,8 @@ offset_bounds-slaves-port c =
     let within : c.route-port.result < length c.args.slaves.now = bounds-slaves-port c in
     search rules
 
-pub returns-clause-stands : goal.returns-clause-stands
-returns-clause-stands c = λ keeps log stand.
+pub returns : goal.returns
+returns c = λ keeps log stand.
     let routed : Routes c.args.system.now.ranges c.args.ask.now c.route-port.result = rw c.map.ensures at ((c.route-port.ensures.port c.route-port.result).0 refl) in
     let below = routed_in_range c.args.system.now.ranges c.args.ask.now c.route-port.result routed in
     let within : c.route-port.result < length c.args.slaves.now = omega (arith, below, c.requires.ready) in
@@ -27,4 +27,4 @@ returns-clause-stands c = λ keeps log stand.
     let wide : IsWide c.args.system.now.counts c.args.master c.args.ask.now.source c.unwrap-wide.result =
     rw (c.sources.ensures, c.source.ensures) at ((c.widen.ensures.wide c.unwrap-wide.result).0 c.unwrap-wide.ensures) in
     stand_more c.args.system.now keeps log c.args.slaves.now c.index-slaves-port.result c.serve.new.self c.args.master c.unwrap-wide.result _ stand
-    slave (rw c.copy.ensures routed) (search rules) (search rules) (search rules) (search rules) (search rules) (rw c.copy.ensures wide)
+    slave routed (search rules) (search rules) (search rules) (search rules) (search rules) wide

@@ -1,8 +1,7 @@
 -- A master's lines more.
-use Rattle.std.proofs.Common.{◌≡◌, ◌∙◌, ◌++◌, ◌∷◌, [], ◌+◌, ℕ, List, option_map, Some, slice_get, string_bytes, sym, ap, length-append, Vec}
+use Rattle.std.proofs.Common.{◌≡◌, ◌∙◌, ◌++◌, ◌∷◌, [], ◌+◌, ℕ, List, option_map, Some, slice_get, sym, ap, length-append, Vec}
 use Rattle.std.specs.Global.{Global}
 use Rattle.std.proofs.lemmas.Option.{slice_get-get_or, slice_get-map}
-use Rattle.tl_types.specs.declared.trace.Entry.{Entry}
 use Rattle.tl_script.specs.System.{sends}
 use Rattle.tl_script.specs.Trace.{lines_of, trace_text}
 use Rattle.tl_script.specs.declared.operation.Job.{Job}
@@ -13,20 +12,19 @@ use Rattle.tl_serial.proofs.text.write_masters.Goals as goal
 pub loop-master-preserved : goal.loop-master-preserved
 loop-master-preserved c =
     let before = c.loop-master.invariant in
-    let trace = c.in_ok-trace.trace in
+    let mine = c.in_ok-write_master.ensures in
     let m = c.loop-master.master in
     let jobs = c.index-jobs-master.result in
     let at : slice_get c.args.system.now.jobs m ≡ Some jobs.items =
     ap (λ (js : List (List Job)). slice_get js m) (sym c.jobs-jobs.ensures.value) ∙ slice_get-map (λ (v : Vec Job Global). v.items) c.jobs-jobs.result.now m
     ∙ ap (option_map (λ (v : Vec Job Global). v.items)) (slice_get-get_or c.jobs-jobs.result.now m jobs c.loop-master-test.true ∙ ap (λ (v : Vec Job Global). Some v) (sym c.index-jobs-master.is)) in
-    let last : asks_in trace.items ≡ sends jobs.items = c.in_ok-trace.ensures.asked ∙ ap sends c.deref.ensures.value in
+    let last : asks_in mine.entries ≡ sends jobs.items = mine.asked ∙ ap sends c.deref.ensures.value in
     record {
-      traces = before.traces ++ trace.items ∷ [];
-      counted = length-append before.traces (trace.items ∷ []) ∙ ap (λ (n : ℕ). n + 1) before.counted;
-      asked = asked_more before.traces trace.items c.args.system.now.jobs m jobs.items at before.asked last;
-      stands = λ keeps fresh. rw (log_of-push before.traces trace.items, before.counted) (c.in_ok-trace.ensures.stands keeps (log_of before.traces) (before.stands keeps fresh));
+      traces = before.traces ++ mine.entries ∷ [];
+      counted = length-append before.traces (mine.entries ∷ []) ∙ ap (λ (n : ℕ). n + 1) before.counted;
+      asked = asked_more before.traces mine.entries c.args.system.now.jobs m jobs.items at before.asked last;
+      stands = λ keeps fresh. rw (log_of-push before.traces mine.entries, before.counted) (mine.stands keeps (log_of before.traces) (before.stands keeps fresh));
       is =
-          c.in_ok-push_trace.ensures ∙ ap (λ (es : List Entry). string_bytes c.loop-master.text ++ lines_of m es) c.deref-in-loop-master.ensures.value
-          ∙ ap (λ (text : List ℕ). text ++ lines_of m trace.items) before.is
-          ∙ sym (trace_text-push before.traces trace.items ∙ ap (λ (n : ℕ). trace_text before.traces ++ lines_of n trace.items) before.counted);
+          mine.is ∙ ap (λ (text : List ℕ). text ++ lines_of m mine.entries) before.is
+          ∙ sym (trace_text-push before.traces mine.entries ∙ ap (λ (n : ℕ). trace_text before.traces ++ lines_of n mine.entries) before.counted);
     }
