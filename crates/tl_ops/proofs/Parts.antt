@@ -1,15 +1,15 @@
 -- The part of a request's bytes that one word has.
-use Rattle.std.proofs.Common.{◌≡◌, ℕ, zero, suc, ◌+◌, ◌-◌, ◌*◌, ◌/◌, ◌%◌, ◌^◌, ◌<◌, ◌≤◌, min, List, [], ◌∷◌, length, take, drop, map, get_or, slice_get, Option, Some, None, unwrap_or, refl, sym, ap, ◌∙◌, arith}
+use Rattle.std.proofs.Common.{◌≡◌, ℕ, zero, suc, ◌+◌, ◌-◌, ◌*◌, ◌/◌, ◌^◌, ◌<◌, ◌≤◌, min, List, [], ◌∷◌, length, take, drop, get_or, slice_get, Option, Some, None, unwrap_or, refl, sym, ap, ◌∙◌, arith}
 use Rattle.std.specs.Int.{bit_at}
 use Rattle.std.proofs.lemmas.Grind.{same_number_lists}
-use Rattle.std.proofs.lemmas.List.{length-take, length-drop, length-map, get_or-map, take_all}
+use Rattle.std.proofs.lemmas.List.{length-take, length-drop, length-map, get_or-drop, get_or-map, get_or-take, take_all}
 use Rattle.std.proofs.lemmas.Nat.Bits.{bit_at_ones, ones_shr}
-use Rattle.std.proofs.lemmas.Option.{unwrap_or-slice_get, get_or_from_slice_get}
+use Rattle.std.proofs.lemmas.Option.{unwrap_or-slice_get}
 use Rattle.tl_types.proofs.Lists.{slice_get-take, slice_get-drop}
 use Rattle.tl_types.specs.Bytes.{mask_bit, plain_of, IsMaskOf}
 use Rattle.tl_ops.specs.Number.{low_bytes}
 use Rattle.tl_ops.specs.Window.{operand_of}
-use Rattle.tl_ops.specs.Cell.{keep_byte, keep_of, word_of}
+use Rattle.tl_ops.specs.Cell.{keep_bit, keep_byte, keep_of, word_of}
 use Rattle.tl_ops.proofs.Bytes.{length-low_bytes}
 
 take_short : {X : Type 0} (n : ℕ) (xs : List X) → take (min (length xs) n) xs ≡ take n xs
@@ -69,10 +69,6 @@ none_kept given word mask count is count_is ones =
         let same : slice_get (word_of given word) k ≡ slice_get given (8 * word + k) = slice_get-take 8 (drop (8 * word) given) k small ∙ slice_get-drop (8 * word) given k in
         ap (λ o. mask_bit (unwrap_or o None)) same ∙ sym (is k small) ∙ ap (λ m. bit_at m k) (ones ∙ ones_shr 8 (8 - count) (omega arith) ∙ ap (λ n. 2 ^ n - 1) back) ∙ bit_at_ones count k below
 
--- the byte that is read at a place of a part
-pub read_in_part : (given : List (Option ℕ)) (from count k : ℕ) (byte : Option ℕ) → k < count → slice_get given (from + k) ≡ Some byte → get_or (take count (drop from given)) k None ≡ byte
-read_in_part given from count k byte below at = get_or_from_slice_get (take count (drop from given)) k byte None (slice_get-take count (drop from given) k below ∙ slice_get-drop from given k ∙ at)
-
 -- the number that the plain bytes of a word spell has the bytes of the operand
 pub spelled_word : (given : List (Option ℕ)) (plain : List ℕ) (word n m number : ℕ) → plain ≡ plain_of given → n ≡ min (length given - 8 * word) 8 → m ≡ n → low_bytes (length (take m (drop (8 * word) plain))) number ≡ take m (drop (8 * word) plain) → low_bytes (length (word_of given word)) number ≡ operand_of (word_of given word)
 spelled_word given plain word n m number plain_is n_is m_is spells =
@@ -85,3 +81,12 @@ spelled_word given plain word n m number plain_is n_is m_is spells =
 pub length-plain_word : (given : List (Option ℕ)) (plain : List ℕ) (word n m : ℕ) → plain ≡ plain_of given → n ≡ min (length given - 8 * word) 8 → m ≡ n → length (take m (drop (8 * word) plain)) ≡ length (word_of given word)
 length-plain_word given plain word n m plain_is n_is m_is =
     ap (λ k. length (take k (drop (8 * word) plain))) m_is ∙ ap (λ bs. length (take n (drop (8 * word) bs))) plain_is ∙ ap length (plain_part given (8 * word) n ∙ ap operand_of (sym (word_of-taken given word n n_is))) ∙ length-map (word_of given word) (λ byte. unwrap_or byte 0)
+
+-- a bit of a word's mask tells whether the byte is given, and so what its lane keeps
+pub bit_of_part : (given : List (Option ℕ)) (word count k mask : ℕ) → k < count → k < 8 → IsMaskOf given word mask → bit_at mask k ≡ mask_bit (get_or (take count (drop (8 * word) given)) k None)
+bit_of_part given word count k mask inside lane is =
+    is k lane ∙ ap mask_bit (unwrap_or-slice_get given (8 * word + k) None ∙ sym (get_or-drop (8 * word) given k None) ∙ sym (get_or-take count (drop (8 * word) given) k None inside))
+
+pub keep_bit-mask_bit : (byte : Option ℕ) → keep_bit (mask_bit byte) ≡ keep_byte byte
+keep_bit-mask_bit None = refl
+keep_bit-mask_bit (Some byte) = refl

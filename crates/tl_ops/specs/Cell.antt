@@ -1,6 +1,6 @@
 -- Bytes in words of the bus: this project's own words. A cell is some bytes of one word, next to one another, as one
 -- number, the lowest byte first.
-use Rattle.std.specs.Prelude.{◌≡◌, ℕ, ◌<◌, ◌≤◌, ◌+◌, ◌*◌, ◌/◌, ◌%◌, ◌^◌, ◌-◌, List, map, take, drop, Option, None, Some}
+use Rattle.std.specs.Prelude.{◌≡◌, ℕ, zero, suc, ◌<◌, ◌≤◌, ◌+◌, ◌*◌, ◌/◌, ◌%◌, ◌^◌, ◌-◌, List, map, take, drop, Option, None, Some}
 use Rattle.std.specs.List.{flat_map}
 use Rattle.tl_types.specs.declared.limits.TheConstants.{BUS_BYTES}
 use Rattle.tl_ops.specs.Number.{low_bytes}
@@ -30,6 +30,11 @@ word_of given word = take BUS_BYTES (drop (BUS_BYTES * word) given)
 abbrev pub keep_byte : Option ℕ → ℕ
 keep_byte None = 255
 keep_byte (Some _) = 0
+
+-- the same byte, told by the bit that says whether one is given
+abbrev pub keep_bit : ℕ → ℕ
+keep_bit zero = 255
+keep_bit (suc _) = 0
 
 -- the mask of the bytes that are kept
 abbrev pub keep_of : List (Option ℕ) → List ℕ

@@ -1,8 +1,9 @@
 //! Some bytes of one word, next to one another, as one number: a cell, and what a request makes of it.
 ghost use Rattle.std.specs.Prelude.{◌≡◌, ◌+◌, ◌*◌, ◌-◌, ◌^◌, ◌<◌, ◌≤◌, length, take, drop};
+ghost use Rattle.std.specs.Int.{bit_at};
 ghost use Rattle.tl_ops.specs.Number.{signed, low_bytes};
 ghost use Rattle.tl_ops.specs.Window.{operand_of, combine_arith, combine_logic, new_window, cleared};
-ghost use Rattle.tl_ops.specs.Cell.{cell_of, with_cell, keep_byte, keep_of, word_of};
+ghost use Rattle.tl_ops.specs.Cell.{cell_of, with_cell, keep_bit, keep_of, word_of};
 ghost use Rattle.tl_ops.specs.declared.kind.Kind.TheVariants.{Ram};
 
 use tl_types::{Arith, AskOp, BUS_BYTES, Bytes, Logic, MAX_BYTES};
@@ -44,11 +45,12 @@ pub struct Given {
     pub keep: u64,
 }
 
-/// The mask of a lane that keeps its byte where none is given.
-fn keep_byte(byte: Option<u8>) -> u8
-    ensures { result ≡ keep_byte byte }
+/// The mask of a lane that keeps its byte where no bit says that one is given.
+fn keep_lane(mask: u8, lane: usize) -> u8
+    requires { lane < BUS_BYTES }
+    ensures { result ≡ keep_bit (bit_at mask lane) }
 {
-    if byte.is_none() { u8::MAX } else { 0 }
+    if mask >> lane & 1 == 1 { 0 } else { u8::MAX }
 }
 
 /// The cell that these bytes spell.
@@ -69,16 +71,17 @@ fn spelled(bytes: &[u8]) -> u64
     cell
 }
 
-/// The mask of the lanes that keep their byte, for so many bytes of a request.
-fn kept(bytes: &Bytes, from: usize, count: usize) -> u64
+/// The mask of the lanes that keep their byte, for so many bytes of a word of a request.
+fn kept(bytes: &Bytes, word: usize, count: usize) -> u64
     requires in_word { count ≤ BUS_BYTES }
-    requires in_limit { from ≤ MAX_BYTES }
-    requires inside { from + count ≤ length bytes.now }
-    ensures { low_bytes count result ≡ keep_of (take count (drop from bytes.now)) }
+    requires in_limit { BUS_BYTES * word < MAX_BYTES }
+    requires inside { BUS_BYTES * word + count ≤ length bytes.now }
+    ensures { low_bytes count result ≡ keep_of (take count (drop (BUS_BYTES * word) bytes.now)) }
 {
+    let mask = bytes.mask(word);
     let mut keep = 0u64;
-    for k in (0..count).rev() {
-        keep = keep << 8 | u64::from(keep_byte(bytes.get(from + k)));
+    for lane in (0..count).rev() {
+        keep = keep << 8 | u64::from(keep_lane(mask, lane));
     }
     keep
 }
@@ -101,7 +104,7 @@ fn given_word(bytes: &Bytes, word: usize) -> Given
         keep: if all_given {
             0
         } else {
-            kept(bytes, from, count)
+            kept(bytes, word, count)
         },
     }
 }

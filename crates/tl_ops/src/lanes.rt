@@ -187,10 +187,14 @@ pub fn push_cell(bytes: &mut Window, cell: u64, width: usize)
     ensures { bytes.new.items ≡ bytes.old.items ++ low_bytes width cell }
 {
     let word = cell.to_le_bytes();
-    if width == BUS_BYTES {
-        // one move, since the length is known here
-        bytes.try_extend_from_slice(&word).unwrap();
-        return;
+    // each width that a request has is one move, since its length is known here
+    match width {
+        1 => bytes.push(word[0]),
+        2 => bytes.try_extend_from_slice(&[word[0], word[1]]).unwrap(),
+        4 => bytes
+            .try_extend_from_slice(&[word[0], word[1], word[2], word[3]])
+            .unwrap(),
+        BUS_BYTES => bytes.try_extend_from_slice(&word).unwrap(),
+        _ => bytes.try_extend_from_slice(&word[..width]).unwrap(),
     }
-    bytes.try_extend_from_slice(&word[..width]).unwrap();
 }

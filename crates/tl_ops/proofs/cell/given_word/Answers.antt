@@ -1,9 +1,4 @@
-use Rattle.std.proofs.Common.{rules, ◌≡◌, ◌∙◌, ◌+◌, ◌-◌, ◌*◌, ◌/◌, ◌^◌, ◌<◌, ◌≤◌, min, List, length, take, drop, sym, ap, arith}
-use Rattle.std.proofs.lemmas.List.{length-take, length-drop, length-map}
-use Rattle.tl_types.specs.Bytes.{plain_of}
-use Rattle.tl_ops.specs.Number.{low_bytes}
-use Rattle.tl_ops.specs.Window.{operand_of}
-use Rattle.tl_ops.specs.Cell.{keep_of, word_of}
+use Rattle.std.proofs.Common.{◌≡◌, ◌+◌, ◌-◌, ◌*◌, min, length, arith}
 use Rattle.tl_ops.proofs.Parts.{length-word_of, spelled_word, none_kept}
 use Rattle.tl_ops.proofs.cell.given_word.Goals as goal
 

@@ -1,4 +1,4 @@
-use Rattle.std.proofs.Common.{rules, ◌≡◌, ◌∙◌, ◌+◌, ◌-◌, ◌<◌, ◌∷◌, suc, length, drop, get_or, ap, arith}
+use Rattle.std.proofs.Common.{rules, ◌≡◌, ◌+◌, ◌-◌, ◌<◌, suc, length, get_or, arith}
 use Rattle.std.proofs.lemmas.List.{drop_more}
 use Rattle.tl_ops.proofs.Givens.{byte_below}
 use Rattle.tl_ops.proofs.cell.spelled.Goals as goal

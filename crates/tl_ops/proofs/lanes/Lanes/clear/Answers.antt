@@ -1,4 +1,4 @@
-use Rattle.std.proofs.Common.{◌≡◌, ◌∙◌, ◌<◌, ◌*◌, ◌^◌, length, take, drop, ap}
+use Rattle.std.proofs.Common.{◌≡◌, ◌∙◌, length, take, drop, ap}
 use Rattle.tl_ops.specs.Number.{low_bytes}
 use Rattle.tl_ops.specs.Store.{with_window}
 use Rattle.tl_ops.specs.Window.{cleared, operand_of}

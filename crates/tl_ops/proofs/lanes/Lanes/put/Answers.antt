@@ -1,4 +1,4 @@
-use Rattle.std.proofs.Common.{◌≡◌, ◌∙◌, ◌+◌, ◌-◌, ◌*◌, ◌/◌, ◌≤◌, length, arith}
+use Rattle.std.proofs.Common.{◌≡◌, ◌∙◌, ◌+◌, ◌*◌, ◌/◌, ◌≤◌, length, arith}
 use Rattle.tl_ops.proofs.Merges.{window_grows}
 use Rattle.tl_ops.proofs.lanes.Lanes.put.Goals as goal
 

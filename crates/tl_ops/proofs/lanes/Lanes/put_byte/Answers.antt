@@ -1,4 +1,4 @@
-use Rattle.std.proofs.Common.{◌≡◌, ◌∙◌, ◌%◌, ◌∷◌, [], List, ap, arith}
+use Rattle.std.proofs.Common.{◌≡◌, ◌∙◌, ◌%◌, ◌∷◌, [], ap, arith}
 use Rattle.tl_ops.specs.Number.{low_bytes}
 use Rattle.tl_ops.specs.Store.{with_window}
 use Rattle.tl_ops.proofs.lanes.Lanes.put_byte.Goals as goal

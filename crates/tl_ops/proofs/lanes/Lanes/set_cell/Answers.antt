@@ -1,4 +1,4 @@
-use Rattle.std.proofs.Common.{◌≡◌, ◌∙◌, ◌<◌, ◌/◌, ◌%◌, length, get_or, set, sym, ap, arith}
+use Rattle.std.proofs.Common.{◌≡◌, ◌∙◌, ◌<◌, ◌/◌, ◌%◌, length, get_or, set, ap, arith}
 use Rattle.std.proofs.lemmas.List.{get_or_read}
 use Rattle.tl_ops.specs.Cell.{lanes_of, with_cell}
 use Rattle.tl_ops.specs.Store.{with_window}
