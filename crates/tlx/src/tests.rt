@@ -1,5 +1,7 @@
 ghost use Rattle.std.specs.Prelude.{Some, ◌<◌};
 
+mod scripts;
+mod streams;
 mod threads;
 
 use crate::engine::serial::serial_engine;
@@ -37,16 +39,25 @@ enum Trouble {
     /// The first call is interrupted, and every second one behind it.
     BeforeEach,
     Always(ErrorKind),
+    /// The write of this number takes nothing of what it is offered.
+    FullAt(u32),
 }
 
 impl Trouble {
     fn strikes(self, call: u32) -> Option<ErrorKind> {
         match self {
-            Trouble::Never => None,
+            Trouble::Never | Trouble::FullAt(_) => None,
             Trouble::At(at, kind) => (at == call).then_some(kind),
             Trouble::Between(n) => (n == 0 || call % n != 0).then_some(ErrorKind::Interrupted),
             Trouble::BeforeEach => (call % 2 == 0).then_some(ErrorKind::Interrupted),
             Trouble::Always(kind) => Some(kind),
+        }
+    }
+
+    fn is_full(self, call: u32) -> bool {
+        match self {
+            Trouble::FullAt(at) => at == call,
+            _ => false,
         }
     }
 }
@@ -107,7 +118,12 @@ impl Write for Drips {
         if let Some(kind) = self.trouble.strikes(call) {
             return Err(io::Error::from(kind));
         }
-        let n = self.step.min(buf.len());
+        let room = if self.trouble.is_full(call) {
+            0
+        } else {
+            self.step
+        };
+        let n = room.min(buf.len());
         self.held.extend_from_slice(&buf[..n])?;
         Ok(n)
     }
@@ -274,14 +290,14 @@ fn a_failed_read_is_read(rt: HostRuntime) -> Result<(), Fail> {
 #[test]
 fn a_failed_write_is_write(rt: HostRuntime) -> Result<(), Fail> {
     for k in 0..FIRST_TRACE.len() {
-        let mut reader = FIRST;
-        let mut writer = writer_with(rt.alloc(), 1, Trouble::At(k as u32, ErrorKind::BrokenPipe));
-        let outcome = serial_engine(rt.alloc(), &mut reader, &mut writer, false);
-        assert!(rt; matches!(&outcome, Err(RunFault::Write)), "at {k}");
+        let at = k as u32;
+        for trouble in [Trouble::At(at, ErrorKind::BrokenPipe), Trouble::FullAt(at)] {
+            let mut writer = writer_with(rt.alloc(), 1, trouble);
+            let outcome = serial_engine(rt.alloc(), &mut FIRST, &mut writer, false);
+            assert!(rt; matches!(&outcome, Err(RunFault::Write)), "at {k}");
+            assert_eq!(rt; writer.held.as_slice(), &FIRST_TRACE[..k]);
+        }
     }
-    let mut writer = writer_with(rt.alloc(), 0, Trouble::Never);
-    let outcome = serial_engine(rt.alloc(), &mut FIRST, &mut writer, false);
-    assert!(rt; matches!(&outcome, Err(RunFault::Write)));
     let mut writer = writer_with(rt.alloc(), 64, Trouble::Always(ErrorKind::Interrupted));
     let Err(fault) = serial_engine(rt.alloc(), &mut FIRST, &mut writer, false) else {
         return Err(Fail::from("no fault"));

@@ -12,7 +12,7 @@ use std::thread::Threads;
 use tl_script::{Key, ScriptFault};
 
 /// The first example's traces, and the account of its four slots.
-const FIRST_OUTPUT: &[u8] =
+pub(super) const FIRST_OUTPUT: &[u8] =
     b"m0 s0 putfull 0x1000 2 11223344 -> AccessAck p0 #0\nm0 s0 get 0x1000 2 -> AccessAckData 11223344 p0 #1\nfree 4 held 0\n";
 
 /// The same with the history of its port.
