@@ -1,0 +1,13 @@
+use Rattle.std.proofs.Common.{◌≡◌, ℕ, suc, List, ◌∷◌, All, subst, arith}
+use Rattle.std.specs.Vec.Iter.{into_iter_items}
+use Rattle.tl_arena.specs.Views.{ArenaId, MasterView, new_master}
+use Rattle.tl_busy.proofs.tests.agents.clients_of.Goals as goal
+
+abbrev AreNew : ArenaId → List MasterView → Type 0
+AreNew a vs = All (λ v. v ≡ new_master a v.number) vs
+
+others : (a : ArenaId) (v : MasterView) (vs ws : List MasterView) → ws ≡ v ∷ vs → AreNew a ws → AreNew a vs
+others a v vs ws is new = λ k d lt. (subst (AreNew a) is new) (suc k) d (omega arith)
+
+pub loop-seat-preserved : goal.loop-seat-preserved
+loop-seat-preserved c = others c.args.arena.now c.in-Some.seat _ _ c.in-Some.ensures.steps.0 c.loop-seat.invariant

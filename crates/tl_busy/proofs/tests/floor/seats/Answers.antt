@@ -1,0 +1,18 @@
+use Rattle.std.proofs.Common.{◌≡◌, ℕ, sym, ap, ◌∙◌}
+use Rattle.std.proofs.lemmas.Option.{slice_get-get_or}
+use Rattle.tl_arena.specs.Views.{ArenaId, MasterView, new_master}
+use Rattle.tl_busy.proofs.tests.floor.seats.Goals as goal
+
+-- a new master's seat tells its number
+numbered : (a : ArenaId) (k : ℕ) (v : MasterView) → v ≡ new_master a k → v ≡ new_master a v.number
+numbered a k v is = is ∙ ap (new_master a) (sym (ap (λ (w : MasterView). w.number) is))
+
+pub returns-clause-masters : goal.returns-clause-masters
+returns-clause-masters c = λ k d lt.
+    let made = c.in_ok-arena.field-0 in
+    numbered made.arena k _ (c.in_ok-arena.ensures.masters.each k _ (slice_get-get_or made.masters.items k d lt))
+
+pub returns-clause-ports : goal.returns-clause-ports
+returns-clause-ports c =
+    let ports = c.in_ok-arena.ensures.ports in
+    (ports.each 0 _ c.in_ok-near.ensures.0, ports.each 1 _ c.in_ok-near.ensures.1)

@@ -1,0 +1,5 @@
+mod agents;
+mod floor;
+mod full;
+mod stage;
+mod walk;
