@@ -1,10 +1,11 @@
 //! The yardstick: a plain Rust program, std alone and nothing proved, that does what `tlx` does with the scripts that
-//! `run` makes. It reads the script from standard input and writes the trace.
+//! `run` makes. It reads the script from standard input and writes the trace. What is public the peer of `bench/threads`
+//! uses again.
 use std::fmt::Write as _;
 use std::io::{self, Read, Write as _};
 
 #[derive(Clone, Copy, PartialEq)]
-enum Kind {
+pub enum Kind {
     Ram,
     Rom,
     Regs,
@@ -12,14 +13,14 @@ enum Kind {
     NoDevice,
 }
 
-struct Bank {
-    kind: Kind,
-    base: u64,
-    bytes: Vec<u8>,
+pub struct Bank {
+    pub kind: Kind,
+    pub base: u64,
+    pub bytes: Vec<u8>,
 }
 
 #[derive(Clone, Copy, PartialEq)]
-enum Op {
+pub enum Op {
     Get,
     PutFull,
     PutPart,
@@ -28,7 +29,7 @@ enum Op {
     Hint(u8),
 }
 
-const NAMES: [(&str, Op); 14] = [
+pub const NAMES: [(&str, Op); 14] = [
     ("get", Op::Get),
     ("putfull", Op::PutFull),
     ("putpart", Op::PutPart),
@@ -45,13 +46,13 @@ const NAMES: [(&str, Op); 14] = [
     ("prefetchw", Op::Hint(1)),
 ];
 
-struct Ask {
-    op: Op,
-    name: &'static str,
-    size: u32,
-    source: u16,
-    address: u64,
-    bytes: Vec<Option<u8>>,
+pub struct Ask {
+    pub op: Op,
+    pub name: &'static str,
+    pub size: u32,
+    pub source: u16,
+    pub address: u64,
+    pub bytes: Vec<Option<u8>>,
 }
 
 struct Entry {
@@ -62,14 +63,14 @@ struct Entry {
     index: usize,
 }
 
-fn number(word: &str) -> Option<u64> {
+pub fn number(word: &str) -> Option<u64> {
     match word.strip_prefix("0x") {
         Some(digits) => u64::from_str_radix(digits, 16).ok(),
         None => word.parse().ok(),
     }
 }
 
-fn data(word: &str) -> Option<Vec<Option<u8>>> {
+pub fn data(word: &str) -> Option<Vec<Option<u8>>> {
     word.as_bytes()
         .chunks(2)
         .map(|pair| match pair {
@@ -79,7 +80,7 @@ fn data(word: &str) -> Option<Vec<Option<u8>>> {
         .collect()
 }
 
-fn ask_of(line: &str, sources: u16) -> Option<Ask> {
+pub fn ask_of(line: &str, sources: u16) -> Option<Ask> {
     let mut words = line.split_ascii_whitespace();
     let source: u16 = words.next()?.parse().ok()?;
     let name = words.next()?;
@@ -96,7 +97,7 @@ fn ask_of(line: &str, sources: u16) -> Option<Ask> {
     lawful.then_some(Ask { op, name, size, source, address, bytes })
 }
 
-fn supports(kind: Kind, op: Op, size: u32) -> bool {
+pub fn supports(kind: Kind, op: Op, size: u32) -> bool {
     let word = size == 2 || size == 3;
     match (kind, op) {
         (Kind::Ram, Op::Arith(_) | Op::Logic(_)) => word,
@@ -107,62 +108,62 @@ fn supports(kind: Kind, op: Op, size: u32) -> bool {
     }
 }
 
-fn word_of(bytes: &[u8]) -> u64 {
+pub fn word_of(bytes: &[u8]) -> u64 {
     let mut word = [0; 8];
     word[..bytes.len()].copy_from_slice(bytes);
     u64::from_le_bytes(word)
 }
 
-fn signed_of(bytes: &[u8]) -> i64 {
+pub fn signed_of(bytes: &[u8]) -> i64 {
     let shift = 64 - 8 * bytes.len() as u32;
     ((word_of(bytes) << shift) as i64) >> shift
 }
 
-fn serve(bank: &mut Bank, ask: &Ask) -> (bool, Vec<u8>) {
-    let width = 1u64 << ask.size;
+/// Where the window of a legal request begins in the bank's bytes.
+pub fn window_of(bank: &Bank, op: Op, size: u32, address: u64) -> Option<usize> {
+    let width = 1u64 << size;
     let length = bank.bytes.len() as u64;
-    let shows = !matches!(ask.op, Op::PutFull | Op::PutPart | Op::Hint(_));
-    let legal = supports(bank.kind, ask.op, ask.size)
-        && ask.address % width == 0
-        && bank.base <= ask.address
+    let legal = supports(bank.kind, op, size)
+        && address % width == 0
+        && bank.base <= address
         && width <= length
-        && ask.address - bank.base <= length - width;
-    if !legal {
-        return (true, if shows { vec![0; width as usize] } else { Vec::new() });
-    }
-    let start = (ask.address - bank.base) as usize;
-    let window = &mut bank.bytes[start..start + width as usize];
-    let shown = if shows { window.to_vec() } else { Vec::new() };
-    let operand: Vec<u8> = ask.bytes.iter().map(|byte| byte.unwrap_or(0)).collect();
-    match ask.op {
+        && address - bank.base <= length - width;
+    legal.then(|| (address - bank.base) as usize)
+}
+
+/// What an operation makes of its window; the operand is zero where a byte is not given.
+pub fn change(kind: Kind, op: Op, window: &mut [u8], operand: &[u8], is_given: impl Fn(usize) -> bool) {
+    match op {
         Op::Get | Op::Hint(_) => {}
-        Op::PutFull if bank.kind == Kind::ClearRegs => {
-            for (byte, ones) in window.iter_mut().zip(&operand) {
+        Op::PutFull if kind == Kind::ClearRegs => {
+            for (byte, ones) in window.iter_mut().zip(operand) {
                 *byte &= !ones;
             }
         }
         Op::PutFull | Op::PutPart => {
-            for (byte, given) in window.iter_mut().zip(&ask.bytes) {
-                *byte = given.unwrap_or(*byte);
+            for (k, (byte, new)) in window.iter_mut().zip(operand).enumerate() {
+                if is_given(k) {
+                    *byte = *new;
+                }
             }
         }
         Op::Arith(4) => {
-            let sum = word_of(window).wrapping_add(word_of(&operand)).to_le_bytes();
+            let sum = word_of(window).wrapping_add(word_of(operand)).to_le_bytes();
             window.copy_from_slice(&sum[..operand.len()]);
         }
         Op::Arith(which) => {
             let takes = match which {
-                0 => signed_of(&operand) < signed_of(window),
-                1 => signed_of(window) < signed_of(&operand),
-                2 => word_of(&operand) < word_of(window),
-                _ => word_of(window) < word_of(&operand),
+                0 => signed_of(operand) < signed_of(window),
+                1 => signed_of(window) < signed_of(operand),
+                2 => word_of(operand) < word_of(window),
+                _ => word_of(window) < word_of(operand),
             };
             if takes {
-                window.copy_from_slice(&operand);
+                window.copy_from_slice(operand);
             }
         }
         Op::Logic(which) => {
-            for (byte, x) in window.iter_mut().zip(&operand) {
+            for (byte, x) in window.iter_mut().zip(operand) {
                 *byte = match which {
                     0 => *byte ^ x,
                     1 => *byte | x,
@@ -172,10 +173,46 @@ fn serve(bank: &mut Bank, ask: &Ask) -> (bool, Vec<u8>) {
             }
         }
     }
+}
+
+fn serve(bank: &mut Bank, ask: &Ask) -> (bool, Vec<u8>) {
+    let width = 1usize << ask.size;
+    let shows = shows_bytes(ask.op);
+    let Some(start) = window_of(bank, ask.op, ask.size, ask.address) else {
+        return (true, if shows { vec![0; width] } else { Vec::new() });
+    };
+    let window = &mut bank.bytes[start..start + width];
+    let shown = if shows { window.to_vec() } else { Vec::new() };
+    let operand: Vec<u8> = ask.bytes.iter().map(|byte| byte.unwrap_or(0)).collect();
+    change(bank.kind, ask.op, window, &operand, |k| ask.bytes[k].is_some());
     (false, shown)
 }
 
-fn push_data(text: &mut String, bytes: impl Iterator<Item = Option<u8>>) {
+/// Whether the reply carries bytes.
+pub fn shows_bytes(op: Op) -> bool {
+    !matches!(op, Op::PutFull | Op::PutPart | Op::Hint(_))
+}
+
+/// The name of the reply to an operation, as a trace has it.
+pub fn reply_name(op: Op) -> &'static str {
+    match op {
+        Op::PutFull | Op::PutPart => " -> AccessAck",
+        Op::Hint(_) => " -> HintAck",
+        _ => " -> AccessAckData",
+    }
+}
+
+/// The port that holds all bytes of a request, else the error port behind the banks.
+pub fn port_of(banks: &[Bank], size: u32, address: u64) -> usize {
+    let width = 1u64 << size;
+    let holds = |bank: &Bank| {
+        let length = bank.bytes.len() as u64;
+        bank.base <= address && width <= length && address - bank.base <= length - width
+    };
+    banks.iter().position(holds).unwrap_or(banks.len())
+}
+
+pub fn push_data(text: &mut String, bytes: impl Iterator<Item = Option<u8>>) {
     for (k, byte) in bytes.enumerate() {
         if k == 0 {
             text.push(' ');
@@ -187,13 +224,22 @@ fn push_data(text: &mut String, bytes: impl Iterator<Item = Option<u8>>) {
     }
 }
 
-fn main() {
-    let mut script = String::new();
-    io::stdin().read_to_string(&mut script).unwrap();
+/// What a script says: how many slots there are, what the ports hold at reset, and each master's sources and operations.
+pub struct Script<'a> {
+    pub slots: usize,
+    pub banks: Vec<Bank>,
+    pub masters: Vec<(u16, Vec<&'a str>)>,
+}
+
+/// Reads a script that has each key in a line of its own.
+pub fn read_script(script: &str) -> Script<'_> {
+    let mut slots = 0;
     let mut banks: Vec<Bank> = Vec::new();
     let mut masters: Vec<(u16, Vec<&str>)> = Vec::new();
     for line in script.lines().map(str::trim) {
-        if line == "[[port]]" {
+        if let Some(count) = line.strip_prefix("slots = ") {
+            slots = count.parse().unwrap();
+        } else if line == "[[port]]" {
             banks.push(Bank { kind: Kind::NoDevice, base: 0, bytes: Vec::new() });
         } else if line == "[[master]]" {
             masters.push((0, Vec::new()));
@@ -220,6 +266,13 @@ fn main() {
             masters.last_mut().unwrap().1.extend(code.split('"').skip(1).step_by(2));
         }
     }
+    Script { slots, banks, masters }
+}
+
+fn main() {
+    let mut script = String::new();
+    io::stdin().read_to_string(&mut script).unwrap();
+    let Script { mut banks, masters, .. } = read_script(&script);
     let ports = banks.len();
     banks.push(Bank { kind: Kind::NoDevice, base: 0, bytes: Vec::new() });
     let mut served = vec![0; ports + 1];
@@ -228,14 +281,7 @@ fn main() {
         let mut trace = Vec::with_capacity(lines.len());
         for line in lines.into_iter().filter(|line| *line != "wait") {
             let ask = ask_of(line, sources).unwrap();
-            let width = 1u64 << ask.size;
-            let port = banks[..ports]
-                .iter()
-                .position(|bank| {
-                    let length = bank.bytes.len() as u64;
-                    bank.base <= ask.address && width <= length && ask.address - bank.base <= length - width
-                })
-                .unwrap_or(ports);
+            let port = port_of(&banks[..ports], ask.size, ask.address);
             let (denied, shown) = serve(&mut banks[port], &ask);
             trace.push(Entry { ask, denied, shown, port, index: served[port] });
             served[port] += 1;
@@ -248,11 +294,7 @@ fn main() {
             let ask = &entry.ask;
             write!(text, "m{master} s{} {} 0x{:x} {}", ask.source, ask.name, ask.address, ask.size).unwrap();
             push_data(&mut text, ask.bytes.iter().copied());
-            text.push_str(match ask.op {
-                Op::PutFull | Op::PutPart => " -> AccessAck",
-                Op::Hint(_) => " -> HintAck",
-                _ => " -> AccessAckData",
-            });
+            text.push_str(reply_name(ask.op));
             if entry.denied {
                 text.push_str(" denied");
             }
