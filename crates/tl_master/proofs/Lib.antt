@@ -1,5 +1,7 @@
+pub mod Bits
 pub mod Hands
 pub mod Keeping
 pub mod Turns
 pub mod Starting
 pub mod Ending
+pub mod Busy

@@ -34,7 +34,7 @@ none_out : (n : ℕ) → out_of (replicate n None) ≡ 0
 none_out zero = refl
 none_out (suc n) = none_out n
 
-none_at : (n s : ℕ) → ticket_at (replicate n None) s ≡ None
+pub none_at : (n s : ℕ) → ticket_at (replicate n None) s ≡ None
 none_at zero s = refl
 none_at (suc n) zero = refl
 none_at (suc n) (suc s) = none_at n s

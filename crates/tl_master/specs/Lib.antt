@@ -1,3 +1,4 @@
 pub mod Master
 pub mod Steps
+pub mod SourceSet
 pub mod Kept

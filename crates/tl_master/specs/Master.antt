@@ -1,5 +1,5 @@
 -- What a master shows to its callers. All of it is this project's own.
-use Rattle.std.specs.Prelude.{◌≡◌, ℕ, ◌<◌, ◌++◌, List, [], ◌∷◌, length, map, filter, eqb, count_by, slice_get, slice_index_or, replicate, Option, Some, None, is_some}
+use Rattle.std.specs.Prelude.{◌≡◌, ℕ, ◌<◌, ◌++◌, List, [], ◌∷◌, length, map, filter, eqb, count_by, slice_get, slice_index_or, replicate, Option, Some, None, is_some, IsSome, ◌≤◌}
 use Rattle.tl_types.specs.Request.{Request}
 use Rattle.tl_types.specs.Response.{Response}
 use Rattle.tl_types.specs.declared.trace.Entry.{Entry}
@@ -28,6 +28,12 @@ ticket_at out source = slice_index_or out source None
 -- how many requests are out
 abbrev pub out_of : List (Option TicketView) → ℕ
 out_of out = count_by is_some out
+
+-- the source is the lowest from this one on that a request is out for
+pub record IsNextOut (out : List (Option TicketView)) (from source : ℕ) : Type 0 where
+  pub not_below : from ≤ source
+  pub some : IsSome (ticket_at out source)
+  pub lowest : (other : ℕ) → from ≤ other → other < source → ticket_at out other ≡ None
 
 -- ---- sources
 

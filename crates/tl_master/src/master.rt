@@ -1,13 +1,14 @@
 //! One master.
-ghost use Rattle.std.specs.Prelude.{◌≡◌, ◌+◌, ◌<◌, ◌≤◌, [], ◌∷◌, ◌++◌, length, vec_len, vec_capacity, IfOk, IfErr, replicate, IfSome, IfNone, slice_get};
+ghost use Rattle.std.specs.Prelude.{◌≡◌, ℕ, ◌+◌, ◌<◌, ◌≤◌, [], ◌∷◌, ◌++◌, length, vec_len, vec_capacity, IfOk, IfErr, replicate, IfSome, IfNone, slice_get};
 ghost use Rattle.std.specs.Prelude as std;
 ghost use Rattle.tl_rule.specs.declared.view.Held.TheVariants.{Filled, Sent};
 ghost use Rattle.tl_rule.specs.Views.{Owns};
 ghost use Rattle.tl_arena.specs.Views.{owned_of, in_hand, with_held};
 ghost use Rattle.tl_arena.specs.Promises.{IsUnsent, OwnsHistories};
-ghost use Rattle.tl_master.specs.Master.{new_state, count_of, out_of, IsInOrder, AreWidened, asks_of, of_source, asked};
+ghost use Rattle.tl_master.specs.Master.{new_state, count_of, out_of, ticket_at, IsInOrder, AreWidened, asks_of, of_source, asked, IsNextOut};
 ghost use Rattle.tl_master.specs.Steps.{IsPosted, IsReply, Issues, Polls, AsksMore, AsksSame};
 
+use crate::source_set::SourceSet;
 use std::alloc::{AllocError, Global};
 use std::marker::Model;
 use thiserror::Error;
@@ -52,6 +53,8 @@ pub struct Master {
     seat: MasterSeat,
     start: u16,
     out: Vec<Option<Ticket>>,
+    // the sources that something is out for
+    busy: SourceSet,
     count: usize,
     limit: usize,
     trace: Trace,
@@ -61,12 +64,13 @@ impl Model for Master {
     ghost use Rattle.std.specs.Prelude.{◌≡◌, ◌≤◌, vec_capacity};
     ghost use Rattle.tl_master.specs.Master.{MasterState};
     ghost use Rattle.tl_master.specs.Kept.{IsKeptMaster};
+    ghost use Rattle.tl_master.specs.SourceSet.{IsSetOfOut};
 
     ghost Value = { MasterState };
 
     ghost view = { λ m. record { seat = m.seat; out = m.out.items; trace = m.trace.items; limit = m.limit } };
 
-    ghost invariant = { λ m. IsKeptMaster (record { seat = m.seat; out = m.out.items; trace = m.trace.items; limit = m.limit }) m.start m.count × (m.limit ≤ vec_capacity m.trace) };
+    ghost invariant = { λ m. IsKeptMaster (record { seat = m.seat; out = m.out.items; trace = m.trace.items; limit = m.limit }) m.start m.count × (m.limit ≤ vec_capacity m.trace) × IsSetOfOut m.busy.words m.out.items };
 }
 
 impl Master {
@@ -97,6 +101,7 @@ impl Master {
             seat,
             start,
             out,
+            busy: SourceSet::new(),
             count: 0,
             limit,
             trace,
@@ -126,6 +131,7 @@ impl Master {
         let wide = self.start + ask.source();
         let (ticket, issued) = post_routed(arena, &mut self.seat, claim, map, ask, wide);
         self.out[source] = Some(ticket);
+        self.busy.insert(source);
         self.count += 1;
         Ok(issued)
     }
@@ -150,6 +156,7 @@ impl Master {
                 Polled::NotYet
             }
             Ok(entry) => {
+                self.busy.remove(at);
                 self.count -= 1;
                 Polled::Done(append(&mut self.trace, entry))
             }
@@ -161,6 +168,16 @@ impl Master {
         ensures { result ≡ out_of self.now.out }
     {
         self.count
+    }
+
+    /// The lowest source from this one on that a request is out for.
+    pub fn next_out(&self, from: usize) -> Option<u16>
+        ensures some { IfSome result (IsNextOut self.now.out from) }
+        ensures none { IfNone result
+            ((source : ℕ) → from ≤ source → ticket_at self.now.out source ≡ std.None) }
+    {
+        let source = self.busy.first_from(from)?;
+        Some(source as u16)
     }
 
     /// How many sources the master has.
@@ -209,6 +226,7 @@ impl Master {
             seat,
             start: _,
             out: _,
+            busy: _,
             count: _,
             limit: _,
             trace,

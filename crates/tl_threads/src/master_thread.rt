@@ -14,15 +14,15 @@ use tl_master::{Issued, Master, Polled};
 use tl_script::Job;
 use tl_types::{Ask, Trace};
 
-/// Looks once at each source, the lowest first.
+/// Looks once at each source that a request is out for, the lowest first.
 fn look_at_all<N: ArenaName, G: Gate>(shared: &Shared<'_, N, G>, master: &mut Master)
     requires { master.old.seat.arena ≡ shared.now.arena.now }
     ensures { IsSame master.old master.new }
 {
-    for source in 0..master.sources() {
-        if let Ok(source) = u16::try_from(source) {
-            look_at(shared, master, source);
-        }
+    let mut from = 0;
+    while let Some(source) = master.next_out(from) {
+        look_at(shared, master, source);
+        from = source as usize + 1;
     }
 }
 

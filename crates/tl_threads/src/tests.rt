@@ -66,14 +66,17 @@ const TWO_PORTS: &[u8] =
 
 #[test]
 fn threads_run_at_once(rt: HostRuntime) -> Result<(), Fail> {
-    let gate = Meeting {
-        ports: [AtomicUsize::new(0), AtomicUsize::new(0)],
-        masters: [AtomicUsize::new(0), AtomicUsize::new(0)],
-        met: AtomicUsize::new(0),
-    };
-    let run = run(&rt, rt.alloc(), TWO_PORTS, 1, &gate)?;
-    assert_eq!(rt; gate.met.load(SeqCst), 4);
-    assert_eq!(rt; (run.account.free.len(), run.account.held.len()), (4, 0));
+    for turn in 0..2u32 {
+        let workers = if turn == 0 { 1 } else { 4 };
+        let gate = Meeting {
+            ports: [AtomicUsize::new(0), AtomicUsize::new(0)],
+            masters: [AtomicUsize::new(0), AtomicUsize::new(0)],
+            met: AtomicUsize::new(0),
+        };
+        let run = run(&rt, rt.alloc(), TWO_PORTS, workers, &gate)?;
+        assert_eq!(rt; gate.met.load(SeqCst), 4);
+        assert_eq!(rt; (run.account.free.len(), run.account.held.len()), (4, 0));
+    }
     Ok(())
 }
 

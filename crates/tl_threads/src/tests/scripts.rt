@@ -45,14 +45,17 @@ fn two_masters_share_one_slot(rt: HostRuntime) -> Result<(), Fail> {
     let mut script = head(rt.alloc(), 1)?;
     push_master(&mut script, &puts_and_gets(rt.alloc(), 0x1000)?)?;
     push_master(&mut script, &puts_and_gets(rt.alloc(), 0x1020)?)?;
-    let run = run(&rt, rt.alloc(), script.as_bytes(), 1, &OpenGate)?;
     let numbers: Vec<u8> = (1..=250u8).collect(rt.alloc())?;
-    assert_eq!(rt; run.traces.len(), 2);
-    for trace in &run.traces {
-        assert_eq!(rt; trace.len(), 500);
-        assert_eq!(rt; read_in(rt.alloc(), trace)?, numbers);
+    for turn in 0..2u32 {
+        let workers = if turn == 0 { 1 } else { 4 };
+        let run = run(&rt, rt.alloc(), script.as_bytes(), workers, &OpenGate)?;
+        assert_eq!(rt; run.traces.len(), 2);
+        for trace in &run.traces {
+            assert_eq!(rt; trace.len(), 500);
+            assert_eq!(rt; read_in(rt.alloc(), trace)?, numbers);
+        }
+        assert_eq!(rt; (run.account.free.len(), run.account.held.len()), (1, 0));
     }
-    assert_eq!(rt; (run.account.free.len(), run.account.held.len()), (1, 0));
     Ok(())
 }
 
@@ -62,11 +65,14 @@ fn two_masters_add_to_one_word(rt: HostRuntime) -> Result<(), Fail> {
     let mut script = head(rt.alloc(), 2)?;
     push_master(&mut script, &additions)?;
     push_master(&mut script, &additions)?;
-    let run = run(&rt, rt.alloc(), script.as_bytes(), 1, &OpenGate)?;
-    let book = run.books.first().ok_or("no book")?;
-    assert_eq!(rt; book.history_len(), 200);
-    for (address, byte) in [(0x1000, 200), (0x1001, 0), (0x1002, 0), (0x1003, 0)] {
-        assert_eq!(rt; book.byte(address), Some(byte));
+    for turn in 0..2u32 {
+        let workers = if turn == 0 { 1 } else { 4 };
+        let run = run(&rt, rt.alloc(), script.as_bytes(), workers, &OpenGate)?;
+        let book = run.books.first().ok_or("no book")?;
+        assert_eq!(rt; book.history_len(), 200);
+        for (address, byte) in [(0x1000, 200), (0x1001, 0), (0x1002, 0), (0x1003, 0)] {
+            assert_eq!(rt; book.byte(address), Some(byte));
+        }
     }
     Ok(())
 }

@@ -35,6 +35,31 @@ fn a_source_waits_for_its_reply(rt: HostRuntime) -> Result<(), Fail> {
 }
 
 #[test]
+fn a_look_goes_over_what_is_out_alone(rt: HostRuntime) -> Result<(), Fail> {
+    let mut board = set_up(rt.alloc(), 4, 4)?;
+    assert_eq!(rt; board.first.next_out(0), None);
+    for source in [9, 3, 15] {
+        assert!(rt; board.issue(source)?.is_ok());
+    }
+    for (from, next) in [
+        (0, Some(3)),
+        (3, Some(3)),
+        (4, Some(9)),
+        (10, Some(15)),
+        (16, None),
+    ] {
+        assert_eq!(rt; board.first.next_out(from), next);
+    }
+    answer(&rt, &mut board);
+    assert_eq!(rt; board.poll(9), Polled::Done(0));
+    assert_eq!(rt;
+        (board.poll(3), board.first.next_out(4)),
+        (Polled::NotYet, Some(15))
+    );
+    Ok(())
+}
+
+#[test]
 fn poll_finds_answer(rt: HostRuntime) -> Result<(), Fail> {
     let mut board = set_up(rt.alloc(), 4, 4)?;
     assert_eq!(rt; board.poll(3), Polled::Idle);

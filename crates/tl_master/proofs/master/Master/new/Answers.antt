@@ -2,6 +2,7 @@ use Rattle.std.proofs.Common.{◌≡◌, ℕ, List, [], replicate, Option, None,
 use Rattle.tl_types.specs.declared.trace.Entry.{Entry}
 use Rattle.tl_arena.specs.Views.{TicketView}
 use Rattle.tl_master.specs.Master.{MasterState, count_of}
+use Rattle.tl_master.proofs.Busy.{busy_none}
 use Rattle.tl_master.proofs.Turns.{same_state}
 use Rattle.tl_master.proofs.Starting.{new_kept, sources_are, wide_are, sources_fit}
 use Rattle.tl_master.proofs.master.Master.new.Goals as goal
@@ -13,8 +14,11 @@ invariant_of-result c =
     let made : MasterState = record { seat = seat; out = c.in-Ok.out.items; trace = c.in-Ok-with_capacity.trace.items; limit = c.args.limit } in
     let sources = sources_are counts seat _ _ _ _ c.widen.result c.requires.sources c.number-number.ensures.value c.count.ensures.value c.unwrap_or-sources_own.ensures c.unwrap_or-start.ensures in
     let wide = wide_are counts seat _ _ _ _ c.widen.result c.requires.sources c.number-number.ensures.value c.count.ensures.value c.unwrap_or-sources_own.ensures c.unwrap_or-start.ensures c.widen.ensures.has c.widen.ensures.wide in
-    let fits = sources_fit counts seat _ _ _ _ c.widen.result c.requires.sources c.number-number.ensures.value c.count.ensures.value c.unwrap_or-sources_own.ensures c.unwrap_or-start.ensures c.count.ensures.in_limit c.widen.ensures.in_limit in
-    (new_kept made _ _ c.requires.owned c.requires.collected c.in-Ok.ensures c.in-Ok-with_capacity.ensures.items sources wide fits, c.in-Ok-with_capacity.ensures.capacity)
+    let fits = sources_fit counts seat _ _ _ _ c.widen.result c.requires.sources c.number-number.ensures.value c.count.ensures.value c.unwrap_or-sources_own.ensures c.unwrap_or-start.ensures c.count.ensures.in_limit c.widen.ensures.in_limit in (
+      new_kept made _ _ c.requires.owned c.requires.collected c.in-Ok.ensures c.in-Ok-with_capacity.ensures.items sources wide fits,
+      c.in-Ok-with_capacity.ensures.capacity,
+      busy_none _ made.out _ c.count.result c.in-Ok.ensures c.unwrap_or-sources_own.ensures c.count.ensures.in_limit c.new.ensures,
+    )
 
 pub returns-clause-ok : goal.returns-clause-ok
 returns-clause-ok c =

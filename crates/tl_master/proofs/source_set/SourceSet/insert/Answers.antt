@@ -1,0 +1,9 @@
+use Rattle.std.proofs.Common.{rules}
+use Rattle.tl_master.proofs.Bits.{inserted_here, inserted_else}
+use Rattle.tl_master.proofs.source_set.SourceSet.insert.Goals as goal
+
+pub returns-clause-here : goal.returns-clause-here
+returns-clause-here c = inserted_here c.args.self.now.words c.args.source (search rules)
+
+pub returns-clause-others : goal.returns-clause-others
+returns-clause-others c = inserted_else c.args.self.now.words c.args.source (search rules)
