@@ -11,7 +11,7 @@ use Rattle.tl_slots.specs.Word.{word, IsWordOf}
 use Rattle.tl_slots.proofs.Words.{one_phase}
 use Rattle.tl_rule.specs.declared.view.About.{About}
 use Rattle.tl_rule.specs.declared.view.View.{View}
-use Rattle.tl_rule.specs.Record.{SlotRecord}
+use Rattle.tl_rule.specs.Record.{Berth}
 use Rattle.tl_rule.specs.Rule.{Fits, Names}
 use Rattle.tl_rule.specs.Laws.{AreArenaWords}
 use Rattle.tl_rule.proofs.Facts.{free_names_none}
@@ -77,7 +77,7 @@ module _ (a : About) (slots leaves : List ℕ) (W : AreArenaWords a (slots ++ le
   all_free : ((m : ℕ) → m < a.masters → Contains left m) → held ≡ []
   all_free all = none_held held (λ h c. present h c (all h.master (stays h c).0))
 
-pub closing : (a : About) (s : State SlotRecord View) (slots leaves : List ℕ) (free : List ℕ) (held : List Held) (left : List ℕ) → Fits a s → s.words ≡ slots ++ leaves → length slots ≡ a.slots → length leaves ≡ a.masters
+pub closing : (a : About) (s : State Berth View) (slots leaves : List ℕ) (free : List ℕ) (held : List Held) (left : List ℕ) → Fits a s → s.words ≡ slots ++ leaves → length slots ≡ a.slots → length leaves ≡ a.masters
     → IsAccountOf slots leaves free held left → IsClosing a free held left
 closing a s slots leaves free held left F words many_slots many_leaves account = let W = subst (AreArenaWords a) words (words_law a s F) in record {
   table = s;

@@ -11,7 +11,7 @@ use Rattle.tl_rule.specs.declared.view.About.{About}
 use Rattle.tl_rule.specs.declared.view.Held.{Held}
 use Rattle.tl_rule.specs.declared.view.Held.TheVariants.{Nothing, Filled, Sent, Taken}
 use Rattle.tl_rule.specs.declared.view.View.TheVariants.{Master, Port}
-use Rattle.tl_rule.specs.Record.{SlotRecord}
+use Rattle.tl_rule.specs.Record.{Berth}
 use Rattle.tl_rule.specs.Serving.{ask_at, drop_slot}
 use Rattle.tl_rule.specs.Views.{with_hand, with_serving}
 use Rattle.tl_rule.specs.Moves.{Seat, as_master, as_port, handed, service_of, IsLawfulDesk}
@@ -29,7 +29,7 @@ use Rattle.tl_arena.specs.Kept.{arena_id, master_view, port_view, IsMasterKept, 
 
 -- the slot that was brought is the first of the order, and what is left is the order of the others
 pub order_of_brought : (m m₁ : Seat) (before mid : List ℕ) (i : ℕ) → IsBrought m m₁ before mid i → mid ≡ i ∷ firsts (rest m₁.1)
-order_of_brought m m₁ before mid i B = sym B.mirror ∙ ap (λ (cs : List (ℕ × SlotRecord)). firsts cs) B.top.1
+order_of_brought m m₁ before mid i B = sym B.mirror ∙ ap (λ (cs : List (ℕ × Berth)). firsts cs) B.top.1
 
 pub order_left : (m m₁ : Seat) (before mid after : List ℕ) (i : ℕ) → IsBrought m m₁ before mid i → after ≡ drop 1 mid → firsts (rest m₁.1) ≡ after
 order_left m m₁ before mid after i B e = sym (e ∙ ap (λ (l : List ℕ). drop 1 l) (order_of_brought m m₁ before mid i B))
@@ -54,7 +54,7 @@ module _ (m : Seat) (order : List ℕ) (capacity number owned collected : ℕ) (
   held_inside i some = let lt = in_hand_of (as_master m.0).hand i some in let w = K.wide in omega arith
 
   -- a step changes one slot of the hand
-  master_moved : (n : Seat) (after : List ℕ) (owns has_got i : ℕ) (x : Held) (got : List Entry) (cs : List (ℕ × SlotRecord)) → n ≡ (Master (with_hand (as_master m.0) i x got), cs) → firsts cs ≡ after
+  master_moved : (n : Seat) (after : List ℕ) (owns has_got i : ℕ) (x : Held) (got : List Entry) (cs : List (ℕ × Berth)) → n ≡ (Master (with_hand (as_master m.0) i x got), cs) → firsts cs ≡ after
       → CarriesHand (set (as_master m.0).hand i x) after → count_by is_held (set (as_master m.0).hand i x) ≡ owns → length got ≡ has_got
       → IsMasterKept n after capacity number owns has_got
   master_moved n after owns has_got i x got cs e mirror carried many long = subst (λ (y : Seat). IsMasterKept y after capacity number owns has_got) (sym e) (record {
@@ -75,13 +75,13 @@ module _ (m : Seat) (order : List ℕ) (capacity number owned collected : ℕ) (
   pub master_room : (i : ℕ) → i < length (as_master m.0).hand → is_carried (in_hand (as_master m.0) i) ≡ false → length order < capacity
   master_room i lt was = let r = has_room (as_master m.0).hand order i Filled lt was refl K.carried in let w = K.wide in let c = K.room in omega arith
 
-  pub claim_kept : (n : Seat) (i : ℕ) (letter : SlotRecord) → n ≡ (handed m i Filled, (i, letter) ∷ m.1) → in_hand (as_master m.0) i ≡ Nothing → i < length (as_master m.0).hand → IsMasterKept n (i ∷ order) capacity number (owned + 1) collected
+  pub claim_kept : (n : Seat) (i : ℕ) (letter : Berth) → n ≡ (handed m i Filled, (i, letter) ∷ m.1) → in_hand (as_master m.0) i ≡ Nothing → i < length (as_master m.0).hand → IsMasterKept n (i ∷ order) capacity number (owned + 1) collected
   claim_kept n i letter e was lt = master_moved n (i ∷ order) (owned + 1) collected i Filled (as_master m.0).got ((i, letter) ∷ m.1) e (ap (λ (l : List ℕ). i ∷ l) K.mirror)
       (takes_one (as_master m.0).hand order i Filled lt (ap is_carried was) refl K.carried)
       (let s = held_set (as_master m.0).hand order i Filled lt in let b : bit (is_held (in_hand (as_master m.0) i)) ≡ 0 = ap (λ h. bit (is_held h)) was in let o = K.owns in omega arith)
       K.has_got
 
-  pub collect_kept : (n : Seat) (i : ℕ) (blank : SlotRecord) (ask : Request) (p known : ℕ) (e : Entry) → n ≡ (Master (with_hand (as_master m.0) i (Taken p) ((as_master m.0).got ++ e ∷ [])), (i, blank) ∷ m.1)
+  pub collect_kept : (n : Seat) (i : ℕ) (blank : Berth) (ask : Request) (p known : ℕ) (e : Entry) → n ≡ (Master (with_hand (as_master m.0) i (Taken p) ((as_master m.0).got ++ e ∷ [])), (i, blank) ∷ m.1)
       → in_hand (as_master m.0) i ≡ Sent ask p known → i < length (as_master m.0).hand → IsMasterKept n (i ∷ order) capacity number owned (collected + 1)
   collect_kept n i blank ask p known e is was lt = master_moved n (i ∷ order) owned (collected + 1) i (Taken p) ((as_master m.0).got ++ e ∷ []) ((i, blank) ∷ m.1) is (ap (λ (l : List ℕ). i ∷ l) K.mirror)
       (takes_one (as_master m.0).hand order i (Taken p) lt (ap is_carried was) refl K.carried)
@@ -128,7 +128,7 @@ module _ (m : Seat) (order : List ℕ) (capacity : ℕ) (owners : List ℕ) (num
   pub port_room : (u : List (ℕ × Request)) (i : ℕ) (ask : Request) → u ≡ (as_port m.0).serving ++ (i, ask) ∷ [] → length u ≤ (as_port m.0).about.slots → length order < capacity
   port_room u i ask e few = let l = length-append (as_port m.0).serving ((i, ask) ∷ []) in let k = ap (λ (x : List (ℕ × Request)). length x) e in let c = K.carried.many in let r = K.room in omega arith
 
-  pub accept_kept : (n : Seat) (i owner : ℕ) (ask : Request) (blank : SlotRecord) → n ≡ (Port (with_serving (as_port m.0) ((as_port m.0).serving ++ (i, ask) ∷ []) (as_port m.0).list), (i, blank) ∷ m.1)
+  pub accept_kept : (n : Seat) (i owner : ℕ) (ask : Request) (blank : Berth) → n ≡ (Port (with_serving (as_port m.0) ((as_port m.0).serving ++ (i, ask) ∷ []) (as_port m.0).list), (i, blank) ∷ m.1)
       → service_of m i ≡ None → IsLawfulDesk (as_port n.0) → i < (as_port m.0).about.slots → IsOwner (as_port m.0).about owner ask.source
       → IsPortKept n (i ∷ order) capacity (set owners i owner) number served
   accept_kept n i owner ask blank e free law lt own =

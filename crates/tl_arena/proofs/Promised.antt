@@ -1,12 +1,14 @@
 -- What the calls promise, from what the steps tell.
-use Rattle.std.proofs.Common.{◌≡◌, ℕ, true, sym, refl, ap, subst, ◌∙◌, Some, None}
-use Rattle.atomic_table.specs.Table.{Step}
+use Rattle.std.proofs.Common.{◌≡◌, ℕ, true, List, [], ◌∷◌, sym, refl, ap, subst, ◌∙◌, Some, None}
+use Rattle.atomic_table.specs.Table.{Step, rest}
+use Rattle.tl_beats.specs.Told.{told_reply}
+use Rattle.tl_beats.proofs.Told.{told_is}
 use Rattle.atomic_table.specs.Seated.{TableId}
 use Rattle.tl_types.specs.Request.{Request}
 use Rattle.tl_types.specs.Response.{Response}
 use Rattle.tl_rule.specs.declared.view.View.{View}
 use Rattle.tl_rule.specs.declared.view.Held.TheVariants.{Sent}
-use Rattle.tl_rule.specs.Record.{SlotRecord, Spells, SpellsAnswer}
+use Rattle.tl_rule.specs.Record.{SlotRecord, Berth, Spells, SpellsAnswer}
 use Rattle.tl_rule.specs.Serving.{ask_at}
 use Rattle.tl_rule.specs.Moves.{Seat, as_master, Collects, Accepts}
 use Rattle.tl_rule.specs.Views as views
@@ -21,6 +23,34 @@ use Rattle.tl_arena.specs.Views.{MasterView, PortView, TicketView, ServedView, i
 use Rattle.tl_arena.specs.Promises.{IsCollected, IsPortStep}
 use Rattle.tl_arena.specs.Kept.{master_view, port_view}
 
+-- ---- a record that is taken out, and brought back
+
+-- the first of the slots that a seat has taken out
+abbrev pub head_berth : List (ℕ × Berth) → Berth
+head_berth [] = None
+head_berth (x ∷ xs) = x.1
+
+pub same_record : (a b : SlotRecord) → Some a ≡ Some b → a ≡ b
+same_record a b e = cc
+
+-- what was taken out of the first slot is this record
+pub taken_record : (rs cs : List (ℕ × Berth)) (i : ℕ) (berth : Berth) (held letter : SlotRecord) → rs ≡ (i, berth) ∷ rest rs → rs ≡ (i, Some letter) ∷ cs → berth ≡ Some held → held ≡ letter
+taken_record rs cs i berth held letter was is opened = same_record held letter (sym opened ∙ ap head_berth (sym was ∙ is))
+
+-- what was taken last is the first of what was taken out
+pub taken_first : (rs cs : List (ℕ × Berth)) (i : ℕ) (berth : Berth) → rs ≡ (i, berth) ∷ cs → rs ≡ (i, berth) ∷ rest rs
+taken_first rs cs i berth is = is ∙ ap (λ (l : List (ℕ × Berth)). (i, berth) ∷ l) (sym (ap rest is))
+
+-- a seat m₁ with the view of m₀ has its first slot's record brought back
+pub brought_back : (m₀ m₁ m : Seat) (i : ℕ) (berth : Berth) (letter : SlotRecord) → berth ≡ Some letter → m₁.0 ≡ m₀.0 → m ≡ (m₁.0, (i, berth) ∷ rest m₁.1) → m ≡ (m₀.0, (i, Some letter) ∷ rest m₁.1)
+brought_back m₀ m₁ m i berth letter has same e = e ∙ (λ t. (same t, (i, has t) ∷ rest m₁.1))
+
+-- a reply that beats spell is the one that they tell
+pub told_spelled : (r : SlotRecord) (address : ℕ) (reply : Response) → SpellsAnswer r address reply → SpellsAnswer r address (told_reply r.replies address)
+told_spelled r address reply s = subst (λ (x : Response). SpellsAnswer r address x) (sym (told_is reply address r.replies s.lawful s.beats)) s
+
+-- ---- the values of a turn
+
 -- what the hand has of a ticket's slot
 pub sent_in : (v w : MasterView) (t u : TicketView) → v ≡ w → t ≡ u → in_hand w u.slot ≡ Sent u.ask u.port u.known → in_hand v t.slot ≡ Sent t.ask t.port t.known
 sent_in v w t u e f h = subst (λ (x : MasterView). in_hand x t.slot ≡ Sent t.ask t.port t.known) (sym e) (subst (λ (x : TicketView). in_hand w x.slot ≡ Sent x.ask x.port x.known) (sym f) h)
@@ -29,7 +59,7 @@ sent_in v w t u e f h = subst (λ (x : MasterView). in_hand x t.slot ≡ Sent t.
 pub served_in : (v w : PortView) (f g : ℕ × Request) → v ≡ w → f ≡ g → ask_at w.serving g.0 ≡ Some g.1 → ask_at v.serving f.0 ≡ Some f.1
 served_in v w f g d e h = subst (λ (x : PortView). ask_at x.serving f.0 ≡ Some f.1) (sym d) (subst (λ (x : ℕ × Request). ask_at w.serving x.0 ≡ Some x.1) (sym e) h)
 
-module _ (st : Step SlotRecord) (m n : Seat) (C : Collects st m n) where
+module _ (st : Step Berth) (m n : Seat) (C : Collects st m n) where
   collected_told : (table : TableId) → IsCollected (master_view table m.0) (record { slot = st.word; ask = C.ask; port = C.port; known = C.known }) (record { slot = st.word; ask = C.ask; port = C.port; index = C.letter.index; reply = C.reply }) (master_view table n.0)
   collected_told table = record {
     slot = refl;
@@ -65,7 +95,7 @@ module _ (st : Step SlotRecord) (m n : Seat) (C : Collects st m n) where
       (subst (λ (x : ServedView). IsCollected (master_view table m.0) t x (master_view table n.0)) served_is
       (subst (λ (x : TicketView). IsCollected (master_view table m.0) x served (master_view table n.0)) ticket_is (collected_told table)))
 
-module _ (st : Step SlotRecord) (m n : Seat) (A : Accepts st m n) where
+module _ (st : Step Berth) (m n : Seat) (A : Accepts st m n) where
   pub accepted : (table now : TableId) (w : View) (v : PortView) (i : ℕ) (ask : Request) (letter : SlotRecord) → now ≡ table → w ≡ n.0 → port_view table m.0 ≡ v → i ≡ st.word → letter ≡ A.letter → Spells letter ask
       → (ask_at v.serving i ≡ None) × (port_view now w ≡ with_accepted v (i, ask))
   accepted table now w v i ask letter same view seen at is spells =

@@ -8,7 +8,7 @@ use Rattle.tl_slots.specs.Word.{word, IsWordOf}
 use Rattle.tl_rule.specs.Rule.{Fits, Names}
 use Rattle.tl_rule.specs.declared.view.About.{About}
 use Rattle.tl_rule.specs.declared.view.View.{View}
-use Rattle.tl_rule.specs.Record.{SlotRecord}
+use Rattle.tl_rule.specs.Record.{Berth}
 use Rattle.tl_arena.specs.declared.account.Held.{Held}
 
 -- things stand in rising order of their numbers, so each number stands once
@@ -45,7 +45,7 @@ pub record IsAccountOf (slots leaves : List ℕ) (free : List ℕ) (held : List 
 
 -- the account of an arena at its end is that of the words of a table that fits
 pub record IsClosing (about : About) (free : List ℕ) (held : List Held) (left : List ℕ) : Type 0 where
-  pub table : State SlotRecord View
+  pub table : State Berth View
   pub fits : Fits about table
   pub slots : List ℕ
   pub leaves : List ℕ

@@ -1,5 +1,5 @@
 //! The arena, which one it is, and the dealing of its seats.
-ghost use Rattle.std.specs.Prelude.{◌≡◌, ◌≤◌, ◌<◌, ◌↔◌, ◌+◌, length, [], IfOk, Err};
+ghost use Rattle.std.specs.Prelude.{◌≡◌, ◌≤◌, ◌<◌, ◌↔◌, ◌+◌, length, [], IfOk, Err, All, IsSome};
 ghost use Rattle.tl_slots.specs.Machine.{IsInLimits};
 ghost use Rattle.tl_rule.specs.declared.view.View.TheVariants.{Dealer};
 ghost use Rattle.tl_arena.specs.declared.arena.ArenaFault.TheVariants.{BadCount};
@@ -8,7 +8,7 @@ ghost use Rattle.tl_arena.specs.Views.{about_of, AreNewMasters, AreNewPorts, new
 
 use crate::key::{ArenaRule, Key, remember};
 use crate::plays::{DealsMaster, DealsPort};
-use crate::record::Record;
+use crate::record::Berth;
 use crate::seats::{MasterSeat, PortSeat, TableSeat};
 use atomic_table::Table;
 use std::alloc::{AllocError, Global};
@@ -38,7 +38,7 @@ impl ArenaName for Brand {
 /// A shared arena.
 #[derive(Drop)]
 pub struct Arena {
-    pub(crate) table: Table<Record, View, Key, ArenaRule, Global>,
+    pub(crate) table: Table<Berth, View, Key, ArenaRule, Global>,
     pub(crate) slots: usize,
     pub(crate) masters: usize,
     pub(crate) ports: usize,
@@ -73,15 +73,16 @@ pub struct Made {
     pub ports: Vec<PortSeat>,
 }
 
-/// Records for as many slots.
-fn blank_records(alloc: Global, slots: usize) -> Result<Vec<Record>, AllocError>
-    ensures { IfOk result (λ records. length records.items ≡ slots) }
+/// As many slots, each with a record.
+fn new_berths(alloc: Global, slots: usize) -> Result<Vec<Berth>, AllocError>
+    ensures many { IfOk result (λ berths. length berths.items ≡ slots) }
+    ensures there { IfOk result (λ berths. All (λ berth. IsSome berth) berths.items) }
 {
-    let mut records = Vec::with_capacity(alloc, slots)?;
+    let mut berths = Vec::with_capacity(alloc, slots)?;
     for _slot in 0..slots {
-        records.push(Record::blank())?;
+        berths.push(Berth::new(alloc)?)?;
     }
-    Ok(records)
+    Ok(berths)
 }
 
 /// An arena with no seats but the dealer's.
@@ -92,8 +93,8 @@ fn open(alloc: Global, key: &Key) -> Result<(Arena, TableSeat), AllocError>
     ensures dealer { IfOk result (λ opened. opened.1.me ≡ (Dealer (about_in key.now) 0 0, [])) }
 {
     let words = Vec::from_elem(alloc, 0u64, key.slots + key.masters)?;
-    let records = blank_records(alloc, key.slots)?;
-    let (table, dealer) = Table::new(alloc, words.as_slice(), records, key).map_err(
+    let berths = new_berths(alloc, key.slots)?;
+    let (table, dealer) = Table::new(alloc, words.as_slice(), berths, key).map_err(
         |_refused| AllocError,
     )?;
     let arena = Arena {

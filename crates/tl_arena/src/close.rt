@@ -5,7 +5,7 @@ ghost use Rattle.tl_arena.specs.Account.{IsClosing};
 
 use crate::account::{Account, account_of_words};
 use crate::arena::Arena;
-use crate::record::Record;
+use crate::record::Berth;
 use atomic_table::Closed;
 use std::alloc::{AllocError, Global};
 use tl_types::Memory;
@@ -13,7 +13,7 @@ use tl_types::Memory;
 /// So many words of a table, from a place on.
 fn words_of(
     alloc: Global,
-    closed: &Closed<Record, Global>,
+    closed: &Closed<Berth, Global>,
     from: usize,
     count: usize,
 ) -> Result<Vec<u64>, AllocError>
@@ -30,7 +30,7 @@ fn words_of(
 }
 
 /// Gives up what a table held.
-fn give_up(mut closed: Closed<Record, Global>, slots: usize)
+fn give_up(mut closed: Closed<Berth, Global>, slots: usize)
     requires full { IsFull closed.slots }
     requires all { slots ≡ slots_len closed.slots }
 {

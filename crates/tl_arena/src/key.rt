@@ -1,7 +1,7 @@
 //! What the table of an arena is told once, when it is made, and the rule that it keeps.
 ghost use Rattle.std.specs.Prelude.{◌≡◌, map, IfOk};
 
-use crate::record::Record;
+use crate::record::Berth;
 use atomic_table::TableRule;
 use std::alloc::{AllocError, Global};
 use std::snapshot::Snapshot;
@@ -22,7 +22,7 @@ pub(crate) struct Key {
 /// The rule of the table is that of `tl_rule`.
 pub(crate) struct ArenaRule;
 
-impl TableRule<Record, View, Key> for ArenaRule {
+impl TableRule<Berth, View, Key> for ArenaRule {
     ghost use Rattle.tl_rule.specs.Rule.{Fits};
     ghost use Rattle.tl_rule.specs.Dealing.{opening_view};
     ghost use Rattle.tl_arena.specs.Key.{about_in};

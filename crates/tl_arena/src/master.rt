@@ -9,7 +9,7 @@ ghost use Rattle.tl_arena.specs.Promises.{IsUnsent, IsCollected, OwnsHistories, 
 use crate::arena::Arena;
 use crate::carried::bring;
 use crate::plays::{Claims, Collects, Leaves, Releases, Sends};
-use crate::record::Record;
+use crate::record::Berth;
 use crate::seats::MasterSeat;
 use crate::turn::{Claim, Served, Ticket};
 use tl_slots::{Phase, word_of};
@@ -52,35 +52,39 @@ impl Arena {
         ensures none { IfNone result (master.new ≡ master.old) }
     {
         for slot in from..end {
-            if self.claim_at(master, slot) {
-                return Some(Claim { slot });
+            if let Some(claim) = self.claim_at(master, slot) {
+                return Some(claim);
             }
         }
         None
     }
 
     /// Claims the slot, where it is free. It looks first: an exchange takes the word's cache line from its owner.
-    fn claim_at(&self, master: &mut MasterSeat, slot: usize) -> bool
+    fn claim_at(&self, master: &mut MasterSeat, slot: usize) -> Option<Claim>
         requires arena { master.old.arena ≡ self.now }
         requires slot { slot < self.now.about.slots }
-        ensures claimed { result ≡ true
-            → (slot < length master.old.hand) × (in_hand master.old slot ≡ Nothing)
-            × (master.new ≡ with_held master.old slot Filled) }
-        ensures event { result ≡ true
-            → IsMasterStep (event.Claim slot master.old.number) master.old master.new }
-        ensures refused { result ≡ false → master.new ≡ master.old }
+        ensures some { IfSome result
+            (λ i. (i < length master.old.hand) × (in_hand master.old i ≡ Nothing)
+            × (master.new ≡ with_held master.old i Filled)) }
+        ensures event { IfSome result
+            (λ i. IsMasterStep (event.Claim i master.old.number) master.old master.new) }
+        ensures none { IfNone result (master.new ≡ master.old) }
     {
         let words = &self.table.shared;
         if words.peek(slot) != FREE {
-            return false;
+            return None;
         }
         let new = word_of(Phase::Filling(master.number));
         if words.compare_exchange::<Claims>(&mut master.seat, slot, FREE, new) != FREE {
-            return false;
+            return None;
         }
         master.order.push_front_reserved(slot);
         master.owned += 1;
-        true
+        let berth = words.exchange(&mut master.seat, slot, Berth::empty());
+        Some(Claim {
+            slot,
+            record: berth.into_record(),
+        })
     }
 
     /// Posts a request of the master's own source to a port.
@@ -97,10 +101,11 @@ impl Arena {
         ensures event { IsMasterStep
             (event.Post claim master.old.number port) master.old master.new }
     {
-        let Claim { slot } = claim;
+        let Claim { slot, mut record } = claim;
+        record.post(ask, port);
         let words = &self.table.shared;
         bring(&mut master.seat, &mut master.order, slot);
-        let _ = words.exchange(&mut master.seat, slot, Record::posted(ask, port));
+        let _ = words.exchange(&mut master.seat, slot, Berth::of(record));
         let new = word_of(Phase::Posted(master.number, port));
         words.store::<Sends>(&mut master.seat, slot, new);
         let _ = master.order.pop_front();
@@ -137,14 +142,12 @@ impl Arena {
         } = ticket;
         master.order.push_front_reserved(slot);
         master.collected += 1;
-        let record = words.exchange(&mut master.seat, slot, Record::blank());
-        let reply = record.reply(ask.address());
+        let berth = words.exchange(&mut master.seat, slot, Berth::empty());
         Ok(Served {
             slot,
             ask,
             port,
-            index: record.index(),
-            reply,
+            record: berth.into_record(),
         })
     }
 
@@ -160,13 +163,12 @@ impl Arena {
             slot,
             ask: _,
             port: _,
-            index: _,
-            reply: _,
+            record,
         } = served;
+        let words = &self.table.shared;
         bring(&mut master.seat, &mut master.order, slot);
-        self.table
-            .shared
-            .store::<Releases>(&mut master.seat, slot, FREE);
+        let _ = words.exchange(&mut master.seat, slot, Berth::of(record));
+        words.store::<Releases>(&mut master.seat, slot, FREE);
         let _ = master.order.pop_front();
         master.owned -= 1;
     }

@@ -2,49 +2,49 @@
 ghost use Rattle.tl_rule.specs.Dealing as dealing;
 ghost use Rattle.tl_rule.specs.Moves as moves;
 
-use crate::record::Record;
+use crate::record::Berth;
 use atomic_table::{Play, Split};
 use tl_rule::View;
 
 pub(crate) struct Claims;
 
-impl Play<Record, View> for Claims {
+impl Play<Berth, View> for Claims {
     ghost then = { moves.Tried moves.Claims };
 }
 
 pub(crate) struct Sends;
 
-impl Play<Record, View> for Sends {
+impl Play<Berth, View> for Sends {
     ghost then = { moves.Sends };
 }
 
 pub(crate) struct Accepts;
 
-impl Play<Record, View> for Accepts {
+impl Play<Berth, View> for Accepts {
     ghost then = { moves.Tried moves.Accepts };
 }
 
 pub(crate) struct Answers;
 
-impl Play<Record, View> for Answers {
+impl Play<Berth, View> for Answers {
     ghost then = { moves.Answers };
 }
 
 pub(crate) struct Collects;
 
-impl Play<Record, View> for Collects {
+impl Play<Berth, View> for Collects {
     ghost then = { moves.Tried moves.Collects };
 }
 
 pub(crate) struct Releases;
 
-impl Play<Record, View> for Releases {
+impl Play<Berth, View> for Releases {
     ghost then = { moves.Releases };
 }
 
 pub(crate) struct Leaves;
 
-impl Play<Record, View> for Leaves {
+impl Play<Berth, View> for Leaves {
     ghost then = { moves.Leaves };
 }
 

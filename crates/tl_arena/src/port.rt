@@ -10,7 +10,7 @@ ghost use Rattle.tl_arena.specs.Promises.{IsLawfulPort, IsAcceptStep, IsAnswerSt
 use crate::arena::Arena;
 use crate::carried::bring;
 use crate::plays::{Accepts, Answers};
-use crate::record::Record;
+use crate::record::Berth;
 use crate::seats::PortSeat;
 use crate::turn::Accepted;
 use tl_slots::{Phase, phase_of, word_of};
@@ -89,11 +89,11 @@ impl Arena {
         }
         port.order.push_front_reserved(slot);
         port.owners[slot] = owner;
-        let record = words.exchange(&mut port.seat, slot, Record::blank());
-        Some(Accepted {
-            slot,
-            ask: record.ask(),
-        })
+        let record = words
+            .exchange(&mut port.seat, slot, Berth::empty())
+            .into_record();
+        let ask = record.ask();
+        Some(Accepted { slot, ask, record })
     }
 
     /// Answers a request that was accepted. The reply is the port's memory's.
@@ -106,11 +106,15 @@ impl Arena {
         ensures event { IsAnswerStep port.old accepted port.new }
         ensures law { IsLawfulPort port.new }
     {
-        let Accepted { slot, ask } = accepted;
+        let Accepted {
+            slot,
+            ask,
+            mut record,
+        } = accepted;
+        record.answer(ask.address(), port.served, reply);
         let words = &self.table.shared;
         bring(&mut port.seat, &mut port.order, slot);
-        let record = Record::posted(&ask, port.number).answered(ask.address(), port.served, reply);
-        let _ = words.exchange(&mut port.seat, slot, record);
+        let _ = words.exchange(&mut port.seat, slot, Berth::of(record));
         let new = word_of(Phase::Answered(port.owners[slot], port.number));
         words.store::<Answers>(&mut port.seat, slot, new);
         let _ = port.order.pop_front();

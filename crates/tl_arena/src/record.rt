@@ -1,15 +1,21 @@
-//! The record of a slot: a request on its way to a port, and its reply on the way back, as beats.
-ghost use Rattle.std.specs.Prelude.{◌≡◌};
+//! The record of a slot: a request on its way to a port, and its reply on the way back, as beats. It stays where it was made,
+//! and moves from hand to hand as a pointer.
+ghost use Rattle.std.specs.Prelude.{◌≡◌, ℕ, IsSome, IfOk, slice_get};
+ghost use Rattle.std.specs.Prelude as std;
 ghost use Rattle.tl_types.specs.Request.{Request};
 ghost use Rattle.tl_types.specs.Response.{Response};
+ghost use Rattle.tl_beats.specs.Told.{told_reply};
 ghost use Rattle.tl_rule.specs.Record.{Spells, SpellsAnswer};
 
 use arrayvec::ArrayVec;
+use std::alloc::{AllocError, Global};
 use std::marker::Model;
-use tl_beats::{ABeat, DBeat, MAX_BEATS, assemble_ask, assemble_reply, pack_ask, pack_reply};
+use tl_beats::{
+    ABeat, DBeat, MAX_BEATS, assemble_ask, assemble_reply, pack_ask, pack_reply, reply_byte,
+};
 use tl_types::{Ask, Reply};
 
-/// What a slot holds: the beats of a request, its port, and the place and the beats of its reply.
+/// The beats of a request, its port, and the place and the beats of its reply.
 #[derive(Drop)]
 pub(crate) struct Record {
     beats: ArrayVec<ABeat, MAX_BEATS>,
@@ -28,7 +34,7 @@ impl Model for Record {
 
 impl Record {
     /// The record of a slot that was never posted.
-    pub(crate) fn blank() -> Record {
+    fn blank() -> Record {
         Record {
             beats: ArrayVec::new(),
             port: 0,
@@ -37,39 +43,24 @@ impl Record {
         }
     }
 
-    /// The record of a request that is posted to a port.
-    pub(crate) fn posted(ask: &Ask, port: usize) -> Record
-        ensures spells { Spells result ask.now }
-        ensures port { result.port ≡ port }
+    /// Has a request that is posted to a port.
+    pub(crate) fn post(&mut self, ask: &Ask, port: usize)
+        ensures { Spells self.new ask.now }
     {
         let _lawful = ask.bytes();
-        Record {
-            beats: pack_ask(ask),
-            port,
-            index: 0,
-            replies: ArrayVec::new(),
-        }
+        self.beats = pack_ask(ask);
+        self.port = port;
     }
 
-    /// The record with the reply to its request, which stands at this place of the port's list.
-    pub(crate) fn answered(self, address: u64, index: usize, reply: &Reply) -> Record
-        ensures asks { (ask : Request) → Spells self ask → Spells result ask }
-        ensures answers { SpellsAnswer result address reply.now }
-        ensures index { result.index ≡ index }
+    /// Has the reply to its request too, which stands at this place of the port's list.
+    pub(crate) fn answer(&mut self, address: u64, index: usize, reply: &Reply)
+        ensures asks { (ask : Request) → Spells self.old ask → Spells self.new ask }
+        ensures answers { SpellsAnswer self.new address reply.now }
+        ensures index { self.new.index ≡ index }
     {
         let _lawful = reply.bytes();
-        let Record {
-            beats,
-            port,
-            index: _,
-            replies: _,
-        } = self;
-        Record {
-            beats,
-            port,
-            index,
-            replies: pack_reply(reply, address),
-        }
+        self.index = index;
+        self.replies = pack_reply(reply, address);
     }
 
     /// The request.
@@ -83,9 +74,24 @@ impl Record {
     /// The reply to the request, whose address this is.
     pub(crate) fn reply(&self, address: u64) -> Reply
         requires { (reply : Response) × SpellsAnswer self.now address reply }
-        ensures { SpellsAnswer self.now address result }
+        ensures { result ≡ told_reply self.now.replies address }
     {
         assemble_reply(&self.replies, address).unwrap()
+    }
+
+    /// A byte of the reply, where there is one.
+    pub(crate) fn reply_byte(&self, address: u64, place: usize) -> Option<u8>
+        ensures { (reply : Response) → SpellsAnswer self.now address reply
+            → result ≡ slice_get reply.bytes place }
+    {
+        reply_byte(&self.replies, address, place)
+    }
+
+    /// Whether the request was denied.
+    pub(crate) fn is_denied(&self) -> bool
+        ensures { (address : ℕ) → result ≡ (told_reply self.now.replies address).denied }
+    {
+        self.replies.first().is_some_and(|beat| beat.denied)
     }
 
     /// The place of the reply in the port's list.
@@ -93,5 +99,55 @@ impl Record {
         ensures { result ≡ self.now.index }
     {
         self.index
+    }
+}
+
+/// What a slot has of its record: the record, or nothing while somebody else holds it.
+#[derive(Drop)]
+pub(crate) struct Berth {
+    record: Option<Box<Record>>,
+}
+
+impl Model for Berth {
+    ghost use Rattle.std.specs.Prelude.{Option, option_map};
+    ghost use Rattle.tl_rule.specs.Record.{SlotRecord};
+
+    ghost Value = { Option SlotRecord };
+
+    ghost view = { λ b. option_map (λ r. r.value) b.record };
+}
+
+impl Berth {
+    /// With the record of a slot that was never posted.
+    pub(crate) fn new(alloc: Global) -> Result<Berth, AllocError>
+        ensures { IfOk result (λ berth. IsSome berth) }
+    {
+        let record = Box::new(alloc, Record::blank())?;
+        Ok(Berth::of(record))
+    }
+
+    /// With this record.
+    pub(crate) fn of(record: Box<Record>) -> Berth
+        ensures { result ≡ std.Some record.value }
+    {
+        Berth {
+            record: Some(record),
+        }
+    }
+
+    /// Without one.
+    pub(crate) fn empty() -> Berth
+        ensures { result ≡ std.None }
+    {
+        Berth { record: None }
+    }
+
+    /// The record.
+    pub(crate) fn into_record(self) -> Box<Record>
+        requires { IsSome self }
+        ensures { self ≡ std.Some result.value }
+    {
+        let Berth { record } = self;
+        record.unwrap()
     }
 }

@@ -3,12 +3,12 @@ ghost use Rattle.std.specs.Prelude.{◌≡◌, ◌<◌, length};
 ghost use Rattle.tl_arena.specs.Views.{owned_of};
 ghost use Rattle.tl_arena.specs.Promises.{IsLawfulPort};
 
-use crate::record::Record;
+use crate::record::Berth;
 use std::collections::VecDeque;
 use std::marker::Model;
 use tl_rule::View;
 
-pub(crate) type TableSeat = atomic_table::Seat<Record, View>;
+pub(crate) type TableSeat = atomic_table::Seat<Berth, View>;
 
 /// A master's seat.
 #[derive(Drop)]

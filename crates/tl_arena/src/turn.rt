@@ -1,12 +1,15 @@
 //! The values of a turn: each is moved on by the next call of its turn.
-ghost use Rattle.std.specs.Prelude.{◌≡◌};
+ghost use Rattle.std.specs.Prelude.{◌≡◌, slice_get};
+ghost use Rattle.tl_types.specs.Response.{IsLawfulResponse};
 
+use crate::record::Record;
 use std::marker::Model;
 use tl_types::{Ask, Reply};
 
-/// A slot that is to be filled. It has no `Drop`: it must be posted.
+/// A slot that is to be filled, with its record. It has no `Drop`: it must be posted.
 pub struct Claim {
     pub(crate) slot: usize,
+    pub(crate) record: Box<Record>,
 }
 
 impl Model for Claim {
@@ -56,21 +59,24 @@ impl Ticket {
     }
 }
 
-/// A reply that was collected. It has no `Drop`: its slot must be released.
+/// A reply that was collected, in the record of its slot. It has no `Drop`: its slot must be released.
 pub struct Served {
     pub(crate) slot: usize,
     pub(crate) ask: Ask,
     pub(crate) port: usize,
-    pub(crate) index: usize,
-    pub(crate) reply: Reply,
+    pub(crate) record: Box<Record>,
 }
 
 impl Model for Served {
+    ghost use Rattle.tl_beats.specs.Told.{told_reply};
+    ghost use Rattle.tl_rule.specs.Record.{SpellsAnswer};
     ghost use Rattle.tl_arena.specs.Views.{ServedView};
 
     ghost Value = { ServedView };
 
-    ghost view = { λ s. record { slot = s.slot; ask = s.ask; port = s.port; index = s.index; reply = s.reply } };
+    ghost view = { λ s. record { slot = s.slot; ask = s.ask; port = s.port; index = s.record.value.index; reply = told_reply s.record.value.replies s.ask.address } };
+
+    ghost invariant = { λ s. SpellsAnswer s.record.value s.ask.address (told_reply s.record.value.replies s.ask.address) };
 }
 
 impl Served {
@@ -89,10 +95,26 @@ impl Served {
     }
 
     /// The reply, with the wide source.
-    pub fn reply(&self) -> &Reply
-        ensures { result.now ≡ self.now.reply }
+    pub fn reply(&self) -> Reply
+        ensures { result ≡ self.now.reply }
     {
-        &self.reply
+        self.record.reply(self.ask.address())
+    }
+
+    /// A byte of the reply, read where it lies.
+    pub fn reply_byte(&self, place: usize) -> Option<u8>
+        ensures { result ≡ slice_get self.now.reply.bytes place }
+    {
+        self.record.reply_byte(self.ask.address(), place)
+    }
+
+    /// Whether the request was denied.
+    pub fn is_denied(&self) -> bool
+        ensures value { result ≡ self.now.reply.denied }
+        ensures lawful { IsLawfulResponse self.now.reply.op self.now.reply.size self.now.reply.denied
+            self.now.reply.bytes }
+    {
+        self.record.is_denied()
     }
 
     /// The port that served it.
@@ -106,24 +128,28 @@ impl Served {
     pub fn index(&self) -> usize
         ensures { result ≡ self.now.index }
     {
-        self.index
+        self.record.index()
     }
 }
 
-/// A request that a port has accepted.
+/// A request that a port has accepted, with the record of its slot.
 #[derive(Drop)]
 pub struct Accepted {
     pub(crate) slot: usize,
     pub(crate) ask: Ask,
+    pub(crate) record: Box<Record>,
 }
 
 impl Model for Accepted {
     ghost use Rattle.std.specs.Prelude.{ℕ};
     ghost use Rattle.tl_types.specs.Request.{Request};
+    ghost use Rattle.tl_rule.specs.Record.{Spells};
 
     ghost Value = { ℕ × Request };
 
     ghost view = { λ a. (a.slot, a.ask) };
+
+    ghost invariant = { λ a. Spells a.record.value a.ask };
 }
 
 impl Accepted {

@@ -10,6 +10,7 @@ use Rattle.tl_types.specs.declared.operation.Hint.TheVariants.{PrefetchRead, Pre
 use Rattle.tl_types.specs.declared.operation.AskOp.{AskOp}
 use Rattle.tl_types.specs.declared.operation.AskOp.TheVariants.{PutFull, PutPartial, Arithmetic, Logical, Get, Intent}
 use Rattle.tl_types.specs.declared.operation.ReplyOp.{ReplyOp}
+use Rattle.tl_beats.specs.Told.{reply_op_at}
 use Rattle.tl_types.specs.declared.operation.ReplyOp.TheVariants.{AccessAck, AccessAckData, HintAck}
 
 abbrev arith_at : ℕ → Arith
@@ -58,12 +59,7 @@ same_op op other opcode param code code' =
     let numbers : op_at (opcode_of op) (param_of op) ≡ op_at (opcode_of other) (param_of other) = rw (code.opcode_is, code.param_is, code'.opcode_is, code'.param_is) refl in
     sym (op_at-code op) ∙ numbers ∙ op_at-code other
 
-abbrev reply_op_at : ℕ → ReplyOp
-reply_op_at zero = AccessAck
-reply_op_at (suc zero) = AccessAckData
-reply_op_at (suc (suc n)) = HintAck
-
-reply_op_at-code : (op : ReplyOp) → reply_op_at (reply_opcode_of op) ≡ op
+pub reply_op_at-code : (op : ReplyOp) → reply_op_at (reply_opcode_of op) ≡ op
 reply_op_at-code AccessAck = refl
 reply_op_at-code AccessAckData = refl
 reply_op_at-code HintAck = refl

@@ -5,3 +5,4 @@ pub mod Turns
 pub mod Starting
 pub mod Ending
 pub mod Busy
+pub mod Replies

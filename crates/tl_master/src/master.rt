@@ -1,20 +1,22 @@
 //! One master.
 ghost use Rattle.std.specs.Prelude.{◌≡◌, ℕ, ◌+◌, ◌<◌, ◌≤◌, [], ◌∷◌, ◌++◌, length, vec_len, vec_capacity, IfOk, IfErr, replicate, IfSome, IfNone, slice_get};
 ghost use Rattle.std.specs.Prelude as std;
+ghost use Rattle.tl_types.specs.Operation.{reply_op_of};
 ghost use Rattle.tl_rule.specs.declared.view.Held.TheVariants.{Filled, Sent};
 ghost use Rattle.tl_rule.specs.Views.{Owns};
 ghost use Rattle.tl_arena.specs.Views.{owned_of, in_hand, with_held};
 ghost use Rattle.tl_arena.specs.Promises.{IsUnsent, OwnsHistories};
-ghost use Rattle.tl_master.specs.Master.{new_state, count_of, out_of, ticket_at, IsInOrder, AreWidened, asks_of, of_source, asked, IsNextOut};
+ghost use Rattle.tl_master.specs.Master.{new_state, count_of, out_of, ticket_at, IsInOrder, AreWidened, asks_of, of_source, asked, reply_to, IsNextOut};
 ghost use Rattle.tl_master.specs.Steps.{IsPosted, IsReply, Issues, Polls, AsksMore, AsksSame};
 
 use crate::source_set::SourceSet;
+use arrayvec::ArrayVec;
 use std::alloc::{AllocError, Global};
 use std::marker::Model;
 use thiserror::Error;
-use tl_arena::{Arena, Claim, MasterSeat, Ticket};
+use tl_arena::{Arena, Claim, MasterSeat, Served, Ticket};
 use tl_map::{Map, Sources};
-use tl_types::{Ask, Entry, Trace};
+use tl_types::{Ask, Entry, Reply, Trace};
 
 /// Where a request was posted: its slot, and the port that the map gives it.
 #[derive(Debug, Clone, Copy, PartialEq, Eq)]
@@ -277,12 +279,27 @@ fn collect_entry(
     let served = arena.collect(seat, ticket)?;
     let entry = Entry {
         ask: served.ask().with_source(source),
-        reply: served.reply().with_source(source),
+        reply: reply_for(&served, source),
         port: served.port(),
         index: served.index(),
     };
     arena.release(seat, served);
     Ok(entry)
+}
+
+/// The reply that was collected, to the master's own source, made of its bytes where they lie.
+fn reply_for(served: &Served, source: u16) -> Reply
+    requires op { served.now.reply.op ≡ reply_op_of served.now.ask.op }
+    requires size { served.now.reply.size ≡ served.now.ask.size }
+    ensures { result ≡ reply_to source served.now.reply }
+{
+    let ask = served.ask();
+    let denied = served.is_denied();
+    let mut bytes = ArrayVec::new();
+    while let Some(byte) = served.reply_byte(bytes.len()) {
+        bytes.push(byte);
+    }
+    Reply::from_parts(ask.op().reply_op(), ask.size(), source, denied, bytes)
 }
 
 /// Puts an entry at the end of a trace that has room for it, and answers its place.

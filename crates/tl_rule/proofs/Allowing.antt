@@ -19,7 +19,7 @@ use Rattle.tl_rule.specs.declared.view.Hands.{Hands}
 use Rattle.tl_rule.specs.declared.view.Desk.{Desk}
 use Rattle.tl_rule.specs.declared.view.View.{View}
 use Rattle.tl_rule.specs.declared.view.View.TheVariants.{Master, Port}
-use Rattle.tl_rule.specs.Record.{SlotRecord}
+use Rattle.tl_rule.specs.Record.{Berth}
 use Rattle.tl_rule.specs.Views.{hands, with_hand, with_serving}
 use Rattle.tl_rule.specs.Rule.{Parts, Lawful, Fits, phase, views_of, table_of}
 use Rattle.tl_rule.specs.Events.{state_of, IsOneEvent, IsEventOf}
@@ -33,15 +33,15 @@ use Rattle.tl_rule.proofs.PortFrame.{port_moves}
 use Rattle.tl_rule.proofs.Facts.{Known, KnownPort}
 
 -- it is enough to look at tables that are written as parts
-pub by_parts : (a : About) (P : State SlotRecord View → Type 0) → ((c : Parts) → Lawful a c → P (table_of a c)) → (s : State SlotRecord View) → Fits a s → P s
+pub by_parts : (a : About) (P : State Berth View → Type 0) → ((c : Parts) → Lawful a c → P (table_of a c)) → (s : State Berth View) → Fits a s → P s
 by_parts a P prove s F = subst P (sym F.is) (prove F.parts F.lawful)
 
 -- what an event leaves fits
-pub fits_after : (a : About) (event : Event) (s t : State SlotRecord View) → IsOneEvent a event s t → Fits a t
+pub fits_after : (a : About) (event : Event) (s t : State Berth View) → IsOneEvent a event s t → Fits a t
 fits_after a event s t E = record { parts = E.after; is = E.is; lawful = E.lawful_after }
 
 -- what a seat is told of the event, in what its own view knows of what never changes
-pub event_told : (a known : About) (event : Event) (s t : State SlotRecord View) (id : ℕ) (v w : View) → known ≡ a → get_elem? s.views id ≡ some v → t.views ≡ set s.views id w → IsOneEvent a event s t → IsEventOf known event v w
+pub event_told : (a known : About) (event : Event) (s t : State Berth View) (id : ℕ) (v w : View) → known ≡ a → get_elem? s.views id ≡ some v → t.views ≡ set s.views id w → IsOneEvent a event s t → IsEventOf known event v w
 event_told a known event s t id v w same had has one = subst (λ (z : About). IsEventOf z event v w) (sym same) (record { before = s; after = t; seat = id; had = had; has = has; one = one })
 
 -- ---- what is enough for an event to be allowed
@@ -59,11 +59,11 @@ module _ (a : About) (c : Parts) (L : Lawful a c) where
 -- ---- a step, on the table
 
 -- a step that changes nothing keeps any rule
-pub unmoved : (holds : State SlotRecord View → Type 0) (s : State SlotRecord View) (i id : ℕ) (m : View) (carried : List (ℕ × SlotRecord)) → holds s → get_elem? s.views id ≡ some m → holds (stepped s i (get_or s.words i 0) id carried m keeps)
+pub unmoved : (holds : State Berth View → Type 0) (s : State Berth View) (i id : ℕ) (m : View) (carried : List (ℕ × Berth)) → holds s → get_elem? s.views id ≡ some m → holds (stepped s i (get_or s.words i 0) id carried m keeps)
 unmoved holds s i id m carried h at = subst holds (λ k. record { words = sym (set-get_or s.words i 0) k; homes = s.homes; views = sym (set_again s.views id m at) k }) h
 
 -- a master's step
-pub master_step : (a : About) (c : Parts) (i id : ℕ) (v : Hands) (f : Phase) (h : maybe.Option SlotRecord) (x : Held) (got : List Entry) (carried : List (ℕ × SlotRecord)) (act : Act SlotRecord) (event : Event)
+pub master_step : (a : About) (c : Parts) (i id : ℕ) (v : Hands) (f : Phase) (h : maybe.Option Berth) (x : Held) (got : List Entry) (carried : List (ℕ × Berth)) (act : Act Berth) (event : Event)
     → (L : Lawful a c) → Known a c L id v → i < length c.phases → homes_after c.homes carried act ≡ set c.homes i h → Lawful a (master_moves c i f h v.number x got)
     → IsAllowed (state_of a c) event → state_of a (master_moves c i f h v.number x got) ≡ state_after (state_of a c) event
     → IsOneEvent a event (table_of a c) (stepped (table_of a c) i (word f) id carried (Master (with_hand v i x got)) act)
@@ -81,7 +81,7 @@ master_step a c i id v f h x got carried act event L K near homes M allowed leav
     }
 
 -- a port's step
-pub port_step : (a : About) (c : Parts) (i id : ℕ) (u : Desk) (f : Phase) (h : maybe.Option SlotRecord) (now : List (ℕ × Request)) (list : List (Request × Response)) (carried : List (ℕ × SlotRecord)) (act : Act SlotRecord) (event : Event)
+pub port_step : (a : About) (c : Parts) (i id : ℕ) (u : Desk) (f : Phase) (h : maybe.Option Berth) (now : List (ℕ × Request)) (list : List (Request × Response)) (carried : List (ℕ × Berth)) (act : Act Berth) (event : Event)
     → (L : Lawful a c) → KnownPort a c L id u → i < length c.phases → homes_after c.homes carried act ≡ set c.homes i h → Lawful a (port_moves c i f h u.number now list)
     → IsAllowed (state_of a c) event → state_of a (port_moves c i f h u.number now list) ≡ state_after (state_of a c) event
     → IsOneEvent a event (table_of a c) (stepped (table_of a c) i (word f) id carried (Port (with_serving u now list)) act)
@@ -101,12 +101,12 @@ port_step a c i id u f h now list carried act event L K near homes M allowed lea
 -- ---- what a step owes
 
 -- where the word becomes n, the seat has a view and an act that keep the rule, and `then` holds of the seat after
-abbrev pub Goes : About → ℕ → ℕ → Seat → (Seat → Type 0) → State SlotRecord View → ℕ → Type 0
-Goes a i id m then s n = (w : View) × (act : Act SlotRecord) × Valid s.homes m.1 act × Fits a (stepped s i n id m.1 w act) × then (w, carried_after m.1 act)
+abbrev pub Goes : About → ℕ → ℕ → Seat → (Seat → Type 0) → State Berth View → ℕ → Type 0
+Goes a i id m then s n = (w : View) × (act : Act Berth) × Valid s.homes m.1 act × Fits a (stepped s i n id m.1 w act) × then (w, carried_after m.1 act)
 
 module _ (a : About) (slots id : ℕ) (m : Seat) (i : ℕ) where
   -- a compare-exchange has to keep the rule where it finds the word that it looks for
-  pub tries : (old new : ℕ) (said : maybe.Option SlotRecord) (won : Won)
+  pub tries : (old new : ℕ) (said : maybe.Option Berth) (won : Won)
       → ((c : Parts) → Lawful a c → a.slots ≡ slots → get_elem? (table_of a c).views id ≡ some m.0 → get_or (table_of a c).words i 0 ≡ old → Goes a i id m (won (step slots i old new said) m) (table_of a c) new)
       → Allows (Fits a) slots id m i (λ n. either (eqb n old) new n) (Tried won (step slots i old new said) m)
   tries old new said won hit s h wide at _ =

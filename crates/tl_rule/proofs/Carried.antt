@@ -7,7 +7,7 @@ use Rattle.atomic_table.specs.Table.{turned, rest}
 use Rattle.tl_types.specs.Request.{Request}
 use Rattle.tl_rule.specs.declared.view.Held.{Held}
 use Rattle.tl_rule.specs.declared.view.Held.TheVariants.{Nothing, Filled, Sent, Taken}
-use Rattle.tl_rule.specs.Record.{SlotRecord}
+use Rattle.tl_rule.specs.Record.{Berth}
 use Rattle.tl_rule.specs.Serving.{ask_at, drop_slot, HasDistinctSlots}
 use Rattle.tl_rule.specs.Moves.{Seat}
 use Rattle.tl_rule.specs.Carried.{firsts, has, place, IsTop, is_carried, is_held, CarriesHand, CarriesServed}
@@ -17,16 +17,16 @@ use Rattle.tl_rule.proofs.Serving.{push_else, drop_else, drop_here, first_not}
 
 -- ---- turning
 
-pub firsts_more : (cs : List (ℕ × SlotRecord)) (c : ℕ × SlotRecord) → firsts (cs ++ c ∷ []) ≡ firsts cs ++ c.0 ∷ []
+pub firsts_more : (cs : List (ℕ × Berth)) (c : ℕ × Berth) → firsts (cs ++ c ∷ []) ≡ firsts cs ++ c.0 ∷ []
 firsts_more [] c = refl
 firsts_more (x ∷ cs) c = ap (λ l. x.0 ∷ l) (firsts_more cs c)
 
-pub firsts_turned : (cs : List (ℕ × SlotRecord)) (x : ℕ) (xs : List ℕ) → firsts cs ≡ x ∷ xs → firsts (turned cs) ≡ xs ++ x ∷ []
+pub firsts_turned : (cs : List (ℕ × Berth)) (x : ℕ) (xs : List ℕ) → firsts cs ≡ x ∷ xs → firsts (turned cs) ≡ xs ++ x ∷ []
 firsts_turned [] x xs e = absurd (cc)
 firsts_turned (c ∷ cs) x xs e = firsts_more cs c ∙ (let p : c.0 ≡ x = cc in let q : firsts cs ≡ xs = cc in λ i. q i ++ p i ∷ [])
 
 pub top_of : (m : Seat) (i : ℕ) (xs : List ℕ) → firsts m.1 ≡ i ∷ xs → IsTop m i
-top_of m i xs e = elim m.1 as (λ cs. firsts cs ≡ i ∷ xs → (x : SlotRecord) × (cs ≡ (i, x) ∷ rest cs)) [ [] ↦ λ e. absurd (cc) | c ∷ cs ↦ λ e. (c.1, let p : c.0 ≡ i = cc in λ t. (p t, c.1) ∷ cs) ] e
+top_of m i xs e = elim m.1 as (λ cs. firsts cs ≡ i ∷ xs → (x : Berth) × (cs ≡ (i, x) ∷ rest cs)) [ [] ↦ λ e. absurd (cc) | c ∷ cs ↦ λ e. (c.1, let p : c.0 ≡ i = cc in λ t. (p t, c.1) ∷ cs) ] e
 
 swap : (a b c : Bool) → (a || (b || c)) ≡ (b || (a || c))
 swap true true c = refl

@@ -19,7 +19,7 @@ use Rattle.tl_rule.specs.declared.view.About.{About}
 use Rattle.tl_rule.specs.declared.view.Held.TheVariants.{Nothing, Sent, Taken}
 use Rattle.tl_rule.specs.declared.view.Hands.{Hands}
 use Rattle.tl_rule.specs.declared.view.View.TheVariants.{Master}
-use Rattle.tl_rule.specs.Record.{SlotRecord, Spells, SpellsAnswer}
+use Rattle.tl_rule.specs.Record.{SlotRecord, Spells, SpellsAnswer, Berth}
 use Rattle.tl_rule.specs.Views.{Owns, reset_of, hands, desk, held, Above, no_hands, with_hand}
 use Rattle.tl_rule.specs.Rule.{Parts, Names, IsHome, HomeAsk, InPhase, IsAnswered, InSlot, InGot, Placed, Places, Lawful, Fits, phase, table_of}
 use Rattle.tl_rule.specs.Events.{state_of, IsOneEvent}
@@ -70,7 +70,7 @@ module _ (a : About) (c : Parts) (i m p since : ℕ) (letter : SlotRecord) (ask 
     place = ⊎_elim
         (λ (s : InSlot a c t.master n k). dite (ℕ_discrete s.slot i)
         (λ same. let f : Answered m p ≡ Answered t.master n = sym ph ∙ subst (λ (z : ℕ). phase c z ≡ Answered t.master n) same s.phased in
-        let em : m ≡ t.master = cc in let en : p ≡ n = cc in let one : letter ≡ s.letter = (let z = subst (λ (z : ℕ). get_or c.homes z none ≡ some s.letter) same s.at in cc) in
+        let em : m ≡ t.master = cc in let en : p ≡ n = cc in let one : letter ≡ s.letter = (let z = subst (λ (z : ℕ). get_or c.homes z none ≡ some (Some s.letter)) same s.at in cc) in
         let ek : letter.index ≡ k = ap (λ (z : SlotRecord). z.index) one ∙ s.index in
         inr (subst (λ (z : ℕ). InGot a d z n k) em (subst (λ (z : ℕ). InGot a d m z k) en (subst (λ (z : ℕ). InGot a d m p z) ek gotten))))
         (λ ne. inl (record { slot = s.slot; letter = s.letter; phased = phase_else a c i (Taking m p) none m (Taken p) (old ++ e ∷ []) L S s.slot ne ∙ s.phased; at = get_or-set_other c.homes i s.slot none none ne ∙ s.at; index = s.index })))
@@ -116,7 +116,7 @@ module _ (a : About) (c : Parts) (i m p since : ℕ) (letter : SlotRecord) (ask 
         (λ n _ was at. P.apart n r j k y g was home' at port) n was at);
   }
 
-module _ (a : About) (c : Parts) (L : Lawful a c) (id i : ℕ) (v : Hands) (K : Known a c L id v) (carried : List (ℕ × SlotRecord)) (ask : Request) (p since : ℕ)
+module _ (a : About) (c : Parts) (L : Lawful a c) (id i : ℕ) (v : Hands) (K : Known a c L id v) (carried : List (ℕ × Berth)) (ask : Request) (p since : ℕ)
     (lt : i < a.slots) (sent_is : get_or v.hand i Nothing ≡ Sent ask p since) (ph : phase c i ≡ Answered v.number p) (A : IsAnswered a c i v.number p) where
   abbrev letter : SlotRecord
   letter = A.home.letter
@@ -175,13 +175,13 @@ module _ (a : About) (c : Parts) (L : Lawful a c) (id i : ℕ) (v : Hands) (K : 
   collect_lawful : Lawful a moved_parts
   collect_lawful = moved a c i (Taking v.number p) none v.number (Taken p) (held_before ++ last ∷ []) L collect_step (collect_places a c i v.number p since letter ask reply L collect_step ph A.home.at held_is place)
 
-  pub collect_event : IsOneEvent a (Collect i v.number p) (table_of a c) (stepped (table_of a c) i (word (Taking v.number p)) id carried (Master (with_hand v i (Taken p) (v.got ++ last ∷ []))) (takes i letter))
-  collect_event = subst (λ (l : List Entry). IsOneEvent a (Collect i v.number p) (table_of a c) (stepped (table_of a c) i (word (Taking v.number p)) id carried (Master (with_hand v i (Taken p) (l ++ last ∷ []))) (takes i letter))) got_is
-      (master_step a c i id v (Taking v.number p) none (Taken p) (held_before ++ last ∷ []) carried (takes i letter) (Collect i v.number p) L K (let e = L.shape.phases in omega arith) refl collect_lawful
+  pub collect_event : IsOneEvent a (Collect i v.number p) (table_of a c) (stepped (table_of a c) i (word (Taking v.number p)) id carried (Master (with_hand v i (Taken p) (v.got ++ last ∷ []))) (takes i (Some letter)))
+  collect_event = subst (λ (l : List Entry). IsOneEvent a (Collect i v.number p) (table_of a c) (stepped (table_of a c) i (word (Taking v.number p)) id carried (Master (with_hand v i (Taken p) (l ++ last ∷ []))) (takes i (Some letter)))) got_is
+      (master_step a c i id v (Taking v.number p) none (Taken p) (held_before ++ last ∷ []) carried (takes i (Some letter)) (Collect i v.number p) L K (let e = L.shape.phases in omega arith) refl collect_lawful
       (move_is_allowed (state_of a c) (Collect i v.number p) _ refl (found a c L i (Answered v.number p) lt ph) (there a c L v.number K.near) in_range (present a c L v.number K.near staying)) refl)
 
   -- what the seat is told
-  pub collect_told : (slots from new : ℕ) (said : maybe.Option SlotRecord) → get_elem? (table_of a c).views id ≡ some (Master v) → Collects (step slots i from new said) (Master v, carried) (Master (with_hand v i (Taken p) (v.got ++ last ∷ [])), (i, letter) ∷ carried)
+  pub collect_told : (slots from new : ℕ) (said : maybe.Option Berth) → get_elem? (table_of a c).views id ≡ some (Master v) → Collects (step slots i from new said) (Master v, carried) (Master (with_hand v i (Taken p) (v.got ++ last ∷ [])), (i, Some letter) ∷ carried)
   collect_told slots from new said at = let m = v.number in let d = moved_parts in
       let hands_is : hands d.masters m ≡ with_hand v i (Taken p) (v.got ++ last ∷ []) = get_or-set_same c.masters m (with_hand (hands c.masters m) i (Taken p) (held_before ++ last ∷ [])) no_hands K.near ∙ (λ t. with_hand (K.is t) i (Taken p) (got_is t ++ last ∷ [])) in
       let views = collect_lawful.shape.master_views m (let z = K.near in let y = length-set c.masters m (with_hand (hands c.masters m) i (Taken p) (held_before ++ last ∷ [])) in omega arith) in
@@ -207,7 +207,7 @@ module _ (a : About) (c : Parts) (L : Lawful a c) (id i : ℕ) (v : Hands) (K : 
         event = event_told a v.about (Collect i m p) _ _ id _ _ K.about at refl collect_event;
       }
 
-pub collects : (a : About) (slots id : ℕ) (v : Hands) (carried : List (ℕ × SlotRecord)) (i from new : ℕ) (said : maybe.Option SlotRecord) (ask : Request) (p since : ℕ) → get_or v.hand i Nothing ≡ Sent ask p since
+pub collects : (a : About) (slots id : ℕ) (v : Hands) (carried : List (ℕ × Berth)) (i from new : ℕ) (said : maybe.Option Berth) (ask : Request) (p since : ℕ) → get_or v.hand i Nothing ≡ Sent ask p since
     → from ≡ word (Answered v.number p) → new ≡ word (Taking v.number p)
     → Allows (Fits a) slots id (Master v, carried) i (λ n. either (eqb n from) new n) (Tried Collects (step slots i from new said) (Master v, carried))
 collects a slots id v carried i from new said ask p since sent_is from_is is = let m = v.number in
@@ -218,8 +218,8 @@ collects a slots id v carried i from new said ask p since sent_is from_is is = l
     let E = collect_event a c L id i v K carried ask p since lt sent_is ph A in
     let view = Master (with_hand v i (Taken p) (v.got ++ entry p A.home.letter.index ask A.answer ∷ [])) in (
       view,
-      takes i A.home.letter,
-      of_get c.homes i (some A.home.letter) none (let e = L.shape.homes in omega arith) A.home.at,
-      subst (λ (n : ℕ). Fits a (stepped (table_of a c) i n id carried view (takes i A.home.letter))) (sym is) (fits_after a (Collect i m p) _ _ E),
+      takes i (Some A.home.letter),
+      of_get c.homes i (some (Some A.home.letter)) none (let e = L.shape.homes in omega arith) A.home.at,
+      subst (λ (n : ℕ). Fits a (stepped (table_of a c) i n id carried view (takes i (Some A.home.letter)))) (sym is) (fits_after a (Collect i m p) _ _ E),
       collect_told a c L id i v K carried ask p since lt sent_is ph A slots from new said at,
     ))

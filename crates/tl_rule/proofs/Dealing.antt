@@ -1,5 +1,6 @@
 -- How a table begins, and how seats are dealt.
-use Rattle.std.proofs.Common.{◌≡◌, ℕ, zero, suc, ◌+◌, ◌<◌, ◌≤◌, true, false, List, [], ◌∷◌, ◌++◌, map, length, get_or, set, sym, refl, ap, subst, ◌∙◌, arith, length-append}
+use Rattle.std.proofs.lemmas.List.Elements.{All-tail}
+use Rattle.std.proofs.Common.{◌≡◌, ℕ, zero, suc, ◌+◌, ◌<◌, ◌≤◌, true, false, List, [], ◌∷◌, ◌++◌, map, length, get_or, set, sym, refl, ap, subst, ◌∙◌, arith, length-append, Some, None, All, IsSome}
 use mathlib.Core.Option.{some, none}
 use lib.ListN.{get_elem?}
 use Rattle.tl_slots.specs.declared.phase.Phase.TheVariants.{Free}
@@ -10,7 +11,7 @@ use Rattle.tl_rule.specs.declared.view.Hands.{Hands}
 use Rattle.tl_rule.specs.declared.view.Desk.{Desk}
 use Rattle.tl_rule.specs.declared.view.View.{View}
 use Rattle.tl_rule.specs.declared.view.View.TheVariants.{Dealer, Master, Port}
-use Rattle.tl_rule.specs.Record.{SlotRecord}
+use Rattle.tl_rule.specs.Record.{SlotRecord, Berth}
 use Rattle.tl_rule.specs.Views.{hands, desk, held, no_hands, no_desk}
 use Rattle.tl_rule.specs.Rule.{Parts, InPhase, Lawful, Fits, views_of, table_of}
 use Rattle.std.proofs.Common.{replicate}
@@ -176,17 +177,17 @@ at_replicate zero i x = refl
 at_replicate (suc n) zero x = refl
 at_replicate (suc n) (suc i) x = at_replicate n i x
 
-long_map : (xs : List SlotRecord) → length (map some xs) ≡ length xs
+long_map : (xs : List Berth) → length (map some xs) ≡ length xs
 long_map [] = refl
 long_map (x ∷ xs) = ap suc (long_map xs)
 
-all_home : (xs : List SlotRecord) (i : ℕ) → i < length xs → (r : SlotRecord) × (get_or (map some xs) i none ≡ some r)
-all_home [] i h = absurd (omega arith)
-all_home (x ∷ xs) zero h = (x, refl)
-all_home (x ∷ xs) (suc i) h = all_home xs i (omega arith)
+all_home : (xs : List Berth) (i : ℕ) → i < length xs → All (λ (berth : Berth). IsSome berth) xs → (r : SlotRecord) × (get_or (map some xs) i none ≡ some (Some r))
+all_home [] i h there = absurd (omega arith)
+all_home (x ∷ xs) zero h there = elim x as (λ (y : Berth). IsSome y → (r : SlotRecord) × (some y ≡ some (Some r))) [ None ↦ λ none. absurd (cc) | Some r ↦ λ _. (r, refl) ] (there 0 x h)
+all_home (x ∷ xs) (suc i) h there = all_home xs i (omega arith) (All-tail (λ (berth : Berth). IsSome berth) x xs there)
 
-pub opens : (a : About) (ws : List ℕ) (xs : List SlotRecord) → ws ≡ replicate (a.slots + a.masters) 0 → length xs ≡ a.slots → IsInLimits a.slots a.masters a.ports → Fits a (opening ws xs (opening_view a))
-opens a ws xs words long limits = let c : Parts = record { phases = replicate a.slots Free; left = replicate a.masters false; homes = map some xs; masters = []; ports = [] } in record {
+pub opens : (a : About) (ws : List ℕ) (xs : List Berth) → ws ≡ replicate (a.slots + a.masters) 0 → length xs ≡ a.slots → All (λ (berth : Berth). IsSome berth) xs → IsInLimits a.slots a.masters a.ports → Fits a (opening ws xs (opening_view a))
+opens a ws xs words long there limits = let c : Parts = record { phases = replicate a.slots Free; left = replicate a.masters false; homes = map some xs; masters = []; ports = [] } in record {
   parts = c;
   is = λ z. record { words = (words ∙ all_free a.slots a.masters) z; homes = map some xs; views = Dealer a 0 0 ∷ [] };
   lawful = record {
@@ -203,7 +204,7 @@ opens a ws xs words long limits = let c : Parts = record { phases = replicate a.
     };
     leaving = λ m. at_replicate a.masters m false;
     gone = λ m i e. absurd (cc);
-    slots = λ i lt. subst (InPhase a c i) (sym (at_replicate a.slots i Free)) (all_home xs i (omega arith));
+    slots = λ i lt. subst (InPhase a c i) (sym (at_replicate a.slots i Free)) (all_home xs i (omega arith) there);
     hand = λ m i h. absurd (h refl);
     service = λ p i q e. absurd (cc);
     serves_once = λ p. tt;

@@ -11,7 +11,7 @@ use Rattle.tl_rule.specs.declared.view.Held.TheVariants.{Nothing}
 use Rattle.tl_rule.specs.declared.view.Hands.{Hands}
 use Rattle.tl_rule.specs.declared.view.Desk.{Desk}
 use Rattle.tl_rule.specs.declared.view.View.TheVariants.{Master, Port}
-use Rattle.tl_rule.specs.Record.{SlotRecord, Spells, SpellsAnswer}
+use Rattle.tl_rule.specs.Record.{SlotRecord, Spells, SpellsAnswer, Berth}
 use Rattle.tl_rule.specs.Views.{Owns, reset_of, desk}
 use Rattle.tl_rule.specs.Rule.{Parts, Names, IsHome, InPhase, Lawful, phase, table_of}
 use Rattle.tl_slots.specs.Word.{IsWordOf}
@@ -53,7 +53,7 @@ answers_law a s id at i v u letter seats answered =
       seen = subst (λ (r : SlotRecord). SeenFit u.list r.index A.asked.ask A.answer (at_port p (take A.asked.known v.got))) same fit;
     }) s seats.fits seats.master seats.port answered.answered answered.home
   where
-    one_letter : (homes : List (maybe.Option SlotRecord)) (i : ℕ) (x y : SlotRecord) → IsHome homes i x → IsHome homes i y → x ≡ y
+    one_letter : (homes : List (maybe.Option Berth)) (i : ℕ) (x y : SlotRecord) → IsHome homes i x → IsHome homes i y → x ≡ y
     one_letter homes i x y a b = cc
 
 -- a slot in a hand is named by its word's phase

@@ -15,7 +15,7 @@ use Rattle.tl_rule.specs.declared.view.About.{About}
 use Rattle.tl_rule.specs.declared.view.Held.TheVariants.{Nothing}
 use Rattle.tl_rule.specs.declared.view.Hands.{Hands}
 use Rattle.tl_rule.specs.declared.view.View.TheVariants.{Master}
-use Rattle.tl_rule.specs.Record.{SlotRecord}
+use Rattle.tl_rule.specs.Record.{Berth}
 use Rattle.tl_rule.specs.Serving.{ask_at, HasDistinctSlots}
 use Rattle.tl_rule.specs.Views.{reset_of, hands, desk, held, served, no_hands, gone_hands}
 use Rattle.tl_rule.specs.Rule.{Parts, Names, InPhase, HasShape, Lawful, Fits, phase, views_of, table_of}
@@ -45,7 +45,7 @@ module _ (a : About) (c d : Parts) (L : Lawful a c) (A : Alike c d) where
   phase_same j = ap (λ (l : List Phase). get_or l j Free) A.phases
 
   home_same : (j : ℕ) → get_or d.homes j none ≡ get_or c.homes j none
-  home_same j = ap (λ (l : List (maybe.Option SlotRecord)). get_or l j none) A.homes
+  home_same j = ap (λ (l : List (maybe.Option Berth)). get_or l j none) A.homes
 
   served_same : (p j : ℕ) → served d.ports p j ≡ served c.ports p j
   served_same p j = ap (λ (l : List (ℕ × Request)). ask_at l j) (A.serving_same p)
@@ -77,7 +77,7 @@ module _ (a : About) (c d : Parts) (L : Lawful a c) (A : Alike c d) where
 
 -- ---- a master leaves
 
-module _ (a : About) (c : Parts) (L : Lawful a c) (id : ℕ) (v : Hands) (K : Known a c L id v) (carried : List (ℕ × SlotRecord))
+module _ (a : About) (c : Parts) (L : Lawful a c) (id : ℕ) (v : Hands) (K : Known a c L id v) (carried : List (ℕ × Berth))
     (staying : v.left ≡ false) (empty : (j : ℕ) → get_or v.hand j Nothing ≡ Nothing) where
   abbrev w : Hands
   w = gone_hands (hands c.masters v.number)
@@ -139,7 +139,7 @@ module _ (a : About) (c : Parts) (L : Lawful a c) (id : ℕ) (v : Hands) (K : Kn
         leaves = refl;
       }
 
-pub leaves : (a : About) (slots id : ℕ) (v : Hands) (carried : List (ℕ × SlotRecord)) (i : ℕ) → v.left ≡ false → ((j : ℕ) → get_or v.hand j Nothing ≡ Nothing) → i ≡ slots + v.number
+pub leaves : (a : About) (slots id : ℕ) (v : Hands) (carried : List (ℕ × Berth)) (i : ℕ) → v.left ≡ false → ((j : ℕ) → get_or v.hand j Nothing ≡ Nothing) → i ≡ slots + v.number
     → Allows (Fits a) slots id (Master v, carried) i (λ _. 1) (λ _. Leaves (step slots i 1 0 none) (Master v, carried) 1)
 leaves a slots id v carried i staying empty is =
     stores a slots id (Master v, carried) i 1 (Leaves (step slots i 1 0 none) (Master v, carried) 1) (λ c L wide at. let K = known a c L id v at in let t = L.shape.master_views v.number K.near in

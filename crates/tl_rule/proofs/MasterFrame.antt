@@ -12,13 +12,13 @@ use Rattle.tl_rule.specs.declared.view.About.{About}
 use Rattle.tl_rule.specs.declared.view.Held.{Held}
 use Rattle.tl_rule.specs.declared.view.Held.TheVariants.{Nothing, Sent}
 use Rattle.tl_rule.specs.declared.view.Hands.{Hands}
-use Rattle.tl_rule.specs.Record.{SlotRecord}
+use Rattle.tl_rule.specs.Record.{Berth}
 use Rattle.tl_rule.specs.Views.{Owns, hands, held, served, no_hands, with_hand}
 use Rattle.tl_rule.specs.Rule.{Parts, Names, InPhase, Places, HasShape, Lawful, phase}
 use Rattle.tl_rule.proofs.Lists.{set_elim}
 use Rattle.tl_rule.proofs.Frames.{Same, stays, quiet}
 
-abbrev pub master_moves : Parts → ℕ → Phase → maybe.Option SlotRecord → ℕ → Held → List Entry → Parts
+abbrev pub master_moves : Parts → ℕ → Phase → maybe.Option Berth → ℕ → Held → List Entry → Parts
 master_moves c i f h m x got = record { phases = set c.phases i f; left = c.left; homes = set c.homes i h; masters = set c.masters m (with_hand (hands c.masters m) i x got); ports = c.ports }
 
 module _ (ms : List Hands) (m i : ℕ) (x : Held) (got : List Entry) (near : m < length ms) (inside : i < length (hands ms m).hand) where
@@ -45,7 +45,7 @@ module _ (ms : List Hands) (m i : ℕ) (x : Held) (got : List Entry) (near : m <
   got_here = ap (λ (v : Hands). v.got) (get_or-set_same ms m (with_hand (hands ms m) i x got) no_hands near)
 
 -- what a master's step has to show: the slot's new phase, and what its hand has of it
-pub record MasterStep (a : About) (c : Parts) (i : ℕ) (f : Phase) (h : maybe.Option SlotRecord) (m : ℕ) (x : Held) (got : List Entry) : Type 0 where
+pub record MasterStep (a : About) (c : Parts) (i : ℕ) (f : Phase) (h : maybe.Option Berth) (m : ℕ) (x : Held) (got : List Entry) : Type 0 where
   pub near : m < length c.masters
   pub inside : i < a.slots
   pub staying : (hands c.masters m).left ≡ false
@@ -58,7 +58,7 @@ pub record MasterStep (a : About) (c : Parts) (i : ℕ) (f : Phase) (h : maybe.O
   pub gots : (k : ℕ) → k < length (hands c.masters m).got → slice_get got k ≡ slice_get (hands c.masters m).got k
   pub here : InPhase a (master_moves c i f h m x got) i f
 
-module _ (a : About) (c : Parts) (i : ℕ) (f : Phase) (h : maybe.Option SlotRecord) (m : ℕ) (x : Held) (got : List Entry) (L : Lawful a c) (S : MasterStep a c i f h m x got) where
+module _ (a : About) (c : Parts) (i : ℕ) (f : Phase) (h : maybe.Option Berth) (m : ℕ) (x : Held) (got : List Entry) (L : Lawful a c) (S : MasterStep a c i f h m x got) where
   abbrev d : Parts
   d = master_moves c i f h m x got
 

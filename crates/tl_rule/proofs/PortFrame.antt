@@ -12,14 +12,14 @@ use Rattle.tl_slots.specs.declared.phase.Phase.TheVariants.{Free, Serving, Answe
 use Rattle.tl_rule.specs.declared.view.About.{About}
 use Rattle.tl_rule.specs.declared.view.Held.TheVariants.{Nothing}
 use Rattle.tl_rule.specs.declared.view.Desk.{Desk}
-use Rattle.tl_rule.specs.Record.{SlotRecord}
+use Rattle.tl_rule.specs.Record.{Berth}
 use Rattle.tl_rule.specs.Serving.{ask_at, HasDistinctSlots}
 use Rattle.tl_rule.specs.Views.{reset_of, desk, held, served, no_desk, with_serving}
 use Rattle.tl_rule.specs.Rule.{Parts, Names, InPhase, Places, HasShape, Lawful, phase}
 use Rattle.tl_rule.proofs.Lists.{set_elim}
 use Rattle.tl_rule.proofs.Frames.{Same, stays, quiet}
 
-abbrev pub port_moves : Parts → ℕ → Phase → maybe.Option SlotRecord → ℕ → List (ℕ × Request) → List (Request × Response) → Parts
+abbrev pub port_moves : Parts → ℕ → Phase → maybe.Option Berth → ℕ → List (ℕ × Request) → List (Request × Response) → Parts
 port_moves c i f h p now list = record { phases = set c.phases i f; left = c.left; homes = set c.homes i h; masters = c.masters; ports = set c.ports p (with_serving (desk c.ports p) now list) }
 
 module _ (ps : List Desk) (p : ℕ) (now : List (ℕ × Request)) (list : List (Request × Response)) (near : p < length ps) where
@@ -39,7 +39,7 @@ module _ (ps : List Desk) (p : ℕ) (now : List (ℕ × Request)) (list : List (
   list_here = ap (λ (u : Desk). u.list) desk_here
 
 -- what a port's step has to show: it serves other slots as before, and the slot's new phase
-pub record PortStep (a : About) (c : Parts) (i : ℕ) (f : Phase) (h : maybe.Option SlotRecord) (p : ℕ) (now : List (ℕ × Request)) (list : List (Request × Response)) : Type 0 where
+pub record PortStep (a : About) (c : Parts) (i : ℕ) (f : Phase) (h : maybe.Option Berth) (p : ℕ) (now : List (ℕ × Request)) (list : List (Request × Response)) : Type 0 where
   pub near : p < length c.ports
   pub inside : i < a.slots
   pub same_master : (n : ℕ) → Names (phase c i) n → Names f n
@@ -51,7 +51,7 @@ pub record PortStep (a : About) (c : Parts) (i : ℕ) (f : Phase) (h : maybe.Opt
   pub lawful : IsLawfulHistory (reset_of a p) list
   pub here : InPhase a (port_moves c i f h p now list) i f
 
-module _ (a : About) (c : Parts) (i : ℕ) (f : Phase) (h : maybe.Option SlotRecord) (p : ℕ) (now : List (ℕ × Request)) (list : List (Request × Response)) (L : Lawful a c) (S : PortStep a c i f h p now list) where
+module _ (a : About) (c : Parts) (i : ℕ) (f : Phase) (h : maybe.Option Berth) (p : ℕ) (now : List (ℕ × Request)) (list : List (Request × Response)) (L : Lawful a c) (S : PortStep a c i f h p now list) where
   abbrev e : Parts
   e = port_moves c i f h p now list
 

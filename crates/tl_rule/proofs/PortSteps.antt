@@ -16,7 +16,7 @@ use Rattle.tl_rule.specs.declared.view.About.{About}
 use Rattle.tl_rule.specs.declared.view.Held.TheVariants.{Sent}
 use Rattle.tl_rule.specs.declared.view.Desk.{Desk}
 use Rattle.tl_rule.specs.declared.view.View.TheVariants.{Port}
-use Rattle.tl_rule.specs.Record.{SlotRecord}
+use Rattle.tl_rule.specs.Record.{SlotRecord, Berth}
 use Rattle.tl_rule.specs.Serving.{ask_at, HasDistinctSlots}
 use Rattle.tl_rule.specs.Views.{Owns, reset_of, desk, held, served, no_desk, with_serving}
 use Rattle.tl_rule.specs.Rule.{Parts, Names, Asked, InPhase, Lawful, Fits, phase, table_of}
@@ -55,7 +55,7 @@ desk_law a c L p lt = let v = L.shape.port_views p lt in
       served = λ i ask is. let t = asked_there a c L p i ask is in (t.0, subst (λ (z : About). Owns z t.0 ask.source) (sym v.1) (L.block t.0 i p t.1 ask t.3));
     }
 
-module _ (a : About) (c : Parts) (L : Lawful a c) (id i : ℕ) (u : Desk) (K : KnownPort a c L id u) (carried : List (ℕ × SlotRecord)) where
+module _ (a : About) (c : Parts) (L : Lawful a c) (id i : ℕ) (u : Desk) (K : KnownPort a c L id u) (carried : List (ℕ × Berth)) where
   in_phases : i < a.slots → i < length c.phases
   in_phases lt = let e = L.shape.phases in omega arith
 
@@ -63,7 +63,7 @@ module _ (a : About) (c : Parts) (L : Lawful a c) (id i : ℕ) (u : Desk) (K : K
   in_homes lt = let e = L.shape.homes in omega arith
 
   -- the law of the view, once the table is changed
-  pub law_after : (f : Phase) (h : maybe.Option SlotRecord) (now : List (ℕ × Request)) (list : List (Request × Response)) → Lawful a (port_moves c i f h u.number now list) → IsLawfulDesk (with_serving u now list)
+  pub law_after : (f : Phase) (h : maybe.Option Berth) (now : List (ℕ × Request)) (list : List (Request × Response)) → Lawful a (port_moves c i f h u.number now list) → IsLawfulDesk (with_serving u now list)
   law_after f h now list M = let d = port_moves c i f h u.number now list in
       let is : desk d.ports u.number ≡ with_serving u now list = get_or-set_same c.ports u.number (with_serving (desk c.ports u.number) now list) no_desk K.near ∙ ap (λ (w : Desk). with_serving w now list) K.is in
       subst IsLawfulDesk is (desk_law a d M u.number (let z = K.near in let y = length-set c.ports u.number (with_serving (desk c.ports u.number) now list) in omega arith))
@@ -75,7 +75,7 @@ module _ (a : About) (c : Parts) (L : Lawful a c) (id i : ℕ) (u : Desk) (K : K
   unserved o ph = ⊎_elim (λ e. e) (λ (t : (ask : Request) × (ask_at u.serving i ≡ Some ask)). let s = L.service u.number i t.0 (ap (λ (w : Desk). ask_at w.serving i) K.is ∙ t.1) in let z : Posted o u.number ≡ Serving s.0 u.number = sym ph ∙ s.1 in absurd (cc)) (none_or (ask_at u.serving i))
 
   pub accept_event : (letter : SlotRecord) (o : ℕ) (lt : i < a.slots) (ph : phase c i ≡ Posted o u.number) (s : Asked c.masters o i u.number)
-      → IsOneEvent a (Accept i o u.number) (table_of a c) (stepped (table_of a c) i (word (Serving o u.number)) id carried (Port (with_serving u (u.serving ++ (i, s.ask) ∷ []) u.list)) (takes i letter))
+      → IsOneEvent a (Accept i o u.number) (table_of a c) (stepped (table_of a c) i (word (Serving o u.number)) id carried (Port (with_serving u (u.serving ++ (i, s.ask) ∷ []) u.list)) (takes i (Some letter)))
       × IsLawfulDesk (with_serving u (u.serving ++ (i, s.ask) ∷ []) u.list)
   accept_event letter o lt ph s = let p = u.number in let now = u.serving ++ (i, s.ask) ∷ [] in let none_there = unserved o ph in
       let near : o < length c.masters = some_owner o s in
@@ -92,7 +92,7 @@ module _ (a : About) (c : Parts) (L : Lawful a c) (id i : ℕ) (u : Desk) (K : K
         here = record { asked = s; serves = served_here c.ports p now u.list K.near i ∙ push_here u.serving i s.ask none_there };
       } in
       let M = port_moved a c i (Serving o p) none p now u.list L S (quiet_port a c i (Serving o p) none p now u.list L S (ap (λ (w : Desk). w.list) (sym K.is)) (λ n r e. absurd (let z : Posted o p ≡ Answered n r = sym ph ∙ e in cc)) (λ n r e. absurd (cc)) L.places) in (
-        port_step a c i id u (Serving o p) none now u.list carried (takes i letter) (Accept i o p) L K (in_phases lt) refl M
+        port_step a c i id u (Serving o p) none now u.list carried (takes i (Some letter)) (Accept i o p) L K (in_phases lt) refl M
             (move_is_allowed (state_of a c) (Accept i o p) _ refl (found a c L i (Posted o p) lt ph) (there a c L o near) (low_port a c L p K.near).0 tt) refl,
         law_after (Serving o p) none now u.list M,
       )
@@ -100,7 +100,7 @@ module _ (a : About) (c : Parts) (L : Lawful a c) (id i : ℕ) (u : Desk) (K : K
       some_owner : (o : ℕ) → Asked c.masters o i u.number → o < length c.masters
       some_owner o s = let t = s.sent in some_master c.masters o i (λ e. absurd (cc))
 
-pub accepts : (a : About) (slots id : ℕ) (u : Desk) (carried : List (ℕ × SlotRecord)) (i old new o : ℕ) (said : maybe.Option SlotRecord) → i < slots → o ≤ MAX_AGENT → old ≡ word (Posted o u.number) → new ≡ word (Serving o u.number)
+pub accepts : (a : About) (slots id : ℕ) (u : Desk) (carried : List (ℕ × Berth)) (i old new o : ℕ) (said : maybe.Option Berth) → i < slots → o ≤ MAX_AGENT → old ≡ word (Posted o u.number) → new ≡ word (Serving o u.number)
     → Allows (Fits a) slots id (Port u, carried) i (λ n. either (eqb n old) new n) (Tried Accepts (step slots i old new said) (Port u, carried))
 accepts a slots id u carried i old new o said inside small old_is is = let p = u.number in
     tries a slots id (Port u, carried) i old new said Accepts (λ c L wide at hit. let K = known_port a c L id u at in let lt : i < a.slots = omega arith in
@@ -115,9 +115,9 @@ accepts a slots id u carried i old new o said inside small old_is is = let p = u
     let ne : j ≢ i = (λ e. let z = subst (λ (k : ℕ). ask_at u.serving k ≡ Some other) e is_there in absurd (cc)) in
     ne (sym (E.1.sources i j ask other (push_here u.serving i ask none_there) (push_else u.serving i j ask ne ∙ is_there) same)) in (
       Port (with_serving u now u.list),
-      takes i letter,
-      of_get c.homes i (some letter) none (in_homes a c L id i u K carried lt) h.home.at,
-      subst (λ (n : ℕ). Fits a (stepped (table_of a c) i n id carried (Port (with_serving u now u.list)) (takes i letter))) (sym is) (fits_after a (Accept i o p) _ _ E.0),
+      takes i (Some letter),
+      of_get c.homes i (some (Some letter)) none (in_homes a c L id i u K carried lt) h.home.at,
+      subst (λ (n : ℕ). Fits a (stepped (table_of a c) i n id carried (Port (with_serving u now u.list)) (takes i (Some letter)))) (sym is) (fits_after a (Accept i o p) _ _ E.0),
       record {
         letter = letter;
         ask = ask;

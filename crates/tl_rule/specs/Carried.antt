@@ -6,12 +6,12 @@ use Rattle.atomic_table.specs.Table.{rest}
 use Rattle.tl_types.specs.Request.{Request}
 use Rattle.tl_rule.specs.declared.view.Held.{Held}
 use Rattle.tl_rule.specs.declared.view.Held.TheVariants.{Nothing, Filled, Sent, Taken}
-use Rattle.tl_rule.specs.Record.{SlotRecord}
+use Rattle.tl_rule.specs.Record.{Berth}
 use Rattle.tl_rule.specs.Serving.{ask_at}
 use Rattle.tl_rule.specs.Moves.{Seat}
 
 -- the numbers of the slots that were taken out
-abbrev pub firsts : List (ℕ × SlotRecord) → List ℕ
+abbrev pub firsts : List (ℕ × Berth) → List ℕ
 firsts [] = []
 firsts (x ∷ xs) = x.0 ∷ firsts xs
 
@@ -27,7 +27,7 @@ place (x ∷ xs) i = cond (eqb x i) 0 (suc (place xs i))
 
 -- the slot is the one that is given back next
 abbrev pub IsTop : Seat → ℕ → Type 0
-IsTop m i = (x : SlotRecord) × (m.1 ≡ (i, x) ∷ rest m.1)
+IsTop m i = (x : Berth) × (m.1 ≡ (i, x) ∷ rest m.1)
 
 -- whether the record of the slot is out with the master
 abbrev pub is_carried : Held → Bool

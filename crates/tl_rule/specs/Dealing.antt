@@ -1,12 +1,12 @@
 -- The start of an arena, and the dealing of its seats: the first seat, the dealer's, gives out those of the masters in
 -- order, and then those of the ports. All of it is this project's own.
-use Rattle.std.specs.Prelude.{◌≡◌, ℕ, ◌+◌, ◌<◌, List, length, replicate}
+use Rattle.std.specs.Prelude.{◌≡◌, ℕ, ◌+◌, ◌<◌, List, length, replicate, All, IsSome}
 use Rattle.atomic_table.specs.Table.{Splits, opening}
 use Rattle.tl_slots.specs.Machine.{IsInLimits}
 use Rattle.tl_rule.specs.declared.view.About.{About}
 use Rattle.tl_rule.specs.declared.view.View.{View}
 use Rattle.tl_rule.specs.declared.view.View.TheVariants.{Dealer, Master, Port}
-use Rattle.tl_rule.specs.Record.{SlotRecord}
+use Rattle.tl_rule.specs.Record.{Berth}
 use Rattle.tl_rule.specs.Views.{new_hands, new_desk}
 use Rattle.tl_rule.specs.Rule.{Fits}
 
@@ -38,15 +38,16 @@ next_port (Port u) = Port u
 -- ---- the laws
 
 -- the parts of a new table: zero words, a record in each slot, and counts in their limits
-pub record AreOpeningParts (a : About) (words : List ℕ) (letters : List SlotRecord) : Type 0 where
+pub record AreOpeningParts (a : About) (words : List ℕ) (letters : List Berth) : Type 0 where
   pub zeros : words ≡ replicate (a.slots + a.masters) 0
   pub many : length letters ≡ a.slots
+  pub there : All (λ (berth : Berth). IsSome berth) letters
   pub limits : IsInLimits a.slots a.masters a.ports
 
 -- a table of these parts fits
 abbrev pub Opens : Type 0
 Opens =
-    (a : About) (letters : List SlotRecord) (words : List ℕ) → AreOpeningParts a words letters
+    (a : About) (letters : List Berth) (words : List ℕ) → AreOpeningParts a words letters
     → Fits a (opening words letters (opening_view a))
 
 -- the dealer deals the seat of the next master

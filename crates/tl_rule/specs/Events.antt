@@ -7,7 +7,7 @@ use Rattle.tl_slots.specs.declared.event.Event.{Event}
 use Rattle.tl_slots.specs.Machine as machine
 use Rattle.tl_rule.specs.declared.view.About.{About}
 use Rattle.tl_rule.specs.declared.view.View.{View}
-use Rattle.tl_rule.specs.Record.{SlotRecord}
+use Rattle.tl_rule.specs.Record.{Berth}
 use Rattle.tl_rule.specs.Rule.{Parts, Lawful, table_of}
 
 -- the state of the core that the words show: the phase of each slot, and who has left
@@ -16,7 +16,7 @@ state_of a c = record { phases = c.phases; left = c.left; ports = a.ports }
 
 -- a table that fits becomes one that fits, by one event: the core accepts it in the state that the words show, and the
 -- words then show the state that it leaves
-pub record IsOneEvent (a : About) (event : Event) (s t : State SlotRecord View) : Type 0 where
+pub record IsOneEvent (a : About) (event : Event) (s t : State Berth View) : Type 0 where
   pub before : Parts
   pub after : Parts
   pub was : s ≡ table_of a before
@@ -31,8 +31,8 @@ pub record IsOneEvent (a : About) (event : Event) (s t : State SlotRecord View) 
 -- words before show, the core accepts the event: so the word found was that of the phase which the event finds. The
 -- words after show the state that the event leaves
 pub record IsEventOf (a : About) (event : Event) (v w : View) : Type 0 where
-  pub before : State SlotRecord View
-  pub after : State SlotRecord View
+  pub before : State Berth View
+  pub after : State Berth View
   pub seat : ℕ
   pub had : get_elem? before.views seat ≡ some v
   pub has : after.views ≡ slice_set before.views seat w

@@ -20,7 +20,7 @@ use Rattle.tl_rule.specs.declared.view.Hands.{Hands}
 use Rattle.tl_rule.specs.declared.view.Desk.{Desk}
 use Rattle.tl_rule.specs.declared.view.View.{View}
 use Rattle.tl_rule.specs.declared.view.View.TheVariants.{Master, Port}
-use Rattle.tl_rule.specs.Record.{SlotRecord, Spells, SpellsAnswer}
+use Rattle.tl_rule.specs.Record.{SlotRecord, Spells, SpellsAnswer, Berth}
 use Rattle.tl_rule.specs.Serving.{ask_at, drop_slot}
 use Rattle.tl_rule.specs.Views.{Owns, reset_of, in_hand, with_hand, with_serving, gone_hands}
 use Rattle.tl_rule.specs.Rule.{Fits, IsHome, Names}
@@ -29,11 +29,11 @@ use Rattle.tl_rule.specs.Seen.{IsOfMasters, SeenFit, JustOwn, at_port, sent_at}
 use Rattle.tl_rule.specs.Moves.{IsLawfulDesk, entry}
 
 abbrev pub Table : Type 0
-Table = State SlotRecord View
+Table = State Berth View
 
 -- the records that a seat has taken out, each with its slot
 abbrev pub Carried : Type 0
-Carried = List (ℕ × SlotRecord)
+Carried = List (ℕ × Berth)
 
 -- a seat has this view
 abbrev pub HasView : Table → ℕ → View → Type 0
@@ -58,7 +58,7 @@ abbrev pub ClaimIsOneEvent : Type 0
 ClaimIsOneEvent =
     (a : About) (s : Table) (id i : ℕ) (v : Hands) (carried : Carried) (letter : SlotRecord) → CanClaim a s id i v
     → IsOneEvent a (Claim i v.number) s
-    (stepped s i (word (Filling v.number)) id carried (Master (with_hand v i Filled v.got)) (takes i letter))
+    (stepped s i (word (Filling v.number)) id carried (Master (with_hand v i Filled v.got)) (takes i (Some letter)))
 
 -- a slot that was claimed gets a record that spells a request of the master's own source, of which none is out
 pub record CanPost (a : About) (s : Table) (id i : ℕ) (v : Hands) (letter : SlotRecord) (ask : Request) (p : ℕ)
@@ -75,7 +75,7 @@ PostIsOneEvent =
     (a : About) (s : Table) (id i : ℕ) (v : Hands) (carried : Carried) (letter : SlotRecord) (ask : Request) (p : ℕ)
     → CanPost a s id i v letter ask p
     → IsOneEvent a (Post i v.number p) s
-    (stepped s i (word (Posted v.number p)) id ((i, letter) ∷ carried)
+    (stepped s i (word (Posted v.number p)) id ((i, Some letter) ∷ carried)
     (Master (with_hand v i (Sent ask p (length v.got)) v.got)) gives)
 
 -- whoever looks changes nothing
@@ -101,7 +101,7 @@ AcceptIsOneEvent =
     → CanAccept a s id i u letter ask owner
     → IsOneEvent a (Accept i owner u.number) s
     (stepped s i (word (Serving owner u.number)) id carried
-    (Port (with_serving u (u.serving ++ (i, ask) ∷ []) u.list)) (takes i letter))
+    (Port (with_serving u (u.serving ++ (i, ask) ∷ []) u.list)) (takes i (Some letter)))
 
 -- a slot that is served gets a record that spells its request and, at the end of the port's list, the reply of the
 -- port's memory
@@ -120,7 +120,7 @@ AnswerIsOneEvent =
     (a : About) (s : Table) (id i : ℕ) (u : Desk) (carried : Carried) (letter : SlotRecord) (ask : Request)
     (reply : Response) (owner : ℕ) → CanAnswer a s id i u letter ask reply owner
     → IsOneEvent a (Answer i owner u.number) s
-    (stepped s i (word (Answered owner u.number)) id ((i, letter) ∷ carried)
+    (stepped s i (word (Answered owner u.number)) id ((i, Some letter) ∷ carried)
     (Port (with_serving u (drop_slot i u.serving) (u.list ++ (ask, reply) ∷ []))) gives)
 
 -- a master finds the slot of a request that it has sent Answered
@@ -139,7 +139,7 @@ CollectIsOneEvent =
     (reply : Response) (p known : ℕ) → CanCollect a s id i v letter ask reply p known
     → IsOneEvent a (Collect i v.number p) s
     (stepped s i (word (Taking v.number p)) id carried
-    (Master (with_hand v i (Taken p) (v.got ++ entry p letter.index ask reply ∷ []))) (takes i letter))
+    (Master (with_hand v i (Taken p) (v.got ++ entry p letter.index ask reply ∷ []))) (takes i (Some letter)))
 
 -- a slot whose reply was collected gets a record, whatever it is, and is free
 abbrev pub ReleaseIsOneEvent : Type 0
@@ -147,7 +147,7 @@ ReleaseIsOneEvent =
     (a : About) (s : Table) (id i : ℕ) (v : Hands) (carried : Carried) (letter : SlotRecord) (p : ℕ)
     → IsSeatOf a s id (Master v) → in_hand v i ≡ Taken p
     → IsOneEvent a (Release i v.number p) s
-    (stepped s i (word Free) id ((i, letter) ∷ carried) (Master (with_hand v i Nothing v.got)) gives)
+    (stepped s i (word Free) id ((i, Some letter) ∷ carried) (Master (with_hand v i Nothing v.got)) gives)
 
 -- a master that is there and has nothing in its hand
 pub record CanLeave (a : About) (s : Table) (id : ℕ) (v : Hands) : Type 0 where

@@ -15,7 +15,7 @@ use Rattle.tl_rule.specs.declared.view.Hands.{Hands}
 use Rattle.tl_rule.specs.declared.view.Desk.{Desk}
 use Rattle.tl_rule.specs.declared.view.View.{View}
 use Rattle.tl_rule.specs.declared.view.View.TheVariants.{Dealer, Master, Port}
-use Rattle.tl_rule.specs.Record.{SlotRecord, Spells, SpellsAnswer}
+use Rattle.tl_rule.specs.Record.{SlotRecord, Spells, SpellsAnswer, Berth}
 use Rattle.tl_rule.specs.Serving.{ask_at, drop_slot, HasDistinctSlots}
 use Rattle.tl_rule.specs.Views.{Owns, reset_of, no_hands, no_desk, in_hand, Above, with_hand, with_serving, gone_hands}
 use Rattle.tl_rule.specs.Events.{IsEventOf}
@@ -25,7 +25,7 @@ use Rattle.tl_rule.specs.Seen.{IsOfMasters, SeenFit, JustOwn, IsPlaceOf, at_port
 
 -- a seat: its view, and the slots that it has taken out, with their records
 abbrev pub Seat : Type 0
-Seat = Me SlotRecord View
+Seat = Me Berth View
 
 abbrev pub is_master : View → Bool
 is_master (Dealer a m p) = false
@@ -59,9 +59,13 @@ service_of m i = ask_at (as_port m.0).serving i
 abbrev pub no_record : SlotRecord
 no_record = record { beats = []; port = 0; index = 0; replies = [] }
 
-abbrev pub top : List (ℕ × SlotRecord) → SlotRecord
+abbrev pub record_in : Berth → SlotRecord
+record_in None = no_record
+record_in (Some r) = r
+
+abbrev pub top : List (ℕ × Berth) → SlotRecord
 top [] = no_record
-top (x ∷ xs) = x.1
+top (x ∷ xs) = record_in x.1
 
 -- no request of this source is out: the chapter on channels has it so
 abbrev pub IsUnsent : Seat → ℕ → Type 0
@@ -78,25 +82,25 @@ abbrev pub port_in : ℕ → ℕ
 port_in word = word / 2048
 
 abbrev pub Play : Type 1
-Play = Step SlotRecord → Seat → ℕ → Seat → Type 0
+Play = Step Berth → Seat → ℕ → Seat → Type 0
 
 abbrev pub Won : Type 1
-Won = Step SlotRecord → Seat → Seat → Type 0
+Won = Step Berth → Seat → Seat → Type 0
 
 -- a compare-exchange, which changes the seat only where it found the word that it looked for
 abbrev pub Tried : Won → Play
 Tried won st m r n = (r ≡ st.first → won st m n) × (r ≢ st.first → n ≡ m)
 
 -- the slot was not in the hand, and is now, with its record
-pub record Claims (st : Step SlotRecord) (m n : Seat) : Type 0 where
+pub record Claims (st : Step Berth) (m n : Seat) : Type 0 where
   pub letter : SlotRecord
-  pub seat : n ≡ (handed m st.word Filled, (st.word, letter) ∷ m.1)
+  pub seat : n ≡ (handed m st.word Filled, (st.word, Some letter) ∷ m.1)
   pub free : in_hand (as_master m.0) st.word ≡ Nothing
   pub inside : st.word < length (as_master m.0).hand
   pub event : IsEventOf (as_master m.0).about (Claim st.word (as_master m.0).number) m.0 n.0
 
 -- what the record spells is sent to the port that the stored word names
-pub record Sends (st : Step SlotRecord) (m : Seat) (r : ℕ) (n : Seat) : Type 0 where
+pub record Sends (st : Step Berth) (m : Seat) (r : ℕ) (n : Seat) : Type 0 where
   pub ask : Request
   pub spells : Spells (top m.1) ask
   pub seat : n ≡ (handed m st.word (Sent ask (port_in r) (length (as_master m.0).got)), rest m.1)
@@ -117,14 +121,14 @@ pub record IsLawfulDesk (u : Desk) : Type 0 where
 
 -- the port serves what the record spells, at a slot and of a source that it did not serve, of the master that the
 -- word names
-pub record Accepts (st : Step SlotRecord) (m n : Seat) : Type 0 where
+pub record Accepts (st : Step Berth) (m n : Seat) : Type 0 where
   pub letter : SlotRecord
   pub ask : Request
   pub spells : Spells letter ask
   pub seat : n
       ≡ (
         Port (with_serving (as_port m.0) ((as_port m.0).serving ++ (st.word, ask) ∷ []) (as_port m.0).list),
-        (st.word, letter) ∷ m.1,
+        (st.word, Some letter) ∷ m.1,
       )
   pub free : service_of m st.word ≡ None
   pub owner : Owns (as_port m.0).about (owner_in st.first) ask.source
@@ -134,7 +138,7 @@ pub record Accepts (st : Step SlotRecord) (m n : Seat) : Type 0 where
 
 -- the request that was served at the slot, of the master that the word names, and the reply that the record spells, are
 -- the last of the list
-pub record Answers (st : Step SlotRecord) (m : Seat) (r : ℕ) (n : Seat) : Type 0 where
+pub record Answers (st : Step Berth) (m : Seat) (r : ℕ) (n : Seat) : Type 0 where
   pub ask : Request
   pub serves : service_of m st.word ≡ Some ask
   pub reply : Response
@@ -155,7 +159,7 @@ entry p index ask reply = record { ask = ask; reply = reply; port = p; index = i
 -- The reply to what was sent is collected. In one lawful history of the port's reset, of requests of masters alone, it
 -- stands after all that had been collected there when it was sent, and of the master's own requests are just those
 -- that it made
-pub record Collects (st : Step SlotRecord) (m n : Seat) : Type 0 where
+pub record Collects (st : Step Berth) (m n : Seat) : Type 0 where
   pub letter : SlotRecord
   pub ask : Request
   pub port : ℕ
@@ -168,7 +172,7 @@ pub record Collects (st : Step SlotRecord) (m n : Seat) : Type 0 where
       ≡ (
         Master (with_hand (as_master m.0) st.word (Taken port)
             ((as_master m.0).got ++ entry port letter.index ask reply ∷ [])),
-        (st.word, letter) ∷ m.1,
+        (st.word, Some letter) ∷ m.1,
       )
   pub fresh : IsPlaceOf (at_port port (as_master m.0).got) letter.index → ⊥
   pub above : Above (as_master m.0).got known port letter.index
@@ -181,7 +185,7 @@ pub record Collects (st : Step SlotRecord) (m n : Seat) : Type 0 where
   pub event : IsEventOf (as_master m.0).about (Collect st.word (as_master m.0).number port) m.0 n.0
 
 -- the hand loses the slot, whose reply was collected
-pub record Releases (st : Step SlotRecord) (m : Seat) (r : ℕ) (n : Seat) : Type 0 where
+pub record Releases (st : Step Berth) (m : Seat) (r : ℕ) (n : Seat) : Type 0 where
   pub port : ℕ
   pub was : in_hand (as_master m.0) st.word ≡ Taken port
   pub seat : n ≡ (handed m st.word Nothing, rest m.1)
@@ -196,7 +200,7 @@ pub record OwnsAll (v : Hands) (p : ℕ) : Type 0 where
   pub own : JustOwn history (Owns v.about v.number) (at_port p v.got) []
 
 -- the master has left
-pub record Leaves (st : Step SlotRecord) (m : Seat) (r : ℕ) (n : Seat) : Type 0 where
+pub record Leaves (st : Step Berth) (m : Seat) (r : ℕ) (n : Seat) : Type 0 where
   pub seat : n ≡ (Master (gone_hands (as_master m.0)), m.1)
   pub owns_all : (p : ℕ) → OwnsAll (as_master m.0) p
   pub event : IsEventOf (as_master m.0).about (Leave (as_master m.0).number) m.0 n.0

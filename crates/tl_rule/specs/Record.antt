@@ -1,6 +1,6 @@
 -- The record of a slot, and what it spells. The record is this project's own; how beats spell a message is the chapter
 -- "Beats and bursts" of the TileLink specification.
-use Rattle.std.specs.Prelude.{ℕ, List}
+use Rattle.std.specs.Prelude.{ℕ, List, Option}
 use Rattle.tl_types.specs.Request.{Request, IsLawfulRequest}
 use Rattle.tl_types.specs.Response.{Response, IsLawfulResponse}
 use Rattle.tl_beats.specs.declared.beat.ABeat.{ABeat}
@@ -14,6 +14,10 @@ pub record SlotRecord : Type 0 where
   pub port : ℕ
   pub index : ℕ
   pub replies : List DBeat
+
+-- what a slot has of its record: the record, or nothing while somebody else holds it
+abbrev pub Berth : Type 0
+Berth = Option SlotRecord
 
 -- the record spells the request, which keeps the rule of requests
 pub record Spells (r : SlotRecord) (ask : Request) : Type 0 where

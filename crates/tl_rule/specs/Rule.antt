@@ -21,7 +21,7 @@ use Rattle.tl_rule.specs.declared.view.Hands.{Hands}
 use Rattle.tl_rule.specs.declared.view.Desk.{Desk}
 use Rattle.tl_rule.specs.declared.view.View.{View}
 use Rattle.tl_rule.specs.declared.view.View.TheVariants.{Dealer, Master, Port}
-use Rattle.tl_rule.specs.Record.{SlotRecord, Spells, SpellsAnswer}
+use Rattle.tl_rule.specs.Record.{SlotRecord, Spells, SpellsAnswer, Berth}
 use Rattle.tl_rule.specs.Serving.{HasDistinctSlots}
 use Rattle.tl_rule.specs.Views.{Owns, reset_of, hands, desk, held, served, Above}
 
@@ -32,7 +32,7 @@ use Rattle.tl_rule.specs.Views.{Owns, reset_of, hands, desk, held, served, Above
 pub record Parts : Type 0 where
   pub phases : List Phase
   pub left : List Bool
-  pub homes : List (maybe.Option SlotRecord)
+  pub homes : List (maybe.Option Berth)
   pub masters : List Hands
   pub ports : List Desk
 
@@ -44,7 +44,7 @@ leave_word left = cond left 1 0
 abbrev pub views_of : About → List Hands → List Desk → List View
 views_of a ms ps = Dealer a (length ms) (length ps) ∷ (map Master ms ++ map Port ps)
 
-abbrev pub table_of : About → Parts → State SlotRecord View
+abbrev pub table_of : About → Parts → State Berth View
 table_of a c = record {
   words = map word c.phases ++ map leave_word c.left;
   homes = c.homes;
@@ -61,8 +61,8 @@ Names f m = owner_of f ≡ Some m
 -- ---- what is so of a slot in each phase
 
 -- the record is at home in the slot
-abbrev pub IsHome : List (maybe.Option SlotRecord) → ℕ → SlotRecord → Type 0
-IsHome homes i r = slice_index_or homes i maybe.none ≡ maybe.some r
+abbrev pub IsHome : List (maybe.Option Berth) → ℕ → SlotRecord → Type 0
+IsHome homes i r = slice_index_or homes i maybe.none ≡ maybe.some (Some r)
 
 -- the master has sent a request from the slot to the port
 pub record Asked (ms : List Hands) (m i p : ℕ) : Type 0 where
@@ -73,7 +73,7 @@ pub record Asked (ms : List Hands) (m i p : ℕ) : Type 0 where
   pub few : known ≤ length (hands ms m).got
 
 -- the record at home in the slot spells the request
-pub record HomeAsk (homes : List (maybe.Option SlotRecord)) (i : ℕ) (ask : Request) : Type 0 where
+pub record HomeAsk (homes : List (maybe.Option Berth)) (i : ℕ) (ask : Request) : Type 0 where
   pub letter : SlotRecord
   pub at : IsHome homes i letter
   pub spells : Spells letter ask
@@ -194,7 +194,7 @@ module _ (a : About) (c : Parts) where
     pub lawful : (p : ℕ) → IsLawfulHistory (reset_of a p) (desk c.ports p).list
 
 -- the table fits: it is the image of lists that are lawful
-pub record Fits (a : About) (s : State SlotRecord View) : Type 0 where
+pub record Fits (a : About) (s : State Berth View) : Type 0 where
   pub parts : Parts
   pub is : s ≡ table_of a parts
   pub lawful : Lawful a parts

@@ -21,10 +21,12 @@ pub(super) struct Client<'a> {
     ghost blocks: { arena.now.about.counts ≡ sources.now },
 }
 
-/// A reply that was collected, with the port that gave it and its place in the port's list.
+/// A reply that was collected, with some of its bytes as they lie (the first, the fourth and the fifth), the port that gave
+/// it and its place in the port's list.
 #[derive(Drop)]
 pub(super) struct Received {
     pub(super) reply: Reply,
+    pub(super) read: [Option<u8>; 3],
     pub(super) port: usize,
     pub(super) index: usize,
 }
@@ -79,7 +81,12 @@ impl<'a> Client<'a> {
         }
         let served = self.arena.collect(&mut self.seat, ticket)?;
         let received = Received {
-            reply: served.reply().copy(),
+            reply: served.reply(),
+            read: [
+                served.reply_byte(0),
+                served.reply_byte(3),
+                served.reply_byte(4),
+            ],
             port: served.port(),
             index: served.index(),
         };

@@ -75,6 +75,7 @@ fn a_ticket_comes_back_until_the_answer(rt: HostRuntime) -> Result<(), Fail> {
     assert_eq!(rt; (received.port, received.index), (1, 0));
     assert_eq!(rt; received.reply.op(), ReplyOp::AccessAckData);
     assert_eq!(rt; received.reply.bytes(), [1].as_slice());
+    assert_eq!(rt; received.read, [Some(1), None, None]);
     let again = master.send(&read(BASE)?, 1).ok_or("no slot")?;
     assert_eq!(rt; again.slot(), 2);
     Ok(())

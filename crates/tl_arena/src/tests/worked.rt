@@ -54,6 +54,7 @@ fn first_turn(
     };
     assert_eq!(rt; (received.port, received.index), (0, 0));
     assert_eq!(rt; received.reply.bytes(), [0; 4].as_slice());
+    assert_eq!(rt; received.read, [Some(0), Some(0), None]);
     Ok(())
 }
 

@@ -1,13 +1,16 @@
-use Rattle.std.proofs.Common.{arith, sym, ap, ◌∙◌, ℕ}
+use Rattle.std.proofs.Common.{arith, sym, ap, ◌∙◌, ℕ, Some, is_some}
 use mathlib.Core.Option.{none}
 use Rattle.std.specs.VecDeque.{deque_capacity}
 use Rattle.tl_slots.specs.declared.phase.Phase.TheVariants.{Filling}
 use Rattle.tl_slots.specs.Word.{word}
 use Rattle.tl_rule.specs.Carried.{is_carried}
+use Rattle.tl_rule.specs.Record.{Berth}
+use Rattle.tl_rule.specs.Moves.{Seat}
 use Rattle.tl_rule.proofs.Seats.{claims_at}
 use Rattle.tl_arena.specs.Views.{ArenaId, MasterView}
 use Rattle.tl_arena.specs.Key.{about_in}
 use Rattle.tl_arena.proofs.Keeping.{master_room}
+use Rattle.tl_arena.proofs.Promised.{taken_first, head_berth}
 use Rattle.tl_arena.proofs.arena.Arena.claim_at.Goals as goal
 
 pub compare_exchange-requires : goal.compare_exchange-requires
@@ -28,3 +31,15 @@ push_front_reserved-requires c =
     let room = master_room c.master.inside.seat.me order.items (deque_capacity order) c.master.inside.number c.master.inside.owned c.master.inside.collected c.master.invariant c.args.slot t.inside (ap is_carried t.free) in
     let ok = order.ok in
     omega arith
+
+pub exchange-berth-requires : goal.exchange-berth-requires
+exchange-berth-requires c =
+    let t = c.compare_exchange.ensures.2.0 c.if-compare_exchange-ne-FREE.false in (
+      c.compare_exchange.ensures.0 ∙ ap (λ (v : MasterView). v.arena.table) c.master.view_is ∙ ap (λ (a : ArenaId). a.table) (c.requires.arena ∙ sym c.self.view_is),
+      (Some t.letter, taken_first _ _ _ _ (ap (λ (y : Seat). y.1) t.seat)),
+    )
+
+pub into_record-requires : goal.into_record-requires
+into_record-requires c =
+    let t = c.compare_exchange.ensures.2.0 c.if-compare_exchange-ne-FREE.false in
+    ap (λ (b : Berth). is_some b) (ap head_berth (sym c.exchange-berth.ensures.2 ∙ ap (λ (y : Seat). y.1) t.seat))

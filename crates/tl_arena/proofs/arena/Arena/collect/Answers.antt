@@ -1,4 +1,4 @@
-use Rattle.std.proofs.Common.{arith, sym, ap, subst, ◌∙◌, ◌≡◌, ◌∷◌, ℕ, refl}
+use Rattle.std.proofs.Common.{is_some, Some, arith, sym, ap, subst, ◌∙◌, ◌≡◌, ◌∷◌, ℕ, refl}
 use mathlib.Core.Option.{none}
 use Rattle.std.specs.VecDeque.{deque_capacity}
 use Rattle.atomic_table.specs.Table.{rest}
@@ -15,7 +15,10 @@ use Rattle.tl_arena.specs.Key.{about_in}
 use Rattle.tl_arena.specs.Kept.{master_view}
 use Rattle.tl_arena.specs.Promises.{IsCollected}
 use Rattle.tl_arena.proofs.Keeping.{master_arena, held_inside, master_room, master_recounted, collect_kept}
-use Rattle.tl_arena.proofs.Promised.{sent_in, collected}
+use Rattle.tl_beats.specs.Told.{told_reply}
+use Rattle.tl_rule.specs.Record.{SlotRecord, Berth}
+use Rattle.tl_types.specs.Request.{Request}
+use Rattle.tl_arena.proofs.Promised.{sent_in, collected, taken_record, taken_first, told_spelled, head_berth}
 use Rattle.tl_arena.proofs.arena.Arena.collect.Goals as goal
 
 pub compare_exchange-requires : goal.compare_exchange-requires
@@ -53,10 +56,10 @@ invariant_of-master-2 c =
     let order = c.master.inside.order in
     let me = c.master.inside.seat.me in
     let lt = in_hand_of (as_master me.0).hand i (λ z. let w = t.was in absurd (cc)) in
-    let now = c.exchange-record.ensures.3 ∙ ap (λ (y : Seat). (y.0, (i, c.blank.result) ∷ rest y.1)) t.seat in
-    master_recounted c.exchange-record.new.seat.me _ _ _ _ c.master.inside.number c.master.inside.owned _ c.push_front_reserved.ensures.items c.push_front_reserved.ensures.capacity
+    let now = c.exchange-berth.ensures.3 ∙ ap (λ (y : Seat). (y.0, (i, c.empty.result) ∷ rest y.1)) t.seat in
+    master_recounted c.exchange-berth.new.seat.me _ _ _ _ c.master.inside.number c.master.inside.owned _ c.push_front_reserved.ensures.items c.push_front_reserved.ensures.capacity
     (collect_kept me order.items (deque_capacity order) c.master.inside.number c.master.inside.owned c.master.inside.collected c.master.invariant
-    c.exchange-record.new.seat.me i c.blank.result t.ask t.port t.known (entry t.port t.letter.index t.ask t.reply) now t.was lt)
+    c.exchange-berth.new.seat.me i c.empty.result t.ask t.port t.known (entry t.port t.letter.index t.ask t.reply) now t.was lt)
 
 pub returns-clause-ok : goal.returns-clause-ok
 returns-clause-ok c =
@@ -64,13 +67,41 @@ returns-clause-ok c =
     let k = c.ticket.inside in
     let me = c.master.inside.seat.me in
     let z = c.master.inside.seat.table_id in
-    let x = c.exchange-record.ensures in
+    let x = c.exchange-berth.ensures in
     let ticket : TicketView = record { slot = k.slot; ask = k.ask; port = k.port; known = k.known } in
     let sent = sent_in (master_view z me.0) c.args.master.now ticket c.args.ticket c.master.view_is c.ticket.view_is c.requires.ticket in
-    let letter : c.exchange-record.result ≡ t.letter = ap top (sym x.2 ∙ ap (λ (y : Seat). y.1) t.seat) in
-    let told = collected _ me c.compare_exchange.new.seat.me t z c.exchange-record.new.seat.table_id c.exchange-record.new.seat.me.0 ticket c.index.result c.reply-reply.result c.exchange-record.result
-    (x.0 ∙ c.compare_exchange.ensures.0) (ap (λ (y : Seat). y.0) x.3) refl sent letter c.index.ensures
-    (subst (λ (n : ℕ). SpellsAnswer c.exchange-record.result n c.reply-reply.result) c.address.ensures c.reply-reply.ensures) in
-    let served : ServedView = record { slot = k.slot; ask = k.ask; port = k.port; index = c.index.result; reply = c.reply-reply.result } in
-    let seat = master_view c.exchange-record.new.seat.table_id c.exchange-record.new.seat.me.0 in
+    let held = c.into_record.result.value in
+    let letter : held ≡ t.letter = taken_record _ _ k.slot _ _ _ x.2 (ap (λ (y : Seat). y.1) t.seat) c.into_record.ensures in
+    let asks : t.ask ≡ k.ask = (let y = t.was in cc) in
+    let spells : SpellsAnswer held k.ask.address (told_reply held.replies k.ask.address) = subst (λ (l : SlotRecord). SpellsAnswer l k.ask.address (told_reply l.replies k.ask.address)) (sym letter) (told_spelled t.letter k.ask.address t.reply (subst (λ (q : Request). SpellsAnswer t.letter q.address t.reply) asks t.answer)) in
+    let told = collected _ me c.compare_exchange.new.seat.me t z c.exchange-berth.new.seat.table_id c.exchange-berth.new.seat.me.0 ticket held.index (told_reply held.replies k.ask.address) held
+    (x.0 ∙ c.compare_exchange.ensures.0) (ap (λ (y : Seat). y.0) x.3) refl sent letter refl spells in
+    let served : ServedView = record { slot = k.slot; ask = k.ask; port = k.port; index = held.index; reply = told_reply held.replies k.ask.address } in
+    let seat = master_view c.exchange-berth.new.seat.table_id c.exchange-berth.new.seat.me.0 in
     subst (λ (v : MasterView). IsCollected v c.args.ticket served seat) c.master.view_is (subst (λ (u : TicketView). IsCollected (master_view z me.0) u served seat) c.ticket.view_is told)
+
+pub into_record-requires : goal.into_record-requires
+into_record-requires c =
+    let t = c.compare_exchange.ensures.2.0 c.if-compare_exchange-from.false in
+    ap (λ (b : Berth). is_some b) (ap head_berth (sym c.exchange-berth.ensures.2 ∙ ap (λ (y : Seat). y.1) t.seat))
+
+pub exchange-berth-requires : goal.exchange-berth-requires
+exchange-berth-requires c =
+    let t = c.compare_exchange.ensures.2.0 c.if-compare_exchange-from.false in
+    let me = c.master.inside.seat.me in
+    let arena = master_arena c.master.inside.seat.table_id me.0 c.args.master.now c.args.self.now c.self.inside.table.shared.table_id (about_in c.self.inside.table.shared.key) c.master.view_is c.requires.arena c.self.view_is in (
+      c.compare_exchange.ensures.0 ∙ arena.0,
+      (Some t.letter, taken_first _ _ _ _ (ap (λ (y : Seat). y.1) t.seat)),
+    )
+
+pub invariant_of-result : goal.invariant_of-result
+invariant_of-result c =
+    let t = c.compare_exchange.ensures.2.0 c.if-compare_exchange-from.false in
+    let k = c.ticket.inside in
+    let me = c.master.inside.seat.me in
+    let ticket : TicketView = record { slot = k.slot; ask = k.ask; port = k.port; known = k.known } in
+    let sent = sent_in (master_view c.master.inside.seat.table_id me.0) c.args.master.now ticket c.args.ticket c.master.view_is c.ticket.view_is c.requires.ticket in
+    let held = c.into_record.result.value in
+    let letter : held ≡ t.letter = taken_record _ _ k.slot _ _ _ c.exchange-berth.ensures.2 (ap (λ (y : Seat). y.1) t.seat) c.into_record.ensures in
+    let asks : t.ask ≡ k.ask = (let y = t.was in cc) in
+    subst (λ (l : SlotRecord). SpellsAnswer l k.ask.address (told_reply l.replies k.ask.address)) (sym letter) (told_spelled t.letter k.ask.address t.reply (subst (λ (q : Request). SpellsAnswer t.letter q.address t.reply) asks t.answer))
