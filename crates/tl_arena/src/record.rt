@@ -11,7 +11,8 @@ use arrayvec::ArrayVec;
 use std::alloc::{AllocError, Global};
 use std::marker::Model;
 use tl_beats::{
-    ABeat, DBeat, MAX_BEATS, assemble_ask, assemble_reply, pack_ask, pack_reply, reply_byte,
+    ABeat, DBeat, MAX_BEATS, assemble_ask, assemble_reply, pack_ask_into, pack_reply_into,
+    reply_byte,
 };
 use tl_types::{Ask, Reply};
 
@@ -48,7 +49,7 @@ impl Record {
         ensures { Spells self.new ask.now }
     {
         let _lawful = ask.bytes();
-        self.beats = pack_ask(ask);
+        pack_ask_into(ask, &mut self.beats);
         self.port = port;
     }
 
@@ -60,7 +61,7 @@ impl Record {
     {
         let _lawful = reply.bytes();
         self.index = index;
-        self.replies = pack_reply(reply, address);
+        pack_reply_into(reply, address, &mut self.replies);
     }
 
     /// The request.

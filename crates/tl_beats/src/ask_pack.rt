@@ -52,11 +52,20 @@ pub fn pack_ask(ask: &Ask) -> ArrayVec<ABeat, MAX_BEATS>
     ensures spells { SpellsAsk ask.now result.items }
     ensures clean { All (λ beat. IsClean ask.now beat) result.items }
 {
+    let mut beats = ArrayVec::new();
+    pack_ask_into(ask, &mut beats);
+    beats
+}
+
+/// The same beats, in place of those that were there.
+pub fn pack_ask_into(ask: &Ask, beats: &mut ArrayVec<ABeat, MAX_BEATS>)
+    ensures spells { SpellsAsk ask.now beats.new.items }
+    ensures clean { All (λ beat. IsClean ask.now beat) beats.new.items }
+{
     let blank = blank_beat(ask);
     let first = first_lane(ask.address(), ask.size());
-    let mut beats = ArrayVec::new();
+    beats.clear();
     for b in 0..beat_count(ask.op().carries_bytes(), ask.size()) {
         beats.push(ask_beat(ask, &blank, first, b));
     }
-    beats
 }

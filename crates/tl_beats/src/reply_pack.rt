@@ -52,11 +52,20 @@ pub fn pack_reply(reply: &Reply, address: u64) -> ArrayVec<DBeat, MAX_BEATS>
     ensures spells { SpellsReply reply.now address result.items }
     ensures clean { All (λ beat. IsCleanReply reply.now address beat) result.items }
 {
+    let mut beats = ArrayVec::new();
+    pack_reply_into(reply, address, &mut beats);
+    beats
+}
+
+/// The same beats, in place of those that were there.
+pub fn pack_reply_into(reply: &Reply, address: u64, beats: &mut ArrayVec<DBeat, MAX_BEATS>)
+    ensures spells { SpellsReply reply.now address beats.new.items }
+    ensures clean { All (λ beat. IsCleanReply reply.now address beat) beats.new.items }
+{
     let blank = blank_reply_beat(reply);
     let first = first_lane(address, reply.size());
-    let mut beats = ArrayVec::new();
+    beats.clear();
     for b in 0..beat_count(reply.op().carries_bytes(), reply.size()) {
         beats.push(reply_beat(reply, address, &blank, first, b));
     }
-    beats
 }

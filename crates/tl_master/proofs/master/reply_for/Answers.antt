@@ -1,10 +1,9 @@
-use Rattle.std.proofs.Common.{ℕ, Bool, List, ◌≡◌, ◌<◌, length, Some, None, slice_get, arith, rules, sym, subst, ap, ◌∙◌}
+use Rattle.std.proofs.Common.{ℕ, Bool, List, ◌≡◌, Some, None, slice_get, arith, rules, sym, subst, ap, ◌∙◌}
 use Rattle.std.proofs.lemmas.Option.{slice_get_within}
 use Rattle.tl_types.specs.Request.{Request}
 use Rattle.tl_types.specs.Operation.{reply_op_of}
 use Rattle.tl_types.specs.declared.operation.ReplyOp.{ReplyOp}
-use Rattle.tl_types.specs.Response.{Response, IsLawfulResponse}
-use Rattle.tl_master.specs.Master.{reply_to}
+use Rattle.tl_types.specs.Response.{IsLawfulResponse}
 use Rattle.tl_master.proofs.Replies.{few_bytes, front_more, front_all}
 use Rattle.tl_master.proofs.master.reply_for.Goals as goal
 

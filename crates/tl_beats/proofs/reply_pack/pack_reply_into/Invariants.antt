@@ -2,7 +2,7 @@ use Rattle.std.proofs.Common.{◌≡◌, ℕ, length, Some, slice_get}
 use Rattle.std.specs.Prelude.{All}
 use Rattle.tl_beats.specs.declared.beat.DBeat.{DBeat}
 use Rattle.tl_beats.specs.Replies.{IsReplyBeatOf, IsCleanReply}
-use Rattle.tl_beats.proofs.reply_pack.pack_reply.Given as goal
+use Rattle.tl_beats.proofs.reply_pack.pack_reply_into.Given as goal
 
 -- the beats so far are the first ones
 abbrev pub invariant-loop-b : goal.invariant-loop-b

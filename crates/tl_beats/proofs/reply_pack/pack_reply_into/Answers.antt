@@ -2,7 +2,7 @@ use Rattle.std.proofs.Common.{rules, length}
 use Rattle.std.proofs.lemmas.List.Elements.{All-push}
 use Rattle.tl_beats.specs.Replies.{IsReplyBeatOf, IsCleanReply}
 use Rattle.tl_beats.proofs.Spelling.{each_push}
-use Rattle.tl_beats.proofs.reply_pack.pack_reply.Goals as goal
+use Rattle.tl_beats.proofs.reply_pack.pack_reply_into.Goals as goal
 
 pub loop-b-preserved : goal.loop-b-preserved
 loop-b-preserved c =
