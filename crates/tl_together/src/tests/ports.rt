@@ -9,7 +9,7 @@ use std::test::Fail;
 use std::thread;
 use std::thread::Threads;
 use tl_arena::{Arena, ArenaName};
-use tl_master::Issued;
+use tl_master::{Issued, Polled};
 use tl_port::{Book, Flight, Intake, Port};
 
 /// Issues from the first master's source, and answers the slot.
@@ -58,6 +58,26 @@ fn a_full_journal_takes_no_more(rt: HostRuntime) -> Result<(), Fail> {
     }
     assert_eq!(rt; board.serve(), None);
     assert_eq!(rt; board.book.history_len(), 3);
+    Ok(())
+}
+
+/// Each master's trace has room for one entry too, so the second request is the second master's, whose part of the four slots
+/// begins at slot 2.
+#[test]
+fn a_journal_of_one_takes_one(rt: HostRuntime) -> Result<(), Fail> {
+    let mut board = set_up(rt.alloc(), 4, 1)?;
+    post(&rt, &mut board, 5)?;
+    assert_eq!(rt; board.intake(), Intake::Taken(5));
+    assert_eq!(rt; board.issue_second(0)?, Ok(Issued { slot: 2, port: 0 }));
+    assert_eq!(rt; board.intake(), Intake::JournalFull);
+    assert_eq!(rt; board.serve(), Some(0));
+    assert_eq!(rt; board.intake(), Intake::JournalFull);
+    assert_eq!(rt;
+        (board.book.in_flight_len(), board.book.history_len()),
+        (0, 1)
+    );
+    assert_eq!(rt; board.poll(5), Polled::Done(0));
+    assert_eq!(rt; board.poll_second(0), Polled::NotYet);
     Ok(())
 }
 
