@@ -45,49 +45,66 @@ fn serve_one(rt: &impl Abort, master: &mut Client, port: &mut Desk) {
     assert_eq!(rt; master.poll(0), Polled::Done(0));
 }
 
-/// With 256 slots, a master of 256 sources has all of them out.
-pub(super) fn all_slots(rt: &impl Abort, master: &mut Client, port: &mut Desk) -> Result<(), Fail> {
-    issue_up_to(rt, master, 256)?;
-    assert_eq!(rt; master.counts(), (256, 0));
-    let busy = (0, IssueFault::SourceBusy);
-    issue_refused(rt, master, &[busy, (256, IssueFault::NoSuchSource)])?;
-    serve_one(rt, master, port);
-    assert_eq!(rt; master.counts(), (255, 1));
-    issue_up_to(rt, master, 1)?;
-    assert_eq!(rt; master.counts(), (256, 1));
-    Ok(())
+/// What becomes of a master that issues as much as it may.
+#[derive(Clone, Copy)]
+pub(super) struct Filling {
+    /// From how many sources it issues, the lowest first.
+    out: u16,
+    /// What it is then refused.
+    refused: &'static [(u16, IssueFault)],
+    /// Whether its first source is free to issue again, once the reply to its first request is collected.
+    again: bool,
+    /// What it is refused after that.
+    refused_then: &'static [(u16, IssueFault)],
 }
 
-/// With 255 slots, the request of the last source finds none until one is released.
-pub(super) fn one_slot_too_few(
+/// A master of 256 sources with 256 slots has all of them out.
+const ALL_SLOTS: Filling = Filling {
+    out: 256,
+    refused: &[(0, IssueFault::SourceBusy), (256, IssueFault::NoSuchSource)],
+    again: true,
+    refused_then: &[(0, IssueFault::SourceBusy)],
+};
+
+/// With 255 slots, the request of its last source finds none.
+const ONE_SLOT_TOO_FEW: Filling = Filling {
+    out: 255,
+    refused: &[(255, IssueFault::NoSlot), (255, IssueFault::NoSlot)],
+    again: true,
+    refused_then: &[(255, IssueFault::NoSlot)],
+};
+
+/// A master of 16 sources, and room for two entries: a third request is refused, and one that is from a busy source too is
+/// told that. An entry takes room as well.
+const FULL_TRACE: Filling = Filling {
+    out: 2,
+    refused: &[
+        (2, IssueFault::TraceFull),
+        (1, IssueFault::SourceBusy),
+        (16, IssueFault::NoSuchSource),
+    ],
+    again: false,
+    refused_then: &[(0, IssueFault::TraceFull), (1, IssueFault::SourceBusy)],
+};
+
+/// A master issues as much as it may, collects the first reply, and goes on.
+pub(super) fn fill(
     rt: &impl Abort,
     master: &mut Client,
     port: &mut Desk,
+    filling: &Filling,
 ) -> Result<(), Fail> {
-    issue_up_to(rt, master, 255)?;
-    assert_eq!(rt; master.counts(), (255, 0));
-    issue_refused(rt, master, &[(255, IssueFault::NoSlot); 2])?;
+    issue_up_to(rt, master, filling.out)?;
+    let out = filling.out as usize;
+    assert_eq!(rt; master.counts(), (out, 0));
+    issue_refused(rt, master, filling.refused)?;
     serve_one(rt, master, port);
-    issue_up_to(rt, master, 1)?;
-    issue_refused(rt, master, &[(255, IssueFault::NoSlot)])?;
-    assert_eq!(rt; master.counts(), (255, 1));
-    Ok(())
-}
-
-/// With room for two entries, a third request is refused; one that is from a busy source too is told that.
-pub(super) fn full_trace(
-    rt: &impl Abort,
-    master: &mut Client,
-    port: &mut Desk,
-) -> Result<(), Fail> {
-    let full = IssueFault::TraceFull;
-    let (busy, none) = (IssueFault::SourceBusy, IssueFault::NoSuchSource);
-    issue_up_to(rt, master, 2)?;
-    assert_eq!(rt; master.counts(), (2, 0));
-    issue_refused(rt, master, &[(2, full), (1, busy), (16, none)])?;
-    serve_one(rt, master, port);
-    assert_eq!(rt; master.counts(), (1, 1));
-    issue_refused(rt, master, &[(0, full), (1, busy)])
+    assert_eq!(rt; master.counts(), (out.saturating_sub(1), 1));
+    if filling.again {
+        issue_up_to(rt, master, 1)?;
+        assert_eq!(rt; master.counts(), (out, 1));
+    }
+    issue_refused(rt, master, filling.refused_then)
 }
 
 /// Nothing rings here: a master that looks finds every reply.
@@ -107,21 +124,28 @@ pub(super) fn no_bell(rt: &impl Abort, master: &mut Client, port: &mut Desk) -> 
 
 #[test]
 fn all_slots_and_all_sources_are_used(rt: HostRuntime) -> Result<(), Fail> {
-    let account = play(&rt, rt.alloc(), 256, &[256], 300, Scene::AllSlots)?;
+    let account = play(&rt, rt.alloc(), 256, &[256], 300, Scene::Fill(ALL_SLOTS))?;
     assert_eq!(rt; (account.free.len(), account.held.len()), (0, 256));
     Ok(())
 }
 
 #[test]
 fn one_slot_too_few_is_told(rt: HostRuntime) -> Result<(), Fail> {
-    let account = play(&rt, rt.alloc(), 255, &[256], 300, Scene::OneSlotTooFew)?;
+    let account = play(
+        &rt,
+        rt.alloc(),
+        255,
+        &[256],
+        300,
+        Scene::Fill(ONE_SLOT_TOO_FEW),
+    )?;
     assert_eq!(rt; (account.free.len(), account.held.len()), (0, 255));
     Ok(())
 }
 
 #[test]
 fn a_full_trace_is_told_after_a_busy_source(rt: HostRuntime) -> Result<(), Fail> {
-    let account = play(&rt, rt.alloc(), 4, &[16], 2, Scene::FullTrace)?;
+    let account = play(&rt, rt.alloc(), 4, &[16], 2, Scene::Fill(FULL_TRACE))?;
     assert_eq!(rt; (account.free.len(), account.held.len()), (3, 1));
     Ok(())
 }

@@ -1,26 +1,24 @@
 //! The arena on which a scene is played.
 use super::agents::{Client, Desk, clients_of, new_desk};
 use super::floor::{Floor, open_floor};
-use super::full;
+use super::full::{Filling, fill, no_bell};
 use super::walk::walk_along;
 use std::alloc::Global;
 use std::process::Abort;
 use std::test::Fail;
 use tl_arena::Account;
 
-/// What is played. Each test is a scene of its own; they share one stage, since to set it up and to take it down is what
-/// takes the prover its time.
+/// What is played. Each test is a scene of its own; they share one stage, since to set it up and to take it down is
+/// what takes the prover its time.
 #[derive(Clone, Copy)]
 pub(super) enum Scene {
-    AllSlots,
-    OneSlotTooFew,
-    FullTrace,
+    Fill(Filling),
     NoBell,
     Walk,
 }
 
-/// Plays a scene on an arena of so many slots, with a master for each of these counts of sources, each with room for so many
-/// entries in its trace, and with two ports: the memory's and the error port. Its end is the account of the arena.
+/// Plays a scene on an arena of so many slots, with a master for each of these counts of sources, each with room for so
+/// many entries in its trace, and with two ports: the memory's and the error port. Its end is the account of the arena.
 pub(super) fn play(
     rt: &impl Abort,
     alloc: Global,
@@ -63,10 +61,8 @@ fn play_with<'a>(
         return Err(Fail::from("no master"));
     };
     match scene {
-        Scene::AllSlots => full::all_slots(rt, master, &mut near),
-        Scene::OneSlotTooFew => full::one_slot_too_few(rt, master, &mut near),
-        Scene::FullTrace => full::full_trace(rt, master, &mut near),
-        Scene::NoBell => full::no_bell(rt, master, &mut near),
+        Scene::Fill(filling) => fill(rt, master, &mut near, &filling),
+        Scene::NoBell => no_bell(rt, master, &mut near),
         Scene::Walk => Ok(()),
     }
 }

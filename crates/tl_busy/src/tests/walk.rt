@@ -101,8 +101,8 @@ impl<'a> Walk<'a> {
         None
     }
 
-    /// The free slot that a claim of a master has to find: it goes up from its own part of the slots, which for master m
-    /// of three begins at slot 4m / 3, that is m, and then from slot 0.
+    /// The free slot that a claim of a master has to find: it goes up from its own part of the slots, which for master
+    /// m of three begins at slot 4m / 3, that is m, and then from slot 0.
     fn free_slot(&self, master: usize) -> Option<usize> {
         for step in 0..SLOTS {
             let slot = (master % SLOTS + step) % SLOTS;

@@ -1,5 +1,5 @@
-//! Readers and writers that are slow or fail, under runs by threads: of one thread a port, since each run that comes to its
-//! text starts all its threads.
+//! Readers and writers that are slow or fail, under runs by threads: of one thread a port, since each run that comes to
+//! its text starts all its threads.
 use super::threads::FIRST_OUTPUT;
 use super::{Drips, FIRST, Trickle, Trouble, reader_of, writer_with};
 use crate::engine::threads::threads_engine;

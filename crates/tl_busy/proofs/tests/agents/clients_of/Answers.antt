@@ -1,5 +1,4 @@
 use Rattle.std.proofs.Common.{◌≡◌, ℕ, suc, List, ◌∷◌, All, subst, arith}
-use Rattle.std.specs.Vec.Iter.{into_iter_items}
 use Rattle.tl_arena.specs.Views.{ArenaId, MasterView, new_master}
 use Rattle.tl_busy.proofs.tests.agents.clients_of.Goals as goal
 
