@@ -1,8 +1,8 @@
 //! The yardstick of runs by threads: a plain Rust program, std alone and nothing proved, of the design of `tlx`. Each
-//! master and each port is a thread; requests go through a table of slots with one atomic word each; a port's memory and
-//! journal are behind one lock; bells are bounded channels, and who waits for one looks and yields some times before it
-//! sleeps. It reads a script from standard input and writes the traces and the account. It keeps journals, and does not
-//! audit them. Its arguments: none.
+//! master and each port is a thread; requests go through a table of slots with one atomic word each; a port's memory
+//! and journal are behind one lock; bells are bounded channels, and who waits for one looks and yields some times
+//! before it sleeps. It reads a script from standard input and writes the traces and the account. It keeps journals,
+//! and does not audit them. Its arguments: none.
 use std::cell::UnsafeCell;
 use std::fmt::Write as _;
 use std::io::{self, Read, Write as _};
