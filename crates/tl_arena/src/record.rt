@@ -1,5 +1,5 @@
-//! The record of a slot: a request on its way to a port, and its reply on the way back, as beats. It stays where it was made,
-//! and moves from hand to hand as a pointer.
+//! The record of a slot: a request on its way to a port, and its reply on the way back, as beats. It stays where it was
+//! made, and moves from hand to hand as a pointer.
 ghost use Rattle.std.specs.Prelude.{◌≡◌, ℕ, IsSome, IfOk, slice_get};
 ghost use Rattle.std.specs.Prelude as std;
 ghost use Rattle.tl_types.specs.Request.{Request};
@@ -46,7 +46,8 @@ impl Record {
 
     /// Has a request that is posted to a port.
     pub(crate) fn post(&mut self, ask: &Ask, port: usize)
-        ensures { Spells self.new ask.now }
+        ensures spells { Spells self.new ask.now }
+        ensures port { self.new.port ≡ port }
     {
         let _lawful = ask.bytes();
         pack_ask_into(ask, &mut self.beats);
@@ -58,6 +59,7 @@ impl Record {
         ensures asks { (ask : Request) → Spells self.old ask → Spells self.new ask }
         ensures answers { SpellsAnswer self.new address reply.now }
         ensures index { self.new.index ≡ index }
+        ensures port { self.new.port ≡ self.old.port }
     {
         let _lawful = reply.bytes();
         self.index = index;

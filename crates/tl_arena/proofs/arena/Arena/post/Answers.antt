@@ -39,7 +39,7 @@ store-requires c =
       c.exchange.ensures.0 ∙ c.bring.ensures.table ∙ arena.0,
       omega arith,
       posts_at (about_in key) _ _ me c.exchange.new.seat.me i _ c.post.new.self (rest c.bring.new.seat.me.1) c.args.ask.now c.args.port now m.is filled
-          (c.word_of-new.ensures ∙ ap (λ (k : ℕ). word (Posted k c.args.port)) (sym m.numbered)) c.post.ensures to owns unsent,
+          (c.word_of-new.ensures ∙ ap (λ (k : ℕ). word (Posted k c.args.port)) (sym m.numbered)) c.post.ensures.spells to owns unsent,
     )
 
 pub returns-clause-seat : goal.returns-clause-seat
@@ -55,7 +55,7 @@ returns-clause-seat c =
       port = let s = c.self.invariant in let few = s.limits.ports_in_limit in let is = s.ports_are in let seen = ap (λ (a : ArenaId). a.about.ports) c.self.view_is in let below = c.requires.port in omega arith;
     } in
     let named : c.word_of-new.result / 2048 ≡ port = ap (λ (n : ℕ). n / 2048) c.word_of-new.ensures ∙ word-port (Posted c.master.inside.number port) fits in
-    let told = told_sent _ me c.exchange.new.seat.me c.store.new.seat.me i _ c.post.new.self (rest c.bring.new.seat.me.1) ask port now c.post.ensures named c.store.ensures.2 in
+    let told = told_sent _ me c.exchange.new.seat.me c.store.new.seat.me i _ c.post.new.self (rest c.bring.new.seat.me.1) ask port now c.post.ensures.spells named c.store.ensures.2 in
     let table = c.store.ensures.0 ∙ c.exchange.ensures.0 ∙ c.bring.ensures.table in
     (λ k. master_view (table k) (told k).0) ∙ (λ k. with_held (c.master.view_is k) (c.claim.view_is k) (Sent ask port (length (c.master.view_is k).got)))
 
@@ -69,7 +69,7 @@ invariant_of-master c =
     let port = c.args.port in
     let filled : views.in_hand (as_master me.0) i ≡ Filled = subst (λ (v : MasterView). in_hand v i ≡ Filled) (sym c.master.view_is) (subst (λ (k : ℕ). in_hand c.args.master.now k ≡ Filled) (sym c.claim.view_is) c.requires.claim) in
     let now = brought_back me c.bring.new.seat.me c.exchange.new.seat.me i _ c.post.new.self c.of.ensures c.bring.ensures.brought.view c.exchange.ensures.3 in
-    let told = told_sent _ me c.exchange.new.seat.me c.store.new.seat.me i _ c.post.new.self (rest c.bring.new.seat.me.1) ask _ now c.post.ensures refl c.store.ensures.2 in
+    let told = told_sent _ me c.exchange.new.seat.me c.store.new.seat.me i _ c.post.new.self (rest c.bring.new.seat.me.1) ask _ now c.post.ensures.spells refl c.store.ensures.2 in
     master_recounted c.store.new.seat.me _ _ _ _ c.master.inside.number c.master.inside.owned c.master.inside.collected refl (c.pop_front.ensures.capacity ∙ c.bring.ensures.capacity)
     (post_kept me order.items (deque_capacity order) c.master.inside.number c.master.inside.owned c.master.inside.collected m
     c.bring.new.seat.me c.store.new.seat.me c.bring.new.order.items c.pop_front.new.self.items i ask _ _ c.bring.ensures.brought c.pop_front.ensures.rest told filled)
