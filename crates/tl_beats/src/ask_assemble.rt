@@ -12,7 +12,7 @@ use crate::bus::{active_mask, beat_count, first_failing, first_lane};
 use tl_types::{Ask, AskOp, BUS_BYTES, Bytes, LARGEST_SIZE, MAX_BYTES, read_op};
 
 /// Whether two beats have the same shared fields.
-fn same_fields(first: &ABeat, beat: &ABeat) -> bool
+pub fn same_fields(first: &ABeat, beat: &ABeat) -> bool
     ensures { IsTrue result ↔ SameFields first.now beat.now }
 {
     beat.opcode == first.opcode
@@ -23,7 +23,7 @@ fn same_fields(first: &ABeat, beat: &ABeat) -> bool
 }
 
 /// Whether a mask is lawful.
-fn is_lawful_mask(mask: u8, op: AskOp, size: u8, address: u64) -> bool
+pub fn is_lawful_mask(mask: u8, op: AskOp, size: u8, address: u64) -> bool
     requires { size ≤ LARGEST_SIZE }
     ensures { IsTrue result ↔ IsLawfulMask op size address mask }
 {

@@ -13,7 +13,7 @@ use arrayvec::ArrayVec;
 use tl_types::{BUS_BYTES, LARGEST_SIZE, MAX_BYTES, Reply, ReplyOp, read_reply_op};
 
 /// Whether two beats have the same shared fields.
-fn same_reply_fields(first: &DBeat, beat: &DBeat) -> bool
+pub fn same_reply_fields(first: &DBeat, beat: &DBeat) -> bool
     ensures { IsTrue result ↔ SameReplyFields first.now beat.now }
 {
     beat.opcode == first.opcode
@@ -23,7 +23,7 @@ fn same_reply_fields(first: &DBeat, beat: &DBeat) -> bool
 }
 
 /// Whether a `corrupt` flag is lawful.
-fn is_lawful_flag(op: ReplyOp, denied: bool, corrupt: bool) -> bool
+pub fn is_lawful_flag(op: ReplyOp, denied: bool, corrupt: bool) -> bool
     ensures { IsTrue result ↔ IsLawfulFlag op denied corrupt }
 {
     !corrupt || (op.carries_bytes() && denied)

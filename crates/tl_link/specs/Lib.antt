@@ -1,0 +1,5 @@
+pub mod Message
+pub mod Past
+pub mod Form
+pub mod Begun
+pub mod Laws

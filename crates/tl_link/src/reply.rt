@@ -1,0 +1,75 @@
+//! Beats of channel D.
+ghost use Rattle.std.specs.Prelude.{◌≡◌, ◌<◌, ◌≤◌, ◌↔◌, ◌++◌, ◌∷◌, [], length, IfSome, IfNone, IsTrue};
+ghost use Rattle.tl_types.specs.Response.{Response, IsLawfulResponse};
+ghost use Rattle.tl_beats.specs.Faults.{SameReplyFields};
+ghost use Rattle.tl_beats.specs.Replies.{SpellsReply};
+ghost use Rattle.tl_link.specs.Message.{reply_beats};
+ghost use Rattle.tl_link.specs.Form.{Continues, FitsReply, IsFirstReplyFormFault};
+ghost use Rattle.tl_link.specs.Begun.{IsWholeReply};
+
+use crate::fault::FormFault;
+use arrayvec::ArrayVec;
+use tl_beats::{DBeat, MAX_BEATS, assemble_reply, beat_count, is_lawful_flag, same_reply_fields};
+use tl_types::{LARGEST_SIZE, Reply, read_reply_op};
+
+/// How many beats the reply has that a beat is part of.
+pub fn reply_beats(beat: &DBeat) -> usize
+    requires { beat.now.size ≤ LARGEST_SIZE }
+    ensures value { result ≡ reply_beats beat.now }
+    ensures in_limit { result ≤ MAX_BEATS }
+{
+    beat_count(beat.opcode == 1, beat.size)
+}
+
+/// The beats of a message so far.
+pub fn with_reply(begun: &[DBeat], beat: &DBeat) -> ArrayVec<DBeat, MAX_BEATS>
+    requires { length begun.now < MAX_BEATS }
+    ensures { result.items ≡ begun.now ++ beat.now ∷ [] }
+{
+    let mut message: ArrayVec<DBeat, MAX_BEATS> = ArrayVec::try_from(begun).unwrap();
+    message.push(*beat);
+    message
+}
+
+/// The reply to a request at an address that all beats of a message spell.
+pub fn whole_reply(message: &[DBeat], beat: &DBeat, address: u64) -> Reply
+    requires { IsWholeReply message.now beat.now }
+    ensures spells { SpellsReply result address message.now }
+    ensures lawful { IsLawfulResponse result.op result.size result.denied result.bytes }
+    ensures alone { (other : Response) → IsLawfulResponse other.op other.size other.denied other.bytes
+        → SpellsReply other address message.now → other ≡ result }
+{
+    let reply = assemble_reply(message, address).unwrap();
+    let _lawful = reply.bytes();
+    reply
+}
+
+/// Whether a beat has the fields of the message that is under way, if one is.
+fn continues(begun: &[DBeat], beat: &DBeat) -> bool
+    ensures { IsTrue result ↔ Continues SameReplyFields begun.now beat.now }
+{
+    match begun.first() {
+        Some(first) => same_reply_fields(first, beat),
+        None => true,
+    }
+}
+
+/// The first fault that a beat has as one of a reply, after the beats of the reply that is under way.
+pub fn reply_fault(begun: &[DBeat], beat: &DBeat) -> Option<FormFault>
+    ensures fault { IfSome result (IsFirstReplyFormFault begun.now beat.now) }
+    ensures fits { IfNone result (FitsReply begun.now beat.now) }
+{
+    if !continues(begun, beat) {
+        return Some(FormFault::Changed);
+    }
+    let Ok(op) = read_reply_op(beat.opcode) else {
+        return Some(FormFault::Opcode);
+    };
+    if beat.size > LARGEST_SIZE {
+        return Some(FormFault::Size);
+    }
+    if !is_lawful_flag(op, beat.denied, beat.corrupt) {
+        return Some(FormFault::CorruptFlag);
+    }
+    None
+}
