@@ -1,0 +1,6 @@
+pub mod Fresh
+pub mod Wides
+pub mod Judging
+pub mod Replying
+pub mod Keeping
+pub mod Beginning

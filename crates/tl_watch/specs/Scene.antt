@@ -1,0 +1,136 @@
+-- What a beat finds at its link and in its port, and what it makes of that: messages and their order by the chapters "Beats and
+-- bursts" and "TL-UL and TL-UH operations" of the TileLink specification; when a request takes effect is this project's choice.
+use Rattle.std.specs.Prelude.{ℕ, ◌+◌, ◌%◌, ◌^◌, Bool, true, false, if◌then◌else◌, List, [], ◌∷◌, ◌++◌, Option, Some, None}
+use Rattle.tl_types.specs.Request.{Request}
+use Rattle.tl_types.specs.declared.trace.Entry.{Entry}
+use Rattle.tl_ops.specs.Store.{after, reply}
+use Rattle.tl_beats.specs.declared.beat.ABeat.{ABeat}
+use Rattle.tl_link.specs.declared.beat.Beat.{Beat}
+use Rattle.tl_link.specs.declared.beat.Beat.TheVariants.{A, D}
+use Rattle.tl_link.specs.declared.beat.Link.{Link}
+use Rattle.tl_link.specs.declared.beat.Link.TheVariants.{Master, Port}
+use Rattle.tl_link.specs.Message.{ask_of}
+use Rattle.tl_link.specs.Past.{Under, ends_ask, ends_reply}
+use Rattle.tl_watch.specs.declared.flight.Turn.{Turn}
+use Rattle.tl_watch.specs.declared.flight.Turn.TheVariants.{Idle, Asking, Asked}
+use Rattle.tl_watch.specs.declared.flight.Answer.{Answer}
+use Rattle.tl_watch.specs.declared.flight.Flight.{Flight}
+use Rattle.tl_watch.specs.declared.flight.Crossing.{Crossing}
+use Rattle.tl_watch.specs.declared.flight.Crossing.TheVariants.{Waiting, Crossed, Given}
+use Rattle.tl_watch.specs.declared.slave.Slave.{Slave}
+use Rattle.tl_watch.specs.declared.seen.Seen.{Seen}
+use Rattle.tl_watch.specs.declared.seen.Seen.TheVariants.{Part, WholeAsk, WholeReply}
+use Rattle.tl_watch.specs.Plan.{Layout, number_of, crosses}
+
+-- the messages under way at its link, what is in flight of its source on its side and on the masters' side, how far that has
+-- come across, and the port that its request goes to, with what the slave there holds
+pub record Scene : Type 0 where
+  pub under : Under
+  pub flight : Flight
+  pub sent : Turn
+  pub crossing : Crossing
+  pub port : ℕ
+  pub slave : Slave
+
+abbrev pub idle : Flight
+idle = record { turn = Idle; due = None }
+
+-- the request that a beat ends, if it ends one
+abbrev pub ask_by : List ABeat → ABeat → Option Request
+ask_by begun beat = if ends_ask begun beat then Some (ask_of beat (begun ++ beat ∷ [])) else None
+
+-- ---- memory: a request takes effect when it is accepted, with its last beat
+
+-- requests to this port take effect as they are seen at this link: a port's own where the ports' links are watched, else, and
+-- for the error port, all masters'. (What a request leaves and what it is answered does not depend on its source.)
+abbrev pub takes_effect : Layout → Link → ℕ → Bool
+takes_effect layout (Port p) port = true
+takes_effect layout (Master m) port = if crosses layout port then false else true
+
+abbrev pub effect_by : Bool → Option Request → Option Request
+effect_by true ask = ask
+effect_by false ask = None
+
+abbrev pub effect : Layout → Link → Scene → Beat → Option Request
+effect layout link scene (A beat) = effect_by (takes_effect layout link scene.port) (ask_by scene.under.asking beat)
+effect layout link scene (D beat) = None
+
+-- the slave after a request; how many it has served is counted modulo 2 ^ 64
+abbrev pub served_by : Slave → Request → Slave
+served_by slave ask = record { bank = after slave.bank ask; served = (slave.served + 1) % 2 ^ 64 }
+
+abbrev pub slave_by : Slave → Option Request → Slave
+slave_by slave None = slave
+slave_by slave (Some ask) = served_by slave ask
+
+-- the reply that a request gets, which is the memory's there, with the port and the request's place in the port's list
+abbrev pub answer_by : ℕ → Slave → Option Request → Option Answer
+answer_by port slave None = None
+answer_by port slave (Some ask) = Some (record { reply = reply slave.bank ask; port = port; index = slave.served })
+
+-- ---- what is in flight
+
+-- a source is in flight from the first beat of its request to the last beat of its reply
+abbrev pub turn_by : ℕ → Option Request → Turn
+turn_by number None = Asking number
+turn_by number (Some ask) = Asked number ask
+
+abbrev pub flight_after : Layout → Link → Scene → Beat → Flight
+flight_after layout link scene (A beat) = record {
+  turn = turn_by (number_of link) (ask_by scene.under.asking beat);
+  due = answer_by scene.port scene.slave (effect layout link scene (A beat));
+}
+flight_after layout link scene (D beat) = if ends_reply scene.under.replying beat then idle else scene.flight
+
+-- ---- crossing
+
+abbrev pub given_by : Option Answer → Crossing → Crossing
+given_by None before = before
+given_by (Some answer) before = Given answer
+
+-- how far a request has come: it waits at its master's link, a port has taken it, the port has given its reply
+abbrev pub crossing_after : Link → Scene → Beat → Crossing
+crossing_after (Master m) scene (A beat) = Waiting
+crossing_after (Master m) scene (D beat) = scene.crossing
+crossing_after (Port p) scene (A beat) = if ends_ask scene.under.asking beat then Crossed else scene.crossing
+crossing_after (Port p) scene (D beat) = if ends_reply scene.under.replying beat then given_by scene.flight.due scene.crossing else scene.crossing
+
+-- ---- the reply that must come
+
+-- what the port gave, for this source
+abbrev pub given_to : ℕ → Crossing → Option Answer
+given_to source Waiting = None
+given_to source Crossed = None
+given_to source (Given answer) = Some (record answer { reply = record answer.reply { source = source } })
+
+-- the reply that must come is the one that the port gave
+abbrev pub is_given : Layout → Link → ℕ → Bool
+is_given layout (Master m) port = crosses layout port
+is_given layout (Port p) port = false
+
+abbrev pub must_by : Bool → ℕ → Crossing → Option Answer → Option Answer
+must_by true source crossing due = given_to source crossing
+must_by false source crossing due = due
+
+abbrev pub must_come : Layout → Link → Scene → ℕ → Option Answer
+must_come layout link scene source = must_by (is_given layout link scene.port) source scene.crossing scene.flight.due
+
+-- ---- what a beat ends
+
+abbrev pub entry_of : Request → Answer → Entry
+entry_of ask answer = record { ask = ask; reply = answer.reply; port = answer.port; index = answer.index }
+
+abbrev pub seen_reply : Turn → Option Answer → Seen
+seen_reply (Asked number ask) (Some answer) = WholeReply (entry_of ask answer)
+seen_reply (Asked number ask) None = Part
+seen_reply (Asking number) answer = Part
+seen_reply Idle answer = Part
+
+abbrev pub seen_ask : Option Request → Seen
+seen_ask None = Part
+seen_ask (Some ask) = WholeAsk
+
+-- what the beat ends: a part of a message ends none, a request, or a reply, told with its request
+abbrev pub seen : Layout → Link → Scene → Beat → Seen
+seen layout link scene (A beat) = seen_ask (ask_by scene.under.asking beat)
+seen layout link scene (D beat) = if ends_reply scene.under.replying beat then seen_reply scene.flight.turn (must_come layout link scene beat.source) else Part

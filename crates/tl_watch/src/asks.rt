@@ -1,0 +1,162 @@
+//! Judging beats of channel A.
+ghost use Rattle.std.specs.Prelude.{◌≡◌, ◌<◌, ◌≤◌, ◌↔◌, ◌++◌, ◌∷◌, [], length, IsTrue, IfOk, OnOk, IfErr};
+ghost use Rattle.tl_link.specs.declared.beat.Beat.TheVariants.{A};
+ghost use Rattle.tl_types.specs.declared.limits.TheConstants.{LARGEST_SIZE};
+ghost use Rattle.tl_link.specs.Message.{ask_of};
+ghost use Rattle.tl_link.specs.Past.{ends_ask};
+ghost use Rattle.tl_link.specs.Form.{FitsAsk};
+ghost use Rattle.tl_watch.specs.declared.flight.Turn.{Turn as Flying};
+ghost use Rattle.tl_watch.specs.declared.flight.Turn.TheVariants.{Idle};
+ghost use Rattle.tl_watch.specs.declared.flight.Crossing.TheVariants.{Waiting};
+ghost use Rattle.tl_watch.specs.declared.side.TheConstants.{WIDES};
+ghost use Rattle.tl_watch.specs.Plan.{Plan, HasLink, IsWideAt};
+ghost use Rattle.tl_watch.specs.Past.{port_of};
+ghost use Rattle.tl_watch.specs.Allowed.{IsAskedAs, IsSent, IsPlaced, BeginsFree, BeginsPlaced, EndsSent, IsAllowedAsk};
+ghost use Rattle.tl_watch.specs.Faults.{IsFirstAskFault};
+ghost use Rattle.tl_watch.specs.View.{Suits, under_in, flight_in, flight_at, crossing_at, scene_in};
+
+use crate::fault::Fault;
+use crate::flight::{Crossing, Turn};
+use crate::watch::Watch;
+use tl_beats::ABeat;
+use tl_link::Link;
+use tl_types::Ask;
+
+/// The wide source of a beat, and the port of its request.
+#[derive(Debug, Clone, Copy, PartialEq, Eq)]
+pub struct Place {
+    pub wide: u16,
+    pub port: usize,
+}
+
+/// Whether nothing is in flight.
+fn is_idle(turn: &Turn) -> bool
+    ensures { IsTrue result ↔ (turn.now ≡ Idle) }
+{
+    matches!(turn, Turn::Idle)
+}
+
+/// Whether no port has taken the request in flight.
+fn is_waiting(crossing: &Crossing) -> bool
+    ensures { IsTrue result ↔ (crossing.now ≡ Waiting) }
+{
+    matches!(crossing, Crossing::Waiting)
+}
+
+/// Whether two requests are the same but for their sources.
+fn is_same_but_source(sent: &Ask, ask: &Ask) -> bool
+    ensures { IsTrue result ↔ (record sent.now { source = ask.now.source } ≡ ask.now) }
+{
+    sent.op() == ask.op()
+        && sent.size() == ask.size()
+        && sent.address() == ask.address()
+        && sent.bytes().is_same(ask.bytes())
+}
+
+/// Whether the request in flight has ended, and is this one but for the source.
+fn is_asked_as(turn: &Turn, ask: &Ask) -> bool
+    ensures { IsTrue result ↔ IsAskedAs turn.now ask.now }
+{
+    match turn {
+        Turn::Idle | Turn::Asking(_) => false,
+        Turn::Asked(_, sent) => is_same_but_source(sent, ask),
+    }
+}
+
+/// Whether a master has sent a request that ends at a link, where that is asked.
+fn is_sent(watch: &Watch, link: Link, wide: u16, ask: &Ask) -> bool
+    requires { wide < WIDES }
+    ensures { IsTrue result
+        ↔ IsSent watch.now.layout link (flight_at watch.now.masters.flights wide).turn
+        (crossing_at watch.now.crossings wide) ask.now }
+{
+    match link {
+        Link::Master(_) => true,
+        Link::Port(_) => {
+            !watch.watches_both()
+                || (is_asked_as(&watch.masters.flight(wide).turn, ask)
+                    && is_waiting(watch.crossing(wide)))
+        }
+    }
+}
+
+/// Whether a beat of a request finds its source free, where it begins one.
+fn begins_free(watch: &Watch, link: Link, wide: u16) -> bool
+    requires known { HasLink watch.now.layout link }
+    requires wide { wide < WIDES }
+    ensures { IsTrue result
+        ↔ ((under_in watch.now link).asking ≡ [] → (flight_in watch.now link wide).turn ≡ Idle) }
+{
+    !watch.link(link).begins_ask() || is_idle(&watch.flight(link, wide).turn)
+}
+
+/// Whether the address map has a request with the port of a link.
+fn is_placed(watch: &Watch, link: Link, beat: &ABeat) -> bool
+    requires { beat.now.size ≤ LARGEST_SIZE }
+    ensures { IsTrue result ↔ IsPlaced watch.now.layout link beat.now }
+{
+    match link {
+        Link::Master(_) => true,
+        Link::Port(port) => watch.is_at_port(port, beat.address, beat.size),
+    }
+}
+
+/// Whether a beat of a request is at its port, where it begins one.
+fn begins_placed(watch: &Watch, link: Link, beat: &ABeat) -> bool
+    requires known { HasLink watch.now.layout link }
+    requires in_limit { beat.now.size ≤ LARGEST_SIZE }
+    ensures { IsTrue result
+        ↔ ((under_in watch.now link).asking ≡ [] → IsPlaced watch.now.layout link beat.now) }
+{
+    !watch.link(link).begins_ask() || is_placed(watch, link, beat)
+}
+
+/// Whether a master has sent the request that a beat ends, where it ends one.
+fn ends_sent(watch: &Watch, link: Link, wide: u16, beat: &ABeat) -> bool
+    requires known { HasLink watch.now.layout link }
+    requires wide { wide < WIDES }
+    requires fits { FitsAsk (under_in watch.now link).asking beat.now }
+    ensures { IsTrue result
+        ↔ (IsTrue (ends_ask (under_in watch.now link).asking beat.now)
+        → IsSent watch.now.layout link (flight_at watch.now.masters.flights wide).turn
+        (crossing_at watch.now.crossings wide)
+        (ask_of beat.now ((under_in watch.now link).asking ++ beat.now ∷ []))) }
+{
+    let under = watch.link(link);
+    !under.ends_ask(beat) || is_sent(watch, link, wide, &under.ask(beat))
+}
+
+/// Judges a beat of a request: its place, or the first fault that it has.
+pub fn judge_ask(watch: &Watch, link: Link, beat: &ABeat, known: u8) -> Result<Place, Fault>
+    requires { HasLink watch.now.layout link }
+    ensures fault { (plan : Plan) → Suits plan watch.now
+        → IfErr result (IsFirstAskFault watch.now.layout link
+        (scene_in plan watch.now link (A beat.now)) beat.now known) }
+    ensures allowed { (plan : Plan) → Suits plan watch.now
+        → OnOk result (IsAllowedAsk watch.now.layout link
+        (scene_in plan watch.now link (A beat.now)) beat.now known) }
+    ensures fits { OnOk result (FitsAsk (under_in watch.now link).asking beat.now) }
+    ensures wide { IfOk result (λ place. IsWideAt watch.now.layout link beat.now.source place.wide) }
+    ensures in_limit { IfOk result (λ place. place.wide < WIDES) }
+    ensures port { (plan : Plan) (turn : Flying) → Suits plan watch.now
+        → IfOk result (λ place. place.port ≡ port_of plan link turn (A beat.now)) }
+    ensures in_ports { IfOk result (λ place. place.port < length watch.now.slaves) }
+{
+    if let Some(fault) = watch.link(link).ask_fault(beat, known) {
+        return Err(Fault::Form(fault));
+    }
+    let Some(wide) = watch.wide(link, beat.source) else {
+        return Err(Fault::NoSuchSource);
+    };
+    if !begins_free(watch, link, wide) {
+        return Err(Fault::SourceBusy);
+    }
+    if !begins_placed(watch, link, beat) {
+        return Err(Fault::WrongPort);
+    }
+    if !ends_sent(watch, link, wide, beat) {
+        return Err(Fault::NotSent);
+    }
+    let port = watch.port(link, beat.address, beat.size);
+    Ok(Place { wide, port })
+}

@@ -1,0 +1,201 @@
+//! Judging beats of channel D.
+ghost use Rattle.std.specs.Prelude.{◌≡◌, ◌<◌, ◌≤◌, ◌↔◌, ◌++◌, ◌∷◌, ℕ, [], length, IsTrue, IsSomeAnd, IfOk, OnOk, IfErr, IfSome, IfNone};
+ghost use Rattle.tl_types.specs.Fault.{IsFirstOf};
+ghost use Rattle.tl_types.specs.Request.{Request};
+ghost use Rattle.tl_types.specs.Response.{Response, IsLawfulResponse};
+ghost use Rattle.tl_types.specs.declared.limits.TheConstants.{LARGEST_SIZE};
+ghost use Rattle.tl_beats.specs.Replies.{SpellsReply};
+ghost use Rattle.tl_link.specs.declared.beat.Beat.TheVariants.{D};
+ghost use Rattle.tl_link.specs.Past.{ends_reply};
+ghost use Rattle.tl_link.specs.Form.{FitsReply};
+ghost use Rattle.tl_watch.specs.declared.flight.Turn.TheVariants.{Asked};
+ghost use Rattle.tl_watch.specs.declared.side.TheConstants.{WIDES};
+ghost use Rattle.tl_watch.specs.Plan.{Plan, HasLink, IsWideAt, number_of};
+ghost use Rattle.tl_watch.specs.Scene.{is_given, must_by, seen_reply, entry_of};
+ghost use Rattle.tl_watch.specs.Past.{port_of};
+ghost use Rattle.tl_watch.specs.Allowed.{OfAsked, IsKnownReply, IsAnswer, IsAllowedReply};
+ghost use Rattle.tl_watch.specs.Faults.{HasAnswerFault, HasEndFault, IsFirstReplyFault, fault_rank};
+ghost use Rattle.tl_watch.specs.View.{Suits, under_in, flight_in, crossing_at, scene_in, due_at, IsEndFault, IsEndWell};
+
+use crate::fault::Fault;
+use crate::flight::{Answer, Turn, given_to};
+use crate::seen::Seen;
+use crate::watch::Watch;
+use tl_beats::{DBeat, active_mask};
+use tl_link::Link;
+use tl_types::{Ask, Entry, Reply, reply_opcode};
+
+/// The number of a link on its side.
+pub fn number_of(link: Link) -> usize
+    ensures { result ≡ number_of link }
+{
+    match link {
+        Link::Master(number) | Link::Port(number) => number,
+    }
+}
+
+/// Whether each lane that carries a byte of the reply to a request is known.
+fn is_known(ask: &Ask, beat: &DBeat, known: u8) -> bool
+    ensures { IsTrue result ↔ IsKnownReply ask.now beat.now known }
+{
+    if beat.opcode != 1 || beat.denied {
+        return true;
+    }
+    let active = active_mask(ask.address(), ask.size());
+    active & known == active
+}
+
+/// The first fault of a beat as an answer to what is in flight of its source, at the link of this number.
+fn answer_fault(turn: &Turn, number: usize, beat: &DBeat, known: u8) -> Option<Fault>
+    ensures fault { IfSome result (IsFirstOf (HasAnswerFault number turn.now beat.now known) fault_rank) }
+    ensures none { IfNone result (OfAsked number turn.now (IsAnswer beat.now known)) }
+{
+    let (at, ask) = match turn {
+        Turn::Idle => return Some(Fault::NoRequest),
+        Turn::Asking(at) if *at == number => return Some(Fault::EarlyReply),
+        Turn::Asking(_) => return Some(Fault::NoRequest),
+        Turn::Asked(at, ask) => (*at, ask),
+    };
+    if at != number {
+        return Some(Fault::NoRequest);
+    }
+    if beat.size != ask.size() {
+        return Some(Fault::WrongSize);
+    }
+    if beat.opcode != reply_opcode(ask.op().reply_op()) {
+        return Some(Fault::WrongOpcode);
+    }
+    if !is_known(ask, beat, known) {
+        return Some(Fault::UnknownData);
+    }
+    None
+}
+
+/// Whether two replies are the same.
+fn is_same_reply(a: &Reply, b: &Reply) -> bool
+    ensures { IsTrue result ↔ (a.now ≡ b.now) }
+{
+    a.op() == b.op()
+        && a.size() == b.size()
+        && a.source() == b.source()
+        && a.denied() == b.denied()
+        && a.bytes() == b.bytes()
+}
+
+/// The fault of a whole reply, where this one must come.
+fn end_fault(given: bool, due: Option<Answer>, captured: Reply) -> Option<Fault>
+    ensures fault { IfSome result (HasEndFault given due captured) }
+    ensures none { IfNone result (IsSomeAnd due (λ answer. answer.reply ≡ captured)) }
+{
+    let Some(answer) = due else {
+        return Some(Fault::NotGiven);
+    };
+    if is_same_reply(&answer.reply, &captured) {
+        return None;
+    }
+    if given {
+        return Some(Fault::NotGiven);
+    }
+    Some(Fault::WrongReply(answer.reply, captured))
+}
+
+/// The reply that must come at a link, for this source.
+pub fn must_come(watch: &Watch, link: Link, wide: u16, port: usize, source: u16) -> Option<Answer>
+    requires { wide < WIDES }
+    ensures { result ≡ must_by (is_given watch.now.layout link port) source
+        (crossing_at watch.now.crossings wide) (flight_in watch.now link wide).due }
+{
+    if watch.is_given(link, port) {
+        return given_to(source, watch.crossing(wide));
+    }
+    match &watch.flight(link, wide).due {
+        Some(answer) => Some(answer.copy()),
+        None => None,
+    }
+}
+
+/// The fault of the reply that a beat ends, if it ends one.
+fn whole_fault(watch: &Watch, link: Link, wide: u16, beat: &DBeat) -> Option<Fault>
+    requires known { HasLink watch.now.layout link }
+    requires wide { wide < WIDES }
+    requires fits { FitsReply (under_in watch.now link).replying beat.now }
+    ensures fault { (plan : Plan) (at : ℕ) (ask : Request) → Suits plan watch.now
+        → (flight_in watch.now link wide).turn ≡ Asked at ask
+        → IfSome result (IsEndFault plan watch.now link wide beat.now ask) }
+    ensures none { (plan : Plan) (at : ℕ) (ask : Request) → Suits plan watch.now
+        → (flight_in watch.now link wide).turn ≡ Asked at ask
+        → IfNone result (IsEndWell plan watch.now link wide beat.now ask) }
+{
+    let under = watch.link(link);
+    if !under.ends_reply(beat) {
+        return None;
+    }
+    let Turn::Asked(_, ask) = &watch.flight(link, wide).turn else {
+        return None;
+    };
+    let port = watch.port(link, ask.address(), ask.size());
+    let due = must_come(watch, link, wide, port, beat.source);
+    end_fault(
+        watch.is_given(link, port),
+        due,
+        under.reply(beat, ask.address()),
+    )
+}
+
+/// What a beat ends that ends a reply.
+pub fn seen_end(watch: &Watch, link: Link, wide: u16, beat: &DBeat) -> Seen
+    requires known { HasLink watch.now.layout link }
+    requires wide { wide < WIDES }
+    ensures { (plan : Plan) → Suits plan watch.now
+        → result ≡ seen_reply (flight_in watch.now link wide).turn (due_at plan watch.now link wide beat.now) }
+{
+    let Turn::Asked(_, ask) = &watch.flight(link, wide).turn else {
+        return Seen::Part;
+    };
+    let port = watch.port(link, ask.address(), ask.size());
+    match must_come(watch, link, wide, port, beat.source) {
+        Some(answer) => Seen::WholeReply(entry_of(ask, answer)),
+        None => Seen::Part,
+    }
+}
+
+/// The entry of a request that gets this answer.
+fn entry_of(ask: &Ask, answer: Answer) -> Entry
+    ensures { result ≡ entry_of ask.now answer }
+{
+    Entry {
+        ask: ask.copy(),
+        reply: answer.reply,
+        port: answer.port,
+        index: answer.index,
+    }
+}
+
+/// Judges a beat of a reply: its wide source, or the first fault that it has.
+pub fn judge_reply(watch: &Watch, link: Link, beat: &DBeat, known: u8) -> Result<u16, Fault>
+    requires { HasLink watch.now.layout link }
+    ensures fault { (plan : Plan) → Suits plan watch.now
+        → IfErr result (IsFirstReplyFault watch.now.layout link
+        (scene_in plan watch.now link (D beat.now)) beat.now known) }
+    ensures allowed { (plan : Plan) → Suits plan watch.now
+        → OnOk result (IsAllowedReply watch.now.layout link
+        (scene_in plan watch.now link (D beat.now)) beat.now known) }
+    ensures fits { OnOk result (FitsReply (under_in watch.now link).replying beat.now) }
+    ensures wide { IfOk result (IsWideAt watch.now.layout link beat.now.source) }
+    ensures in_limit { IfOk result (λ wide. wide < WIDES) }
+{
+    if let Some(fault) = watch.link(link).reply_fault(beat) {
+        return Err(Fault::Form(fault));
+    }
+    let Some(wide) = watch.wide(link, beat.source) else {
+        return Err(Fault::NoSuchSource);
+    };
+    let turn = &watch.flight(link, wide).turn;
+    if let Some(fault) = answer_fault(turn, number_of(link), beat, known) {
+        return Err(fault);
+    }
+    if let Some(fault) = whole_fault(watch, link, wide, beat) {
+        return Err(fault);
+    }
+    Ok(wide)
+}

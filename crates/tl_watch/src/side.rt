@@ -1,0 +1,132 @@
+//! One side of a crossbar.
+ghost use Rattle.std.specs.Prelude.{◌≡◌, ◌<◌, ℕ, length, IfOk};
+ghost use Rattle.tl_link.specs.Past.{nothing_under};
+ghost use Rattle.tl_watch.specs.Scene.{idle};
+ghost use Rattle.tl_watch.specs.View.{under_at, flight_at, side_crossed, side_with};
+ghost use Rattle.tl_watch.specs.Side.{Fits};
+
+use crate::flight::{Flight, Turn};
+use std::alloc::{AllocError, Global};
+use std::marker::Model;
+use std::mem;
+use tl_link::{Beat, UnderWay};
+use tl_map::MAX_SOURCES;
+use tl_types::MAX_MASTERS;
+
+/// How many wide sources there may be.
+pub const WIDES: usize = MAX_MASTERS * MAX_SOURCES as usize;
+
+/// The messages under way at each link of a side, and what is in flight there of each wide source.
+#[derive(Drop)]
+pub struct Side {
+    links: Vec<UnderWay>,
+    flights: Vec<Flight>,
+}
+
+impl Model for Side {
+    ghost use Rattle.std.specs.Prelude.{◌≡◌, length};
+    ghost use Rattle.tl_watch.specs.View.{SideView};
+    ghost use Rattle.tl_watch.specs.declared.side.TheConstants.{WIDES};
+
+    ghost Value = { SideView };
+
+    ghost view = { λ s. record { links = s.links.items; flights = s.flights.items } };
+
+    ghost invariant = { λ s. length s.flights.items ≡ WIDES };
+}
+
+/// Nothing in flight.
+pub fn idle() -> Flight
+    ensures { result ≡ idle }
+{
+    Flight {
+        turn: Turn::Idle,
+        due: None,
+    }
+}
+
+/// As many links, with no message under way.
+fn fresh_links(alloc: Global, count: usize) -> Result<Vec<UnderWay>, AllocError>
+    ensures counted { IfOk result (λ links. length links.items ≡ count) }
+    ensures fresh { IfOk result (λ links. (number : ℕ) → under_at links.items number ≡ nothing_under) }
+{
+    let mut links = Vec::with_capacity(alloc, count)?;
+    for _link in 0..count {
+        links.push(UnderWay::new())?;
+    }
+    Ok(links)
+}
+
+/// Nothing in flight of any wide source.
+fn fresh_flights(alloc: Global) -> Result<Vec<Flight>, AllocError>
+    ensures counted { IfOk result (λ flights. length flights.items ≡ WIDES) }
+    ensures fresh { IfOk result (λ flights. (wide : ℕ) → flight_at flights.items wide ≡ idle) }
+{
+    let mut flights = Vec::with_capacity(alloc, WIDES)?;
+    for _wide in 0..WIDES {
+        flights.push(idle())?;
+    }
+    Ok(flights)
+}
+
+impl Side {
+    /// A side with so many links, before any beat.
+    pub fn new(alloc: Global, links: usize) -> Result<Side, AllocError>
+        ensures counted { IfOk result (λ side. length side.links ≡ links) }
+        ensures links { IfOk result (λ side. (number : ℕ) → under_at side.links number ≡ nothing_under) }
+        ensures flights { IfOk result (λ side. (wide : ℕ) → flight_at side.flights wide ≡ idle) }
+    {
+        Ok(Side {
+            links: fresh_links(alloc, links)?,
+            flights: fresh_flights(alloc)?,
+        })
+    }
+
+    /// How many wide sources it keeps.
+    pub fn wides(&self) -> usize
+        ensures value { result ≡ length self.now.flights }
+        ensures all { result ≡ WIDES }
+    {
+        self.flights.len()
+    }
+
+    /// The messages under way at a link.
+    pub fn link(&self, number: usize) -> &UnderWay
+        requires { number < length self.now.links }
+        ensures { result.now ≡ under_at self.now.links number }
+    {
+        &self.links[number]
+    }
+
+    /// What is in flight of a wide source.
+    pub fn flight(&self, wide: u16) -> &Flight
+        requires { wide < WIDES }
+        ensures { result.now ≡ flight_at self.now.flights wide }
+    {
+        &self.flights[wide as usize]
+    }
+
+    /// A beat crosses a link.
+    pub fn cross(&mut self, number: usize, beat: &Beat)
+        requires within { number < length self.old.links }
+        requires fits { Fits (under_at self.old.links number) beat.now }
+        ensures { self.new ≡ side_crossed self.old number beat.now }
+    {
+        match beat {
+            Beat::A(beat) => self.links[number].take_ask(beat),
+            Beat::D(beat) => self.links[number].take_reply(beat),
+        }
+    }
+
+    /// A beat crosses a link, and this is in flight of its wide source from then on; the answer is what was before.
+    pub fn cross_with(&mut self, number: usize, beat: &Beat, wide: u16, flight: Flight) -> Flight
+        requires within { number < length self.old.links }
+        requires fits { Fits (under_at self.old.links number) beat.now }
+        requires wide { wide < WIDES }
+        ensures after { self.new ≡ side_with self.old number beat.now wide flight }
+        ensures before { result ≡ flight_at self.old.flights wide }
+    {
+        self.cross(number, beat);
+        mem::replace(&mut self.flights[wide as usize], flight)
+    }
+}

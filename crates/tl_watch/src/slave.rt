@@ -1,0 +1,28 @@
+//! A port's slave, as the judge keeps it.
+ghost use Rattle.std.specs.Prelude.{◌≡◌, Some};
+ghost use Rattle.tl_watch.specs.Scene.{served_by, answer_by};
+
+use crate::flight::Answer;
+use tl_ops::Bank;
+use tl_types::Ask;
+
+/// A port's memory, and how many requests it has served.
+#[derive(Drop)]
+pub struct Slave {
+    pub bank: Bank,
+    /// Modulo 2^64.
+    pub served: usize,
+}
+
+impl Slave {
+    /// Serves a request, as the slave of this port.
+    pub fn serve(&mut self, port: usize, ask: &Ask) -> Answer
+        ensures served { self.new ≡ served_by self.old ask.now }
+        ensures answer { Some result ≡ answer_by port self.old (Some ask.now) }
+    {
+        let index = self.served;
+        let reply = self.bank.serve(ask);
+        self.served = index.wrapping_add(1);
+        Answer { reply, port, index }
+    }
+}

@@ -1,0 +1,452 @@
+//! The judge of what crossed the links of a crossbar.
+ghost use Rattle.std.specs.Prelude.{◌≡◌, ◌<◌, ◌≤◌, ◌↔◌, ◌+◌, ℕ, List, [], ◌∷◌, length, map, Some, None, IsTrue, IfOk, IsOk, OnOk, OnErr, IfErr, IfSome, IfNone};
+ghost use Rattle.tl_map.specs.Block.{IsWide};
+ghost use Rattle.tl_map.specs.Map.{RoutesBytes};
+ghost use Rattle.tl_link.specs.declared.beat.Beat.{Beat};
+ghost use Rattle.tl_link.specs.declared.beat.Beat.TheVariants.{A, D};
+ghost use Rattle.tl_link.specs.declared.beat.Sighting.{Sighting};
+ghost use Rattle.tl_link.specs.Form.{FitsAsk, FitsReply};
+ghost use Rattle.tl_link.specs.Past.{ends_ask, ends_reply};
+ghost use Rattle.tl_watch.specs.declared.flight.Crossing.TheVariants.{Waiting};
+ghost use Rattle.tl_watch.specs.Plan.{Plan, IsPlan, Side, side_of, HasLink, HasSource, IsWideAt, crosses, are_both, IsWatched};
+ghost use Rattle.tl_watch.specs.Scene.{ask_by, takes_effect, effect_by, answer_by, is_given, turn_by, seen_ask, idle};
+ghost use Rattle.tl_watch.specs.Lawful.{IsLawful, IsFirstFault, what_is_seen};
+ghost use Rattle.tl_watch.specs.View.{View, IsSized, Keeps, side_in, under_in, flight_in, crossing_at, fresh_slave, slave_at, slaves_with, effect_in, with_ask_at, with_ask, with_part, with_end};
+
+use crate::asks::judge_ask;
+use crate::fault::Fault;
+use crate::flight::{Answer, Crossing, Flight, turn_by};
+use crate::links::Links;
+use crate::replies::{judge_reply, number_of, seen_end};
+use crate::seen::Seen;
+use crate::side::{Side, WIDES, idle};
+use crate::slave::Slave;
+use std::alloc::{AllocError, Global};
+use std::marker::Model;
+use tl_beats::{ABeat, DBeat};
+use tl_link::{Beat, Link, Sighting, UnderWay};
+use tl_map::{Map, Sources};
+use tl_ops::Bank;
+use tl_types::{Ask, LARGEST_SIZE};
+
+/// What a judge keeps of the beats so far.
+#[derive(Drop)]
+pub struct Watch {
+    links: Links,
+    map: Map,
+    sources: Sources,
+    pub(crate) masters: Side,
+    pub(crate) ports: Side,
+    pub(crate) crossings: Vec<Crossing>,
+    slaves: Vec<Slave>,
+}
+
+impl Model for Watch {
+    ghost use Rattle.tl_watch.specs.Lawful.{IsLawful, IsFirstFault, what_is_seen};
+    ghost use Rattle.tl_watch.specs.View.{View, IsSized};
+
+    ghost Value = { View };
+
+    ghost view = { λ w. record {
+      layout = record { links = w.links; counts = w.sources; ranges = w.map };
+      masters = w.masters;
+      ports = w.ports;
+      crossings = w.crossings.items;
+      slaves = w.slaves.items;
+    } };
+
+    ghost invariant = { λ w. IsSized (record {
+      layout = record { links = w.links; counts = w.sources; ranges = w.map };
+      masters = w.masters;
+      ports = w.ports;
+      crossings = w.crossings.items;
+      slaves = w.slaves.items;
+    }) };
+}
+
+/// A wide source, if a master has it.
+fn owned(sources: &Sources, source: u16) -> Option<u16>
+    ensures wide { (wide : ℕ) → (result ≡ Some wide)
+        ↔ ((wide ≡ source) × ((master own : ℕ) × IsWide sources.now master own source)) }
+    ensures in_limit { IfSome result (λ wide. wide < WIDES) }
+{
+    // what it widens to is this very source: asked for its limit
+    match sources.owner(source) {
+        Some((master, own)) => sources.widen(master, own),
+        None => None,
+    }
+}
+
+/// The slaves that hold these banks, before any request.
+fn slaves_of(alloc: Global, banks: Vec<Bank>) -> Result<Vec<Slave>, AllocError>
+    ensures { IfOk result (λ slaves. slaves.items ≡ map fresh_slave banks.items) }
+{
+    let mut slaves = Vec::with_capacity(alloc, banks.len())?;
+    for bank in banks {
+        slaves.push(Slave { bank, served: 0 })?;
+    }
+    Ok(slaves)
+}
+
+/// No request has come across of any wide source.
+fn fresh_crossings(alloc: Global) -> Result<Vec<Crossing>, AllocError>
+    ensures counted { IfOk result (λ crossings. length crossings.items ≡ WIDES) }
+    ensures fresh { IfOk result (λ crossings. (wide : ℕ) → crossing_at crossings.items wide ≡ Waiting) }
+{
+    let mut crossings = Vec::with_capacity(alloc, WIDES)?;
+    for _wide in 0..WIDES {
+        crossings.push(Crossing::Waiting)?;
+    }
+    Ok(crossings)
+}
+
+impl Watch {
+    /// The judge of a crossbar with these ports and sources, whose slaves hold this at reset, the error port's last, before any
+    /// beat.
+    pub fn new(
+        alloc: Global,
+        links: Links,
+        map: Map,
+        sources: Sources,
+        banks: Vec<Bank>,
+    ) -> Result<Watch, AllocError>
+        requires { length banks.items ≡ length map + 1 }
+        ensures layout { IfOk result (λ watch. watch.layout ≡ record { links = links; counts = sources; ranges = map }) }
+        ensures keeps { (plan : Plan) → IsPlan plan → plan.layout ≡ record { links = links; counts = sources; ranges = map }
+            → plan.resets ≡ banks.items → IfOk result (Keeps plan []) }
+    {
+        let masters = Side::new(alloc, sources.masters())?;
+        let ports = Side::new(alloc, map.ports() - 1)?;
+        let crossings = fresh_crossings(alloc)?;
+        let slaves = slaves_of(alloc, banks)?;
+        Ok(Watch::of(links, map, sources, masters, ports, crossings, slaves))
+    }
+
+    /// The judge of these parts.
+    fn of(
+        links: Links,
+        map: Map,
+        sources: Sources,
+        masters: Side,
+        ports: Side,
+        crossings: Vec<Crossing>,
+        slaves: Vec<Slave>,
+    ) -> Watch
+        requires masters { length masters.links ≡ length sources }
+        requires ports { length ports.links ≡ length map }
+        requires crossings { length crossings.items ≡ WIDES }
+        requires slaves { length slaves.items ≡ length map + 1 }
+        ensures { result ≡ record {
+          layout = record { links = links; counts = sources; ranges = map };
+          masters = masters;
+          ports = ports;
+          crossings = crossings.items;
+          slaves = slaves.items;
+        } }
+    {
+        Watch {
+            links,
+            map,
+            sources,
+            masters,
+            ports,
+            crossings,
+            slaves,
+        }
+    }
+
+    /// The side that a link is on.
+    fn side(&self, link: Link) -> &Side
+        ensures { result.now ≡ side_in self.now (side_of link) }
+    {
+        match link {
+            Link::Master(_) => &self.masters,
+            Link::Port(_) => &self.ports,
+        }
+    }
+
+    /// The messages under way at a link.
+    pub(crate) fn link(&self, link: Link) -> &UnderWay
+        requires { HasLink self.now.layout link }
+        ensures { result.now ≡ under_in self.now link }
+    {
+        match link {
+            Link::Master(number) => self.masters.link(number),
+            Link::Port(number) => self.ports.link(number),
+        }
+    }
+
+    /// What is in flight of a wide source, on the side that a link is on.
+    pub(crate) fn flight(&self, link: Link, wide: u16) -> &Flight
+        requires { wide < WIDES }
+        ensures { result.now ≡ flight_in self.now link wide }
+    {
+        self.side(link).flight(wide)
+    }
+
+    /// How far the request of a wide source has come across.
+    pub(crate) fn crossing(&self, wide: u16) -> &Crossing
+        requires { wide < WIDES }
+        ensures { result.now ≡ crossing_at self.now.crossings wide }
+    {
+        &self.crossings[wide as usize]
+    }
+
+    /// The wide source of a source at a link, if the link has it.
+    pub(crate) fn wide(&self, link: Link, source: u16) -> Option<u16>
+        ensures wide { (wide : ℕ) → (result ≡ Some wide) ↔ IsWideAt self.now.layout link source wide }
+        ensures in_limit { IfSome result (λ wide. wide < WIDES) }
+    {
+        match link {
+            Link::Master(master) => self.sources.widen(master, source),
+            Link::Port(_) => owned(&self.sources, source),
+        }
+    }
+
+    /// The port that requests at a link go to, of this address and size.
+    pub(crate) fn port(&self, link: Link, address: u64, size: u8) -> usize
+        requires known { HasLink self.now.layout link }
+        requires in_limit { size ≤ LARGEST_SIZE }
+        ensures master { (number port : ℕ) → link ≡ Link.Master number
+            → (result ≡ port) ↔ RoutesBytes self.now.layout.ranges address size port }
+        ensures port { (number : ℕ) → link ≡ Link.Port number → result ≡ number }
+        ensures in_ports { result < length self.now.slaves }
+    {
+        match link {
+            Link::Master(_) => self.map.route_bytes(address, size),
+            Link::Port(port) => port,
+        }
+    }
+
+    /// Whether the address map has bytes with the port of a link.
+    pub(crate) fn is_at_port(&self, port: usize, address: u64, size: u8) -> bool
+        requires { size ≤ LARGEST_SIZE }
+        ensures { IsTrue result ↔ RoutesBytes self.now.layout.ranges address size port }
+    {
+        self.map.route_bytes(address, size) == port
+    }
+
+    /// Whether both sides are watched.
+    pub(crate) fn watches_both(&self) -> bool
+        ensures value { result ≡ are_both self.now.layout.links }
+        ensures both { IsTrue result ↔ (self.now.layout.links ≡ Links.Both) }
+    {
+        matches!(self.links, Links::Both)
+    }
+
+    /// Whether requests to a port are seen on both sides.
+    pub(crate) fn crosses(&self, port: usize) -> bool
+        ensures { result ≡ crosses self.now.layout port }
+    {
+        matches!(self.links, Links::Both) && port < self.map.ports() - 1
+    }
+
+    /// Whether the reply that must come at a link is what a port gave.
+    pub(crate) fn is_given(&self, link: Link, port: usize) -> bool
+        ensures { result ≡ is_given self.now.layout link port }
+    {
+        match link {
+            Link::Master(_) => self.crosses(port),
+            Link::Port(_) => false,
+        }
+    }
+
+    /// Whether requests to a port take effect as they are seen at a link.
+    fn takes_effect(&self, link: Link, port: usize) -> bool
+        ensures { result ≡ takes_effect self.now.layout link port }
+    {
+        match link {
+            Link::Master(_) => !self.crosses(port),
+            Link::Port(_) => true,
+        }
+    }
+
+    /// Serves a request that has ended at a link, if one has and it takes effect there.
+    pub(crate) fn serve(&mut self, link: Link, port: usize, ask: &Option<Ask>) -> Option<Answer>
+        requires { port < length self.old.slaves }
+        ensures after { self.new ≡ record self.old {
+          slaves = slaves_with self.old.slaves port (effect_in self.old link port ask.now);
+        } }
+        ensures answer { result
+            ≡ answer_by port (slave_at self.old.slaves port) (effect_in self.old link port ask.now) }
+    {
+        let Some(ask) = ask else {
+            return None;
+        };
+        if !self.takes_effect(link, port) {
+            return None;
+        }
+        Some(self.slaves[port].serve(port, ask))
+    }
+
+    /// That what is kept is of its sizes: it is called for its clauses alone.
+    fn sized(&self)
+        ensures sized { IsSized self.now }
+        ensures masters { length self.now.masters.flights ≡ WIDES }
+        ensures ports { length self.now.ports.flights ≡ WIDES }
+    {
+        let _masters = self.masters.wides();
+        let _ports = self.ports.wides();
+    }
+
+    /// A beat of a request crosses at a link, and this is in flight of its wide source from then on.
+    fn cross_ask(&mut self, link: Link, wide: u16, beat: &ABeat, flight: Flight)
+        requires known { HasLink self.old.layout link }
+        requires wide { wide < WIDES }
+        requires fits { FitsAsk (under_in self.old link).asking beat.now }
+        ensures { self.new ≡ with_ask_at self.old link wide beat.now flight }
+    {
+        let ends = self.link(link).ends_ask(beat);
+        match link {
+            Link::Master(number) => {
+                let _before = self
+                    .masters
+                    .cross_with(number, &Beat::A(*beat), wide, flight);
+                self.crossings[wide as usize] = Crossing::Waiting;
+            }
+            Link::Port(number) => {
+                let _before = self.ports.cross_with(number, &Beat::A(*beat), wide, flight);
+                if ends {
+                    self.crossings[wide as usize] = Crossing::Crossed;
+                }
+            }
+        }
+    }
+
+    /// A beat of a request crosses at a link, of this wide source and to this port: what it ends.
+    pub(crate) fn take_ask(&mut self, link: Link, wide: u16, port: usize, beat: &ABeat) -> Seen
+        requires known { HasLink self.old.layout link }
+        requires wide { wide < WIDES }
+        requires port { port < length self.old.slaves }
+        requires fits { FitsAsk (under_in self.old link).asking beat.now }
+        ensures after { self.new ≡ with_ask self.old link wide port beat.now }
+        ensures seen { result ≡ seen_ask (ask_by (under_in self.old link).asking beat.now) }
+    {
+        let ask = ended_ask(self.link(link), beat);
+        let due = self.serve(link, port, &ask);
+        let seen = seen_ask(&ask);
+        let turn = turn_by(number_of(link), ask);
+        self.cross_ask(link, wide, beat, Flight { turn, due });
+        seen
+    }
+
+    /// A beat of a reply crosses at a link that does not end it.
+    pub(crate) fn take_part(&mut self, link: Link, beat: &DBeat)
+        requires known { HasLink self.old.layout link }
+        requires fits { FitsReply (under_in self.old link).replying beat.now }
+        ensures { self.new ≡ with_part self.old link beat.now }
+    {
+        match link {
+            Link::Master(number) => self.masters.cross(number, &Beat::D(*beat)),
+            Link::Port(number) => self.ports.cross(number, &Beat::D(*beat)),
+        }
+    }
+
+    /// A beat of a reply crosses at a link that ends it, of this wide source.
+    pub(crate) fn take_end(&mut self, link: Link, wide: u16, beat: &DBeat)
+        requires known { HasLink self.old.layout link }
+        requires wide { wide < WIDES }
+        requires fits { FitsReply (under_in self.old link).replying beat.now }
+        ensures { self.new ≡ with_end self.old link wide beat.now }
+    {
+        match link {
+            Link::Master(number) => {
+                let _before = self
+                    .masters
+                    .cross_with(number, &Beat::D(*beat), wide, idle());
+            }
+            Link::Port(number) => {
+                let before = self.ports.cross_with(number, &Beat::D(*beat), wide, idle());
+                if let Some(answer) = before.due {
+                    self.crossings[wide as usize] = Crossing::Given(answer);
+                }
+            }
+        }
+    }
+
+    /// Judges one beat more of channel A.
+    fn step_ask(&mut self, link: Link, beat: &ABeat, known: u8) -> Result<Seen, Fault>
+        requires { HasLink self.old.layout link }
+        ensures fault { (plan : Plan) (past : List Sighting) → Keeps plan past self.old
+            → IfErr result (IsFirstFault plan past (record { link = link; beat = A beat.now; known = known })) }
+        ensures keeps { (plan : Plan) (past : List Sighting) → Keeps plan past self.old
+            → OnOk result (Keeps plan (record { link = link; beat = A beat.now; known = known } ∷ past) self.new) }
+        ensures seen { (plan : Plan) (past : List Sighting) → Keeps plan past self.old
+            → IfOk result (λ s. s ≡ what_is_seen plan past (record { link = link; beat = A beat.now; known = known })) }
+        ensures err { OnErr result (self.new ≡ self.old) }
+    {
+        self.sized();
+        let place = match judge_ask(self, link, beat, known) {
+            Ok(place) => place,
+            Err(fault) => return Err(fault),
+        };
+        Ok(self.take_ask(link, place.wide, place.port, beat))
+    }
+
+    /// Judges one beat more of channel D.
+    fn step_reply(&mut self, link: Link, beat: &DBeat, known: u8) -> Result<Seen, Fault>
+        requires { HasLink self.old.layout link }
+        ensures fault { (plan : Plan) (past : List Sighting) → Keeps plan past self.old
+            → IfErr result (IsFirstFault plan past (record { link = link; beat = D beat.now; known = known })) }
+        ensures keeps { (plan : Plan) (past : List Sighting) → Keeps plan past self.old
+            → OnOk result (Keeps plan (record { link = link; beat = D beat.now; known = known } ∷ past) self.new) }
+        ensures seen { (plan : Plan) (past : List Sighting) → Keeps plan past self.old
+            → IfOk result (λ s. s ≡ what_is_seen plan past (record { link = link; beat = D beat.now; known = known })) }
+        ensures err { OnErr result (self.new ≡ self.old) }
+    {
+        self.sized();
+        let wide = match judge_reply(self, link, beat, known) {
+            Ok(wide) => wide,
+            Err(fault) => return Err(fault),
+        };
+        if !self.link(link).ends_reply(beat) {
+            self.take_part(link, beat);
+            return Ok(Seen::Part);
+        }
+        let seen = seen_end(self, link, wide, beat);
+        self.take_end(link, wide, beat);
+        Ok(seen)
+    }
+
+    /// Judges one beat more, at a link that is watched: what it ends, or its first fault, which changes nothing.
+    pub fn step(&mut self, sighting: &Sighting) -> Result<Seen, Fault>
+        requires known { HasLink self.old.layout sighting.now.link }
+        requires watched { IsWatched self.old.layout.links sighting.now.link }
+        ensures lawful { (plan : Plan) (past : List Sighting) → Keeps plan past self.old
+            → IsOk result ↔ IsLawful plan (sighting.now ∷ past) }
+        ensures keeps { (plan : Plan) (past : List Sighting) → Keeps plan past self.old
+            → OnOk result (Keeps plan (sighting.now ∷ past) self.new) }
+        ensures seen { (plan : Plan) (past : List Sighting) → Keeps plan past self.old
+            → IfOk result (λ s. s ≡ what_is_seen plan past sighting.now) }
+        ensures fault { (plan : Plan) (past : List Sighting) → Keeps plan past self.old
+            → IfErr result (IsFirstFault plan past sighting.now) }
+        ensures err { OnErr result (self.new ≡ self.old) }
+    {
+        match &sighting.beat {
+            Beat::A(beat) => self.step_ask(sighting.link, beat, sighting.known),
+            Beat::D(beat) => self.step_reply(sighting.link, beat, sighting.known),
+        }
+    }
+}
+
+/// The request that a beat ends, if it ends one.
+fn ended_ask(under: &UnderWay, beat: &ABeat) -> Option<Ask>
+    requires { FitsAsk under.now.asking beat.now }
+    ensures { result ≡ ask_by under.now.asking beat.now }
+{
+    if under.ends_ask(beat) {
+        Some(under.ask(beat))
+    } else {
+        None
+    }
+}
+
+/// What a beat ends that ends this request, if any.
+fn seen_ask(ask: &Option<Ask>) -> Seen
+    ensures { result ≡ seen_ask ask.now }
+{
+    match ask {
+        Some(_) => Seen::WholeAsk,
+        None => Seen::Part,
+    }
+}
