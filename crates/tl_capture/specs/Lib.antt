@@ -1,0 +1,5 @@
+pub mod Reading
+pub mod Number
+pub mod Lanes
+pub mod Columns
+pub mod Row

@@ -1,0 +1,132 @@
+//! Rows as the format's page spells them: the values are worked out by hand.
+use super::*;
+use csv::ByteRecord;
+use std::alloc::{AllocError, Global};
+use std::test::Fail;
+use tl_beats::{ABeat, DBeat};
+use tl_link::{Beat, Link, Sighting};
+
+/// The row of a line without quotes, on line 7 of a capture of a system with two masters and three ports.
+fn read(alloc: Global, line: &str) -> Result<Result<Row, RowFault>, AllocError> {
+    let mut columns = ByteRecord::new(alloc);
+    for word in line.split(',') {
+        columns.push_field(word.as_bytes())?;
+    }
+    Ok(read_row(2, 3, 7, &columns))
+}
+
+/// A beat of channel A at the first master, all fields at 0 but these.
+fn ask(source: u16, address: u64, mask: u8, lanes: [u8; 8]) -> Beat {
+    Beat::A(ABeat {
+        opcode: 4,
+        param: 0,
+        size: 2,
+        source,
+        address,
+        mask,
+        lanes,
+    })
+}
+
+#[test]
+fn rows_are_read(rt: HostRuntime) -> Result<(), Fail> {
+    let reply = DBeat {
+        opcode: 1,
+        size: 2,
+        source: 3,
+        denied: false,
+        corrupt: true,
+        lanes: [0x11, 0x22, 0x33, 0x44, 0, 0, 0, 0],
+    };
+    let rows = [
+        (
+            "1200,m0,A,4,0,2,3,1000,0f,,,",
+            1200,
+            Link::Master(0),
+            ask(3, 0x1000, 0x0f, [0; 8]),
+            0xff,
+        ),
+        (
+            "1250,p2,D,1,,2,3,,,xxxxxxxx44332211,0,1",
+            1250,
+            Link::Port(2),
+            Beat::D(reply),
+            0x0f,
+        ),
+        // the largest values, digits of both cases, and zeros that lead
+        (
+            "18446744073709551615,m01,A,4,000,02,65535,fFfFfFfFfFfFfFfF,Ff,0102030405060708,,",
+            u64::MAX,
+            Link::Master(1),
+            ask(0xffff, u64::MAX, 0xff, [8, 7, 6, 5, 4, 3, 2, 1]),
+            0xff,
+        ),
+        // one unknown digit makes its lane unknown
+        (
+            "0,p0,A,4,0,2,0,0,00,zZ0203Xx0506078x,,",
+            0,
+            Link::Port(0),
+            ask(0, 0, 0, [0, 7, 6, 5, 0, 3, 2, 0]),
+            0x6e,
+        ),
+    ];
+    for (line, time, link, beat, known) in rows {
+        let sighting = Sighting { link, beat, known };
+        let row = Row {
+            line: 7,
+            time,
+            sighting,
+        };
+        assert!(rt; read(rt.alloc(), line)? == Ok(row), "{line}");
+    }
+    Ok(())
+}
+
+const FAULTS: [(&str, RowFault); 26] = [
+    ("", RowFault::Columns),
+    ("1,m0,A,4,0,2,3,1000,0f,,", RowFault::Columns),
+    ("x,m9,A,4,0,2,3,1000,0f,,,,", RowFault::Columns),
+    (",m0,A,4,0,2,3,1000,0f,,,", RowFault::Number),
+    ("+1,m9,A,4,0,2,3,1000,0f,,,", RowFault::Number),
+    ("0x1,m0,A,4,0,2,3,1000,0f,,,", RowFault::Number),
+    (
+        "18446744073709551616,m9,A,4,0,2,3,1000,0f,,,",
+        RowFault::Range,
+    ),
+    (
+        "99999999999999999999x,m0,A,4,0,2,3,1000,0f,,,",
+        RowFault::Number,
+    ),
+    ("1,m2,C,4,0,2,3,1000,0f,,,", RowFault::Link),
+    ("1,p3,A,4,0,2,3,1000,0f,,,", RowFault::Link),
+    ("1,m,A,4,0,2,3,1000,0f,,,", RowFault::Link),
+    (
+        "1,m18446744073709551616,A,4,0,2,3,1000,0f,,,",
+        RowFault::Link,
+    ),
+    ("1,M0,A,4,0,2,3,1000,0f,,,", RowFault::Link),
+    ("1,m0,a,256,0,2,3,1000,0f,,,", RowFault::Channel),
+    ("1,m0,A,256,x,2,3,1000,0f,,,", RowFault::Range),
+    ("1,m0,A,4,,2,3,1000,0f,,,", RowFault::Number),
+    ("1,m0,D,4,0,256,3,,,,0,0", RowFault::Number),
+    ("1,m0,D,4,,256,x,,,,0,0", RowFault::Range),
+    ("1,m0,A,4,0,2,65536,,0f,,,", RowFault::Range),
+    ("1,m0,A,4,0,2,3,00000000000001000,0f,,,", RowFault::Number),
+    ("1,m0,A,4,0,2,3,1000,f,,,", RowFault::Number),
+    ("1,m0,A,4,0,2,3,1000,0f,0,,", RowFault::Number),
+    (
+        "1,m0,A,4,0,2,3,1000,0f,010203040506070w,,",
+        RowFault::Number,
+    ),
+    ("1,m0,A,4,0,2,3,1000,0f,,0,", RowFault::Number),
+    ("1,m0,D,4,,2,3,1000,,,0,0", RowFault::Number),
+    ("1,m0,D,4,,2,3,,,,0,", RowFault::Number),
+];
+
+#[test]
+fn the_first_fault_is_named(rt: HostRuntime) -> Result<(), Fail> {
+    for (line, fault) in &FAULTS {
+        assert!(rt; read(rt.alloc(), line)? == Err(*fault), "{line}");
+    }
+    Ok(())
+}
