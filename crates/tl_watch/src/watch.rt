@@ -112,6 +112,7 @@ impl Watch {
     ) -> Result<Watch, AllocError>
         requires { length banks.items ≡ length map + 1 }
         ensures layout { IfOk result (λ watch. watch.layout ≡ record { links = links; counts = sources; ranges = map }) }
+        ensures plan { IfOk result (λ watch. (plan : Plan) × (plan.resets ≡ banks.items) × Keeps plan [] watch) }
         ensures keeps { (plan : Plan) → IsPlan plan → plan.layout ≡ record { links = links; counts = sources; ranges = map }
             → plan.resets ≡ banks.items → IfOk result (Keeps plan []) }
     {
@@ -152,6 +153,18 @@ impl Watch {
             ports,
             crossings,
             slaves,
+        }
+    }
+
+    /// Whether the crossbar has a link, and it is watched.
+    pub fn watches(&self, link: Link) -> bool
+        ensures { IsTrue result
+            ↔ (HasLink self.now.layout link × IsWatched self.now.layout.links link) }
+    {
+        match (link, self.links) {
+            (Link::Master(master), Links::Both | Links::Masters) => master < self.sources.masters(),
+            (Link::Port(port), Links::Both | Links::Ports) => port < self.map.ports() - 1,
+            (Link::Master(_), Links::Ports) | (Link::Port(_), Links::Masters) => false,
         }
     }
 
