@@ -7,3 +7,4 @@ pub mod Resets
 pub mod Systems
 pub mod Names
 pub mod Printed
+pub mod Pooled

@@ -3,6 +3,7 @@ pub mod Name
 pub mod Number
 pub mod Word
 pub mod Operation
+pub mod Operations
 pub mod Trace
 pub mod System
 pub mod Key

@@ -31,9 +31,9 @@ abbrev pub lists_of : {A : Type 0} → List (Vec A Global) → List (List A)
 lists_of vectors = map (λ vector. vector.items) vectors
 
 -- the system of these parts
-abbrev pub described : ℕ → List Device → List ℕ → List Range → List (Vec Job Global) → System
+abbrev pub described : ℕ → List Device → List ℕ → List Range → List (List Job) → System
 described slots devices counts ranges jobs =
-    record { slots = slots; stores = map store_of devices; counts = counts; ranges = ranges; jobs = lists_of jobs }
+    record { slots = slots; stores = map store_of devices; counts = counts; ranges = ranges; jobs = jobs }
 
 -- the slave behind the error port: it holds nothing and denies everything
 abbrev pub error_store : Store

@@ -3,10 +3,11 @@ ghost use Rattle.std.specs.Prelude.{◌≡◌, ◌<◌, ◌≤◌, IfErr, IfOk, 
 ghost use Rattle.toml.specs.View.{table_view};
 ghost use Rattle.tl_script.specs.Master.{IsOfJobs, LawfulSoFar, jobs_from, lines_at, master_of, master_view, masters_of, operations_from};
 ghost use Rattle.tl_script.specs.Reading.{Gives, each};
-ghost use Rattle.tl_script.specs.System.{AreLawfulJobs, lists_of};
+ghost use Rattle.tl_script.specs.System.{AreLawfulJobs};
 
 use crate::fault::{Key, ScriptFault};
-use crate::operation::{Job, read_operation};
+use crate::operation::read_operation;
+use crate::operations::Operations;
 use crate::parts::Master;
 use crate::system::MAX_JOBS;
 use crate::value::{list_at, number_at, tables_of, texts_of, value_at};
@@ -71,29 +72,30 @@ pub fn read_masters<'a>(alloc: Global, table: &'a Table) -> Result<Vec<Master<'a
 }
 
 /// The operations of a master, or the lowest line that is none.
-fn read_operations(alloc: Global, m: usize, master: &Master<'_>) -> Result<Vec<Job>, ScriptFault>
-    ensures value { Gives (λ jobs. jobs.items) result
+fn read_operations(alloc: Global, m: usize, master: &Master<'_>) -> Result<Operations, ScriptFault>
+    ensures value { Gives (λ jobs. jobs) result
         (operations_from master.now.sources m 0 (map (λ line. line.now) master.now.lines.items)) }
-    ensures lawful { IfOk result (λ jobs. AreLawfulJobs master.now.sources jobs.items) }
+    ensures lawful { IfOk result (λ jobs. AreLawfulJobs master.now.sources jobs) }
     ensures bad { IfErr result IsOfJobs }
 {
-    let mut jobs = Vec::with_capacity(alloc, master.lines.len())?;
+    let mut jobs = Operations::with_capacity(alloc, master.lines.len())?;
     for (n, line) in master.lines.iter().enumerate() {
         match read_operation(line.as_bytes(), master.sources) {
-            Some(job) => jobs.push(job)?,
+            Some(job) => jobs.push(&job)?,
             None => return Err(ScriptFault::BadOp(m, n)),
         }
     }
+    jobs.shrink_to_fit();
     Ok(jobs)
 }
 
 /// The operations of each master, or the lowest master's lowest line that is none.
-pub fn read_jobs(alloc: Global, masters: &[Master<'_>]) -> Result<Vec<Vec<Job>>, ScriptFault>
-    ensures value { Gives (λ jobs. lists_of jobs.items) result
+pub fn read_jobs(alloc: Global, masters: &[Master<'_>]) -> Result<Vec<Operations>, ScriptFault>
+    ensures value { Gives (λ jobs. jobs.items) result
         (jobs_from 0 (map master_view masters.now)) }
     ensures lawful { IfOk result
         (λ jobs. LawfulSoFar (map (λ master. master.sources) (map master_view masters.now))
-        (lists_of jobs.items) (length masters.now)) }
+        jobs.items (length masters.now)) }
     ensures bad { IfErr result IsOfJobs }
 {
     let mut jobs = Vec::with_capacity(alloc, masters.len())?;

@@ -1,8 +1,8 @@
 //! Systems: the slaves, masters and operations that a script describes.
 ghost use Rattle.std.specs.Prelude.{◌≡◌, map};
-ghost use Rattle.tl_script.specs.System.{IsLawfulSystem, store_of, lists_of, described};
+ghost use Rattle.tl_script.specs.System.{IsLawfulSystem, store_of, described};
 
-use crate::operation::Job;
+use crate::operations::Operations;
 use std::marker::Model;
 use tl_map::{Map, Sources};
 use tl_ops::Kind;
@@ -25,7 +25,7 @@ pub struct System {
     devices: Vec<Device>,
     sources: Sources,
     map: Map,
-    jobs: Vec<Vec<Job>>,
+    jobs: Vec<Operations>,
 }
 
 impl Model for System {
@@ -45,7 +45,7 @@ impl System {
         devices: Vec<Device>,
         sources: Sources,
         map: Map,
-        jobs: Vec<Vec<Job>>,
+        jobs: Vec<Operations>,
     ) -> System
         requires { IsLawfulSystem (described slots devices.items sources map jobs.items) }
         ensures { result ≡ described slots devices.items sources map jobs.items }
@@ -89,8 +89,8 @@ impl System {
     }
 
     /// The operations of each master.
-    pub fn jobs(&self) -> &[Vec<Job>]
-        ensures value { lists_of result.now ≡ self.now.jobs }
+    pub fn jobs(&self) -> &[Operations]
+        ensures value { result.now ≡ self.now.jobs }
         ensures lawful { IsLawfulSystem self.now }
     {
         &self.jobs

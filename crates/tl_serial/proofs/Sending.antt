@@ -1,13 +1,13 @@
 -- The requests that a list of operations sends, one operation after the other, and the entries that they get.
-use Rattle.std.proofs.Common.{◌≡◌, ◌∙◌, ℕ, suc, zero, ◌+◌, ◌<◌, List, [], ◌∷◌, ◌++◌, length, take, map, Option, Some, None, IsSomeAnd, slice_get, ap, append_assoc, sym, arith}
+use Rattle.std.proofs.Common.{◌≡◌, ◌∙◌, ℕ, suc, zero, ◌+◌, ◌<◌, List, [], ◌∷◌, ◌++◌, length, take, map, Option, Some, None, IsSomeAnd, slice_get, get_or, ap, append_assoc, sym, arith}
 use Rattle.std.specs.Prelude.{All}
 use Rattle.std.proofs.lemmas.List.{append-nil, take_more, map-append}
 use Rattle.std.proofs.lemmas.List.Concat.{flat_map-append}
 use Rattle.std.proofs.lemmas.List.Elements.{filter_map-append, All-head, All-tail}
-use Rattle.std.proofs.lemmas.Option.{slice_get_within, get_or_from_slice_get}
+use Rattle.std.proofs.lemmas.Option.{slice_get-get_or, slice_get_within, get_or_from_slice_get}
 use Rattle.tl_types.specs.Request.{Request}
 use Rattle.tl_types.specs.declared.trace.Entry.{Entry}
-use Rattle.tl_script.specs.System.{sent_by, sends}
+use Rattle.tl_script.specs.System.{IsLawfulSystem, System, sent_by, sends}
 use Rattle.tl_script.specs.declared.operation.Job.{Job}
 use Rattle.tl_script.specs.declared.operation.Job.TheVariants.{Wait, Send}
 use Rattle.tl_script.specs.Trace.{lines_of, trace_line, traces_from, trace_text}
@@ -47,6 +47,13 @@ pub some_sent : (count : Option ℕ) (jobs : List Job) (i : ℕ) (ask : Request)
     → IsSomeAnd count (λ n. All (λ (a : Request). a.source < n) (sends jobs)) → IsSomeAnd count (λ n. ask.source < n)
 some_sent None jobs i ask at all = all
 some_sent (Some n) jobs i ask at all = sent_has (λ (a : Request). a.source < n) jobs i ask at all
+
+-- a master's operations are from sources that it has
+pub sources_are : (s : System) (m : ℕ) (jobs : List Job) → IsLawfulSystem s → m < length s.jobs → slice_get s.jobs m ≡ Some jobs
+    → IsSomeAnd (slice_get s.counts m) (λ count. All (λ (ask : Request). ask.source < count) (sends jobs))
+sources_are s m jobs lawful within at =
+    let count : slice_get s.counts m ≡ Some (get_or s.counts m 0) = slice_get-get_or s.counts m 0 (omega (arith, within, lawful.lists)) in
+    rw count (lawful.jobs m (get_or s.counts m 0) jobs count at).sources
 
 -- a master's trace more
 log_from-push : (master : ℕ) (traces : List (List Entry)) (entries : List Entry) → log_from master (traces ++ entries ∷ []) ≡ log_from master traces ++ numbered (master + length traces) entries

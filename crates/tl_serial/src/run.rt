@@ -8,7 +8,7 @@ ghost use Rattle.tl_serial.specs.Slave.{Stand, IsFresh, bank_of, entry_of, histo
 
 use std::alloc::Global;
 use tl_ops::{Bank, Kind};
-use tl_script::{Device, Job, System};
+use tl_script::{Device, Job, Operations, System};
 use tl_types::{Ask, Entry, Memory, Reply, Trace};
 
 /// The requests that one port served and their replies, in order, with wide sources.
@@ -100,7 +100,7 @@ fn run_master(
     slaves: &mut [Slave],
     system: &System,
     master: usize,
-    jobs: &[Job],
+    jobs: &Operations,
 ) -> Result<Trace, Memory>
     requires ready { length slaves.old ≡ length system.now.ranges + 1 }
     requires source { IsSomeAnd (slice_get system.now.counts master)
@@ -111,12 +111,12 @@ fn run_master(
         → Stand system.now keeps (log ++ numbered master trace.items) slaves.new) }
 {
     let mut trace = Trace::with_capacity(alloc, jobs.len())?;
-    for job in jobs {
-        match job {
+    for number in 0..jobs.len() {
+        match jobs.job(number) {
             Job::Wait => {}
             Job::Send(ask) => {
-                let served = send(slaves, system, master, ask)?;
-                trace.push(entry(ask, served))?;
+                let served = send(slaves, system, master, &ask)?;
+                trace.push(entry(&ask, served))?;
             }
         }
     }

@@ -6,7 +6,7 @@ ghost use Rattle.tl_serial.specs.Slave.{AreWritten, IsAppended};
 
 use crate::run::{History, Slave, run_serial, send, slaves_of};
 use std::alloc::{AllocError, Global};
-use tl_script::{Job, System, push_entry, push_history, push_traces};
+use tl_script::{Job, Operations, System, push_entry, push_history, push_traces};
 use tl_types::Memory;
 
 /// Serves a master's operations in order, and appends the lines of its trace: each request is printed as it is answered,
@@ -16,7 +16,7 @@ fn write_master(
     slaves: &mut [Slave],
     system: &System,
     master: usize,
-    jobs: &[Job],
+    jobs: &Operations,
 ) -> Result<(), Memory>
     requires ready { length slaves.old ≡ length system.now.ranges + 1 }
     requires source { IsSomeAnd (slice_get system.now.counts master)
@@ -24,12 +24,12 @@ fn write_master(
     ensures { OnOk result (IsAppended system.now master jobs.now slaves.old slaves.new
         text.old.items text.new.items) }
 {
-    for job in jobs {
-        match job {
+    for number in 0..jobs.len() {
+        match jobs.job(number) {
             Job::Wait => {}
             Job::Send(ask) => {
-                let served = send(slaves, system, master, ask)?;
-                push_entry(text, master, ask, &served.reply, served.port, served.index)?;
+                let served = send(slaves, system, master, &ask)?;
+                push_entry(text, master, &ask, &served.reply, served.port, served.index)?;
             }
         }
     }

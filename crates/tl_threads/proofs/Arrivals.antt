@@ -1,9 +1,9 @@
 -- How many requests go to each port, from request to request and from master to master.
-use Rattle.std.proofs.Common.{◌≡◌, ℕ, zero, suc, ◌+◌, ◌*◌, ◌^◌, ◌<◌, ◌≤◌, ◌∙◌, List, [], ◌∷◌, ◌++◌, length, take, replicate, get_or, slice_get, set, cond, eqb, filter, Bool, true, false, Some, Vec, option_map, refl, sym, ap, subst, arith, length-append, length-set, eq-eqb}
+use Rattle.std.proofs.Common.{◌≡◌, ℕ, zero, suc, ◌+◌, ◌*◌, ◌^◌, ◌<◌, ◌≤◌, ◌∙◌, List, [], ◌∷◌, ◌++◌, length, take, replicate, get_or, slice_get, set, cond, eqb, Some, refl, sym, ap, subst, arith, length-append, length-set, eq-eqb}
 use Rattle.std.proofs.lemmas.Bool.{ne_eqb}
-use Rattle.std.proofs.lemmas.List.{append-nil, take_more, flat_map_more, take_all, take-append-le, length-map, length-replicate}
+use Rattle.std.proofs.lemmas.List.{append-nil, take_more, flat_map_more, take_all, take-append-le, length-replicate}
 use Rattle.std.proofs.lemmas.List.Sums.{sum_by-append, count_by-le-length}
-use Rattle.std.proofs.lemmas.Option.{slice_get_within, slice_get-get_or, slice_get-map, get_or_from_slice_get}
+use Rattle.std.proofs.lemmas.Option.{slice_get_within, slice_get-get_or, get_or_from_slice_get}
 use mathlib.Core.Logic.{dite}
 use native.Mathlib.Decide.{ℕ_discrete}
 use Rattle.tl_types.specs.Request.{Request}
@@ -13,9 +13,8 @@ use Rattle.tl_map.specs.Map.{Routes}
 use Rattle.tl_script.specs.declared.operation.Job.{Job}
 use Rattle.tl_script.specs.declared.operation.Job.TheVariants.{Wait, Send}
 use Rattle.tl_types.specs.declared.limits.TheConstants.{MAX_MASTERS}
-use Rattle.tl_script.specs.System.{System, IsLawfulSystem, lists_of, sends}
+use Rattle.tl_script.specs.System.{System, IsLawfulSystem, sends}
 use Rattle.tl_script.specs.declared.system.TheConstants.{MAX_JOBS}
-use Rattle.std.specs.Global.{Global}
 use Rattle.tl_threads.proofs.Asking.{next_sends}
 use Rattle.tl_threads.proofs.Rows.{one_some}
 use Rattle.tl_threads.specs.Start.{ArePortsOf, times_in, GoTo, AddsArrivals, all_sends, AreJournals, IsNewBook}
@@ -110,16 +109,6 @@ few_before (job ∷ jobs) zero = omega arith
 few_before (Wait ∷ jobs) (suc k) = let few = few_before jobs k in omega (arith, few)
 few_before (Send ask ∷ jobs) (suc k) = let few = few_before jobs k in omega (arith, few)
 
--- the operation sends a request
-abbrev pub is_send : Job → Bool
-is_send Wait = false
-is_send (Send ask) = true
-
-pub count_of_sends : (jobs : List Job) → length (filter is_send jobs) ≡ length (sends jobs)
-count_of_sends [] = refl
-count_of_sends (Wait ∷ jobs) = count_of_sends jobs
-count_of_sends (Send ask ∷ jobs) = ap suc (count_of_sends jobs)
-
 module _ (ranges : List Range) (jobs : List Job) (k : ℕ) (d : Job) (within : k < length jobs) (old new : List ℕ) (was : AddsArrivals ranges (sends (take k jobs)) old new) where
   pub wait_adds : get_or jobs k d ≡ Wait → AddsArrivals ranges (sends (take (k + 1) jobs)) old new
   wait_adds is = subst (λ (asks : List Request). AddsArrivals ranges asks old new) (sym (next_sends jobs k d Wait within is ∙ append-nil (sends (take k jobs)))) was
@@ -165,18 +154,17 @@ from_zero ranges asks many new p m adds at =
     let none = zero_at many p was.0 was.1 in
     omega (arith, none, was.2)
 
--- the operations at a place of the vectors are those at that place of the system
-pub listed_at : (s : System) (lists : List (Vec Job Global)) (k : ℕ) (v : Vec Job Global) → lists_of lists ≡ s.jobs → k < length lists → v ≡ get_or lists k v → slice_get s.jobs k ≡ Some v.items
-listed_at s lists k v are within is =
-    ap (λ (l : List (List Job)). slice_get l k) (sym are) ∙ slice_get-map (λ (w : Vec Job Global). w.items) lists k
-    ∙ ap (option_map (λ (w : Vec Job Global). w.items)) (slice_get-get_or lists k v within) ∙ ap (λ (w : Vec Job Global). Some w.items) (sym is)
+-- the operations at a place of the lists are those at that place of the system
+pub listed_at : (s : System) (lists : List (List Job)) (k : ℕ) (own : List Job) → lists ≡ s.jobs → k < length lists → own ≡ get_or lists k own → slice_get s.jobs k ≡ Some own
+listed_at s lists k own are within is =
+    ap (λ (l : List (List Job)). slice_get l k) (sym are) ∙ slice_get-get_or lists k own within ∙ ap (λ (jobs : List Job). Some jobs) (sym is)
 
 -- and no others are there
-pub listed_here : (s : System) (lists : List (Vec Job Global)) (k : ℕ) (v : Vec Job Global) (jobs : List Job) → lists_of lists ≡ s.jobs → k < length lists → v ≡ get_or lists k v → slice_get s.jobs k ≡ Some jobs → v.items ≡ jobs
-listed_here s lists k v jobs are within is at = one_some (slice_get s.jobs k) v.items jobs (listed_at s lists k v are within is) at
+pub listed_here : (s : System) (lists : List (List Job)) (k : ℕ) (own jobs : List Job) → lists ≡ s.jobs → k < length lists → own ≡ get_or lists k own → slice_get s.jobs k ≡ Some jobs → own ≡ jobs
+listed_here s lists k own jobs are within is at = one_some (slice_get s.jobs k) own jobs (listed_at s lists k own are within is) at
 
-pub listed_many : (s : System) (lists : List (Vec Job Global)) → lists_of lists ≡ s.jobs → length lists ≡ length s.jobs
-listed_many s lists are = sym (length-map lists (λ (v : Vec Job Global). v.items)) ∙ ap (λ (l : List (List Job)). length l) are
+pub listed_many : (s : System) (lists : List (List Job)) → lists ≡ s.jobs → length lists ≡ length s.jobs
+listed_many s lists are = ap (λ (l : List (List Job)). length l) are
 
 -- a master has not too many operations
 pub short_list : (s : System) → IsLawfulSystem s → (k : ℕ) (jobs : List Job) → slice_get s.jobs k ≡ Some jobs → length jobs ≤ MAX_JOBS

@@ -216,14 +216,14 @@ module _ (a : ArenaId) (ranges : List Range) (number : ℕ) (js : List Job) wher
 
 -- what a promise that was kept says
 pub kept_promise : (a : ArenaId) (ranges : List Range) (jobs : List (List Job)) (k : ℕ) (h : Handle) (t : Vec Entry Global) → IsPromised a ranges jobs k h
-    → IsTrace h.promise.arena.value h.promise.map.value h.promise.number h.promise.jobs.value.items t.items → IsTraceOf a ranges jobs k t
+    → IsTrace h.promise.arena.value h.promise.map.value h.promise.number h.promise.jobs.value t.items → IsTraceOf a ranges jobs k t
 kept_promise a ranges jobs k h t is kept =
-    let numbered = subst (λ (n : ℕ). IsTrace h.promise.arena.value h.promise.map.value n h.promise.jobs.value.items t.items) is.number_is kept in
-    let mapped = subst (λ (rs : List Range). IsTrace h.promise.arena.value rs k h.promise.jobs.value.items t.items) is.map_is numbered in
+    let numbered = subst (λ (n : ℕ). IsTrace h.promise.arena.value h.promise.map.value n h.promise.jobs.value t.items) is.number_is kept in
+    let mapped = subst (λ (rs : List Range). IsTrace h.promise.arena.value rs k h.promise.jobs.value t.items) is.map_is numbered in
     record {
-      its_jobs = h.promise.jobs.value.items;
+      its_jobs = h.promise.jobs.value;
       at = is.jobs_are;
-      trace = subst (λ (b : ArenaId). IsTrace b ranges k h.promise.jobs.value.items t.items) is.arena_is mapped;
+      trace = subst (λ (b : ArenaId). IsTrace b ranges k h.promise.jobs.value t.items) is.arena_is mapped;
     }
 
 -- nothing was asked of a new master

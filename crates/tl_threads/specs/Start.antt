@@ -95,7 +95,7 @@ pub record IsPromised (arena : ArenaId) (ranges : List Range) (jobs : List (List
   pub number_is : h.promise.number ≡ number
   pub arena_is : h.promise.arena.value ≡ arena
   pub map_is : h.promise.map.value ≡ ranges
-  pub jobs_are : slice_get jobs number ≡ Some h.promise.jobs.value.items
+  pub jobs_are : slice_get jobs number ≡ Some h.promise.jobs.value
 
 -- the trace is that of this master's operations
 pub record IsTraceOf (arena : ArenaId) (ranges : List Range) (jobs : List (List Job)) (number : ℕ) (t : Vec Entry Global) : Type 0 where

@@ -11,7 +11,7 @@ use std::sync::Wait;
 use std::thread::yield_now;
 use tl_arena::ArenaName;
 use tl_master::{Issued, Master, Polled};
-use tl_script::Job;
+use tl_script::{Job, Operations};
 use tl_types::{Ask, Trace};
 
 /// Looks once at each source that a request is out for, the lowest first.
@@ -132,7 +132,7 @@ pub(crate) fn run_master<N: ArenaName, R: Wait, G: Gate>(
     shared: &Shared<'_, N, G>,
     number: usize,
     mut master: Master,
-    jobs: &[Job],
+    jobs: &Operations,
     mut bells: Bells,
 ) -> Trace
     requires new { IsIdle shared.now.arena.now number master }
@@ -140,8 +140,9 @@ pub(crate) fn run_master<N: ArenaName, R: Wait, G: Gate>(
     requires bells { vec_len bells.others ≡ length shared.now.system.now.ranges + 1 }
     ensures { IsTrace shared.now.arena.now shared.now.system.now.ranges number jobs.now result.items }
 {
-    for job in jobs {
-        do_job(rt, shared, &mut master, job, &mut bells);
+    for operation in 0..jobs.len() {
+        let job = jobs.job(operation);
+        do_job(rt, shared, &mut master, &job, &mut bells);
     }
     collect_all(rt, shared, &mut master, &mut bells.own);
     master.finish(shared.arena)

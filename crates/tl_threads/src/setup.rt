@@ -19,7 +19,7 @@ use tl_map::Map;
 use tl_master::Master;
 use tl_ops::{Bank, Kind};
 use tl_port::Book;
-use tl_script::{Device, Job, System};
+use tl_script::{Device, Job, Operations, System};
 use tl_types::Memory;
 
 /// The bank of each of these devices at reset, and behind them that of the error port.
@@ -48,25 +48,16 @@ fn error_bank(alloc: Global) -> Result<Bank, Memory>
     Bank::new(alloc, Kind::NoDevice, 0, &[]).map_err(|_| Memory)
 }
 
-/// How many requests these operations send.
-fn sends_of(jobs: &[Job]) -> usize
-    ensures { result ≡ length (sends jobs.now) }
-{
-    jobs.iter()
-        .filter(|job| matches!(job, Job::Send(_)))
-        .count()
-}
-
 /// Adds to each port's count the requests of these operations that go there.
-fn count_sends(map: &Map, jobs: &[Job], counts: &mut [usize])
+fn count_sends(map: &Map, jobs: &Operations, counts: &mut [usize])
     requires ports { length counts.old ≡ length map.now + 1 }
     requires room { (p n : ℕ) → slice_get counts.old p ≡ Some n → n + length jobs.now < 2 ^ 64 }
     ensures { AddsArrivals map.now (sends jobs.now) counts.old counts.new }
 {
-    for job in jobs {
-        match job {
+    for number in 0..jobs.len() {
+        match jobs.job(number) {
             Job::Wait => (),
-            Job::Send(ask) => counts[map.route(ask)] += 1,
+            Job::Send(ask) => counts[map.route(&ask)] += 1,
         }
     }
 }
@@ -158,7 +149,7 @@ fn master_thread_of(
     requires ports { length port_bells.old ≡ length system.now.ranges + 1 }
     ensures { IfOk result (λ made. IsNewMasterThread arena.now system.now number made.0) }
 {
-    let limit = sends_of(&system.jobs()[number]);
+    let limit = system.jobs()[number].requests();
     let (ringer, listeners) = Ringer::new(alloc, limit, 1)?;
     let Some(own) = listeners.into_iter().next() else {
         unreachable!()

@@ -15,14 +15,14 @@ use std::thread::{JoinHandle, Promise, PromisedHandle, Scope, Threads};
 use tl_arena::{Arena, ArenaName};
 use tl_map::Map;
 use tl_master::Master;
-use tl_script::Job;
+use tl_script::Operations;
 use tl_types::Trace;
 
 /// The promise of a master's thread: what it gives is the trace of these operations.
 #[derive(Drop)]
 pub(crate) struct TraceOf {
     pub(crate) number: usize,
-    pub(crate) jobs: Snapshot<Vec<Job>>,
+    pub(crate) jobs: Snapshot<Operations>,
     pub(crate) arena: Snapshot<Arena>,
     pub(crate) map: Snapshot<Map>,
 }
@@ -30,7 +30,7 @@ pub(crate) struct TraceOf {
 impl Promise<Trace> for TraceOf {
     ghost use Rattle.tl_threads.specs.Trace.{IsTrace};
 
-    ghost kept_by = { λ p r. IsTrace p.arena.value p.map.value p.number p.jobs.value.items r.items };
+    ghost kept_by = { λ p r. IsTrace p.arena.value p.map.value p.number p.jobs.value r.items };
 }
 
 /// Starts a master's thread. None where there is no thread to be had.
@@ -40,11 +40,11 @@ pub(crate) fn start_master<'s, 'e: 's, N: ArenaName + Send + Sync, R: Wait + Syn
     shared: &Shared<'e, N, G>,
     number: usize,
     master: Master,
-    jobs: &'e Vec<Job>,
+    jobs: &'e Operations,
     bells: Bells,
 ) -> Option<PromisedHandle<Trace, TraceOf>>
     requires new { IsIdle shared.now.arena.now number master }
-    requires room { master.limit ≡ length (sends jobs.now.items) }
+    requires room { master.limit ≡ length (sends jobs.now) }
     requires bells { vec_len bells.others ≡ length shared.now.system.now.ranges + 1 }
     ensures { IfSome result (λ h. (h.promise.number ≡ number)
         × (h.promise.arena.value ≡ shared.now.arena.now)
@@ -66,9 +66,9 @@ pub(crate) fn start_master<'s, 'e: 's, N: ArenaName + Send + Sync, R: Wait + Syn
     let run = move || -> Trace
         requires { AreShared N.arena system.now arena.now (vec_len ports.now)
             × IsIdle arena.now number master
-            × (master.limit ≡ length (sends jobs.now.items))
+            × (master.limit ≡ length (sends jobs.now))
             × (vec_len bells.others ≡ length system.now.ranges + 1) }
-        ensures { IsTrace arena.entry.now system.entry.now.ranges number jobs.entry.now.items
+        ensures { IsTrace arena.entry.now system.entry.now.ranges number jobs.entry.now
             result.items }
     {
         let shared = Shared {

@@ -87,8 +87,22 @@ fn has_operations(system: &System, master: usize, operations: usize) -> bool {
     }
 }
 
-fn job(system: &System, master: usize, operation: usize) -> Option<&Job> {
-    system.jobs().get(master)?.get(operation)
+/// Whether this many of the master's operations send a request.
+fn has_requests(system: &System, master: usize, requests: usize) -> bool {
+    match system.jobs().get(master) {
+        Some(jobs) => jobs.requests() == requests,
+        None => false,
+    }
+}
+
+/// The operation of a master; none where it has no such operation.
+fn job(system: &System, master: usize, operation: usize) -> Option<Job> {
+    let jobs = system.jobs().get(master)?;
+    if operation < jobs.len() {
+        Some(jobs.job(operation))
+    } else {
+        None
+    }
 }
 
 fn is_wait(system: &System, master: usize, operation: usize) -> bool {
@@ -96,7 +110,7 @@ fn is_wait(system: &System, master: usize, operation: usize) -> bool {
 }
 
 /// The request that a master's operation sends; none where it sends none.
-fn sent(system: &System, master: usize, operation: usize) -> Option<&Ask> {
+fn sent(system: &System, master: usize, operation: usize) -> Option<Ask> {
     match job(system, master, operation) {
         Some(Job::Send(ask)) => Some(ask),
         _ => None,
@@ -104,7 +118,7 @@ fn sent(system: &System, master: usize, operation: usize) -> Option<&Ask> {
 }
 
 /// Whether there is a request, and it has these parts.
-fn has_parts(ask: Option<&Ask>, op: AskOp, address: u64, bytes: &[Option<u8>]) -> bool {
+fn has_parts(ask: Option<Ask>, op: AskOp, address: u64, bytes: &[Option<u8>]) -> bool {
     match ask {
         Some(ask) => ask.op() == op && ask.address() == address && are(ask.bytes(), bytes),
         None => false,
@@ -145,6 +159,44 @@ fn masters_keep_their_order(rt: HostRuntime) -> Result<(), Fail> {
     assert!(rt; is_wait(&system, 1, 0));
     assert!(rt; has_parts(sent(&system, 1, 1), AskOp::Get, 0, &[]));
     assert!(rt; is_wait(&system, 1, 2));
+    Ok(())
+}
+
+/// Puts of both kinds among operations that carry nothing.
+const MIXED: &str = "slots = 1
+[[master]]
+sources = 1
+ops = ['0 putfull 0x10 1 1122', '0 putpart 0x20 1 --ff', 'wait', '0 get 0 3', '0 putfull 0x40 4 000102030405060708090a0b0c0d0e0f', '0 putpart 0x30 0 --', '0 add 0x50 2 01000000']
+";
+
+/// Which of them carry bytes: these, zero where one is left unset, and the mask of the first eight.
+const CARRIED: [(usize, &[u8], u8); 5] = [
+    (0, &[0x11, 0x22], 0b11),
+    (1, &[0, 0xff], 0b10),
+    (
+        4,
+        &[0, 1, 2, 3, 4, 5, 6, 7, 8, 9, 10, 11, 12, 13, 14, 15],
+        0xff,
+    ),
+    (5, &[0], 0),
+    (6, &[1, 0, 0, 0], 0b1111),
+];
+
+/// Whether the master's operation sends a request with these bytes and this mask of the first eight.
+fn carries(system: &System, operation: usize, plain: &[u8], mask: u8) -> bool {
+    match sent(system, 0, operation) {
+        Some(ask) => ask.bytes().plain() == plain && ask.bytes().mask(0) == mask,
+        None => false,
+    }
+}
+
+#[test]
+fn each_operation_keeps_its_own_bytes(rt: HostRuntime) -> Result<(), Fail> {
+    let system = system_of(rt.alloc(), MIXED)?;
+    for (operation, plain, mask) in &CARRIED {
+        assert!(rt; carries(&system, *operation, plain, *mask), "{operation}");
+    }
+    assert!(rt; has_requests(&system, 0, 6));
     Ok(())
 }
 

@@ -1,12 +1,8 @@
 -- One more master's operations are read.
-use Rattle.std.proofs.Common.{◌≡◌, ◌∙◌, ◌++◌, ◌∷◌, [], length, map, option_map, Some, slice_get, Vec, arith, ap, sym}
-use Rattle.std.specs.Global.{Global}
+use Rattle.std.proofs.Common.{◌≡◌, ◌∙◌, length, map, option_map, Some, slice_get, arith, ap, sym}
 use Rattle.std.proofs.lemmas.Grind.{common_steps}
-use Rattle.std.proofs.lemmas.List.{map-append}
 use Rattle.std.proofs.lemmas.Option.{slice_get-get_or, slice_get-map}
 use Rattle.tl_script.specs.Master.{Master, master_view}
-use Rattle.tl_script.specs.System.{lists_of}
-use Rattle.tl_script.specs.declared.operation.Job.{Job}
 use Rattle.tl_script.specs.declared.parts.Master as code_master
 use Rattle.tl_script.proofs.Jobs.{lawful_more}
 use Rattle.tl_script.proofs.masters.read_jobs.Goals as goal
@@ -17,15 +13,13 @@ loop-m-preserved c =
     let m = c.loop-m.m in
     let master = c.index-masters-m.result in
     let jobs = c.in_ok-read_operations.field-0 in
-    let pushed : lists_of c.push.new.self.items ≡ lists_of c.loop-m.jobs.items ++ jobs.items ∷ [] =
-    ap lists_of c.in_ok-push.ensures.items ∙ map-append (λ (v : Vec Job Global). v.items) c.loop-m.jobs.items (jobs ∷ []) in
     let here : slice_get (map (λ (each : Master). each.sources) (map master_view masters)) m ≡ Some master.sources =
     slice_get-map (λ (each : Master). each.sources) (map master_view masters) m
     ∙ ap (option_map (λ (each : Master). each.sources)) (slice_get-map master_view masters m
     ∙ ap (option_map master_view) (slice_get-get_or masters m master c.loop-m-test.true ∙ ap (λ (each : code_master.Master). Some each) (sym c.index-masters-m.is))) in
     record {
       read = grind (arith, common_steps);
-      lawful = rw pushed (lawful_more (map (λ (each : Master). each.sources) (map master_view masters)) (lists_of c.loop-m.jobs.items) jobs.items m master.sources
+      lawful = rw c.in_ok-push.ensures.items (lawful_more (map (λ (each : Master). each.sources) (map master_view masters)) c.loop-m.jobs.items jobs m master.sources
           c.loop-m.invariant.lawful here c.in_ok-read_operations.ensures.lawful);
     }
 

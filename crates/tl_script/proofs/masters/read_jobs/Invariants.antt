@@ -2,13 +2,12 @@
 use Rattle.std.proofs.Common.{◌≡◌, drop, map}
 use Rattle.tl_script.specs.Master.{LawfulSoFar, jobs_from, master_view}
 use Rattle.tl_script.specs.Reading.{with_front}
-use Rattle.tl_script.specs.System.{lists_of}
 use Rattle.tl_script.proofs.masters.read_jobs.Given as goal
 
 abbrev pub invariant-loop-m : goal.invariant-loop-m
 invariant-loop-m l = record {
   read :
-      with_front (lists_of l.jobs.items) (jobs_from l.m (map master_view (drop l.m l.masters)))
+      with_front l.jobs.items (jobs_from l.m (map master_view (drop l.m l.masters)))
       ≡ jobs_from 0 (map master_view l.masters);
-  lawful : LawfulSoFar (map (λ master. master.sources) (map master_view l.masters)) (lists_of l.jobs.items) l.m;
+  lawful : LawfulSoFar (map (λ master. master.sources) (map master_view l.masters)) l.jobs.items l.m;
 }

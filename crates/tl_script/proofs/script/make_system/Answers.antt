@@ -5,7 +5,7 @@ use Rattle.tl_map.specs.Map.{IsLawfulMap}
 use Rattle.tl_map.specs.Sources.{AreLawfulCounts, IsFirstSourceFault}
 use Rattle.tl_script.specs.Master.{Master, LawfulSoFar, master_view}
 use Rattle.tl_script.specs.Script.{IsFirstFaultOf, counts_of, parts_view, ranges_of}
-use Rattle.tl_script.specs.System.{lists_of, range_of, store_of}
+use Rattle.tl_script.specs.System.{range_of, store_of}
 use Rattle.tl_script.specs.Reading.{source_fault}
 use Rattle.tl_script.specs.declared.fault.ScriptFault.{ScriptFault}
 use Rattle.tl_script.specs.declared.fault.ScriptFault.TheVariants.{Memory}
@@ -50,7 +50,7 @@ new-requires-3 c =
     c.in_ok-sources.ensures.made ∙ c.deref-4.ensures.value ∙ c.in_ok-counts.ensures ∙ ap (λ (ms : List code_master.Master). map (λ (m : Master). m.sources) (map master_view ms)) c.deref-2.ensures.value in
     let counted : length (counts_of parts) ≡ length c.args.parts.masters.items =
     length-map parts.masters (λ (m : Master). m.sources) ∙ length-map c.args.parts.masters.items master_view in
-    let lawful : LawfulSoFar (counts_of parts) (lists_of c.in_ok-jobs.jobs.items) (length c.args.parts.masters.items) = rw c.deref-5.ensures.value at c.in_ok-jobs.ensures.lawful in
+    let lawful : LawfulSoFar (counts_of parts) c.in_ok-jobs.jobs.items (length c.args.parts.masters.items) = rw c.deref-5.ensures.value at c.in_ok-jobs.ensures.lawful in
     rw (ranges, counts) record {
       some_slots = c.args.parts.some_slots;
       slots = c.args.parts.slots_in_limit;
@@ -72,5 +72,5 @@ returns-clause-made c =
     record {
       ranges = rw (← ranges, c.in_ok-map.ensures.made) c.in_ok-map.ensures.lawful;
       counts = rw (← counts, c.in_ok-sources.ensures.made) c.in_ok-sources.ensures.lawful;
-      made = system_of-made parts c.in_ok-sources.sources c.in_ok-map.map (lists_of c.in_ok-jobs.jobs.items) c.new-3.result counts ranges read c.new-3.ensures;
+      made = system_of-made parts c.in_ok-sources.sources c.in_ok-map.map c.in_ok-jobs.jobs.items c.new-3.result counts ranges read c.new-3.ensures;
     }

@@ -1,5 +1,4 @@
 use Rattle.std.proofs.Common.{rules, ◌≡◌, ◌∙◌, ◌++◌, ◌∷◌, [], List, Some, slice_get, sym, ap}
-use Rattle.std.proofs.lemmas.Option.{slice_get-get_or}
 use Rattle.tl_types.specs.Request.{Request}
 use Rattle.tl_script.specs.declared.operation.Job.{Job}
 use Rattle.tl_script.specs.declared.operation.Job.TheVariants.{Send}
@@ -11,31 +10,30 @@ use Rattle.tl_serial.proofs.run.run_master.Goals.{in-Wait, in-Send+in_ok-served-
 
 pub send-requires-clause-source : goal.send-requires-clause-source
 send-requires-clause-source c =
-    let at : slice_get c.args.jobs.now c.loop-job.job-index ≡ Some (Send c.in-Send.ask) =
-    slice_get-get_or c.args.jobs.now c.loop-job.job-index c.job-item.result c.loop-job-test.true ∙ ap (λ (j : Job). Some j) (sym c.job-item.is ∙ c.in-Send.is) in
-    some_sent (slice_get c.args.system.now.counts c.args.master) c.args.jobs.now c.loop-job.job-index c.in-Send.ask at c.requires.source
+    let at : slice_get c.args.jobs.now c.loop-number.number ≡ Some (Send c.in-Send.ask) =
+    c.job.ensures ∙ ap (λ (j : Job). Some j) c.in-Send.is in
+    some_sent (slice_get c.args.system.now.counts c.args.master) c.args.jobs.now c.loop-number.number c.in-Send.ask at c.requires.source
 
-pub loop-job-preserved : goal.loop-job-preserved
-loop-job-preserved c =
+pub loop-number-preserved : goal.loop-number-preserved
+loop-number-preserved c =
     let jobs = c.args.jobs.now in
-    let i = c.loop-job.job-index in
-    let here : slice_get jobs i ≡ Some c.job-item.result =
-    slice_get-get_or jobs i c.job-item.result c.loop-job-test.true ∙ ap (λ (j : Job). Some j) (sym c.job-item.is) in
+    let i = c.loop-number.number in
+    let here : slice_get jobs i ≡ Some c.job.result = c.job.ensures in
     elim c.match-job.branch [
       | in-Wait w ↦ record {
-        asked = rw w.trace-is (c.loop-job.invariant.asked ∙ sym (sends-wait jobs i (here ∙ ap (λ (j : Job). Some j) w.in-Wait.is)));
-        stands = λ keeps log stand. rw (w.trace-is, w.slaves-is) (c.loop-job.invariant.stands keeps log stand);
+        asked = rw w.trace-is (c.loop-number.invariant.asked ∙ sym (sends-wait jobs i (here ∙ ap (λ (j : Job). Some j) w.in-Wait.is)));
+        stands = λ keeps log stand. rw (w.trace-is, w.slaves-is) (c.loop-number.invariant.stands keeps log stand);
       }
       | in-Send+in_ok-served-in-Send+in_ok-push-in-Send w ↦
           let ask = w.in-Send.ask in
           let entry = entry_of ask w.in_ok-served-in-Send.served in
           let at : slice_get jobs i ≡ Some (Send ask) = here ∙ ap (λ (j : Job). Some j) w.in-Send.is in
-          let pushed : c.match-job.trace.items ≡ c.loop-job.trace.items ++ entry ∷ [] = search rules in
-          let before = c.loop-job.trace.items in
+          let pushed : c.match-job.trace.items ≡ c.loop-number.trace.items ++ entry ∷ [] = search rules in
+          let before = c.loop-number.trace.items in
           record {
-            asked = ap asks_in pushed ∙ asks_in-push before entry ∙ ap (λ (asks : List Request). asks ++ entry.ask ∷ []) c.loop-job.invariant.asked
+            asked = ap asks_in pushed ∙ asks_in-push before entry ∙ ap (λ (asks : List Request). asks ++ entry.ask ∷ []) c.loop-number.invariant.asked
                 ∙ sym (sends-send jobs i ask at);
             stands = λ keeps log stand. rw (pushed, w.slaves-is, numbered-push log c.args.master before entry)
-                (w.in_ok-served-in-Send.ensures keeps (log ++ numbered c.args.master before) (c.loop-job.invariant.stands keeps log stand));
+                (w.in_ok-served-in-Send.ensures keeps (log ++ numbered c.args.master before) (c.loop-number.invariant.stands keeps log stand));
           }
     ]

@@ -6,8 +6,8 @@ use Rattle.tl_serial.specs.Serial.{asks_in, numbered}
 use Rattle.tl_serial.specs.Slave.{Stand}
 use Rattle.tl_serial.proofs.run.run_master.Given as goal
 
-abbrev pub invariant-loop-job : goal.invariant-loop-job
-invariant-loop-job l = record {
-  asked : asks_in l.trace.items ≡ sends (take l.job-index l.jobs);
+abbrev pub invariant-loop-number : goal.invariant-loop-number
+invariant-loop-number l = record {
+  asked : asks_in l.trace.items ≡ sends (take l.number l.jobs);
   stands : (keeps : Bool) (log : List (ℕ × Entry)) → Stand l.system keeps log l.initial.slaves → Stand l.system keeps (log ++ numbered l.master l.trace.items) l.slaves;
 }

@@ -1,6 +1,5 @@
 -- An operation's line more.
 use Rattle.std.proofs.Common.{◌≡◌, ◌∙◌, ◌++◌, ◌∷◌, [], ℕ, List, Some, slice_get, sym, ap}
-use Rattle.std.proofs.lemmas.Option.{slice_get-get_or}
 use Rattle.tl_types.specs.Request.{Request}
 use Rattle.tl_script.specs.Trace.{trace_line}
 use Rattle.tl_script.specs.declared.operation.Job.{Job}
@@ -13,17 +12,16 @@ use Rattle.tl_serial.proofs.text.write_master.Goals.{in-Wait, in-Send+in_ok-serv
 
 pub send-requires-clause-source : goal.send-requires-clause-source
 send-requires-clause-source c =
-    let at : slice_get c.args.jobs.now c.loop-job.job-index ≡ Some (Send c.in-Send.ask) =
-    slice_get-get_or c.args.jobs.now c.loop-job.job-index c.job-item.result c.loop-job-test.true ∙ ap (λ (j : Job). Some j) (sym c.job-item.is ∙ c.in-Send.is) in
-    some_sent (slice_get c.args.system.now.counts c.args.master) c.args.jobs.now c.loop-job.job-index c.in-Send.ask at c.requires.source
+    let at : slice_get c.args.jobs.now c.loop-number.number ≡ Some (Send c.in-Send.ask) =
+    c.job.ensures ∙ ap (λ (j : Job). Some j) c.in-Send.is in
+    some_sent (slice_get c.args.system.now.counts c.args.master) c.args.jobs.now c.loop-number.number c.in-Send.ask at c.requires.source
 
-pub loop-job-preserved : goal.loop-job-preserved
-loop-job-preserved c =
+pub loop-number-preserved : goal.loop-number-preserved
+loop-number-preserved c =
     let jobs = c.args.jobs.now in
-    let i = c.loop-job.job-index in
-    let before = c.loop-job.invariant in
-    let here : slice_get jobs i ≡ Some c.job-item.result =
-    slice_get-get_or jobs i c.job-item.result c.loop-job-test.true ∙ ap (λ (j : Job). Some j) (sym c.job-item.is) in
+    let i = c.loop-number.number in
+    let before = c.loop-number.invariant in
+    let here : slice_get jobs i ≡ Some c.job.result = c.job.ensures in
     elim c.match-job.branch [
       | in-Wait w ↦ record {
         entries = before.entries;

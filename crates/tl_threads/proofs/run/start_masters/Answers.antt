@@ -1,5 +1,4 @@
-use Rattle.std.proofs.Common.{◌≡◌, ℕ, ◌<◌, List, length, slice_get, Some, Vec, arith, rules, sym, ap, subst, ◌∙◌}
-use Rattle.std.specs.Global.{Global}
+use Rattle.std.proofs.Common.{◌≡◌, ℕ, ◌<◌, List, length, slice_get, Some, arith, rules, sym, ap, subst, ◌∙◌}
 use Rattle.std.specs.Vec.Iter.{into_iter_items}
 use Rattle.std.proofs.lemmas.Grind.{common_steps}
 use Rattle.tl_script.specs.declared.operation.Job.{Job}
@@ -37,7 +36,7 @@ start_master-requires-clause-room g c κs within =
     let lt : c.len-number.result < length c.jobs.result.now = grind (arith, common_steps) in
     let step = c.in-Some.ensures.steps in
     let is = subst (λ (n : ℕ). new n c.in-Some.thread) (sym num) (row_head new (length c.loop-thread.handles.items) c.in-Some.thread _ _ step.0 c.loop-thread.invariant.masters) in
-    is.room c.index-jobs-number.result.items (listed_at s c.jobs.result.now c.len-number.result c.index-jobs-number.result c.jobs.ensures.value lt c.index-jobs-number.is)
+    is.room c.index-jobs-number.result (listed_at s c.jobs.result.now c.len-number.result c.index-jobs-number.result c.jobs.ensures.value lt c.index-jobs-number.is)
 
 pub start_master-requires-clause-bells : goal.start_master-requires-clause-bells
 start_master-requires-clause-bells g c κs within =
@@ -56,8 +55,8 @@ loop-thread-preserved g c =
     let h = c.in-Some-start_master.handle in
     let num : c.len-number.result ≡ length c.loop-thread.handles.items = grind (arith, common_steps) in
     let lt : c.len-number.result < length c.jobs.result.now = grind (arith, common_steps) in
-    let at : slice_get s.jobs c.len-number.result ≡ Some h.promise.jobs.value.items =
-    listed_at s c.jobs.result.now c.len-number.result c.index-jobs-number.result c.jobs.ensures.value lt c.index-jobs-number.is ∙ ap (λ (v : Vec Job Global). Some v.items) (sym made.3) in
+    let at : slice_get s.jobs c.len-number.result ≡ Some h.promise.jobs.value =
+    listed_at s c.jobs.result.now c.len-number.result c.index-jobs-number.result c.jobs.ensures.value lt c.index-jobs-number.is ∙ ap (λ (own : List Job). Some own) (sym made.3) in
     record {
       count = omega (arith, step.1, push.len, was.count);
       room = rw push.capacity was.room;
@@ -66,6 +65,6 @@ loop-thread-preserved g c =
         number_is = made.0 ∙ num;
         arena_is = made.1;
         map_is = made.2;
-        jobs_are = subst (λ (n : ℕ). slice_get s.jobs n ≡ Some h.promise.jobs.value.items) num at;
+        jobs_are = subst (λ (n : ℕ). slice_get s.jobs n ≡ Some h.promise.jobs.value) num at;
       });
     }

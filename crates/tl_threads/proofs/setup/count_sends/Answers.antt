@@ -1,5 +1,5 @@
-use Rattle.std.proofs.Common.{◌<◌, ◌+◌, ◌∙◌, ℕ, List, length, take, get_or, refl, sym, subst, arith}
-use Rattle.std.proofs.lemmas.Option.{slice_get-get_or}
+use Rattle.std.proofs.Common.{◌≡◌, ◌<◌, ◌+◌, ◌∙◌, ℕ, List, length, take, get_or, refl, sym, subst, arith}
+use Rattle.std.proofs.lemmas.Option.{get_or_from_slice_get, slice_get-get_or, slice_get_within}
 use Rattle.tl_script.specs.System.{sends}
 use Rattle.tl_threads.specs.Start.{AddsArrivals}
 use Rattle.tl_threads.proofs.Arrivals.{grown, few_before, wait_adds, send_adds}
@@ -8,26 +8,28 @@ use Rattle.tl_threads.proofs.setup.count_sends.Goals.{in-Wait, in-Send}
 
 pub overflow_add-counts : goal.overflow_add-counts
 overflow_add-counts c =
-    let was = c.loop-job.invariant in
+    let was = c.loop-number.invariant in
     let port = c.route.result in
-    let within : port < length c.loop-job.counts = omega (arith, c.route.ensures.in_ports, was.many, c.requires.ports) in
-    let from = grown c.args.map.now (sends (take c.loop-job.job-index c.args.jobs.now)) c.args.counts.now c.loop-job.counts port (get_or c.loop-job.counts port 0) was (slice_get-get_or c.loop-job.counts port 0 within) in
-    omega (arith, from.2, few_before c.args.jobs.now c.loop-job.job-index, c.requires.room port from.0 from.1, c.loop-job-test.true)
+    let within : port < length c.loop-number.counts = omega (arith, c.route.ensures.in_ports, was.many, c.requires.ports) in
+    let from = grown c.args.map.now (sends (take c.loop-number.number c.args.jobs.now)) c.args.counts.now c.loop-number.counts port (get_or c.loop-number.counts port 0) was (slice_get-get_or c.loop-number.counts port 0 within) in
+    omega (arith, from.2, few_before c.args.jobs.now c.loop-number.number, c.requires.room port from.0 from.1, c.loop-number-test.true)
 
-pub loop-job-preserved : goal.loop-job-preserved
-loop-job-preserved c =
+pub loop-number-preserved : goal.loop-number-preserved
+loop-number-preserved c =
     let ranges = c.args.map.now in
     let jobs = c.args.jobs.now in
-    let k = c.loop-job.job-index in
-    let job = c.job-item.result in
-    let counts = c.loop-job.counts in
-    let was = c.loop-job.invariant in
+    let k = c.loop-number.number in
+    let job = c.job.result in
+    let counts = c.loop-number.counts in
+    let was = c.loop-number.invariant in
+    let within : k < length jobs = slice_get_within jobs k job c.job.ensures in
+    let here : get_or jobs k job ≡ job = get_or_from_slice_get jobs k job job c.job.ensures in
     elim c.match-job.branch [
       | in-Wait w ↦ subst (λ (l : List ℕ). AddsArrivals ranges (sends (take (k + 1) jobs)) c.args.counts.now l) (sym w.counts-is)
-          (wait_adds ranges jobs k job c.loop-job-test.true c.args.counts.now counts was (sym c.job-item.is ∙ w.in-Wait.is))
+          (wait_adds ranges jobs k job within c.args.counts.now counts was (here ∙ w.in-Wait.is))
       | in-Send w ↦
           let port = w.route.result in
-          let within : port < length counts = omega (arith, w.route.ensures.in_ports, was.many, c.requires.ports) in
-          send_adds ranges jobs k job c.loop-job-test.true c.args.counts.now counts was w.in-Send.ask port (get_or counts port 0) c.match-job.counts (sym c.job-item.is ∙ w.in-Send.is)
-          (slice_get-get_or counts port 0 within) ((w.route.ensures.port port).0 refl) w.counts-is
+          let inside : port < length counts = omega (arith, w.route.ensures.in_ports, was.many, c.requires.ports) in
+          send_adds ranges jobs k job within c.args.counts.now counts was w.in-Send.ask port (get_or counts port 0) c.match-job.counts (here ∙ w.in-Send.is)
+          (slice_get-get_or counts port 0 inside) ((w.route.ensures.port port).0 refl) w.counts-is
     ]

@@ -4,5 +4,5 @@ use Rattle.tl_threads.specs.Start.{AddsArrivals}
 use Rattle.tl_threads.proofs.setup.count_sends.Given as goal
 
 -- the requests of the operations so far are counted
-abbrev pub invariant-loop-job : goal.invariant-loop-job
-invariant-loop-job l = AddsArrivals l.fn.map (sends (take l.job-index l.jobs)) l.initial.counts l.counts
+abbrev pub invariant-loop-number : goal.invariant-loop-number
+invariant-loop-number l = AddsArrivals l.fn.map (sends (take l.number l.jobs)) l.initial.counts l.counts

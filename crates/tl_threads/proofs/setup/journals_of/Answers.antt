@@ -3,7 +3,6 @@ use Rattle.std.proofs.Math.Nat.{mul-le-mul_right}
 use Rattle.std.proofs.Common.{get_or, ◌≡◌, ◌≤◌, ◌+◌, ◌∙◌, ℕ, List, length, replicate, take, slice_get, Some, ap, sym, subst, arith}
 use Rattle.tl_types.specs.declared.limits.TheConstants.{MAX_MASTERS}
 use Rattle.tl_map.specs.declared.map.Range.{Range}
-use Rattle.tl_script.specs.declared.operation.Job.{Job}
 use Rattle.tl_script.specs.declared.system.TheConstants.{MAX_JOBS}
 use Rattle.tl_script.specs.System.{sends}
 use Rattle.tl_threads.specs.Start.{AddsArrivals, all_sends}
@@ -18,25 +17,24 @@ count_sends-requires-clause-room c p n at =
     let asks = all_sends (take k s.jobs) in
     let few = from_zero s.ranges asks (length s.ranges + 1) c.loop-jobs.counts.items p n was.counted (subst (λ (l : List ℕ). slice_get l p ≡ Some n) c.deref_mut.ensures.value at) in
     let here = listed_at s c.jobs-jobs-items.result.now k c.jobs-item.result c.jobs-jobs-items.ensures.value c.loop-jobs-test.true c.jobs-item.is in
-    let short : length c.deref.result.now ≤ MAX_JOBS = subst (λ (l : List Job). length l ≤ MAX_JOBS) (sym c.deref.ensures.value) (short_list s c.jobs-jobs-items.ensures.lawful k c.jobs-item.result.items here) in
+    let short : length c.jobs-item.result ≤ MAX_JOBS = short_list s c.jobs-jobs-items.ensures.lawful k c.jobs-item.result here in
     let many = listed_many s c.jobs-jobs-items.result.now c.jobs-jobs-items.ensures.value in
     let counts : c.masters-few_masters.result ≡ length s.counts = c.masters-few_masters.ensures.value ∙ ap (λ (l : List ℕ). length l) c.sources.ensures in
     let masters : k ≤ MAX_MASTERS = omega (arith, c.loop-jobs-test.true, many, c.jobs-jobs-items.ensures.lawful.lists, counts, c.masters-few_masters.ensures.in_limit) in
-    fits_number n (length asks) k (length c.deref.result.now) few was.few masters short
+    fits_number n (length asks) k (length c.jobs-item.result) few was.few masters short
 
 pub loop-jobs-preserved : goal.loop-jobs-preserved
 loop-jobs-preserved c =
     let s = c.args.system.now in
     let k = c.loop-jobs.jobs-index in
-    let own = c.jobs-item.result.items in
+    let own = c.jobs-item.result in
     let was = c.loop-jobs.invariant in
     let new = c.count_sends.new.counts in
     let zeros = replicate (length s.ranges + 1) 0 in
     let here = listed_at s c.jobs-jobs-items.result.now k c.jobs-item.result c.jobs-jobs-items.ensures.value c.loop-jobs-test.true c.jobs-item.is in
     let from : AddsArrivals s.ranges (sends own) c.loop-jobs.counts.items new =
     subst (λ (l : List ℕ). AddsArrivals s.ranges (sends own) l new) c.deref_mut.ensures.value
-    (subst (λ (js : List Job). AddsArrivals s.ranges (sends js) c.deref_mut.result.now new) c.deref.ensures.value
-    (subst (λ (rs : List Range). AddsArrivals rs (sends c.deref.result.now) c.deref_mut.result.now new) c.map-map.ensures c.count_sends.ensures)) in
+    (subst (λ (rs : List Range). AddsArrivals rs (sends own) c.deref_mut.result.now new) c.map-map.ensures c.count_sends.ensures) in
     let written = all_written c.loop-jobs.counts.len new _ (c.count_sends.ensures.many ∙ c.deref_mut.ensures.len) in
     record {
       counted = subst (λ (l : List ℕ). AddsArrivals s.ranges (all_sends (take (k + 1) s.jobs)) zeros l) (sym written) (list_adds s.ranges s.jobs k own zeros c.loop-jobs.counts.items new here was.counted from);

@@ -11,13 +11,13 @@ returns c =
     let s = c.args.system.now in
     let lists = c.jobs.result.now in
     let within : c.args.number < length lists = subst (λ n. c.args.number < n) (sym (listed_many s lists c.jobs.ensures.value)) c.requires.jobs in
-    let heard : HasRoom c.sends_of-limit.result c.in-Some.own =
-    All-head (HasRoom c.sends_of-limit.result) c.in-Some.own _ (All-same (HasRoom c.sends_of-limit.result) _ _ (sym c.in-Some.ensures.items) (All-same (HasRoom c.sends_of-limit.result) _ _ c.into_iter.ensures.rest c.in_ok-ringer.ensures.room)) in
+    let heard : HasRoom c.requests-limit.result c.in-Some.own =
+    All-head (HasRoom c.requests-limit.result) c.in-Some.own _ (All-same (HasRoom c.requests-limit.result) _ _ (sym c.in-Some.ensures.items) (All-same (HasRoom c.requests-limit.result) _ _ c.into_iter.ensures.rest c.in_ok-ringer.ensures.room)) in
     record {
       idle = c.in_ok-master.ensures.idle;
       room = λ its_jobs at.
           let here = listed_here s lists c.args.number c.index-jobs-number.result its_jobs c.jobs.ensures.value within c.index-jobs-number.is at in
-          c.in_ok-master.ensures.room ∙ c.sends_of-limit.ensures ∙ ap (λ (js : List Job). length (sends js)) (c.deref.ensures.value ∙ here);
+          c.in_ok-master.ensures.room ∙ c.requests-limit.ensures ∙ ap (λ (js : List Job). length (sends js)) here;
       bell = rw c.in_ok-master.ensures.room heard;
       rings = c.in_ok-others.ensures ∙ c.requires.ports;
     }
