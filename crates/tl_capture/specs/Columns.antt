@@ -1,5 +1,5 @@
 -- The columns of a row that are no numbers. This project's own.
-use Rattle.std.specs.Prelude.{ℕ, Bool, true, false, ◌&&◌, ◌==◌, nat_lt, List, [], ◌∷◌, codes, length, Option, Some, None, Result, Ok, Err, if◌then◌else◌}
+use Rattle.std.specs.Prelude.{ℕ, ◌<◌, Bool, true, false, ◌&&◌, ◌==◌, nat_lt, List, [], ◌∷◌, codes, length, Option, Some, None, Result, Ok, Err, if◌then◌else◌}
 use Rattle.std.specs.Str.{bytes_eq}
 use Rattle.std.specs.Str.Parse.{digits_value}
 use Rattle.csv.specs.Records.{field_at}
@@ -19,6 +19,11 @@ or_empty (Some word) = word
 
 abbrev pub column : List (List ℕ) → ℕ → List ℕ
 column columns place = or_empty (field_at columns place)
+
+-- a link of a system with so many masters and ports
+abbrev pub IsLinkOf : ℕ → ℕ → Link → Type 0
+IsLinkOf masters ports (Master number) = number < masters
+IsLinkOf masters ports (Port number) = number < ports
 
 -- the number of a link among `count`
 unfoldable pub index_of : ℕ → List ℕ → Result ℕ RowFault

@@ -3,3 +3,4 @@ pub mod Number
 pub mod Lanes
 pub mod Columns
 pub mod Row
+pub mod Moment

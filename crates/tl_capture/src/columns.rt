@@ -1,7 +1,7 @@
 //! The columns of a row that are no numbers.
-ghost use Rattle.std.specs.Prelude.{◌≡◌};
+ghost use Rattle.std.specs.Prelude.{◌≡◌, ◌<◌, IfOk};
 ghost use Rattle.csv.specs.Records.{fields_of};
-ghost use Rattle.tl_capture.specs.Columns.{channel_of, column, flag_of, index_of, link_of, nothing_of};
+ghost use Rattle.tl_capture.specs.Columns.{IsLinkOf, channel_of, column, flag_of, index_of, link_of, nothing_of};
 
 use crate::fault::RowFault;
 use crate::number::read_decimal;
@@ -25,7 +25,8 @@ pub fn column(columns: &ByteRecord, place: usize) -> &[u8]
 /// The number that a link has among `count`, if its digits spell one.
 #[tactic(auto, unfolding(crate::specs::Columns::index_of, crate::specs::Number::decimal_of, crate::specs::Number::number_of))]
 fn read_index(digits: &[u8], count: usize) -> Result<usize, RowFault>
-    ensures { result ≡ index_of count digits.now }
+    ensures value { result ≡ index_of count digits.now }
+    ensures inside { IfOk result (λ index. index < count) }
 {
     match read_decimal(digits, u64::MAX) {
         Ok(index) if index < count as u64 => Ok(index as usize),
@@ -36,7 +37,8 @@ fn read_index(digits: &[u8], count: usize) -> Result<usize, RowFault>
 /// The link that a word names, of a system with so many masters and ports.
 #[tactic(auto, unfolding(crate::specs::Columns::link_of))]
 pub fn read_link(masters: usize, ports: usize, word: &[u8]) -> Result<Link, RowFault>
-    ensures { result ≡ link_of masters ports word.now }
+    ensures value { result ≡ link_of masters ports word.now }
+    ensures inside { IfOk result (IsLinkOf masters ports) }
 {
     match word {
         [b'm', digits @ ..] => Ok(Link::Master(read_index(digits, masters)?)),

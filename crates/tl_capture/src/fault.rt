@@ -14,4 +14,8 @@ pub enum RowFault {
     Link,
     #[error("no such channel")]
     Channel,
+    #[error("time falls")]
+    TimeFalls,
+    #[error("two beats at one time")]
+    TwoBeats,
 }

@@ -1,6 +1,7 @@
 //! The rows of a capture.
-ghost use Rattle.std.specs.Prelude.{◌≡◌};
+ghost use Rattle.std.specs.Prelude.{◌≡◌, IfOk};
 ghost use Rattle.csv.specs.Records.{fields_of};
+ghost use Rattle.tl_capture.specs.Columns.{IsLinkOf};
 ghost use Rattle.tl_capture.specs.Row.{ask_of, beat_of, reply_of, row_of};
 
 use crate::columns::{Channel, column, read_channel, read_flag, read_link, read_nothing};
@@ -9,7 +10,7 @@ use crate::lanes::{bytes_of, known_of, read_lanes};
 use crate::number::{read_address, read_decimal, read_mask};
 use csv::ByteRecord;
 use tl_beats::{ABeat, DBeat};
-use tl_link::{Beat, Sighting};
+use tl_link::{Beat, Link, Sighting};
 
 /// How many columns a row has.
 const COLUMNS: usize = 12;
@@ -26,6 +27,20 @@ pub struct Row {
     pub line: u64,
     pub time: u64,
     pub sighting: Sighting,
+}
+
+impl Default for Row {
+    fn default() -> Row {
+        Row {
+            line: 0,
+            time: 0,
+            sighting: Sighting {
+                link: Link::Master(0),
+                beat: Beat::A(ABeat::default()),
+                known: 0,
+            },
+        }
+    }
 }
 
 /// The beat of channel A that the columns spell, and which of its lanes are known.
@@ -98,7 +113,8 @@ pub fn read_row(
     line: u64,
     columns: &ByteRecord,
 ) -> Result<Row, RowFault>
-    ensures { result ≡ row_of masters ports line (fields_of columns.now) }
+    ensures value { result ≡ row_of masters ports line (fields_of columns.now) }
+    ensures link { IfOk result (λ row. IsLinkOf masters ports row.sighting.link) }
 {
     if columns.len() != COLUMNS {
         return Err(RowFault::Columns);

@@ -1,10 +1,13 @@
 //! Rows as the format's page spells them: the values are worked out by hand.
+ghost use Rattle.std.specs.Prelude.{◌≡◌};
+
 use super::*;
 use csv::ByteRecord;
 use std::alloc::{AllocError, Global};
 use std::test::Fail;
 use tl_beats::{ABeat, DBeat};
 use tl_link::{Beat, Link, Sighting};
+use tl_types::{MAX_MASTERS, MAX_PORTS};
 
 /// The row of a line without quotes, on line 7 of a capture of a system with two masters and three ports.
 fn read(alloc: Global, line: &str) -> Result<Result<Row, RowFault>, AllocError> {
@@ -128,5 +131,91 @@ fn the_first_fault_is_named(rt: HostRuntime) -> Result<(), Fail> {
     for (line, fault) in &FAULTS {
         assert!(rt; read(rt.alloc(), line)? == Err(*fault), "{line}");
     }
+    Ok(())
+}
+
+/// A row at this time on this line: a beat of channel A or D of this link.
+fn row(line: u64, time: u64, link: Link, is_ask: bool) -> Row
+    ensures time { result.time ≡ time }
+    ensures link { result.sighting.link ≡ link }
+{
+    let beat = if is_ask {
+        Beat::A(ABeat::default())
+    } else {
+        Beat::D(DBeat::default())
+    };
+    Row {
+        line,
+        time,
+        sighting: Sighting {
+            link,
+            beat,
+            known: 0xff,
+        },
+    }
+}
+
+/// Puts a row in, where some system has its link.
+fn put(moment: &mut Moment, row: Row) -> Result<bool, RowFault> {
+    match row.sighting.link {
+        Link::Master(number) if number < MAX_MASTERS => moment.put(row),
+        Link::Port(number) if number < MAX_PORTS => moment.put(row),
+        _ => Err(RowFault::Link),
+    }
+}
+
+/// The lines of these rows.
+fn lines(rows: &[Row]) -> [u64; 6] {
+    let mut lines = [0; 6];
+    for place in 0..6.min(rows.len()) {
+        lines[place] = rows[place].line;
+    }
+    lines
+}
+
+#[test]
+fn rows_of_one_time_stand_as_they_cross(rt: HostRuntime) -> Result<(), Fail> {
+    let given = [
+        (Link::Master(1), false),
+        (Link::Port(14), false),
+        (Link::Port(0), true),
+        (Link::Master(15), true),
+        (Link::Master(0), false),
+        (Link::Master(2), true),
+    ];
+    let mut moment = Moment::new();
+    for place in 0..given.len() {
+        let (link, is_ask) = given[place];
+        assert!(rt;
+            put(&mut moment, row(place as u64, 0, link, is_ask)) == Ok(true),
+            "{place}"
+        );
+    }
+    // A of masters 2 and 15, A of port 0, D of port 14, D of masters 0 and 1
+    assert!(rt; lines(moment.rows()) == [5, 3, 2, 1, 4, 0], "{moment:?}");
+    Ok(())
+}
+
+#[test]
+fn times_rise_and_a_channel_carries_one_beat_a_time(rt: HostRuntime) -> Result<(), Fail> {
+    let mut moment = Moment::new();
+    let first = row(1, 5, Link::Port(3), true);
+    assert!(rt; put(&mut moment, first) == Ok(false), "a later time");
+    assert!(rt; moment.rows().is_empty(), "a later time takes nothing");
+    let mut moment = Moment::new();
+    moment.go_on(first);
+    let again = row(2, 5, Link::Port(3), true);
+    assert!(rt;
+        put(&mut moment, again) == Err(RowFault::TwoBeats),
+        "the same channel"
+    );
+    let other = row(3, 5, Link::Port(3), false);
+    assert!(rt; put(&mut moment, other) == Ok(true), "the other channel");
+    let earlier = row(4, 4, Link::Port(3), true);
+    assert!(rt;
+        put(&mut moment, earlier) == Err(RowFault::TimeFalls),
+        "an earlier time"
+    );
+    assert!(rt; lines(moment.rows()) == [1, 3, 0, 0, 0, 0], "{moment:?}");
     Ok(())
 }
