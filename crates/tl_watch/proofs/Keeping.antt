@@ -1,6 +1,6 @@
 -- What is kept of the past, after one beat more.
-use Rattle.std.proofs.Common.{◌≡◌, ◌∙◌, ℕ, ◌<◌, Bool, true, false, if◌then◌else◌, List, ◌∷◌, length, Option, Some, None, slice_get, unwrap_or, refl, ap, sym, subst, eqb-true}
-use Rattle.std.specs.Prelude.{slice_set, ◌==◌, ◌↔◌, Result, Ok, Err, IsOk, OnOk, IfErr}
+use Rattle.std.proofs.Common.{◌≡◌, ◌∙◌, ℕ, ◌<◌, Bool, true, false, if◌then◌else◌, List, ◌∷◌, length, Option, Some, None, slice_get, unwrap_or, refl, ap, sym, subst, eqb-true, length-set}
+use Rattle.std.specs.Prelude.{slice_set, ◌==◌, ◌&&◌, ◌↔◌, Result, Ok, Err, IsOk, OnOk, IfErr}
 use Rattle.std.proofs.lemmas.Bool.{eqb-false}
 use Rattle.tl_types.specs.Request.{Request}
 use Rattle.tl_types.proofs.Lists.{slice_get-set_same, slice_get-set_other}
@@ -18,14 +18,14 @@ use Rattle.tl_watch.specs.declared.flight.Crossing.{Crossing}
 use Rattle.tl_watch.specs.declared.flight.Crossing.TheVariants.{Waiting, Crossed, Given}
 use Rattle.tl_watch.specs.declared.slave.Slave.{Slave}
 use Rattle.tl_watch.specs.declared.side.TheConstants.{WIDES}
-use Rattle.tl_watch.specs.Plan.{Layout, Plan, Side, HasLink, IsWideAt, side_of, number_of, source_of, wide_of, is_link, is_of}
+use Rattle.tl_watch.specs.Plan.{Layout, Plan, Side, HasLink, IsWideAt, side_of, number_of, source_of, wide_of, is_link, is_of, is_at_acceptance}
 use Rattle.tl_watch.specs.Plan.Side.{AtMasters, AtPorts}
-use Rattle.tl_watch.specs.Scene.{Scene, idle, ask_by, takes_effect, effect_by, effect, served_by, slave_by, answer_by, turn_by, flight_after, crossing_after, given_by}
-use Rattle.tl_watch.specs.Past.{State, port_of, scene_of, state_after, state, scene}
+use Rattle.tl_watch.specs.Scene.{Scene, idle, ask_by, takes_effect, effect_by, effect, answering, flight_due, served_by, slave_by, answer_by, turn_by, flight_after, crossing_after, given_by}
+use Rattle.tl_watch.specs.Past.{State, port_in, port_of, found_in, scene_of, state_after, state, scene}
 use Rattle.tl_watch.specs.declared.fault.Fault.{Fault}
 use Rattle.tl_watch.specs.Allowed.{IsAllowedAsk, IsAllowedReply}
 use Rattle.tl_watch.specs.Lawful.{IsLawful, IsAllowed, IsAllowedBeat, IsFirstFaultOf, IsFirstFault}
-use Rattle.tl_watch.specs.View.{View, IsSized, Suits, Keeps, AreSame, state_in, side_in, under_at, flight_at, crossing_at, no_slave, slave_at, under_in, flight_in, scene_in, slaves_with, crossings_taken, crossings_given, effect_in, with_ask, with_part, with_end}
+use Rattle.tl_watch.specs.View.{View, IsSized, Suits, Keeps, AreSame, state_in, side_in, under_at, flight_at, crossing_at, no_slave, slave_at, under_in, flight_in, scene_in, slaves_with, crossings_taken, crossings_given, effect_in, late_in, late_answer, flights_due, with_ask, with_late, with_part, with_end}
 use Rattle.tl_watch.proofs.Judging.{wide_is, no_ask_fault}
 use Rattle.tl_watch.proofs.Replying.{no_reply_fault}
 
@@ -81,7 +81,7 @@ ask_at view link beat = ask_by (under_in view link).asking beat
 abbrev flight_made : View → Link → ℕ → ABeat → Layout → Flight
 flight_made view link port beat l = record {
   turn = turn_by (number_of link) (ask_at view link beat);
-  due = answer_by port (slave_at view.slaves port) (effect_by (takes_effect l link port) (ask_at view link beat));
+  due = answer_by port (slave_at view.slaves port) (effect_by (is_at_acceptance l.order && takes_effect l link port) (ask_at view link beat));
 }
 
 module _ (plan : Plan) (view : View) (known : ℕ) (suits : Suits plan view) where
@@ -95,7 +95,7 @@ module _ (plan : Plan) (view : View) (known : ℕ) (suits : Suits plan view) whe
     flights = flights;
     crossings = λ w. set_at Waiting view.crossings (plan.wide m beat.source) w Waiting room.crossing;
     slaves = λ p. slaves_set view.slaves (plan.route beat.address beat.size) p (effect_in view (Master m) (plan.route beat.address beat.size) (ask_at view (Master m) beat)) slot
-        ∙ ap (λ (l : Layout). if plan.route beat.address beat.size == p then slave_by (slave_at view.slaves (plan.route beat.address beat.size)) (effect_by (takes_effect l (Master m) (plan.route beat.address beat.size)) (ask_at view (Master m) beat)) else slave_at view.slaves p) suits.layout;
+        ∙ ap (λ (l : Layout). if plan.route beat.address beat.size == p then slave_by (slave_at view.slaves (plan.route beat.address beat.size)) (effect_by (is_at_acceptance l.order && takes_effect l (Master m) (plan.route beat.address beat.size)) (ask_at view (Master m) beat)) else slave_at view.slaves p) suits.layout;
   }
     where
       links : (side : Side) (number : ℕ) → under_at (side_in (with_ask view (Master m) (plan.wide m beat.source) (plan.route beat.address beat.size) beat) side).links number
@@ -112,7 +112,8 @@ module _ (plan : Plan) (view : View) (known : ℕ) (suits : Suits plan view) whe
     links = links;
     flights = flights;
     crossings = λ w. taken_set view.crossings beat.source w (ends_ask (under_at view.ports.links n).asking beat) room.crossing;
-    slaves = λ p. slaves_set view.slaves n p (effect_in view (Port n) n (ask_at view (Port n) beat)) slot;
+    slaves = λ p. slaves_set view.slaves n p (effect_in view (Port n) n (ask_at view (Port n) beat)) slot
+        ∙ ap (λ (l : Layout). if n == p then slave_by (slave_at view.slaves n) (effect_by (is_at_acceptance l.order && takes_effect l (Port n) n) (ask_at view (Port n) beat)) else slave_at view.slaves p) suits.layout;
   }
     where
       links : (side : Side) (number : ℕ) → under_at (side_in (with_ask view (Port n) beat.source n beat) side).links number
@@ -123,86 +124,158 @@ module _ (plan : Plan) (view : View) (known : ℕ) (suits : Suits plan view) whe
       flights : (side : Side) (w : ℕ) → flight_at (side_in (with_ask view (Port n) beat.source n beat) side).flights w
           ≡ (if is_of plan (seen_at (Port n) (A beat)) side w then flight_made view (Port n) n beat plan.layout else flight_at (side_in view side).flights w)
       flights AtMasters w = refl
-      flights AtPorts w = set_at idle view.ports.flights beat.source w (flight_made view (Port n) n beat plan.layout) room.in_flight
+      flights AtPorts w = set_at idle view.ports.flights beat.source w (flight_made view (Port n) n beat view.layout) room.in_flight
+          ∙ ap (λ (l : Layout). if beat.source == w then flight_made view (Port n) n beat l else flight_at view.ports.flights w) suits.layout
 
-  pub after_part : (link : Link) (beat : DBeat) → HasRoom view link (wide_of plan link beat.source) → ends_reply (under_in view link).replying beat ≡ false
-      → AreSame (state_in (with_part view link beat)) (state_after plan (state_in view) (seen_at link (D beat)))
-  after_part (Master m) beat room is = record {
-    links = links;
-    flights = flights;
-    crossings = λ w. stays (λ k. crossing_at view.crossings k) (plan.wide m beat.source) w;
-    slaves = λ p. stays (λ k. slave_at view.slaves k) (port_of plan (Master m) (flight_at view.masters.flights (plan.wide m beat.source)).turn (D beat)) p;
-  }
+-- ---- a beat of a reply, at the wide source and the port that the plan says
+
+due_set : (flights : List Flight) (wide w : ℕ) (answer : Option Answer) → wide < length flights
+    → flight_at (flights_due flights wide answer) w ≡ (if wide == w then flight_due (flight_at flights wide) answer else flight_at flights w)
+due_set flights wide w None within = stays (λ k. flight_at flights k) wide w
+due_set flights wide w (Some answer) within = set_at idle flights wide w (flight_due (flight_at flights wide) (Some answer)) within
+
+due_length : (flights : List Flight) (wide : ℕ) (answer : Option Answer) → length (flights_due flights wide answer) ≡ length flights
+due_length flights wide None = refl
+due_length flights wide (Some answer) = length-set flights wide (flight_due (flight_at flights wide) (Some answer))
+
+if_twice : {X : Type 0} (c : Bool) (p q r : X) → (if c then p else (if c then q else r)) ≡ (if c then p else r)
+if_twice true p q r = refl
+if_twice false p q r = refl
+
+-- at a place where it stands, the first of two answers
+if_here : {X : Type 0} (k : ℕ) (p q : X) → (if k == k then p else q) ≡ p
+if_here {X} k p q = go (k == k) refl
+  where
+    go : (same : Bool) → (k == k) ≡ same → (if same then p else q) ≡ p
+    go true is = refl
+    go false is = absurd (eqb-false k k is refl)
+
+-- a beat after what is said of the layout
+abbrev after_by : Layout → Plan → State → Sighting → State
+after_by layout plan state x =
+    let here = answering layout x.link (found_in plan state x) x.beat in
+    record {
+      links = λ side number. if is_link x.link side number then under_after here.under x.beat else state.links side number;
+      flights = λ side wide. if is_of plan x side wide then flight_after layout x.link here x.beat else state.flights side wide;
+      crossings = λ wide. if wide_of plan x.link (source_of x.beat) == wide then crossing_after x.link here x.beat else state.crossings wide;
+      slaves = λ port. if here.port == port then slave_by here.slave (effect layout x.link here x.beat) else state.slaves port;
+    }
+
+module _ (plan : Plan) (view : View) (known : ℕ) where
+  -- what a reply's beat finds in flight, once its request has taken effect
+  abbrev flight_late : Link → ℕ → ℕ → Flight
+  flight_late link wide port = flight_due (flight_in view link wide) (late_answer view link wide port)
+
+  pub after_part : (link : Link) (beat : DBeat) → HasRoom view link (wide_of plan link beat.source)
+      → port_of plan link (flight_in view link (wide_of plan link beat.source)).turn (D beat) < length view.slaves → ends_reply (under_in view link).replying beat ≡ false
+      → AreSame (state_in (with_part (with_late view link (wide_of plan link beat.source) (port_of plan link (flight_in view link (wide_of plan link beat.source)).turn (D beat))) link beat))
+      (after_by view.layout plan (state_in view) (record { link = link; beat = D beat; known = known }))
+  after_part (Master m) beat room slot is =
+      let wide = plan.wide m beat.source in
+      let port = port_in plan (flight_at view.masters.flights wide).turn in
+      record {
+        links = links;
+        flights = flights;
+        crossings = λ w. stays (λ k. crossing_at view.crossings k) wide w;
+        slaves = λ p. slaves_set view.slaves port p (late_in view (Master m) wide port) slot;
+      }
     where
-      links : (side : Side) (number : ℕ) → under_at (side_in (with_part view (Master m) beat) side).links number
+      links : (side : Side) (number : ℕ) → under_at (side_in (with_part (with_late view (Master m) (plan.wide m beat.source) (port_in plan (flight_at view.masters.flights (plan.wide m beat.source)).turn)) (Master m) beat) side).links number
           ≡ (if is_link (Master m) side number then under_after (under_at view.masters.links m) (D beat) else under_at (side_in view side).links number)
       links AtMasters number = set_at nothing_under view.masters.links m number (under_after (under_at view.masters.links m) (D beat)) room.at_link
       links AtPorts number = refl
 
-      flights : (side : Side) (w : ℕ) → flight_at (side_in (with_part view (Master m) beat) side).flights w
-          ≡ (if is_of plan (seen_at (Master m) (D beat)) side w then (if ends_reply (under_at view.masters.links m).replying beat then idle else flight_at view.masters.flights (plan.wide m beat.source)) else flight_at (side_in view side).flights w)
-      flights AtMasters w = rw is (stays (λ k. flight_at view.masters.flights k) (plan.wide m beat.source) w)
+      flights : (side : Side) (w : ℕ) → flight_at (side_in (with_part (with_late view (Master m) (plan.wide m beat.source) (port_in plan (flight_at view.masters.flights (plan.wide m beat.source)).turn)) (Master m) beat) side).flights w
+          ≡ (if is_of plan (record { link = Master m; beat = D beat; known = known }) side w then (if ends_reply (under_at view.masters.links m).replying beat then idle else flight_late (Master m) (plan.wide m beat.source) (port_in plan (flight_at view.masters.flights (plan.wide m beat.source)).turn)) else flight_at (side_in view side).flights w)
+      flights AtMasters w = rw is (due_set view.masters.flights (plan.wide m beat.source) w (late_answer view (Master m) (plan.wide m beat.source) (port_in plan (flight_at view.masters.flights (plan.wide m beat.source)).turn)) room.in_flight)
       flights AtPorts w = refl
-  after_part (Port n) beat room is = record {
-    links = links;
-    flights = flights;
-    crossings = λ w. rw is (stays (λ k. crossing_at view.crossings k) beat.source w);
-    slaves = λ p. stays (λ k. slave_at view.slaves k) n p;
-  }
+  after_part (Port n) beat room slot is =
+      record {
+        links = links;
+        flights = flights;
+        crossings = λ w. rw is (stays (λ k. crossing_at view.crossings k) beat.source w);
+        slaves = λ p. slaves_set view.slaves n p (late_in view (Port n) beat.source n) slot;
+      }
     where
-      links : (side : Side) (number : ℕ) → under_at (side_in (with_part view (Port n) beat) side).links number
+      links : (side : Side) (number : ℕ) → under_at (side_in (with_part (with_late view (Port n) beat.source n) (Port n) beat) side).links number
           ≡ (if is_link (Port n) side number then under_after (under_at view.ports.links n) (D beat) else under_at (side_in view side).links number)
       links AtMasters number = refl
       links AtPorts number = set_at nothing_under view.ports.links n number (under_after (under_at view.ports.links n) (D beat)) room.at_link
 
-      flights : (side : Side) (w : ℕ) → flight_at (side_in (with_part view (Port n) beat) side).flights w
-          ≡ (if is_of plan (seen_at (Port n) (D beat)) side w then (if ends_reply (under_at view.ports.links n).replying beat then idle else flight_at view.ports.flights beat.source) else flight_at (side_in view side).flights w)
+      flights : (side : Side) (w : ℕ) → flight_at (side_in (with_part (with_late view (Port n) beat.source n) (Port n) beat) side).flights w
+          ≡ (if is_of plan (record { link = Port n; beat = D beat; known = known }) side w then (if ends_reply (under_at view.ports.links n).replying beat then idle else flight_late (Port n) beat.source n) else flight_at (side_in view side).flights w)
       flights AtMasters w = refl
-      flights AtPorts w = rw is (stays (λ k. flight_at view.ports.flights k) beat.source w)
+      flights AtPorts w = rw is (due_set view.ports.flights beat.source w (late_answer view (Port n) beat.source n) room.in_flight)
 
-  pub after_end : (link : Link) (beat : DBeat) → HasRoom view link (wide_of plan link beat.source) → ends_reply (under_in view link).replying beat ≡ true
-      → AreSame (state_in (with_end view link (wide_of plan link beat.source) beat)) (state_after plan (state_in view) (seen_at link (D beat)))
-  after_end (Master m) beat room is = record {
-    links = links;
-    flights = flights;
-    crossings = λ w. stays (λ k. crossing_at view.crossings k) (plan.wide m beat.source) w;
-    slaves = λ p. stays (λ k. slave_at view.slaves k) (port_of plan (Master m) (flight_at view.masters.flights (plan.wide m beat.source)).turn (D beat)) p;
-  }
+  -- nothing is in flight of a wide source any more
+  ended : (flights : List Flight) (wide w : ℕ) (answer : Option Answer) → wide < length flights
+      → flight_at (slice_set (flights_due flights wide answer) wide idle) w ≡ (if wide == w then idle else flight_at flights w)
+  ended flights wide w answer within =
+      set_at idle (flights_due flights wide answer) wide w idle (rw (due_length flights wide answer) within)
+      ∙ ap (λ (f : Flight). if wide == w then idle else f) (due_set flights wide w answer within)
+      ∙ if_twice (wide == w) idle (flight_due (flight_at flights wide) answer) (flight_at flights w)
+
+  pub after_end : (link : Link) (beat : DBeat) → HasRoom view link (wide_of plan link beat.source)
+      → port_of plan link (flight_in view link (wide_of plan link beat.source)).turn (D beat) < length view.slaves → ends_reply (under_in view link).replying beat ≡ true
+      → AreSame (state_in (with_end (with_late view link (wide_of plan link beat.source) (port_of plan link (flight_in view link (wide_of plan link beat.source)).turn (D beat))) link (wide_of plan link beat.source) beat))
+      (after_by view.layout plan (state_in view) (record { link = link; beat = D beat; known = known }))
+  after_end (Master m) beat room slot is =
+      let wide = plan.wide m beat.source in
+      let port = port_in plan (flight_at view.masters.flights wide).turn in
+      record {
+        links = links;
+        flights = flights;
+        crossings = λ w. stays (λ k. crossing_at view.crossings k) wide w;
+        slaves = λ p. slaves_set view.slaves port p (late_in view (Master m) wide port) slot;
+      }
     where
-      links : (side : Side) (number : ℕ) → under_at (side_in (with_end view (Master m) (plan.wide m beat.source) beat) side).links number
+      links : (side : Side) (number : ℕ) → under_at (side_in (with_end (with_late view (Master m) (plan.wide m beat.source) (port_in plan (flight_at view.masters.flights (plan.wide m beat.source)).turn)) (Master m) (plan.wide m beat.source) beat) side).links number
           ≡ (if is_link (Master m) side number then under_after (under_at view.masters.links m) (D beat) else under_at (side_in view side).links number)
       links AtMasters number = set_at nothing_under view.masters.links m number (under_after (under_at view.masters.links m) (D beat)) room.at_link
       links AtPorts number = refl
 
-      flights : (side : Side) (w : ℕ) → flight_at (side_in (with_end view (Master m) (plan.wide m beat.source) beat) side).flights w
-          ≡ (if is_of plan (seen_at (Master m) (D beat)) side w then (if ends_reply (under_at view.masters.links m).replying beat then idle else flight_at view.masters.flights (plan.wide m beat.source)) else flight_at (side_in view side).flights w)
-      flights AtMasters w = rw is (set_at idle view.masters.flights (plan.wide m beat.source) w idle room.in_flight)
+      flights : (side : Side) (w : ℕ) → flight_at (side_in (with_end (with_late view (Master m) (plan.wide m beat.source) (port_in plan (flight_at view.masters.flights (plan.wide m beat.source)).turn)) (Master m) (plan.wide m beat.source) beat) side).flights w
+          ≡ (if is_of plan (record { link = Master m; beat = D beat; known = known }) side w then (if ends_reply (under_at view.masters.links m).replying beat then idle else flight_late (Master m) (plan.wide m beat.source) (port_in plan (flight_at view.masters.flights (plan.wide m beat.source)).turn)) else flight_at (side_in view side).flights w)
+      flights AtMasters w = rw is (ended view.masters.flights (plan.wide m beat.source) w (late_answer view (Master m) (plan.wide m beat.source) (port_in plan (flight_at view.masters.flights (plan.wide m beat.source)).turn)) room.in_flight)
       flights AtPorts w = refl
-  after_end (Port n) beat room is = record {
-    links = links;
-    flights = flights;
-    crossings = λ w. rw is (given_set view.crossings beat.source w (flight_at view.ports.flights beat.source).due room.crossing);
-    slaves = λ p. stays (λ k. slave_at view.slaves k) n p;
-  }
+  after_end (Port n) beat room slot is =
+      record {
+        links = links;
+        flights = flights;
+        crossings = crossings;
+        slaves = λ p. slaves_set view.slaves n p (late_in view (Port n) beat.source n) slot;
+      }
     where
-      links : (side : Side) (number : ℕ) → under_at (side_in (with_end view (Port n) beat.source beat) side).links number
+      links : (side : Side) (number : ℕ) → under_at (side_in (with_end (with_late view (Port n) beat.source n) (Port n) beat.source beat) side).links number
           ≡ (if is_link (Port n) side number then under_after (under_at view.ports.links n) (D beat) else under_at (side_in view side).links number)
       links AtMasters number = refl
       links AtPorts number = set_at nothing_under view.ports.links n number (under_after (under_at view.ports.links n) (D beat)) room.at_link
 
-      flights : (side : Side) (w : ℕ) → flight_at (side_in (with_end view (Port n) beat.source beat) side).flights w
-          ≡ (if is_of plan (seen_at (Port n) (D beat)) side w then (if ends_reply (under_at view.ports.links n).replying beat then idle else flight_at view.ports.flights beat.source) else flight_at (side_in view side).flights w)
+      flights : (side : Side) (w : ℕ) → flight_at (side_in (with_end (with_late view (Port n) beat.source n) (Port n) beat.source beat) side).flights w
+          ≡ (if is_of plan (record { link = Port n; beat = D beat; known = known }) side w then (if ends_reply (under_at view.ports.links n).replying beat then idle else flight_late (Port n) beat.source n) else flight_at (side_in view side).flights w)
       flights AtMasters w = refl
-      flights AtPorts w = rw is (set_at idle view.ports.flights beat.source w idle room.in_flight)
+      flights AtPorts w = rw is (ended view.ports.flights beat.source w (late_answer view (Port n) beat.source n) room.in_flight)
+
+      -- what the port gives is what is due once the request has taken effect
+      given : (flight_at (flights_due view.ports.flights beat.source (late_answer view (Port n) beat.source n)) beat.source).due ≡ (flight_late (Port n) beat.source n).due
+      given = ap (λ (f : Flight). f.due) (due_set view.ports.flights beat.source beat.source (late_answer view (Port n) beat.source n) room.in_flight
+          ∙ if_here beat.source (flight_late (Port n) beat.source n) (flight_at view.ports.flights beat.source))
+
+      crossings : (w : ℕ) → crossing_at (crossings_given view.crossings beat.source (flight_at (flights_due view.ports.flights beat.source (late_answer view (Port n) beat.source n)) beat.source).due) w
+          ≡ (if beat.source == w then (if ends_reply (under_at view.ports.links n).replying beat then given_by (flight_late (Port n) beat.source n).due (crossing_at view.crossings beat.source) else crossing_at view.crossings beat.source) else crossing_at view.crossings w)
+      crossings w = rw (is, given) (given_set view.crossings beat.source w (flight_late (Port n) beat.source n).due room.crossing)
 
 -- ---- states that say the same
 
-same_scene : (plan : Plan) (a b : State) (x : Sighting) → AreSame a b → scene_of plan a x ≡ scene_of plan b x
-same_scene plan a b x same =
+same_found : (plan : Plan) (a b : State) (x : Sighting) → AreSame a b → found_in plan a x ≡ found_in plan b x
+same_found plan a b x same =
     let side = side_of x.link in
     let wide = wide_of plan x.link (source_of x.beat) in
     let port = port_of plan x.link (b.flights side wide).turn x.beat in
     rw (same.links side (number_of x.link), same.flights side wide, same.flights AtMasters wide, same.crossings wide, same.slaves port) refl
+
+same_scene : (plan : Plan) (a b : State) (x : Sighting) → AreSame a b → scene_of plan a x ≡ scene_of plan b x
+same_scene plan a b x same = ap (λ (s : Scene). answering plan.layout x.link s x.beat) (same_found plan a b x same)
 
 if_same : {X : Type 0} (c : Bool) (p q r s : X) → p ≡ q → r ≡ s → (if c then p else r) ≡ (if c then q else s)
 if_same true p q r s first second = first
@@ -251,13 +324,13 @@ layout_ask : (view : View) (link : Link) (wide port : ℕ) (beat : ABeat) → (w
 layout_ask view (Master m) wide port beat = refl
 layout_ask view (Port p) wide port beat = refl
 
-layout_part : (view : View) (link : Link) (beat : DBeat) → (with_part view link beat).layout ≡ view.layout
-layout_part view (Master m) beat = refl
-layout_part view (Port p) beat = refl
+layout_part : (view : View) (link : Link) (wide port : ℕ) (beat : DBeat) → (with_part (with_late view link wide port) link beat).layout ≡ view.layout
+layout_part view (Master m) wide port beat = refl
+layout_part view (Port p) wide port beat = refl
 
-layout_end : (view : View) (link : Link) (wide : ℕ) (beat : DBeat) → (with_end view link wide beat).layout ≡ view.layout
-layout_end view (Master m) wide beat = refl
-layout_end view (Port p) wide beat = refl
+layout_end : (view : View) (link : Link) (wide port : ℕ) (beat : DBeat) → (with_end (with_late view link wide port) link wide beat).layout ≡ view.layout
+layout_end view (Master m) wide port beat = refl
+layout_end view (Port p) wide port beat = refl
 
 module _ (plan : Plan) (past : List Sighting) (view new : View) (link : Link) (known : ℕ) (keeps : Keeps plan past view) where
   pub ask_step : (beat : ABeat) (wide port : ℕ) → HasRoom view link wide → IsWideAt view.layout link beat.source wide
@@ -273,28 +346,41 @@ module _ (plan : Plan) (past : List Sighting) (view new : View) (link : Link) (k
       (subst (λ (v : View). AreSame (state_in v) (state_after plan (state_in view) x)) (sym is) same)
       (carried plan past view x keeps (λ l s. IsAllowedAsk l link s beat known) allowed)
 
-  pub part_step : (beat : DBeat) (wide : ℕ) → HasRoom view link wide → IsWideAt view.layout link beat.source wide
-      → ends_reply (under_in view link).replying beat ≡ false → IsAllowedReply view.layout link (scene_in plan view link (D beat)) beat known
-      → new ≡ with_part view link beat → Keeps plan (record { link = link; beat = D beat; known = known } ∷ past) new
-  part_step beat wide room found ends allowed is =
+  -- what is said of the judge's layout is said of the plan's
+  reply_step : (beat : DBeat) (next : View) → next.layout ≡ view.layout → AreSame (state_in next) (after_by view.layout plan (state_in view) (record { link = link; beat = D beat; known = known }))
+      → IsAllowedReply view.layout link (scene_in plan view link (D beat)) beat known → Keeps plan (record { link = link; beat = D beat; known = known } ∷ past) next
+  reply_step beat next layout same allowed =
       let x : Sighting = record { link = link; beat = D beat; known = known } in
-      let e = wide_is plan view link beat.source wide keeps.suits found in
-      let same = after_part plan view known keeps.suits link beat (subst (HasRoom view link) e room) ends in
-      keeps_next plan past view x keeps new (ap (λ (v : View). v.layout) is ∙ layout_part view link beat)
-      (subst (λ (v : View). AreSame (state_in v) (state_after plan (state_in view) x)) (sym is) same)
+      keeps_next plan past view x keeps next layout (subst (λ (l : Layout). AreSame (state_in next) (after_by l plan (state_in view) x)) keeps.suits.layout same)
       (carried plan past view x keeps (λ l s. IsAllowedReply l link s beat known) allowed)
 
-  pub end_step : (beat : DBeat) (wide : ℕ) → HasRoom view link wide → IsWideAt view.layout link beat.source wide
-      → ends_reply (under_in view link).replying beat ≡ true → IsAllowedReply view.layout link (scene_in plan view link (D beat)) beat known
-      → new ≡ with_end view link wide beat → Keeps plan (record { link = link; beat = D beat; known = known } ∷ past) new
-  end_step beat wide room found ends allowed is =
+  pub part_step : (beat : DBeat) (wide port : ℕ) → HasRoom view link wide → IsWideAt view.layout link beat.source wide
+      → port ≡ port_of plan link (flight_in view link wide).turn (D beat) → port < length view.slaves
+      → ends_reply (under_in view link).replying beat ≡ false → IsAllowedReply view.layout link (scene_in plan view link (D beat)) beat known
+      → new ≡ with_part (with_late view link wide port) link beat → Keeps plan (record { link = link; beat = D beat; known = known } ∷ past) new
+  part_step beat wide port room found port_found slot ends allowed is =
       let x : Sighting = record { link = link; beat = D beat; known = known } in
+      let R : ℕ → ℕ → Type 0 = λ w p. HasRoom view link w → p < length view.slaves → AreSame (state_in (with_part (with_late view link w p) link beat)) (after_by view.layout plan (state_in view) x) in
       let e = wide_is plan view link beat.source wide keeps.suits found in
-      let same = after_end plan view known keeps.suits link beat (subst (HasRoom view link) e room) ends in
-      let P : ℕ → Type 0 = λ w. AreSame (state_in (with_end view link w beat)) (state_after plan (state_in view) x) in
-      keeps_next plan past view x keeps new (ap (λ (v : View). v.layout) is ∙ layout_end view link wide beat)
-      (subst (λ (v : View). AreSame (state_in v) (state_after plan (state_in view) x)) (sym is) (subst P (sym e) same))
-      (carried plan past view x keeps (λ l s. IsAllowedReply l link s beat known) allowed)
+      let port_so : port ≡ port_of plan link (flight_in view link (wide_of plan link beat.source)).turn (D beat) = port_found ∙ ap (λ w. port_of plan link (flight_in view link w).turn (D beat)) e in
+      let at : R (wide_of plan link beat.source) (port_of plan link (flight_in view link (wide_of plan link beat.source)).turn (D beat)) = λ r s. after_part plan view known link beat r s ends in
+      let same = subst (λ w. R w port) (sym e) (subst (λ p. R (wide_of plan link beat.source) p) (sym port_so) at) room slot in
+      reply_step beat new (ap (λ (v : View). v.layout) is ∙ layout_part view link wide port beat)
+      (subst (λ (v : View). AreSame (state_in v) (after_by view.layout plan (state_in view) x)) (sym is) same) allowed
+
+  pub end_step : (beat : DBeat) (wide port : ℕ) → HasRoom view link wide → IsWideAt view.layout link beat.source wide
+      → port ≡ port_of plan link (flight_in view link wide).turn (D beat) → port < length view.slaves
+      → ends_reply (under_in view link).replying beat ≡ true → IsAllowedReply view.layout link (scene_in plan view link (D beat)) beat known
+      → new ≡ with_end (with_late view link wide port) link wide beat → Keeps plan (record { link = link; beat = D beat; known = known } ∷ past) new
+  end_step beat wide port room found port_found slot ends allowed is =
+      let x : Sighting = record { link = link; beat = D beat; known = known } in
+      let R : ℕ → ℕ → Type 0 = λ w p. HasRoom view link w → p < length view.slaves → AreSame (state_in (with_end (with_late view link w p) link w beat)) (after_by view.layout plan (state_in view) x) in
+      let e = wide_is plan view link beat.source wide keeps.suits found in
+      let port_so : port ≡ port_of plan link (flight_in view link (wide_of plan link beat.source)).turn (D beat) = port_found ∙ ap (λ w. port_of plan link (flight_in view link w).turn (D beat)) e in
+      let at : R (wide_of plan link beat.source) (port_of plan link (flight_in view link (wide_of plan link beat.source)).turn (D beat)) = λ r s. after_end plan view known link beat r s ends in
+      let same = subst (λ w. R w port) (sym e) (subst (λ p. R (wide_of plan link beat.source) p) (sym port_so) at) room slot in
+      reply_step beat new (ap (λ (v : View). v.layout) is ∙ layout_end view link wide port beat)
+      (subst (λ (v : View). AreSame (state_in v) (after_by view.layout plan (state_in view) x)) (sym is) same) allowed
 
 -- ---- what a step answers
 

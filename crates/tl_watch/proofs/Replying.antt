@@ -1,5 +1,5 @@
 -- From what a judge finds of a beat of a reply to what it is after its past: the first fault, or that it is lawful.
-use Rattle.std.proofs.Common.{◌≡◌, ◌∙◌, ℕ, ◌<◌, ◌≤◌, ◌↔◌, ◌⊎◌, inl, inr, Bool, false, List, [], ◌∷◌, ◌++◌, Option, Some, None, ap, sym, subst, refl, arith}
+use Rattle.std.proofs.Common.{◌≡◌, ◌∙◌, ℕ, ◌<◌, ◌≤◌, ◌⊎◌, inl, inr, Bool, false, List, [], ◌∷◌, ◌++◌, Option, Some, None, ap, sym, subst, refl, arith}
 use Rattle.std.specs.Prelude.{IsTrue, IsSomeAnd, IfSome, IfNone}
 use Rattle.tl_types.specs.Fault.{IsFirstOf}
 use Rattle.tl_types.specs.Request.{Request}
@@ -9,9 +9,7 @@ use Rattle.tl_beats.specs.Replies.{IsLawfulFlag, SpellsReply}
 use Rattle.tl_beats.specs.declared.beat.DBeat.{DBeat}
 use Rattle.tl_beats.proofs.Codes.{same_reply_op}
 use Rattle.tl_beats.proofs.ReplyOnly.{same_reply}
-use Rattle.tl_map.specs.Map.{RoutesBytes}
 use Rattle.tl_link.specs.declared.beat.Link.{Link}
-use Rattle.tl_link.specs.declared.beat.Link.TheVariants.{Master, Port}
 use Rattle.tl_link.specs.declared.beat.Beat.TheVariants.{D}
 use Rattle.tl_link.specs.declared.fault.FormFault.{FormFault}
 use Rattle.tl_link.specs.declared.fault.FormFault.TheVariants.{Changed, Opcode, Size, Mask, CorruptFlag, UnknownData as UnknownLanes}
@@ -23,24 +21,24 @@ use Rattle.tl_watch.specs.declared.flight.Turn.{Turn}
 use Rattle.tl_watch.specs.declared.flight.Turn.TheVariants.{Idle, Asking, Asked}
 use Rattle.tl_watch.specs.declared.flight.Answer.{Answer}
 use Rattle.tl_watch.specs.Plan.{Layout, Plan, HasSource, IsWideAt, number_of}
-use Rattle.tl_watch.specs.Scene.{Scene, is_given, must_by, must_come}
+use Rattle.tl_watch.specs.Scene.{Scene, answering, is_given, must_by, must_come}
 use Rattle.tl_watch.specs.Past.{port_of}
 use Rattle.tl_watch.specs.Allowed.{OfAsked, IsAnswer, EndsWell, IsAllowedReply}
 use Rattle.tl_watch.specs.Faults.{HasAnswerFault, HasEndFault, EndsWith, HasReplyFault, IsFirstReplyFault, fault_rank}
-use Rattle.tl_watch.specs.View.{View, Suits, under_in, flight_in, flight_at, crossing_at, slave_at, scene_in, due_at, IsEndFault, IsEndWell}
-use Rattle.tl_watch.proofs.Judging.{wide_is, port_in_flight}
+use Rattle.tl_watch.specs.View.{View, Suits, under_in, flight_in, flight_at, crossing_at, slave_at, scene_in, due_in, due_at, IsEndFault, IsEndWell}
+use Rattle.tl_watch.proofs.Judging.{wide_is}
 
 -- ---- the reply that a beat ends
 
-module _ (plan : Plan) (view : View) (link : Link) (wide : ℕ) (beat : DBeat) (at : ℕ) (ask : Request) (port : ℕ) (suits : Suits plan view) (turn_is : (flight_in view link wide).turn ≡ Asked at ask) (master : (number other : ℕ) → link ≡ Master number → (port ≡ other) ↔ RoutesBytes view.layout.ranges ask.address ask.size other) (at_port : (number : ℕ) → link ≡ Port number → port ≡ number) where
-  pub port_here : port ≡ port_of plan link (flight_in view link wide).turn (D beat)
-  port_here = port_in_flight plan view link beat (flight_in view link wide).turn at ask port suits turn_is master at_port
+module _ (plan : Plan) (view : View) (link : Link) (wide : ℕ) (beat : DBeat) (ask : Request) (port : ℕ) (port_here : port ≡ port_of plan link (flight_in view link wide).turn (D beat)) where
+  -- what must come, of a request to this port
+  abbrev due_by_port : ℕ → Option Answer
+  due_by_port p = must_by (is_given view.layout link p) beat.source (crossing_at view.crossings wide) (due_in view link wide p)
 
-  pub due_here : (due : Option Answer) → due ≡ must_by (is_given view.layout link port) beat.source (crossing_at view.crossings wide) (flight_in view link wide).due → due ≡ due_at plan view link wide beat
-  due_here due is = is ∙ ap (λ p. must_by (is_given view.layout link p) beat.source (crossing_at view.crossings wide) (flight_in view link wide).due) port_here
+  pub due_here : (due : Option Answer) → due ≡ due_by_port port → due ≡ due_at plan view link wide beat
+  due_here due is = is ∙ ap due_by_port port_here
 
-  pub whole_has : (given : Bool) (due : Option Answer) (captured : Response) (r : Option Fault) → given ≡ is_given view.layout link port
-      → due ≡ must_by (is_given view.layout link port) beat.source (crossing_at view.crossings wide) (flight_in view link wide).due
+  pub whole_has : (given : Bool) (due : Option Answer) (captured : Response) (r : Option Fault) → given ≡ is_given view.layout link port → due ≡ due_by_port port
       → IsTrue (ends_reply (under_in view link).replying beat) → IsLawfulResponse captured.op captured.size captured.denied captured.bytes → SpellsReply captured ask.address ((under_in view link).replying ++ beat ∷ [])
       → IfSome r (HasEndFault given due captured) → IfSome r (IsEndFault plan view link wide beat ask)
   whole_has given due captured None given_is due_is ends lawful spells has = tt
@@ -49,8 +47,7 @@ module _ (plan : Plan) (view : View) (link : Link) (wide : ℕ) (beat : DBeat) (
       let due_so = due_here due due_is in
       (ends, (captured, lawful, spells, subst (λ (o : Option Answer). HasEndFault (is_given view.layout link (port_of plan link (flight_in view link wide).turn (D beat))) o captured fault) due_so (subst (λ (g : Bool). HasEndFault g due captured fault) given_so has)))
 
-  pub whole_well : (due : Option Answer) (captured : Response) (r : Option Fault)
-      → due ≡ must_by (is_given view.layout link port) beat.source (crossing_at view.crossings wide) (flight_in view link wide).due
+  pub whole_well : (due : Option Answer) (captured : Response) (r : Option Fault) → due ≡ due_by_port port
       → IsLawfulResponse captured.op captured.size captured.denied captured.bytes → SpellsReply captured ask.address ((under_in view link).replying ++ beat ∷ [])
       → IfNone r (IsSomeAnd due (λ answer. answer.reply ≡ captured)) → IfNone r (IsEndWell plan view link wide beat ask)
   whole_well due captured (Some fault) due_is lawful spells well = tt
@@ -257,52 +254,58 @@ module _ (layout : Layout) (link : Link) (scene : Scene) (beat : DBeat) (known :
       ends_twice scene.flight.turn (is_given layout link scene.port) (must_come layout link scene beat.source) (WrongReply e r) (give_ends scene.flight.turn has.0 allowed.ends) has.1
       (λ captured well wrong. wrong.3 (two_replies (must_come layout link scene beat.source) e captured wrong.1 well))
 
--- ---- at the wide source that a judge finds
+-- ---- at the wide source that a judge finds, and in the order of the plan
 
 module _ (plan : Plan) (view : View) (link : Link) (beat : DBeat) (known wide : ℕ) (suits : Suits plan view) (found : IsWideAt view.layout link beat.source wide) (fits : FitsReply (under_in view link).replying beat) where
-  abbrev scene_at : ℕ → Scene
-  scene_at w = record {
+  abbrev scene_at : Layout → ℕ → Scene
+  scene_at layout w = answering layout link (record {
     under = under_in view link;
     flight = flight_in view link w;
     sent = (flight_at view.masters.flights w).turn;
     crossing = crossing_at view.crossings w;
     port = port_of plan link (flight_in view link w).turn (D beat);
     slave = slave_at view.slaves (port_of plan link (flight_in view link w).turn (D beat));
-  }
+  }) (D beat)
+
+  -- what is said of the scene at this wide source, in this order, is said of what the beat finds
+  carried_here : (Q : Scene → Type 0) → Q (scene_at view.layout wide) → Q (scene_in plan view link (D beat))
+  carried_here Q here =
+      subst (λ (w : ℕ). Q (scene_at plan.layout w)) (wide_is plan view link beat.source wide suits found)
+      (subst (λ (l : Layout). Q (scene_at l wide)) suits.layout here)
 
   pub answer_first : (fault : Fault) → IsFirstOf (HasAnswerFault (number_of link) (flight_in view link wide).turn beat known) fault_rank fault
       → IsFirstReplyFault view.layout link (scene_in plan view link (D beat)) beat known fault
   answer_first fault first =
-      subst (λ (w : ℕ). IsFirstReplyFault view.layout link (scene_at w) beat known fault) (wide_is plan view link beat.source wide suits found)
-      (first_answer view.layout link (scene_at wide) beat known fits (wide, found) fault first)
+      carried_here (λ s. IsFirstReplyFault view.layout link s beat known fault)
+      (first_answer view.layout link (scene_at view.layout wide) beat known fits (wide, found) fault first)
 
   pub end_first : (fault : Fault) → OfAsked (number_of link) (flight_in view link wide).turn (IsAnswer beat known)
       → ((at : ℕ) (ask : Request) → (flight_in view link wide).turn ≡ Asked at ask → IsEndFault plan view link wide beat ask fault)
       → IsFirstReplyFault view.layout link (scene_in plan view link (D beat)) beat known fault
   end_first fault answers has =
-      subst (λ (w : ℕ). IsFirstReplyFault view.layout link (scene_at w) beat known fault) (wide_is plan view link beat.source wide suits found)
+      carried_here (λ s. IsFirstReplyFault view.layout link s beat known fault)
       (by_turn (flight_in view link wide).turn refl answers)
     where
-      by_turn : (turn : Turn) → (flight_in view link wide).turn ≡ turn → OfAsked (number_of link) turn (IsAnswer beat known) → IsFirstReplyFault view.layout link (scene_at wide) beat known fault
+      by_turn : (turn : Turn) → (flight_in view link wide).turn ≡ turn → OfAsked (number_of link) turn (IsAnswer beat known) → IsFirstReplyFault view.layout link (scene_at view.layout wide) beat known fault
       by_turn Idle is of = absurd of
       by_turn (Asking at) is of = absurd of
       by_turn (Asked at ask) is of =
           let h = has at ask is in
-          first_end view.layout link (scene_at wide) beat known fits (wide, found) at ask fault is answers h.0 h.1.0 h.1.1 h.1.2 h.1.3
+          first_end view.layout link (scene_at view.layout wide) beat known fits (wide, found) at ask fault is answers h.0 h.1.0 h.1.1 h.1.2 h.1.3
 
   pub reply_allowed : OfAsked (number_of link) (flight_in view link wide).turn (IsAnswer beat known)
       → ((at : ℕ) (ask : Request) → (flight_in view link wide).turn ≡ Asked at ask → IsEndWell plan view link wide beat ask)
       → IsAllowedReply view.layout link (scene_in plan view link (D beat)) beat known
   reply_allowed answers well =
-      let here : IsAllowedReply view.layout link (scene_at wide) beat known = record {
+      carried_here (λ s. IsAllowedReply view.layout link s beat known)
+      (record {
         fits = fits;
         source = (wide, found);
         answers = answers;
         ends = by_turn (flight_in view link wide).turn refl answers;
-      } in
-      subst (λ (w : ℕ). IsAllowedReply view.layout link (scene_at w) beat known) (wide_is plan view link beat.source wide suits found) here
+      })
     where
-      by_turn : (turn : Turn) → (flight_in view link wide).turn ≡ turn → OfAsked (number_of link) turn (IsAnswer beat known) → OfAsked (number_of link) turn (EndsWell view.layout link (scene_at wide) beat)
+      by_turn : (turn : Turn) → (flight_in view link wide).turn ≡ turn → OfAsked (number_of link) turn (IsAnswer beat known) → OfAsked (number_of link) turn (EndsWell view.layout link (scene_at view.layout wide) beat)
       by_turn Idle is of = of
       by_turn (Asking at) is of = of
       by_turn (Asked at ask) is of = (of.0, well at ask is)

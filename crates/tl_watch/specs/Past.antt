@@ -16,7 +16,7 @@ use Rattle.tl_watch.specs.declared.flight.Crossing.TheVariants.{Waiting}
 use Rattle.tl_watch.specs.declared.slave.Slave.{Slave}
 use Rattle.tl_watch.specs.Plan.{Plan, Side, side_of, number_of, source_of, wide_of, is_link, is_of}
 use Rattle.tl_watch.specs.Plan.Side.{AtMasters}
-use Rattle.tl_watch.specs.Scene.{Scene, idle, effect, slave_by, flight_after, crossing_after}
+use Rattle.tl_watch.specs.Scene.{Scene, idle, effect, answering, slave_by, flight_after, crossing_after}
 
 -- the messages under way at each link, what is in flight of each wide source on each side, how far it has come across, and what
 -- each port's slave holds
@@ -50,9 +50,9 @@ port_of plan (Port p) turn beat = p
 port_of plan (Master m) turn (A beat) = plan.route beat.address beat.size
 port_of plan (Master m) turn (D beat) = port_in plan turn
 
--- what a beat finds
-abbrev pub scene_of : Plan → State → Sighting → Scene
-scene_of plan state x =
+-- what a beat finds there
+abbrev pub found_in : Plan → State → Sighting → Scene
+found_in plan state x =
     let side = side_of x.link in
     let wide = wide_of plan x.link (source_of x.beat) in
     let port = port_of plan x.link (state.flights side wide).turn x.beat in
@@ -64,6 +64,10 @@ scene_of plan state x =
       port = port;
       slave = state.slaves port;
     }
+
+-- what it finds, once the request that it answers has taken effect
+abbrev pub scene_of : Plan → State → Sighting → Scene
+scene_of plan state x = answering plan.layout x.link (found_in plan state x) x.beat
 
 -- one beat changes what stands at its own link, of its own source and in its own port, and nothing else
 abbrev pub state_after : Plan → State → Sighting → State

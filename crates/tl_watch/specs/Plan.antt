@@ -12,10 +12,13 @@ use Rattle.tl_link.specs.declared.beat.Link.TheVariants.{Master, Port}
 use Rattle.tl_link.specs.declared.beat.Sighting.{Sighting}
 use Rattle.tl_watch.specs.declared.links.Links.{Links}
 use Rattle.tl_watch.specs.declared.links.Links.TheVariants.{Both, Masters, Ports}
+use Rattle.tl_watch.specs.declared.order.Order.{Order}
+use Rattle.tl_watch.specs.declared.order.Order.TheVariants.{Accept, Reply}
 
--- the links that are watched, how many sources each master has, and the ranges of the ports
+-- the links that are watched, when requests take effect, how many sources each master has, and the ranges of the ports
 pub record Layout : Type 0 where
   pub links : Links
+  pub order : Order
   pub counts : List ℕ
   pub ranges : List Range
 
@@ -83,6 +86,18 @@ HasSource layout link source = (wide : ℕ) × IsWideAt layout link source wide
 -- the beat is one of this wide source on this side
 abbrev pub is_of : Plan → Sighting → Side → ℕ → Bool
 is_of plan x side wide = same_side (side_of x.link) side && (wide_of plan x.link (source_of x.beat) == wide)
+
+-- ---- when requests take effect
+
+-- with their last beats
+abbrev pub is_at_acceptance : Order → Bool
+is_at_acceptance Accept = true
+is_at_acceptance Reply = false
+
+-- with the first beats of their replies
+abbrev pub is_at_reply : Order → Bool
+is_at_reply Accept = false
+is_at_reply Reply = true
 
 -- ---- ports
 

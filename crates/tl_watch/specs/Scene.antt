@@ -1,10 +1,11 @@
 -- What a beat finds at its link and in its port, and what it makes of that: messages and their order by the chapters "Beats and
--- bursts" and "TL-UL and TL-UH operations" of the TileLink specification; when a request takes effect is this project's choice.
-use Rattle.std.specs.Prelude.{ℕ, ◌+◌, ◌%◌, ◌^◌, Bool, true, false, if◌then◌else◌, List, [], ◌∷◌, ◌++◌, Option, Some, None}
+-- bursts" and "TL-UL and TL-UH operations" of the TileLink specification; when a request takes effect is the system's own affair.
+use Rattle.std.specs.Prelude.{ℕ, ◌+◌, ◌%◌, ◌^◌, Bool, true, false, ◌&&◌, if◌then◌else◌, List, [], ◌∷◌, ◌++◌, Option, Some, None}
 use Rattle.tl_types.specs.Request.{Request}
 use Rattle.tl_types.specs.declared.trace.Entry.{Entry}
 use Rattle.tl_ops.specs.Store.{after, reply}
 use Rattle.tl_beats.specs.declared.beat.ABeat.{ABeat}
+use Rattle.tl_beats.specs.declared.beat.DBeat.{DBeat}
 use Rattle.tl_link.specs.declared.beat.Beat.{Beat}
 use Rattle.tl_link.specs.declared.beat.Beat.TheVariants.{A, D}
 use Rattle.tl_link.specs.declared.beat.Link.{Link}
@@ -20,7 +21,7 @@ use Rattle.tl_watch.specs.declared.flight.Crossing.TheVariants.{Waiting, Crossed
 use Rattle.tl_watch.specs.declared.slave.Slave.{Slave}
 use Rattle.tl_watch.specs.declared.seen.Seen.{Seen}
 use Rattle.tl_watch.specs.declared.seen.Seen.TheVariants.{Part, WholeAsk, WholeReply}
-use Rattle.tl_watch.specs.Plan.{Layout, number_of, crosses}
+use Rattle.tl_watch.specs.Plan.{Layout, number_of, crosses, is_at_acceptance, is_at_reply}
 
 -- the messages under way at its link, what is in flight of its source on its side and on the masters' side, how far that has
 -- come across, and the port that its request goes to, with what the slave there holds
@@ -39,7 +40,7 @@ idle = record { turn = Idle; due = None }
 abbrev pub ask_by : List ABeat → ABeat → Option Request
 ask_by begun beat = if ends_ask begun beat then Some (ask_of beat (begun ++ beat ∷ [])) else None
 
--- ---- memory: a request takes effect when it is accepted, with its last beat
+-- ---- memory
 
 -- requests to this port take effect as they are seen at this link: a port's own where the ports' links are watched, else, and
 -- for the error port, all masters'. (What a request leaves and what it is answered does not depend on its source.)
@@ -51,9 +52,27 @@ abbrev pub effect_by : Bool → Option Request → Option Request
 effect_by true ask = ask
 effect_by false ask = None
 
+-- the request that takes effect as it is accepted, with the beat that ends it
 abbrev pub effect : Layout → Link → Scene → Beat → Option Request
-effect layout link scene (A beat) = effect_by (takes_effect layout link scene.port) (ask_by scene.under.asking beat)
+effect layout link scene (A beat) =
+    effect_by (is_at_acceptance layout.order && takes_effect layout link scene.port) (ask_by scene.under.asking beat)
 effect layout link scene (D beat) = None
+
+-- the request in flight that has ended
+abbrev pub asked : Turn → Option Request
+asked Idle = None
+asked (Asking number) = None
+asked (Asked number ask) = Some ask
+
+-- no beat of a reply is under way
+abbrev pub begins_reply : List DBeat → Bool
+begins_reply [] = true
+begins_reply (beat ∷ begun) = false
+
+-- the request of this port that takes effect as it is answered, with the first beat of its reply
+abbrev pub late_effect : Layout → Link → ℕ → List DBeat → Turn → Option Request
+late_effect layout link port begun turn =
+    effect_by (is_at_reply layout.order && takes_effect layout link port && begins_reply begun) (asked turn)
 
 -- the slave after a request; how many it has served is counted modulo 2 ^ 64
 abbrev pub served_by : Slave → Request → Slave
@@ -67,6 +86,25 @@ slave_by slave (Some ask) = served_by slave ask
 abbrev pub answer_by : ℕ → Slave → Option Request → Option Answer
 answer_by port slave None = None
 answer_by port slave (Some ask) = Some (record { reply = reply slave.bank ask; port = port; index = slave.served })
+
+-- ---- what a beat finds, once the request that it answers has taken effect
+
+-- the reply that must come, if that is known now
+abbrev pub due_by : Option Answer → Option Answer → Option Answer
+due_by before None = before
+due_by before (Some answer) = Some answer
+
+abbrev pub flight_due : Flight → Option Answer → Flight
+flight_due flight answer = record flight { due = due_by flight.due answer }
+
+abbrev pub answering : Layout → Link → Scene → Beat → Scene
+answering layout link scene (A beat) = scene
+answering layout link scene (D beat) =
+    let ask = late_effect layout link scene.port scene.under.replying scene.flight.turn in
+    record scene {
+      flight = flight_due scene.flight (answer_by scene.port scene.slave ask);
+      slave = slave_by scene.slave ask;
+    }
 
 -- ---- what is in flight
 

@@ -1,5 +1,5 @@
 -- What a judge keeps of the beats so far. It is this project's own.
-use Rattle.std.specs.Prelude.{◌≡◌, ℕ, ◌+◌, Bool, true, false, List, [], ◌∷◌, ◌++◌, IsTrue, IsSomeAnd, length, Option, Some, None, slice_get, slice_set, unwrap_or}
+use Rattle.std.specs.Prelude.{◌≡◌, ℕ, ◌+◌, Bool, true, false, ◌&&◌, List, [], ◌∷◌, ◌++◌, IsTrue, IsSomeAnd, length, Option, Some, None, slice_get, slice_set, unwrap_or}
 use Rattle.tl_types.specs.Request.{Request}
 use Rattle.tl_types.specs.Response.{Response, IsLawfulResponse}
 use Rattle.tl_beats.specs.Replies.{SpellsReply}
@@ -19,9 +19,9 @@ use Rattle.tl_watch.specs.declared.flight.Crossing.TheVariants.{Waiting, Crossed
 use Rattle.tl_ops.specs.Store.{Store}
 use Rattle.tl_watch.specs.declared.slave.Slave.{Slave}
 use Rattle.tl_watch.specs.declared.side.TheConstants.{WIDES}
-use Rattle.tl_watch.specs.Plan.{Layout, Plan, IsPlan, Side, side_of, number_of}
+use Rattle.tl_watch.specs.Plan.{Layout, Plan, IsPlan, Side, side_of, number_of, is_at_acceptance}
 use Rattle.tl_watch.specs.Plan.Side.{AtMasters, AtPorts}
-use Rattle.tl_watch.specs.Scene.{Scene, idle, is_given, must_by, ask_by, takes_effect, effect_by, served_by, answer_by, turn_by}
+use Rattle.tl_watch.specs.Scene.{Scene, idle, is_given, must_by, ask_by, takes_effect, effect_by, late_effect, due_by, flight_due, served_by, answer_by, turn_by}
 use Rattle.tl_watch.specs.Past.{State, no_store, port_of, scene_of, state}
 use Rattle.tl_watch.specs.Faults.{HasEndFault}
 use Rattle.tl_watch.specs.Lawful.{IsLawful}
@@ -89,11 +89,23 @@ state_in view = record {
 abbrev pub scene_in : Plan → View → Link → Beat → Scene
 scene_in plan view link beat = scene_of plan (state_in view) (record { link = link; beat = beat; known = 0 })
 
+-- the request in flight of a wide source that takes effect as its reply begins at a link
+abbrev pub late_in : View → Link → ℕ → ℕ → Option Request
+late_in view link wide port = late_effect view.layout link port (under_in view link).replying (flight_in view link wide).turn
+
+-- its answer, if it takes effect now
+abbrev pub late_answer : View → Link → ℕ → ℕ → Option Answer
+late_answer view link wide port = answer_by port (slave_at view.slaves port) (late_in view link wide port)
+
+-- the reply that the port's slave has to give
+abbrev pub due_in : View → Link → ℕ → ℕ → Option Answer
+due_in view link wide port = due_by (flight_in view link wide).due (late_answer view link wide port)
+
 -- the reply that must come to what is in flight of a wide source, by the beat that ends it
 abbrev pub due_at : Plan → View → Link → ℕ → DBeat → Option Answer
 due_at plan view link wide beat =
-    let flight = flight_in view link wide in
-    must_by (is_given view.layout link (port_of plan link flight.turn (D beat))) beat.source (crossing_at view.crossings wide) flight.due
+    let port = port_of plan link (flight_in view link wide).turn (D beat) in
+    must_by (is_given view.layout link port) beat.source (crossing_at view.crossings wide) (due_in view link wide port)
 
 -- the reply to this request that a beat ends has this fault
 abbrev pub IsEndFault : Plan → View → Link → ℕ → DBeat → Request → Fault → Type 0
@@ -157,7 +169,7 @@ crossings_given crossings wide (Some answer) = slice_set crossings wide (Given a
 
 -- the request that takes effect
 abbrev pub effect_in : View → Link → ℕ → Option Request → Option Request
-effect_in view link port ask = effect_by (takes_effect view.layout link port) ask
+effect_in view link port ask = effect_by (is_at_acceptance view.layout.order && takes_effect view.layout link port) ask
 
 abbrev pub asked_flight : View → Link → ℕ → Option Request → Flight
 asked_flight view link port ask = record {
@@ -184,6 +196,23 @@ abbrev pub with_ask : View → Link → ℕ → ℕ → ABeat → View
 with_ask view link wide port beat =
     let ask = ask_by (under_in view link).asking beat in
     with_ask_at (with_served view link port ask) link wide beat (asked_flight view link port ask)
+
+-- what is in flight of a wide source, with the reply that must come
+abbrev pub flights_due : List Flight → ℕ → Option Answer → List Flight
+flights_due flights wide None = flights
+flights_due flights wide (Some answer) = slice_set flights wide (flight_due (flight_at flights wide) (Some answer))
+
+abbrev pub side_due : SideView → ℕ → Option Answer → SideView
+side_due side wide answer = record side { flights = flights_due side.flights wide answer }
+
+abbrev pub with_due : View → Link → ℕ → Option Answer → View
+with_due view (Master m) wide answer = record view { masters = side_due view.masters wide answer }
+with_due view (Port p) wide answer = record view { ports = side_due view.ports wide answer }
+
+-- the request in flight takes effect, if it does so as its reply begins
+abbrev pub with_late : View → Link → ℕ → ℕ → View
+with_late view link wide port =
+    with_due (record view { slaves = slaves_with view.slaves port (late_in view link wide port) }) link wide (late_answer view link wide port)
 
 -- a beat of a reply crosses that does not end it
 abbrev pub with_part : View → Link → DBeat → View

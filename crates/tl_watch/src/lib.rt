@@ -8,7 +8,7 @@
 //!
 //! What is lawful is said beat by beat (`specs/Allowed.antt`) by what the beat finds: the messages under way at its link, what
 //! is in flight of its source, how far that has come across, and its port's slave (`specs/Scene.antt`, `specs/Past.antt`). A
-//! request takes effect when it is accepted, with its last beat. No step takes memory.
+//! request takes effect with its last beat, or with the first beat of its reply ([`Order`]). No step takes memory.
 //!
 //! Read on in `docs/MODEL.md`, "Traces of others".
 #![tactic(auto)]
@@ -17,6 +17,7 @@ mod asks;
 mod fault;
 mod flight;
 mod links;
+mod order;
 mod replies;
 mod seen;
 mod side;
@@ -28,5 +29,6 @@ mod watch;
 pub use fault::Fault;
 pub use flight::{Answer, Crossing, Flight, Turn};
 pub use links::Links;
+pub use order::Order;
 pub use seen::Seen;
 pub use watch::Watch;

@@ -15,8 +15,9 @@ ghost use Rattle.tl_watch.specs.Scene.{is_given, must_by, seen_reply, entry_of};
 ghost use Rattle.tl_watch.specs.Past.{port_of};
 ghost use Rattle.tl_watch.specs.Allowed.{OfAsked, IsKnownReply, IsAnswer, IsAllowedReply};
 ghost use Rattle.tl_watch.specs.Faults.{HasAnswerFault, HasEndFault, IsFirstReplyFault, fault_rank};
-ghost use Rattle.tl_watch.specs.View.{Suits, under_in, flight_in, crossing_at, scene_in, due_at, IsEndFault, IsEndWell};
+ghost use Rattle.tl_watch.specs.View.{Suits, under_in, flight_in, crossing_at, scene_in, due_in, due_at, IsEndFault, IsEndWell};
 
+use crate::asks::Place;
 use crate::fault::Fault;
 use crate::flight::{Answer, Turn, given_to};
 use crate::seen::Seen;
@@ -101,29 +102,30 @@ fn end_fault(given: bool, due: Option<Answer>, captured: Reply) -> Option<Fault>
 
 /// The reply that must come at a link, for this source.
 pub fn must_come(watch: &Watch, link: Link, wide: u16, port: usize, source: u16) -> Option<Answer>
-    requires { wide < WIDES }
+    requires known { HasLink watch.now.layout link }
+    requires wide { wide < WIDES }
+    requires port { port < length watch.now.slaves }
     ensures { result ≡ must_by (is_given watch.now.layout link port) source
-        (crossing_at watch.now.crossings wide) (flight_in watch.now link wide).due }
+        (crossing_at watch.now.crossings wide) (due_in watch.now link wide port) }
 {
     if watch.is_given(link, port) {
-        return given_to(source, watch.crossing(wide));
-    }
-    match &watch.flight(link, wide).due {
-        Some(answer) => Some(answer.copy()),
-        None => None,
+        given_to(source, watch.crossing(wide))
+    } else {
+        watch.due(link, wide, port)
     }
 }
 
-/// The fault of the reply that a beat ends, if it ends one.
-fn whole_fault(watch: &Watch, link: Link, wide: u16, beat: &DBeat) -> Option<Fault>
+/// The fault of the reply that a beat ends, if it ends one, of a request to this port.
+fn whole_fault(watch: &Watch, link: Link, wide: u16, port: usize, beat: &DBeat) -> Option<Fault>
     requires known { HasLink watch.now.layout link }
     requires wide { wide < WIDES }
+    requires port { port < length watch.now.slaves }
     requires fits { FitsReply (under_in watch.now link).replying beat.now }
-    ensures fault { (plan : Plan) (at : ℕ) (ask : Request) → Suits plan watch.now
-        → (flight_in watch.now link wide).turn ≡ Asked at ask
+    ensures fault { (plan : Plan) (at : ℕ) (ask : Request) → (flight_in watch.now link wide).turn ≡ Asked at ask
+        → port ≡ port_of plan link (flight_in watch.now link wide).turn (D beat.now)
         → IfSome result (IsEndFault plan watch.now link wide beat.now ask) }
-    ensures none { (plan : Plan) (at : ℕ) (ask : Request) → Suits plan watch.now
-        → (flight_in watch.now link wide).turn ≡ Asked at ask
+    ensures none { (plan : Plan) (at : ℕ) (ask : Request) → (flight_in watch.now link wide).turn ≡ Asked at ask
+        → port ≡ port_of plan link (flight_in watch.now link wide).turn (D beat.now)
         → IfNone result (IsEndWell plan watch.now link wide beat.now ask) }
 {
     let under = watch.link(link);
@@ -133,7 +135,6 @@ fn whole_fault(watch: &Watch, link: Link, wide: u16, beat: &DBeat) -> Option<Fau
     let Turn::Asked(_, ask) = &watch.flight(link, wide).turn else {
         return None;
     };
-    let port = watch.port(link, ask.address(), ask.size());
     let due = must_come(watch, link, wide, port, beat.source);
     end_fault(
         watch.is_given(link, port),
@@ -143,16 +144,16 @@ fn whole_fault(watch: &Watch, link: Link, wide: u16, beat: &DBeat) -> Option<Fau
 }
 
 /// What a beat ends that ends a reply.
-pub fn seen_end(watch: &Watch, link: Link, wide: u16, beat: &DBeat) -> Seen
+pub fn seen_end(watch: &Watch, link: Link, wide: u16, port: usize, beat: &DBeat) -> Seen
     requires known { HasLink watch.now.layout link }
     requires wide { wide < WIDES }
-    ensures { (plan : Plan) → Suits plan watch.now
+    requires port { port < length watch.now.slaves }
+    ensures { (plan : Plan) → port ≡ port_of plan link (flight_in watch.now link wide).turn (D beat.now)
         → result ≡ seen_reply (flight_in watch.now link wide).turn (due_at plan watch.now link wide beat.now) }
 {
     let Turn::Asked(_, ask) = &watch.flight(link, wide).turn else {
         return Seen::Part;
     };
-    let port = watch.port(link, ask.address(), ask.size());
     match must_come(watch, link, wide, port, beat.source) {
         Some(answer) => Seen::WholeReply(entry_of(ask, answer)),
         None => Seen::Part,
@@ -171,8 +172,8 @@ fn entry_of(ask: &Ask, answer: Answer) -> Entry
     }
 }
 
-/// Judges a beat of a reply: its wide source, or the first fault that it has.
-pub fn judge_reply(watch: &Watch, link: Link, beat: &DBeat, known: u8) -> Result<u16, Fault>
+/// Judges a beat of a reply: the wide source and the port of its request, or the first fault that it has.
+pub fn judge_reply(watch: &Watch, link: Link, beat: &DBeat, known: u8) -> Result<Place, Fault>
     requires { HasLink watch.now.layout link }
     ensures fault { (plan : Plan) → Suits plan watch.now
         → IfErr result (IsFirstReplyFault watch.now.layout link
@@ -181,8 +182,12 @@ pub fn judge_reply(watch: &Watch, link: Link, beat: &DBeat, known: u8) -> Result
         → OnOk result (IsAllowedReply watch.now.layout link
         (scene_in plan watch.now link (D beat.now)) beat.now known) }
     ensures fits { OnOk result (FitsReply (under_in watch.now link).replying beat.now) }
-    ensures wide { IfOk result (IsWideAt watch.now.layout link beat.now.source) }
-    ensures in_limit { IfOk result (λ wide. wide < WIDES) }
+    ensures wide { IfOk result (λ place. IsWideAt watch.now.layout link beat.now.source place.wide) }
+    ensures in_limit { IfOk result (λ place. place.wide < WIDES) }
+    ensures port { (plan : Plan) → Suits plan watch.now
+        → IfOk result (λ place. place.port
+        ≡ port_of plan link (flight_in watch.now link place.wide).turn (D beat.now)) }
+    ensures in_ports { IfOk result (λ place. place.port < length watch.now.slaves) }
 {
     if let Some(fault) = watch.link(link).reply_fault(beat) {
         return Err(Fault::Form(fault));
@@ -194,8 +199,9 @@ pub fn judge_reply(watch: &Watch, link: Link, beat: &DBeat, known: u8) -> Result
     if let Some(fault) = answer_fault(turn, number_of(link), beat, known) {
         return Err(fault);
     }
-    if let Some(fault) = whole_fault(watch, link, wide, beat) {
+    let port = watch.port_in_flight(link, wide);
+    if let Some(fault) = whole_fault(watch, link, wide, port, beat) {
         return Err(fault);
     }
-    Ok(wide)
+    Ok(Place { wide, port })
 }

@@ -1,11 +1,11 @@
 //! One side of a crossbar.
-ghost use Rattle.std.specs.Prelude.{◌≡◌, ◌<◌, ℕ, length, IfOk};
+ghost use Rattle.std.specs.Prelude.{◌≡◌, ◌<◌, ℕ, Some, length, IfOk};
 ghost use Rattle.tl_link.specs.Past.{nothing_under};
 ghost use Rattle.tl_watch.specs.Scene.{idle};
-ghost use Rattle.tl_watch.specs.View.{under_at, flight_at, side_crossed, side_with};
+ghost use Rattle.tl_watch.specs.View.{under_at, flight_at, side_crossed, side_with, side_due};
 ghost use Rattle.tl_watch.specs.Side.{Fits};
 
-use crate::flight::{Flight, Turn};
+use crate::flight::{Answer, Flight, Turn};
 use std::alloc::{AllocError, Global};
 use std::marker::Model;
 use std::mem;
@@ -128,5 +128,13 @@ impl Side {
     {
         self.cross(number, beat);
         mem::replace(&mut self.flights[wide as usize], flight)
+    }
+
+    /// This is the reply that must come to what is in flight of a wide source.
+    pub fn set_due(&mut self, wide: u16, answer: Answer)
+        requires { wide < WIDES }
+        ensures { self.new ≡ side_due self.old wide (Some answer) }
+    {
+        self.flights[wide as usize].due = Some(answer);
     }
 }

@@ -25,4 +25,15 @@ impl Slave {
         self.served = index.wrapping_add(1);
         Answer { reply, port, index }
     }
+
+    /// The answer of the slave of this port to a request, which it does not serve.
+    pub fn answer(&self, port: usize, ask: &Ask) -> Answer
+        ensures { Some result ≡ answer_by port self.now (Some ask.now) }
+    {
+        Answer {
+            reply: self.bank.reply(ask),
+            port,
+            index: self.served,
+        }
+    }
 }

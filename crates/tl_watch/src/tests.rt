@@ -2,7 +2,7 @@
 //!
 //! Port 0 has 64 bytes of memory at 0x1000, all zero at reset, port 1 as many at 0x2000. Master 0 has the sources 0 and 1, which
 //! are the wide sources 0 and 1, master 1 the sources 0 to 2, which are 4 to 6.
-use crate::{Fault, Links, Seen, Watch};
+use crate::{Fault, Links, Order, Seen, Watch};
 use std::alloc::Global;
 use std::test::Fail;
 use tl_beats::{ABeat, DBeat};
@@ -18,7 +18,7 @@ const P0: Link = Link::Port(0);
 
 const P1: Link = Link::Port(1);
 
-fn watch(alloc: Global, links: Links) -> Result<Watch, Fail> {
+fn watch(alloc: Global, links: Links, order: Order) -> Result<Watch, Fail> {
     let ranges = [
         Range {
             base: 0x1000,
@@ -38,7 +38,7 @@ fn watch(alloc: Global, links: Links) -> Result<Watch, Fail> {
     if banks.len() != map.ports() {
         return Err(Fail::from("a bank for each port"));
     }
-    Ok(Watch::new(alloc, links, map, sources, banks)?)
+    Ok(Watch::new(alloc, links, order, map, sources, banks)?)
 }
 
 /// What a beat is one of.
@@ -98,8 +98,14 @@ fn step(watch: &mut Watch, row: &Row) -> Result<Result<Seen, Fault>, Fail> {
 }
 
 /// Whether the verdict on a capture is this: nothing where it is lawful, else the text of the fault of its last beat.
-fn is_verdict(alloc: Global, links: Links, rows: &[Row], fault: &str) -> Result<bool, Fail> {
-    let mut watch = watch(alloc, links)?;
+fn is_verdict(
+    alloc: Global,
+    links: Links,
+    order: Order,
+    rows: &[Row],
+    fault: &str,
+) -> Result<bool, Fail> {
+    let mut watch = watch(alloc, links, order)?;
     for (k, row) in rows.iter().enumerate() {
         let text = match step(&mut watch, row)? {
             Ok(_) => format!(in alloc; "")?,
@@ -165,7 +171,7 @@ fn ports_links_alone(rt: HostRuntime) -> Result<(), Fail> {
     ];
     for (k, (beats, fault)) in rows.iter().enumerate() {
         assert!(rt;
-            is_verdict(rt.alloc(), Links::Ports, beats, fault)?,
+            is_verdict(rt.alloc(), Links::Ports, Order::Accept, beats, fault)?,
             "row {k}"
         );
     }
@@ -196,7 +202,7 @@ fn both_sides(rt: HostRuntime) -> Result<(), Fail> {
     ];
     for (k, (beats, fault)) in rows.iter().enumerate() {
         assert!(rt;
-            is_verdict(rt.alloc(), Links::Both, beats, fault)?,
+            is_verdict(rt.alloc(), Links::Both, Order::Accept, beats, fault)?,
             "row {k}"
         );
     }
@@ -215,7 +221,39 @@ fn masters_links_alone(rt: HostRuntime) -> Result<(), Fail> {
     ];
     for (k, (beats, fault)) in rows.iter().enumerate() {
         assert!(rt;
-            is_verdict(rt.alloc(), Links::Masters, beats, fault)?,
+            is_verdict(rt.alloc(), Links::Masters, Order::Accept, beats, fault)?,
+            "row {k}"
+        );
+    }
+    Ok(())
+}
+
+/// A put to what a get of two beats reads, answered between the two beats.
+const WRITE_WITHIN_A_READ: [Row; 5] = [
+    (M0, What::Get, 4, 0, 0x1000, 0),
+    (M1, What::Put, 3, 0, 0x1000, 7),
+    (M0, What::Data, 4, 0, 0, 0),
+    (M1, What::Ack, 3, 0, 0, 0),
+    (M0, What::Data, 4, 0, 0, 0),
+];
+
+#[test]
+fn requests_take_effect_as_they_are_answered(rt: HostRuntime) -> Result<(), Fail> {
+    let ack: Row = (P0, What::Ack, 3, 0, 0, 0);
+    let new: Row = (P0, What::Data, 3, 1, 0, 7);
+    let [put, get, old] = STALE;
+    let rows: [(Links, &[Row], &str); 5] = [
+        // the get is answered first, so it reads what the put has not written
+        (Links::Ports, &[put, get, old, ack], ""),
+        (Links::Ports, &[put, get, new], "wrong reply"),
+        (Links::Ports, &[put, get, ack, new], ""),
+        (Links::Ports, &[put, get, ack, old], "wrong reply"),
+        // a reply's first beat tells all its bytes
+        (Links::Masters, &WRITE_WITHIN_A_READ, ""),
+    ];
+    for (k, (links, beats, fault)) in rows.iter().enumerate() {
+        assert!(rt;
+            is_verdict(rt.alloc(), *links, Order::Reply, beats, fault)?,
             "row {k}"
         );
     }
@@ -224,7 +262,7 @@ fn masters_links_alone(rt: HostRuntime) -> Result<(), Fail> {
 
 #[test]
 fn whole_messages_are_told(rt: HostRuntime) -> Result<(), Fail> {
-    let mut watch = watch(rt.alloc(), Links::Both)?;
+    let mut watch = watch(rt.alloc(), Links::Both, Order::Accept)?;
     let told = step(&mut watch, &(M0, What::Put, 3, 1, 0x2000, 7))?.ok();
     assert!(rt; matches!(told, Some(Seen::WholeAsk)));
     let told = step(&mut watch, &(P1, What::Put, 3, 1, 0x2000, 7))?.ok();

@@ -3,20 +3,23 @@ ghost use Rattle.std.specs.Prelude.{◌≡◌, ◌<◌, ◌≤◌, ◌↔◌, �
 ghost use Rattle.tl_map.specs.Block.{IsWide};
 ghost use Rattle.tl_map.specs.Map.{RoutesBytes};
 ghost use Rattle.tl_link.specs.declared.beat.Beat.{Beat};
+ghost use Rattle.tl_beats.specs.declared.beat.DBeat.{DBeat};
 ghost use Rattle.tl_link.specs.declared.beat.Beat.TheVariants.{A, D};
 ghost use Rattle.tl_link.specs.declared.beat.Sighting.{Sighting};
 ghost use Rattle.tl_link.specs.Form.{FitsAsk, FitsReply};
 ghost use Rattle.tl_link.specs.Past.{ends_ask, ends_reply};
 ghost use Rattle.tl_watch.specs.declared.flight.Crossing.TheVariants.{Waiting};
-ghost use Rattle.tl_watch.specs.Plan.{Plan, IsPlan, Side, side_of, HasLink, HasSource, IsWideAt, crosses, are_both, IsWatched};
+ghost use Rattle.tl_watch.specs.Past.{port_of};
+ghost use Rattle.tl_watch.specs.Plan.{Plan, IsPlan, Side, side_of, HasLink, HasSource, IsWideAt, crosses, are_both, is_at_acceptance, IsWatched};
 ghost use Rattle.tl_watch.specs.Scene.{ask_by, takes_effect, effect_by, answer_by, is_given, turn_by, seen_ask, idle};
 ghost use Rattle.tl_watch.specs.Lawful.{IsLawful, IsFirstFault, what_is_seen};
-ghost use Rattle.tl_watch.specs.View.{View, IsSized, Keeps, side_in, under_in, flight_in, crossing_at, fresh_slave, slave_at, slaves_with, effect_in, with_ask_at, with_ask, with_part, with_end};
+ghost use Rattle.tl_watch.specs.View.{View, IsSized, Suits, Keeps, side_in, under_in, flight_in, crossing_at, fresh_slave, slave_at, slaves_with, effect_in, late_in, due_in, with_ask_at, with_ask, with_due, with_late, with_part, with_end};
 
 use crate::asks::judge_ask;
 use crate::fault::Fault;
-use crate::flight::{Answer, Crossing, Flight, turn_by};
+use crate::flight::{Answer, Crossing, Flight, Turn, turn_by};
 use crate::links::Links;
+use crate::order::Order;
 use crate::replies::{judge_reply, number_of, seen_end};
 use crate::seen::Seen;
 use crate::side::{Side, WIDES, idle};
@@ -33,6 +36,7 @@ use tl_types::{Ask, LARGEST_SIZE};
 #[derive(Drop)]
 pub struct Watch {
     links: Links,
+    order: Order,
     map: Map,
     sources: Sources,
     pub(crate) masters: Side,
@@ -48,7 +52,7 @@ impl Model for Watch {
     ghost Value = { View };
 
     ghost view = { λ w. record {
-      layout = record { links = w.links; counts = w.sources; ranges = w.map };
+      layout = record { links = w.links; order = w.order; counts = w.sources; ranges = w.map };
       masters = w.masters;
       ports = w.ports;
       crossings = w.crossings.items;
@@ -56,7 +60,7 @@ impl Model for Watch {
     } };
 
     ghost invariant = { λ w. IsSized (record {
-      layout = record { links = w.links; counts = w.sources; ranges = w.map };
+      layout = record { links = w.links; order = w.order; counts = w.sources; ranges = w.map };
       masters = w.masters;
       ports = w.ports;
       crossings = w.crossings.items;
@@ -101,31 +105,37 @@ fn fresh_crossings(alloc: Global) -> Result<Vec<Crossing>, AllocError>
 }
 
 impl Watch {
-    /// The judge of a crossbar with these ports and sources, whose slaves hold this at reset, the error port's last, before any
-    /// beat.
+    /// The judge of a crossbar with these ports and sources, at whose ports requests take effect in this order, and whose slaves
+    /// hold this at reset, the error port's last, before any beat.
     pub fn new(
         alloc: Global,
         links: Links,
+        order: Order,
         map: Map,
         sources: Sources,
         banks: Vec<Bank>,
     ) -> Result<Watch, AllocError>
         requires { length banks.items ≡ length map + 1 }
-        ensures layout { IfOk result (λ watch. watch.layout ≡ record { links = links; counts = sources; ranges = map }) }
+        ensures layout { IfOk result (λ watch. watch.layout
+            ≡ record { links = links; order = order; counts = sources; ranges = map }) }
         ensures plan { IfOk result (λ watch. (plan : Plan) × (plan.resets ≡ banks.items) × Keeps plan [] watch) }
-        ensures keeps { (plan : Plan) → IsPlan plan → plan.layout ≡ record { links = links; counts = sources; ranges = map }
+        ensures keeps { (plan : Plan) → IsPlan plan
+            → plan.layout ≡ record { links = links; order = order; counts = sources; ranges = map }
             → plan.resets ≡ banks.items → IfOk result (Keeps plan []) }
     {
         let masters = Side::new(alloc, sources.masters())?;
         let ports = Side::new(alloc, map.ports() - 1)?;
         let crossings = fresh_crossings(alloc)?;
         let slaves = slaves_of(alloc, banks)?;
-        Ok(Watch::of(links, map, sources, masters, ports, crossings, slaves))
+        Ok(Watch::of(
+            links, order, map, sources, masters, ports, crossings, slaves,
+        ))
     }
 
     /// The judge of these parts.
     fn of(
         links: Links,
+        order: Order,
         map: Map,
         sources: Sources,
         masters: Side,
@@ -138,7 +148,7 @@ impl Watch {
         requires crossings { length crossings.items ≡ WIDES }
         requires slaves { length slaves.items ≡ length map + 1 }
         ensures { result ≡ record {
-          layout = record { links = links; counts = sources; ranges = map };
+          layout = record { links = links; order = order; counts = sources; ranges = map };
           masters = masters;
           ports = ports;
           crossings = crossings.items;
@@ -147,6 +157,7 @@ impl Watch {
     {
         Watch {
             links,
+            order,
             map,
             sources,
             masters,
@@ -231,6 +242,22 @@ impl Watch {
         }
     }
 
+    /// The port of the request in flight of a wide source at a link.
+    pub(crate) fn port_in_flight(&self, link: Link, wide: u16) -> usize
+        requires known { HasLink self.now.layout link }
+        requires wide { wide < WIDES }
+        ensures port { (plan : Plan) (beat : DBeat) → Suits plan self.now
+            → result ≡ port_of plan link (flight_in self.now link wide).turn (D beat) }
+        ensures in_ports { result < length self.now.slaves }
+    {
+        self.sized();
+        match (&self.flight(link, wide).turn, link) {
+            (Turn::Asked(_, ask), _) => self.port(link, ask.address(), ask.size()),
+            (Turn::Idle | Turn::Asking(_), Link::Port(port)) => port,
+            (Turn::Idle | Turn::Asking(_), Link::Master(_)) => 0,
+        }
+    }
+
     /// Whether the address map has bytes with the port of a link.
     pub(crate) fn is_at_port(&self, port: usize, address: u64, size: u8) -> bool
         requires { size ≤ LARGEST_SIZE }
@@ -264,7 +291,7 @@ impl Watch {
         }
     }
 
-    /// Whether requests to a port take effect as they are seen at a link.
+    /// Whether requests to a port take effect at a link, as they are accepted or as they are answered.
     fn takes_effect(&self, link: Link, port: usize) -> bool
         ensures { result ≡ takes_effect self.now.layout link port }
     {
@@ -272,6 +299,56 @@ impl Watch {
             Link::Master(_) => !self.crosses(port),
             Link::Port(_) => true,
         }
+    }
+
+    /// Whether requests take effect as they are accepted.
+    fn is_at_acceptance(&self) -> bool
+        ensures { result ≡ is_at_acceptance self.now.layout.order }
+    {
+        matches!(self.order, Order::Accept)
+    }
+
+    /// The request in flight of a wide source to this port, if it takes effect as its reply begins at a link.
+    fn late(&self, link: Link, wide: u16, port: usize) -> Option<Ask>
+        requires known { HasLink self.now.layout link }
+        requires wide { wide < WIDES }
+        ensures { result ≡ late_in self.now link wide port }
+    {
+        if self.is_at_acceptance()
+            || !self.takes_effect(link, port)
+            || !self.link(link).begins_reply()
+        {
+            return None;
+        }
+        match &self.flight(link, wide).turn {
+            Turn::Idle | Turn::Asking(_) => None,
+            Turn::Asked(_, ask) => Some(ask.copy()),
+        }
+    }
+
+    /// The reply that a port's slave has to give to what is in flight of a wide source.
+    pub(crate) fn due(&self, link: Link, wide: u16, port: usize) -> Option<Answer>
+        requires known { HasLink self.now.layout link }
+        requires wide { wide < WIDES }
+        requires port { port < length self.now.slaves }
+        ensures { result ≡ due_in self.now link wide port }
+    {
+        if let Some(ask) = self.late(link, wide, port) {
+            return Some(self.slaves[port].answer(port, &ask));
+        }
+        match &self.flight(link, wide).due {
+            Some(answer) => Some(answer.copy()),
+            None => None,
+        }
+    }
+
+    /// Serves a request at a port.
+    fn serve_at(&mut self, port: usize, ask: &Ask) -> Answer
+        requires { port < length self.old.slaves }
+        ensures after { self.new ≡ record self.old { slaves = slaves_with self.old.slaves port (Some ask.now) } }
+        ensures answer { Some result ≡ answer_by port (slave_at self.old.slaves port) (Some ask.now) }
+    {
+        self.slaves[port].serve(port, ask)
     }
 
     /// Serves a request that has ended at a link, if one has and it takes effect there.
@@ -286,10 +363,10 @@ impl Watch {
         let Some(ask) = ask else {
             return None;
         };
-        if !self.takes_effect(link, port) {
+        if !self.is_at_acceptance() || !self.takes_effect(link, port) {
             return None;
         }
-        Some(self.slaves[port].serve(port, ask))
+        Some(self.serve_at(port, ask))
     }
 
     /// That what is kept is of its sizes: it is called for its clauses alone.
@@ -341,6 +418,33 @@ impl Watch {
         let turn = turn_by(number_of(link), ask);
         self.cross_ask(link, wide, beat, Flight { turn, due });
         seen
+    }
+
+    /// This is the reply that must come to what is in flight of a wide source.
+    fn set_due(&mut self, link: Link, wide: u16, answer: Answer)
+        requires { wide < WIDES }
+        ensures { self.new ≡ with_due self.old link wide (Some answer) }
+    {
+        match link {
+            Link::Master(_) => self.masters.set_due(wide, answer),
+            Link::Port(_) => self.ports.set_due(wide, answer),
+        }
+    }
+
+    /// Serves the request in flight of a wide source, if it takes effect as its reply begins at a link.
+    pub(crate) fn serve_late(&mut self, link: Link, wide: u16, port: usize)
+        requires known { HasLink self.old.layout link }
+        requires wide { wide < WIDES }
+        requires port { port < length self.old.slaves }
+        ensures after { self.new ≡ with_late self.old link wide port }
+        ensures layout { self.new.layout ≡ self.old.layout }
+        ensures under { under_in self.new link ≡ under_in self.old link }
+    {
+        let Some(ask) = self.late(link, wide, port) else {
+            return;
+        };
+        let answer = self.serve_at(port, &ask);
+        self.set_due(link, wide, answer);
     }
 
     /// A beat of a reply crosses at a link that does not end it.
@@ -408,16 +512,18 @@ impl Watch {
         ensures err { OnErr result (self.new ≡ self.old) }
     {
         self.sized();
-        let wide = match judge_reply(self, link, beat, known) {
-            Ok(wide) => wide,
+        let place = match judge_reply(self, link, beat, known) {
+            Ok(place) => place,
             Err(fault) => return Err(fault),
         };
         if !self.link(link).ends_reply(beat) {
+            self.serve_late(link, place.wide, place.port);
             self.take_part(link, beat);
             return Ok(Seen::Part);
         }
-        let seen = seen_end(self, link, wide, beat);
-        self.take_end(link, wide, beat);
+        let seen = seen_end(self, link, place.wide, place.port, beat);
+        self.serve_late(link, place.wide, place.port);
+        self.take_end(link, place.wide, beat);
         Ok(seen)
     }
 

@@ -1,10 +1,8 @@
-use Rattle.std.proofs.Common.{◌≡◌, ◌∙◌, ◌↔◌, ℕ, [], ◌∷◌, ◌++◌, ap, sym, subst}
+use Rattle.std.proofs.Common.{◌≡◌, ◌∙◌, [], ◌∷◌, ◌++◌, ap, sym, subst}
 use Rattle.std.specs.Prelude.{IsTrue, IfSome, IfNone}
 use Rattle.tl_types.specs.Request.{Request}
-use Rattle.tl_map.specs.Map.{RoutesBytes}
 use Rattle.tl_beats.specs.Replies.{SpellsReply}
 use Rattle.tl_link.specs.Past.{ends_reply}
-use Rattle.tl_link.specs.declared.beat.Link.TheVariants.{Master}
 use Rattle.tl_watch.specs.declared.flight.Turn.TheVariants.{Asked}
 use Rattle.tl_watch.specs.declared.flight.Flight.{Flight}
 use Rattle.tl_watch.specs.View.{under_in, flight_in, IsEndFault, IsEndWell}
@@ -12,7 +10,7 @@ use Rattle.tl_watch.proofs.Replying.{whole_has, whole_well}
 use Rattle.tl_watch.proofs.replies.whole_fault.Goals as goal
 
 pub returns-clause-fault : goal.returns-clause-fault
-returns-clause-fault c plan at ask suits is =
+returns-clause-fault c plan at ask is port_here =
     let view = c.args.watch.now in
     let link = c.args.link in
     let wide = c.args.wide in
@@ -20,14 +18,13 @@ returns-clause-fault c plan at ask suits is =
     let own = c.in-Asked.ask in
     let turn_is : (flight_in view link wide).turn ≡ Asked c.in-Asked.field-0 own = sym (ap (λ (f : Flight). f.turn) c.flight.ensures) ∙ c.in-Asked.is in
     let same : own ≡ ask = cc in
-    let master : (number other : ℕ) → link ≡ Master number → (c.port-port.result ≡ other) ↔ RoutesBytes view.layout.ranges own.address own.size other = rw (c.address.ensures, c.size.ensures.value) at c.port-port.ensures.master in
     let ends : IsTrue (ends_reply (under_in view link).replying beat) = rw (← c.link-under.ensures, ← c.ends_reply.ensures) c.if-not-ends_reply.false in
-    let spells : SpellsReply c.reply.result own.address ((under_in view link).replying ++ beat ∷ []) = rw (← c.link-under.ensures, ← c.address-2.ensures) c.reply.ensures.spells in
+    let spells : SpellsReply c.reply.result own.address ((under_in view link).replying ++ beat ∷ []) = rw (← c.link-under.ensures, ← c.address.ensures) c.reply.ensures.spells in
     let Q : Request → Type 0 = λ a. IfSome c.end_fault.result (IsEndFault plan view link wide beat a) in
-    subst Q same (whole_has plan view link wide beat c.in-Asked.field-0 own c.port-port.result suits turn_is master c.port-port.ensures.port c.is_given.result c.must_come-due.result c.reply.result c.end_fault.result c.is_given.ensures c.must_come-due.ensures ends c.reply.ensures.lawful spells c.end_fault.ensures.fault)
+    subst Q same (whole_has plan view link wide beat own c.args.port port_here c.is_given.result c.must_come-due.result c.reply.result c.end_fault.result c.is_given.ensures c.must_come-due.ensures ends c.reply.ensures.lawful spells c.end_fault.ensures.fault)
 
 pub returns-clause-none : goal.returns-clause-none
-returns-clause-none c plan at ask suits is =
+returns-clause-none c plan at ask is port_here =
     let view = c.args.watch.now in
     let link = c.args.link in
     let wide = c.args.wide in
@@ -35,7 +32,6 @@ returns-clause-none c plan at ask suits is =
     let own = c.in-Asked.ask in
     let turn_is : (flight_in view link wide).turn ≡ Asked c.in-Asked.field-0 own = sym (ap (λ (f : Flight). f.turn) c.flight.ensures) ∙ c.in-Asked.is in
     let same : own ≡ ask = cc in
-    let master : (number other : ℕ) → link ≡ Master number → (c.port-port.result ≡ other) ↔ RoutesBytes view.layout.ranges own.address own.size other = rw (c.address.ensures, c.size.ensures.value) at c.port-port.ensures.master in
-    let spells : SpellsReply c.reply.result own.address ((under_in view link).replying ++ beat ∷ []) = rw (← c.link-under.ensures, ← c.address-2.ensures) c.reply.ensures.spells in
+    let spells : SpellsReply c.reply.result own.address ((under_in view link).replying ++ beat ∷ []) = rw (← c.link-under.ensures, ← c.address.ensures) c.reply.ensures.spells in
     let Q : Request → Type 0 = λ a. IfNone c.end_fault.result (IsEndWell plan view link wide beat a) in
-    subst Q same (whole_well plan view link wide beat c.in-Asked.field-0 own c.port-port.result suits turn_is master c.port-port.ensures.port c.must_come-due.result c.reply.result c.end_fault.result c.must_come-due.ensures c.reply.ensures.lawful spells c.end_fault.ensures.none)
+    subst Q same (whole_well plan view link wide beat own c.args.port port_here c.must_come-due.result c.reply.result c.end_fault.result c.must_come-due.ensures c.reply.ensures.lawful spells c.end_fault.ensures.none)

@@ -7,7 +7,7 @@ use Rattle.tl_watch.proofs.watch.Watch.new.Goals as goal
 pub returns-clause-keeps : goal.returns-clause-keeps
 returns-clause-keeps c plan lawful layout resets =
     let made : View = record {
-      layout = record { links = c.args.links; counts = c.args.sources; ranges = c.args.map };
+      layout = record { links = c.args.links; order = c.args.order; counts = c.args.sources; ranges = c.args.map };
       masters = c.in_ok-masters.masters;
       ports = c.in_ok-ports.ports;
       crossings = c.in_ok-crossings.crossings.items;
@@ -20,14 +20,14 @@ returns-clause-keeps c plan lawful layout resets =
 pub returns-clause-plan : goal.returns-clause-plan
 returns-clause-plan c =
     let plan : Plan = record {
-      layout = record { links = c.args.links; counts = c.args.sources; ranges = c.args.map };
+      layout = record { links = c.args.links; order = c.args.order; counts = c.args.sources; ranges = c.args.map };
       resets = c.args.banks.items;
       wide = c.masters.ensures.wides.0;
       route = c.ports.ensures.routes.0;
     } in
     let lawful : IsPlan plan = record { wide = c.masters.ensures.wides.1; route = c.ports.ensures.routes.1 } in
     let made : View = record {
-      layout = record { links = c.args.links; counts = c.args.sources; ranges = c.args.map };
+      layout = record { links = c.args.links; order = c.args.order; counts = c.args.sources; ranges = c.args.map };
       masters = c.in_ok-masters.masters;
       ports = c.in_ok-ports.ports;
       crossings = c.in_ok-crossings.crossings.items;
