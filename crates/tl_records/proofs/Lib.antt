@@ -1,0 +1,7 @@
+pub mod TextLemmas
+pub mod DraftLemmas
+pub mod KnownLemmas
+pub mod WithinLemmas
+pub mod MarkLemmas
+pub mod SourceLemmas
+pub mod Chain

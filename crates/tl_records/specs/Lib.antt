@@ -1,0 +1,5 @@
+pub mod Machine
+pub mod Text
+pub mod Draft
+pub mod Source
+pub mod Reading
