@@ -5,7 +5,8 @@
 //! of memory is answered. [`read_operation`] answers the one [`Job`] that a line spells, and nothing for every other line
 //! (`specs/Operation.antt`). [`write_trace`], [`write_history`] and [`write_account`] give exactly the texts of
 //! `specs/Trace.antt` and `specs/History.antt`; [`push_traces`], [`push_trace`], [`push_entry`], [`push_history`] and
-//! [`push_account`] append them to a text. Reading and writing use one table of names (`specs/Name.antt`).
+//! [`push_account`] append them to a text, [`push_reply`] and [`push_field`] parts of lines. Reading and writing use one
+//! table of names (`specs/Name.antt`).
 //!
 //! What is a TOML document, and what its table is, is the crate `toml`'s own definition, `parse_document`.
 //!
@@ -32,10 +33,11 @@ mod tests;
 mod value;
 mod words;
 
+pub use digits::push_field;
 pub use fault::{Key, ScriptFault};
 pub use history::{push_account, push_history, write_account, write_history};
 pub use operation::{Job, read_operation};
 pub use operations::Operations;
-pub use print::{push_entry, push_trace, push_traces, write_trace};
+pub use print::{push_entry, push_reply, push_trace, push_traces, write_trace};
 pub use script::{SCRIPT_LIMIT, read_system};
 pub use system::{Device, MAX_JOBS, System};

@@ -65,7 +65,8 @@ fn denied_word(denied: bool) -> &'static str
     if denied { " denied" } else { "" }
 }
 
-fn push_reply(text: &mut Vec<u8>, reply: &Reply) -> Result<(), AllocError>
+/// Appends a reply, as the lines of traces and of histories have it.
+pub fn push_reply(text: &mut Vec<u8>, reply: &Reply) -> Result<(), AllocError>
     ensures { OnOk result (text.new.items ≡ text.old.items ++ reply_text reply.now) }
 {
     text.extend_from_slice(reply_word(reply.op()).as_bytes())?;

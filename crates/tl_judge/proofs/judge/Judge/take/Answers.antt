@@ -1,0 +1,23 @@
+-- A row of the moment's time, and one that may not follow.
+use Rattle.std.proofs.Common.{sym, subst}
+use Rattle.tl_capture.specs.Moment.{Moment, Takes}
+use Rattle.tl_judge.proofs.Judging.{judges_now, fault_of}
+use Rattle.tl_judge.proofs.judge.Judge.take.Goals as goal
+
+pub returns-in-Ok-true-clause-keeps : goal.returns-in-Ok-true-clause-keeps
+returns-in-Ok-true-clause-keeps c plan file judges =
+    let old = c.args.self.now in
+    let new = c.count_row.new.self in
+    let P : Moment → Type 0 = λ m. Takes old.moment c.args.row m in
+    judges_now plan file c.args.row old new judges
+    (subst P (sym c.count_row.ensures.same) (rw c.in-Ok-true.field-0-test at c.in-Ok-true.ensures.ok))
+    (record {
+      tally = c.count_row.ensures.tally;
+      was = c.rows-rows.ensures.moment;
+      moment = c.count_row.ensures.moment;
+      rows = c.count_row.ensures.rows;
+    })
+
+pub returns-in-Err-clause-stop : goal.returns-in-Err-clause-stop
+returns-in-Err-clause-stop c plan file judges =
+    fault_of plan file c.args.row c.args.self.now c.in-Err.fault c.rows-rows.ensures.moment judges c.in-Err.ensures.fault

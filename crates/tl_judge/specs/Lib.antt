@@ -1,0 +1,5 @@
+pub mod Order
+pub mod Count
+pub mod View
+pub mod Verdict
+pub mod Text

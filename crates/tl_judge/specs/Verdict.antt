@@ -1,0 +1,51 @@
+-- The verdict over the rows of a capture. Lists of what crossed have the latest first. This project's own.
+use Rattle.std.specs.Prelude.{◌≡◌, ◌%◌, ◌^◌, List, ◌∷◌, ◌++◌, IsTrue, length, reverse}
+use Rattle.tl_watch.specs.Plan.{Plan}
+use Rattle.tl_watch.specs.Lawful.{IsLawful, IsFirstFault}
+use Rattle.tl_capture.specs.declared.row.Row.{Row}
+use Rattle.tl_judge.specs.declared.stop.Counts.{Counts}
+use Rattle.tl_judge.specs.declared.stop.Stop.{Stop}
+use Rattle.tl_judge.specs.declared.stop.Stop.TheVariants as stop
+use Rattle.tl_judge.specs.declared.stop.Unlawful.{Unlawful}
+use Rattle.tl_judge.specs.Order.{IsCrossing, IsLater, HasRowFault, is_watched, seen}
+use Rattle.tl_judge.specs.Count.{asked, answered}
+
+-- the rows of a file, in the order in which their beats cross, are lawful at the links that are watched
+pub record IsLawfulFile (plan : Plan) (file : List Row) : Type 0 where
+  pub crossed : List Row
+  pub crossing : IsCrossing file crossed
+  pub lawful : IsLawful plan (seen plan.layout crossed)
+
+-- how many rows a file has, and how many whole requests and replies are seen of them
+pub record HasCounts (plan : Plan) (file : List Row) (counts : Counts) : Type 0 where
+  pub crossed : List Row
+  pub crossing : IsCrossing file crossed
+  pub rows : counts.rows ≡ length file % 2 ^ 64
+  pub requests : counts.requests ≡ asked plan (seen plan.layout crossed)
+  pub answered : counts.answered ≡ answered plan (seen plan.layout crossed)
+
+-- the rows before are lawful, and this one is not, behind them: it has this first fault
+pub record IsUnlawfulAfter (plan : Plan) (before : List Row) (found : Unlawful) : Type 0 where
+  pub watched : IsTrue (is_watched plan.layout found.row.sighting.link)
+  pub lawful : IsLawful plan (seen plan.layout before)
+  pub unlawful : IsLawful plan (found.row.sighting ∷ seen plan.layout before) → ⊥
+  pub fault : IsFirstFault plan (seen plan.layout before) found.row.sighting found.fault
+
+-- the row is the first one, in the order in which beats cross, that makes the file unlawful, with its first fault
+pub record IsFirstUnlawful (plan : Plan) (file : List Row) (found : Unlawful) : Type 0 where
+  pub after : List Row
+  pub before : List Row
+  pub crossing : IsCrossing file (after ++ found.row ∷ before)
+  pub is : IsUnlawfulAfter plan before found
+
+-- the same of rows that cross in this order, behind those before
+pub record StopsAt (plan : Plan) (rows before : List Row) (found : Unlawful) : Type 0 where
+  pub done : List Row
+  pub left : List Row
+  pub are : rows ≡ done ++ found.row ∷ left
+  pub is : IsUnlawfulAfter plan (reverse done ++ before) found
+
+-- why a row is not taken behind those of the file: it may not stand there, or it is of a later time, and they are not lawful
+abbrev pub IsStop : Plan → List Row → Row → Stop → Type 0
+IsStop plan file row (stop.Row fault) = HasRowFault file row fault
+IsStop plan file row (stop.Beat found) = IsLater file row × IsFirstUnlawful plan file found

@@ -1,0 +1,27 @@
+//! How the rows of a capture end.
+use tl_capture::{Row, RowFault};
+use tl_watch::Fault;
+
+/// How many rows there are, and how many whole requests and replies were seen, each modulo 2^64.
+#[derive(Debug, Clone, Copy, PartialEq, Eq)]
+pub struct Counts {
+    pub rows: u64,
+    pub requests: u64,
+    pub answered: u64,
+}
+
+/// The first row that makes a capture unlawful, and the first fault of its beat.
+#[derive(Debug, Drop)]
+pub struct Unlawful {
+    pub row: Row,
+    pub fault: Fault,
+}
+
+/// Why a row is not taken.
+#[derive(Debug, Drop)]
+pub enum Stop {
+    /// It may not stand behind the rows before it.
+    Row(RowFault),
+    /// It is of a later time, and the rows before it are not lawful.
+    Beat(Unlawful),
+}
