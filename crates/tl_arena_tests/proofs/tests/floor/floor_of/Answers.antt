@@ -6,7 +6,7 @@ use Rattle.tl_rule.specs.Views.{no_store}
 use Rattle.tl_rule.specs.declared.view.About.{About}
 use Rattle.tl_arena.specs.Views.{ArenaId, MasterView, PortView, new_port, AreNewPorts}
 use Rattle.tl_arena.specs.Promises.{memory_of}
-use Rattle.tl_arena.proofs.tests.floor.floor_of.Goals as goal
+use Rattle.tl_arena_tests.proofs.tests.floor.floor_of.Goals as goal
 
 -- what the banks hold are the memories of new ports
 memories : (a : ArenaId) (banks : List Store) (us : List PortView) → a.about.resets ≡ banks → AreNewPorts a (length banks) us → banks ≡ map memory_of us
@@ -18,13 +18,21 @@ memories a banks us is P =
     ∙ sym (get_or-map memory_of us k (new_port a 0) store near ∙ ap memory_of port))
 
 pub invariant_of-result-clause-seats : goal.invariant_of-result-clause-seats
-invariant_of-result-clause-seats c = λ k d lt. let m = c.in_ok-arena.field-0 in ap (λ (v : MasterView). v.arena) (c.in_ok-arena.ensures.masters.each k _ (slice_get-get_or m.masters.items k d lt))
+invariant_of-result-clause-seats g c = λ k d lt.
+    let m = c.expect-arena.result in
+    let new = rw c.expect-arena.ensures at c.new.ensures.masters in
+    ap (λ (v : MasterView). v.arena) (new.each k _ (slice_get-get_or m.masters.items k d lt))
 
 pub invariant_of-result-clause-counters : goal.invariant_of-result-clause-counters
-invariant_of-result-clause-counters c = λ k d lt. let m = c.in_ok-arena.field-0 in ap (λ (u : PortView). u.arena) (c.in_ok-arena.ensures.ports.each k _ (slice_get-get_or m.ports.items k d lt))
+invariant_of-result-clause-counters g c = λ k d lt.
+    let m = c.expect-arena.result in
+    let new = rw c.expect-arena.ensures at c.new.ensures.ports in
+    ap (λ (u : PortView). u.arena) (new.each k _ (slice_get-get_or m.ports.items k d lt))
 
 pub invariant_of-result-clause-memories : goal.invariant_of-result-clause-memories
-invariant_of-result-clause-memories c =
-    let m = c.in_ok-arena.field-0 in
-    let banks = c.args.banks.items in
-    memories m.arena banks m.ports.items (ap (λ (a : About). a.resets) c.in_ok-arena.ensures.arena ∙ c.as_slice.ensures.value) (subst (λ (l : List Store). AreNewPorts m.arena (length l) m.ports.items) c.as_slice.ensures.value c.in_ok-arena.ensures.ports)
+invariant_of-result-clause-memories g c =
+    let m = c.expect-arena.result in
+    let about = rw c.expect-arena.ensures at c.new.ensures.arena in
+    let new = rw c.expect-arena.ensures at c.new.ensures.ports in
+    memories m.arena c.args.banks.items m.ports.items (ap (λ (a : About). a.resets) about ∙ c.as_slice.ensures.value)
+    (subst (λ (l : List Store). AreNewPorts m.arena (length l) m.ports.items) c.as_slice.ensures.value new)

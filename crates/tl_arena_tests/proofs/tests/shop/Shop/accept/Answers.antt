@@ -4,7 +4,7 @@ use Rattle.tl_types.specs.Request.{Request}
 use Rattle.tl_rule.specs.Serving.{ask_at}
 use Rattle.tl_rule.proofs.Serving.{push_here}
 use Rattle.tl_arena.specs.Views.{PortView, with_accepted}
-use Rattle.tl_arena.proofs.tests.shop.Shop.accept.Goals as goal
+use Rattle.tl_arena_tests.proofs.tests.shop.Shop.accept.Goals as goal
 
 served_now : (u v : PortView) (slot : ℕ) (result : Option (ℕ × Request)) → IfSome result (λ a. (a.0 ≡ slot) × (ask_at u.serving slot ≡ None) × (v ≡ with_accepted u a))
     → IfSome result (λ a. (a.0 ≡ slot) × (ask_at v.serving slot ≡ Some a.1))

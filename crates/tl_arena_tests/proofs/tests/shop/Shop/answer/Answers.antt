@@ -8,7 +8,7 @@ use Rattle.tl_ops.proofs.Histories.{replay-append}
 use Rattle.tl_rule.specs.Views.{reset_of}
 use Rattle.tl_arena.specs.Views.{PortView, with_answered}
 use Rattle.tl_arena.specs.Promises.{memory_of}
-use Rattle.tl_arena.proofs.tests.shop.Shop.answer.Goals as goal
+use Rattle.tl_arena_tests.proofs.tests.shop.Shop.answer.Goals as goal
 
 served_memory : (u : PortView) (f : ℕ × Request) (reply : Response) → memory_of (with_answered u f reply) ≡ after (memory_of u) f.1
 served_memory u f reply =

@@ -5,7 +5,8 @@ ghost use Rattle.tl_rule.specs.Views.{Owns};
 ghost use Rattle.tl_arena.specs.Views.{in_hand};
 ghost use Rattle.tl_arena.specs.Promises.{IsUnsent};
 
-use crate::{Arena, Claim, MasterSeat, Ticket};
+use std::process::Abort;
+use tl_arena::{Arena, Claim, MasterSeat, Ticket};
 use tl_map::Sources;
 use tl_types::{Ask, Reply};
 
@@ -92,6 +93,28 @@ impl<'a> Client<'a> {
         };
         self.arena.release(&mut self.seat, served);
         Ok(received)
+    }
+
+    /// Looks for a reply that is not there yet: the ticket comes back.
+    pub(super) fn wait_in_vain(&mut self, rt: &impl Abort, ticket: Ticket) -> Ticket
+        requires { in_hand self.old.seat ticket.slot ≡ Sent ticket.ask ticket.port ticket.known }
+        ensures same { result ≡ ticket }
+        ensures seat { self.new.seat ≡ self.old.seat }
+    {
+        match self.receive(ticket) {
+            Ok(_) => panic!(rt; "there is a reply before the answer"),
+            Err(ticket) => ticket,
+        }
+    }
+
+    /// The reply, which is there.
+    pub(super) fn receive_now(&mut self, rt: &impl Abort, ticket: Ticket) -> Received
+        requires { in_hand self.old.seat ticket.slot ≡ Sent ticket.ask ticket.port ticket.known }
+    {
+        match self.receive(ticket) {
+            Ok(received) => received,
+            Err(_) => panic!(rt; "there is no reply"),
+        }
     }
 
     /// One whole turn: the reply to a request.

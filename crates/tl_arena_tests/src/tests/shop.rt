@@ -4,7 +4,7 @@ ghost use Rattle.std.specs.Prelude as std;
 ghost use Rattle.tl_rule.specs.Serving.{ask_at};
 ghost use Rattle.tl_arena.specs.Promises.{memory_of};
 
-use crate::{Accepted, Arena, PortSeat};
+use tl_arena::{Accepted, Arena, PortSeat};
 use tl_ops::Bank;
 
 /// How often a shop passes over the slots before it gives up.

@@ -2,26 +2,27 @@
 use super::client::Client;
 use super::floor::{BASE, Floor, client, floor_of, shop};
 use super::shop::Shop;
-use crate::Account;
 use std::alloc::Global;
 use std::process::Abort;
-use std::test::Fail;
+use tl_arena::Account;
 use tl_map::Sources;
 use tl_ops::{Bank, Kind};
-use tl_types::{Ask, AskFault, AskOp};
+use tl_types::{Ask, AskOp};
 
 /// One slot, two masters with 16 sources each, a memory of 64 zero bytes, and the error port.
-fn one_slot(alloc: Global) -> Result<Floor, Fail> {
-    let sources = Sources::new(alloc, &[16, 16])?;
+fn one_slot(rt: &impl Abort, alloc: Global) -> Floor {
+    let sources = Sources::new(alloc, &[16, 16]).expect(rt, "sources");
+    let memory = Bank::new(alloc, Kind::Ram, BASE, &[0; 64]).expect(rt, "a bank");
+    let nothing = Bank::new(alloc, Kind::NoDevice, 0, &[]).expect(rt, "a bank");
     let mut banks = Vec::new(alloc);
-    banks.push(Bank::new(alloc, Kind::Ram, BASE, &[0; 64])?)?;
-    banks.push(Bank::new(alloc, Kind::NoDevice, 0, &[])?)?;
-    floor_of(alloc, 1, sources, banks)
+    banks.push(memory).expect(rt, "memory");
+    banks.push(nothing).expect(rt, "memory");
+    floor_of(rt, alloc, 1, sources, banks)
 }
 
 /// A read of the first four bytes.
-fn read(source: u16) -> Result<Ask, AskFault> {
-    Ask::new(AskOp::Get, 2, source, BASE, &[])
+fn read(rt: &impl Abort, source: u16) -> Ask {
+    Ask::new(AskOp::Get, 2, source, BASE, &[]).expect(rt, "a request")
 }
 
 /// The first master's turn. Nobody else gets the slot, and no other port what is posted there.
@@ -31,70 +32,60 @@ fn first_turn(
     second: &mut Client,
     memory: &mut Shop,
     error: &mut Shop,
-) -> Result<(), Fail> {
-    let (ask, other) = (read(3)?, read(0)?);
-    let (claim, ask) = first.claim(&ask, 0).ok_or("no slot")?;
+) {
+    let (claim, ask) = first.claim(&read(rt, 3), 0).expect(rt, "no slot");
     let claimed = (claim.slot(), first.seat.owned());
-    let refused = second.send(&other, 0);
+    let refused = second.send(&read(rt, 0), 0);
     let ticket = first.post(claim, &ask, 0);
     assert_eq!(rt; claimed, (0, 1));
     assert!(rt; refused.is_none());
     assert!(rt; error.accept(0).is_none());
     assert!(rt; memory.accept(1).is_none());
-    let Err(ticket) = first.receive(ticket) else {
-        return Err(Fail::from("there is a reply before the answer"));
-    };
-    let accepted = memory.accept(0).ok_or("nothing is posted")?;
+    let ticket = first.wait_in_vain(rt, ticket);
+    let accepted = memory.accept(0).expect(rt, "nothing is posted");
     let seen = accepted.ask();
     assert_eq!(rt; (seen.op(), seen.size()), (AskOp::Get, 2));
     assert_eq!(rt; (seen.source(), seen.address()), (3, BASE));
     assert!(rt; memory.answer(accepted));
-    let Ok(received) = first.receive(ticket) else {
-        return Err(Fail::from("there is no reply"));
-    };
+    let received = first.receive_now(rt, ticket);
     assert_eq!(rt; (received.port, received.index), (0, 0));
     assert_eq!(rt; received.reply.bytes(), [0; 4].as_slice());
     assert_eq!(rt; received.read, [Some(0), Some(0), None]);
-    Ok(())
 }
 
 /// The second master's turn, in the same slot. Its first source is 16 on the wide side.
-fn second_turn(rt: &impl Abort, second: &mut Client, memory: &mut Shop) -> Result<(), Fail> {
-    let ticket = second.send(&read(0)?, 0).ok_or("no slot")?;
+fn second_turn(rt: &impl Abort, second: &mut Client, memory: &mut Shop) {
+    let ticket = second.send(&read(rt, 0), 0).expect(rt, "no slot");
     assert_eq!(rt; ticket.slot(), 0);
-    let accepted = memory.accept(0).ok_or("nothing is posted")?;
+    let accepted = memory.accept(0).expect(rt, "nothing is posted");
     assert_eq!(rt; accepted.ask().source(), 16);
     assert!(rt; memory.answer(accepted));
-    let Ok(received) = second.receive(ticket) else {
-        return Err(Fail::from("there is no reply"));
-    };
+    let received = second.receive_now(rt, ticket);
     assert_eq!(rt; (received.port, received.index), (0, 1));
     assert_eq!(rt; received.reply.bytes(), [0; 4].as_slice());
-    Ok(())
 }
 
 #[test]
-fn one_slot_serves_one_turn_after_the_other(rt: HostRuntime) -> Result<(), Fail> {
+fn one_slot_serves_one_turn_after_the_other(rt: HostRuntime) {
     let Floor {
         arena,
         sources,
         mut masters,
         mut ports,
         mut banks,
-    } = one_slot(rt.alloc())?;
+    } = one_slot(&rt, rt.alloc());
     {
-        let mut second = client(&arena, &sources, &mut masters)?;
-        let mut first = client(&arena, &sources, &mut masters)?;
-        let mut error = shop(&arena, &mut ports, &mut banks)?;
-        let mut memory = shop(&arena, &mut ports, &mut banks)?;
-        first_turn(&rt, &mut first, &mut second, &mut memory, &mut error)?;
-        second_turn(&rt, &mut second, &mut memory)?;
+        let mut second = client(&rt, &arena, &sources, &mut masters);
+        let mut first = client(&rt, &arena, &sources, &mut masters);
+        let mut error = shop(&rt, &arena, &mut ports, &mut banks);
+        let mut memory = shop(&rt, &arena, &mut ports, &mut banks);
+        first_turn(&rt, &mut first, &mut second, &mut memory, &mut error);
+        second_turn(&rt, &mut second, &mut memory);
         first.leave();
         second.leave();
     }
-    let Account { free, held, left } = arena.close(rt.alloc())?;
+    let Account { free, held, left } = arena.close(rt.alloc()).expect(&rt, "memory");
     assert_eq!(rt; free.as_slice(), [0].as_slice());
     assert!(rt; held.is_empty());
     assert_eq!(rt; left.as_slice(), [0, 1].as_slice());
-    Ok(())
 }
