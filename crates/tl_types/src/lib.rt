@@ -18,8 +18,6 @@ mod limits;
 mod operation;
 mod reply;
 mod request;
-#[cfg(test)]
-mod tests;
 mod trace;
 mod wire;
 

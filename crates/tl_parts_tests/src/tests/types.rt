@@ -1,8 +1,11 @@
-use super::*;
-use std::test::Fail;
+//! Messages, and the numbers that stand for operations on the wire.
+use tl_types::{
+    Arith, Ask, AskFault, AskOp, Hint, LARGEST_SIZE, Logic, OpFault, Reply, ReplyFault, ReplyOp,
+    opcode, param, read_op, read_reply_op, reply_opcode,
+};
 
 #[test]
-fn requests_are_refused_by_their_first_fault(rt: HostRuntime) -> Result<(), Fail> {
+fn requests_are_refused_by_their_first_fault(rt: HostRuntime) {
     let hole = [None; 2];
     let rows = [
         (
@@ -27,14 +30,18 @@ fn requests_are_refused_by_their_first_fault(rt: HostRuntime) -> Result<(), Fail
     for (size, bytes, fault, text) in rows {
         let made = Ask::new(AskOp::PutFull, size, 0, 0, bytes);
         assert_eq!(rt; made.err(), Some(fault));
-        assert_eq!(rt; format!(in rt.alloc(); "{fault}")?.as_str(), text);
+        assert_eq!(rt;
+            format!(in rt.alloc(); "{fault}")
+                .expect(&rt, "memory")
+                .as_str(),
+            text
+        );
     }
     assert!(rt; Ask::new(AskOp::PutPartial, 1, 0, 0, &hole).is_ok());
-    Ok(())
 }
 
 #[test]
-fn replies_are_refused_by_their_first_fault(rt: HostRuntime) -> Result<(), Fail> {
+fn replies_are_refused_by_their_first_fault(rt: HostRuntime) {
     let dirty = [0, 1];
     let rows = [
         (
@@ -56,15 +63,21 @@ fn replies_are_refused_by_their_first_fault(rt: HostRuntime) -> Result<(), Fail>
     for (size, fault, text) in rows {
         let made = Reply::new(ReplyOp::AccessAckData, size, 0, true, &dirty);
         assert_eq!(rt; made.err(), Some(fault));
-        assert_eq!(rt; format!(in rt.alloc(); "{fault}")?.as_str(), text);
+        assert_eq!(rt;
+            format!(in rt.alloc(); "{fault}")
+                .expect(&rt, "memory")
+                .as_str(),
+            text
+        );
     }
     assert!(rt; Reply::new(ReplyOp::AccessAckData, 1, 0, false, &dirty).is_ok());
-    Ok(())
 }
 
 #[test]
-fn copies_differ_in_the_source_alone(rt: HostRuntime) -> Result<(), Fail> {
-    let ask = Ask::new(AskOp::PutPartial, 1, 3, 0x1000, &[Some(7), None])?.with_source(12);
+fn copies_differ_in_the_source_alone(rt: HostRuntime) {
+    let ask = Ask::new(AskOp::PutPartial, 1, 3, 0x1000, &[Some(7), None])
+        .expect(&rt, "a request")
+        .with_source(12);
     assert_eq!(rt;
         (ask.op(), ask.size(), ask.source(), ask.address()),
         (AskOp::PutPartial, 1, 12, 0x1000)
@@ -75,13 +88,14 @@ fn copies_differ_in_the_source_alone(rt: HostRuntime) -> Result<(), Fail> {
         (again.bytes().get(0), again.bytes().get(1)),
         (Some(7), None)
     );
-    let reply = Reply::new(ReplyOp::AccessAckData, 0, 12, false, &[7])?.with_source(3);
+    let reply = Reply::new(ReplyOp::AccessAckData, 0, 12, false, &[7])
+        .expect(&rt, "a reply")
+        .with_source(3);
     assert_eq!(rt;
         (reply.op(), reply.size(), reply.source(), reply.denied()),
         (ReplyOp::AccessAckData, 0, 3, false)
     );
     assert_eq!(rt; reply.copy().bytes(), [7].as_slice());
-    Ok(())
 }
 
 /// The table of channel A: each operation with its opcode and parameter.
@@ -103,7 +117,7 @@ const OPERATIONS: [(AskOp, u8, u8); 14] = [
 ];
 
 #[test]
-fn opcodes_are_those_of_the_standard(rt: HostRuntime) -> Result<(), Fail> {
+fn opcodes_are_those_of_the_standard(rt: HostRuntime) {
     for (op, number, parameter) in OPERATIONS {
         assert_eq!(rt; (opcode(&op), param(&op)), (number, parameter));
         assert_eq!(rt; read_op(number, parameter), Ok(op));
@@ -116,7 +130,12 @@ fn opcodes_are_those_of_the_standard(rt: HostRuntime) -> Result<(), Fail> {
     ];
     for (number, parameter, fault, text) in refused {
         assert_eq!(rt; read_op(number, parameter), Err(fault));
-        assert_eq!(rt; format!(in rt.alloc(); "{fault}")?.as_str(), text);
+        assert_eq!(rt;
+            format!(in rt.alloc(); "{fault}")
+                .expect(&rt, "memory")
+                .as_str(),
+            text
+        );
     }
     for (op, number) in [
         (ReplyOp::AccessAck, 0),
@@ -127,5 +146,4 @@ fn opcodes_are_those_of_the_standard(rt: HostRuntime) -> Result<(), Fail> {
         assert_eq!(rt; read_reply_op(number), Ok(op));
     }
     assert_eq!(rt; read_reply_op(3), Err(OpFault::UnknownOpcode));
-    Ok(())
 }

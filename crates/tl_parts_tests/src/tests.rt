@@ -1,0 +1,5 @@
+mod beats;
+mod map;
+mod ops;
+mod slots;
+mod types;
