@@ -5,7 +5,7 @@ use Rattle.tl_records.specs.Source.{Between}
 use Rattle.tl_records.specs.Text.{Gives, Place, Reads, Row}
 use Rattle.tl_records.proofs.KnownLemmas.{between-trans}
 
-reads-more : (a b c : Place) (rows : List Row) (row : Row) → Reads a rows b → Gives b row c → Reads a (rows ++ row ∷ []) c
+pub reads-more : (a b c : Place) (rows : List Row) (row : Row) → Reads a rows b → Gives b row c → Reads a (rows ++ row ∷ []) c
 unfolding Reads
 reads-more a b c [] row so_far next = rw so_far (c, next, refl)
 reads-more a b c (first ∷ rows) row so_far next = (so_far.0, so_far.1, reads-more so_far.0 b c rows row so_far.2 next)

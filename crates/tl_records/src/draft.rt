@@ -44,7 +44,8 @@ pub(crate) struct Fed {
 impl Draft {
     /// A record with room for all that one may have.
     pub(crate) fn new(alloc: Global) -> Result<Draft, RecordFault>
-        ensures { IfOk result (λ draft. fields_of draft.columns ≡ []) }
+        ensures fields { IfOk result (λ draft. fields_of draft.columns ≡ []) }
+        ensures fault { (line : ℕ) → result ≡ Err (RecordFault.TooLong line) → ⊥ }
     {
         Ok(Draft {
             line: 1,

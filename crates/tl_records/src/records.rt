@@ -80,6 +80,7 @@ impl<R: Read + Drop> Records<R> {
         ensures line { IfOk result (λ records. records.left.line ≡ 1) }
         ensures fault { IfOk result (λ records. records.fault ≡ None) }
         ensures fields { IfOk result (λ records. records.row.fields ≡ []) }
+        ensures kind { (line : ℕ) → result ≡ Err (RecordFault.TooLong line) → ⊥ }
     {
         Ok(Records {
             source: Source::new(alloc, reader)?,

@@ -98,8 +98,9 @@ impl<R: Read + Drop> Source<R> {
 
     /// A reader of which nothing was read.
     fn unread(alloc: Global, reader: R) -> Result<Source<R>, RecordFault>
-        ensures { IfOk result (λ source. (source.reader ≡ reader) × (source.next ≡ 0) × (source.filled ≡ 0)
+        ensures parts { IfOk result (λ source. (source.reader ≡ reader) × (source.next ≡ 0) × (source.filled ≡ 0)
             × (source.line ≡ 1)) }
+        ensures fault { (line : ℕ) → result ≡ Err (RecordFault.TooLong line) → ⊥ }
     {
         let mut chunk = Vec::with_capacity(alloc, CHUNK)?;
         chunk.resize(CHUNK, 0)?;
@@ -117,6 +118,7 @@ impl<R: Read + Drop> Source<R> {
         ensures line { IfOk result (λ source. source.line ≡ 1) }
         ensures text { IfOk result (λ source. Keeps (option_map strip_bom (R.remaining reader))
             (left_of R.remaining source)) }
+        ensures fault { (line : ℕ) → result ≡ Err (RecordFault.TooLong line) → ⊥ }
     {
         let mut source = Source::unread(alloc, reader)?;
         source.skip_mark()?;
@@ -175,6 +177,7 @@ impl<R: Read + Drop> Source<R> {
         ensures end { IfOk result (λ more. more ≡ false → (self.new.filled ≡ self.old.filled)
             × IsAtEnd (R.remaining self.new.reader)) }
         ensures line { self.new.line ≡ self.old.line }
+        ensures fault { (line : ℕ) → result ≡ Err (RecordFault.TooLong line) → ⊥ }
     {
         let mut one = [0u8];
         if read_some(&mut self.reader, &mut one)? == 0 {
@@ -194,6 +197,7 @@ impl<R: Read + Drop> Source<R> {
         ensures few { self.new.filled ≤ 3 }
         ensures end { OnOk result (self.new.filled < 3 → IsAtEnd (R.remaining self.new.reader)) }
         ensures line { self.new.line ≡ self.old.line }
+        ensures fault { (line : ℕ) → result ≡ Err (RecordFault.TooLong line) → ⊥ }
     {
         while self.filled < MARK.len() {
             if !self.read_byte()? {
@@ -210,6 +214,7 @@ impl<R: Read + Drop> Source<R> {
         ensures text { OnOk result (Keeps (option_map strip_bom (R.remaining self.old.reader))
             (left_of R.remaining self.new)) }
         ensures line { self.new.line ≡ self.old.line }
+        ensures fault { (line : ℕ) → result ≡ Err (RecordFault.TooLong line) → ⊥ }
     {
         self.read_front()?;
         if self.text() == MARK.as_slice() {
