@@ -3,3 +3,4 @@ pub mod Count
 pub mod View
 pub mod Verdict
 pub mod Text
+pub mod Told

@@ -15,7 +15,9 @@ mod tally;
 #[cfg(test)]
 mod tests;
 mod text;
+mod trace;
 
 pub use judge::Judge;
 pub use stop::{Counts, Stop, Unlawful};
 pub use text::{kind_words, push_lawful, push_no_capture, push_unlawful};
+pub use trace::push_answer;
