@@ -1,29 +1,30 @@
+//! Threads that meet at gates, gates that are shut, and runs of the same script over and over.
 ghost use Rattle.std.specs.Prelude.{◌≤◌};
 
 mod scripts;
 
-use crate::{Gate, OpenGate, ThreadFault, ThreadedRun, run_threads};
 use std::alloc::Global;
+use std::process::Abort;
 use std::sync::Wait;
 use std::sync::atomic::AtomicUsize;
 use std::sync::atomic::Ordering::SeqCst;
-use std::test::Fail;
 use std::thread::Threads;
-use tl_script::read_system;
+use tl_script::{System, read_system};
+use tl_threads::{Gate, OpenGate, ThreadFault, ThreadedRun, run_threads};
 
 /// Runs a script with so many threads a port.
-fn run<R: Threads + Wait + Sync, G: Gate + Sync>(
+fn run<R: Abort + Threads + Wait + Sync, G: Gate + Sync>(
     rt: &R,
     alloc: Global,
     script: &[u8],
     workers: usize,
     gate: &G,
-) -> Result<ThreadedRun, Fail>
+) -> ThreadedRun
     requires some { 1 ≤ workers }
     requires few { workers ≤ 4 }
 {
-    let system = read_system(alloc, script)?;
-    Ok(run_threads(rt, alloc, &system, workers, gate)?)
+    let system = read_system(alloc, script).expect(rt, "a system");
+    run_threads(rt, alloc, &system, workers, gate).expect(rt, "a run")
 }
 
 /// The places at which two threads of a kind meet, and how many saw the other there.
@@ -64,20 +65,25 @@ impl Gate for Meeting {
 const TWO_PORTS: &[u8] =
     b"slots = 4\nport = [{ kind = 'ram', base = 0x1000, length = 64 }, { kind = 'ram', base = 0x2000, length = 64 }]\nmaster = [{ sources = 1, ops = ['0 get 0x1000 2'] }, { sources = 1, ops = ['0 get 0x2000 2'] }]\n";
 
+/// All four threads of a run meet, and all slots are free behind it.
+fn all_meet<R: Abort + Threads + Wait + Sync>(rt: &R, alloc: Global, workers: usize)
+    requires some { 1 ≤ workers }
+    requires few { workers ≤ 4 }
+{
+    let gate = Meeting {
+        ports: [AtomicUsize::new(0), AtomicUsize::new(0)],
+        masters: [AtomicUsize::new(0), AtomicUsize::new(0)],
+        met: AtomicUsize::new(0),
+    };
+    let ThreadedRun { account, .. } = run(rt, alloc, TWO_PORTS, workers, &gate);
+    assert_eq!(rt; gate.met.load(SeqCst), 4);
+    assert_eq!(rt; (account.free.len(), account.held.len()), (4, 0));
+}
+
 #[test]
-fn threads_run_at_once(rt: HostRuntime) -> Result<(), Fail> {
-    for turn in 0..2u32 {
-        let workers = if turn == 0 { 1 } else { 4 };
-        let gate = Meeting {
-            ports: [AtomicUsize::new(0), AtomicUsize::new(0)],
-            masters: [AtomicUsize::new(0), AtomicUsize::new(0)],
-            met: AtomicUsize::new(0),
-        };
-        let run = run(&rt, rt.alloc(), TWO_PORTS, workers, &gate)?;
-        assert_eq!(rt; gate.met.load(SeqCst), 4);
-        assert_eq!(rt; (run.account.free.len(), run.account.held.len()), (4, 0));
-    }
-    Ok(())
+fn threads_run_at_once(rt: HostRuntime) {
+    all_meet(&rt, rt.alloc(), 1);
+    all_meet(&rt, rt.alloc(), 4);
 }
 
 /// The places at which two threads of one port meet, and how many saw the other there.
@@ -102,16 +108,15 @@ const ONE_PORT: &[u8] =
     b"slots = 4\nport = [{ kind = 'ram', base = 0x1000, length = 64 }]\nmaster = [{ sources = 1, ops = ['0 get 0x1000 2'] }, { sources = 1, ops = ['0 get 0x1004 2'] }]\n";
 
 #[test]
-fn workers_of_a_port_run_at_once(rt: HostRuntime) -> Result<(), Fail> {
+fn workers_of_a_port_run_at_once(rt: HostRuntime) {
     let gate = Pair {
         came: AtomicUsize::new(0),
         places: [AtomicUsize::new(0), AtomicUsize::new(0)],
         met: AtomicUsize::new(0),
     };
-    let run = run(&rt, rt.alloc(), ONE_PORT, 2, &gate)?;
+    let ThreadedRun { account, .. } = run(&rt, rt.alloc(), ONE_PORT, 2, &gate);
     assert_eq!(rt; gate.met.load(SeqCst), 2);
-    assert_eq!(rt; run.account.free.len(), 4);
-    Ok(())
+    assert_eq!(rt; account.free.len(), 4);
 }
 
 /// Says no so many times at each of three ports, and counts how often it is asked there and, for each of two masters,
@@ -162,56 +167,83 @@ const CROSSED: &[u8] =
 
 const EVER: usize = usize::MAX;
 
+/// How often a gate says no at each port, the fault of the run, and how often it is asked there.
+#[derive(Clone, Copy)]
+struct Held {
+    noes: [usize; 3],
+    fault: Option<ThreadFault>,
+    asked: [usize; 3],
+}
+
+const HELD: [Held; 5] = [
+    Held {
+        noes: [0, 0, 0],
+        fault: None,
+        asked: [1, 2, 1],
+    },
+    Held {
+        noes: [EVER, 0, EVER],
+        fault: Some(ThreadFault::GateHeld(0)),
+        asked: [1_000_000, 2, 1_000_000],
+    },
+    Held {
+        noes: [0, EVER, EVER],
+        fault: Some(ThreadFault::GateHeld(1)),
+        asked: [1, 1_000_000, 1_000_000],
+    },
+    Held {
+        noes: [0, 0, 1_000_000],
+        fault: Some(ThreadFault::GateHeld(2)),
+        asked: [1, 2, 1_000_000],
+    },
+    Held {
+        noes: [0, 999_999, 999_999],
+        fault: None,
+        asked: [1, 1_000_001, 1_000_000],
+    },
+];
+
+/// What becomes of a run at a gate that says no so often.
+fn run_held<R: Abort + Threads + Wait + Sync>(rt: &R, alloc: Global, system: &System, held: &Held) {
+    let gate = Shut {
+        noes: held.noes,
+        asked: counts(),
+        collected: [counts(), counts()],
+    };
+    let fault = run_threads(rt, alloc, system, 1, &gate).err();
+    assert_eq!(rt; fault, held.fault);
+    assert_eq!(rt; told(&gate.asked), held.asked);
+    assert_eq!(rt; told(&gate.collected[0]), [0, 2, 1]);
+    assert_eq!(rt; told(&gate.collected[1]), [1, 0, 0]);
+}
+
 #[test]
-fn held_gates_are_told_after_all_was_served(rt: HostRuntime) -> Result<(), Fail> {
-    let system = read_system(rt.alloc(), CROSSED)?;
-    // how often the gate says no at each port, the fault, how often it is asked there
-    let rows: [([usize; 3], Option<ThreadFault>, [usize; 3]); 5] = [
-        ([0, 0, 0], None, [1, 2, 1]),
-        (
-            [EVER, 0, EVER],
-            Some(ThreadFault::GateHeld(0)),
-            [1_000_000, 2, 1_000_000],
-        ),
-        (
-            [0, EVER, EVER],
-            Some(ThreadFault::GateHeld(1)),
-            [1, 1_000_000, 1_000_000],
-        ),
-        (
-            [0, 0, 1_000_000],
-            Some(ThreadFault::GateHeld(2)),
-            [1, 2, 1_000_000],
-        ),
-        ([0, 999_999, 999_999], None, [1, 1_000_001, 1_000_000]),
-    ];
-    for (noes, fault, asked) in rows {
-        let gate = Shut {
-            noes,
-            asked: counts(),
-            collected: [counts(), counts()],
-        };
-        let outcome = run_threads(&rt, rt.alloc(), &system, 1, &gate);
-        assert_eq!(rt; outcome.err(), fault);
-        assert_eq!(rt; told(&gate.asked), asked);
-        assert_eq!(rt; told(&gate.collected[0]), [0, 2, 1]);
-        assert_eq!(rt; told(&gate.collected[1]), [1, 0, 0]);
+fn held_gates_are_told_after_all_was_served(rt: HostRuntime) {
+    let system = read_system(rt.alloc(), CROSSED).expect(&rt, "a system");
+    for held in &HELD {
+        run_held(&rt, rt.alloc(), &system, held);
     }
-    Ok(())
 }
 
 const FOUR_MASTERS: &[u8] =
     b"slots = 2\nport = [{ kind = 'ram', base = 0x1000, length = 64 }]\nmaster = [{ sources = 1, ops = [] }, { sources = 2, ops = ['0 add 0x1000 2 01000000', '1 get 0x9000 0', '0 add 0x1000 2 01000000'] }, { sources = 1, ops = ['0 add 0x1000 2 01000000', 'wait', '0 get 0x1000 2'] }, { sources = 4, ops = ['3 add 0x1000 2 01000000', '1 add 0x1000 2 01000000', '2 get 0x1004 2'] }]\n";
 
+/// A run of four masters ends with all slots free, and nothing is lost.
+fn four_masters<R: Abort + Threads + Wait + Sync>(rt: &R, alloc: Global, workers: usize)
+    requires some { 1 ≤ workers }
+    requires few { workers ≤ 4 }
+{
+    let ThreadedRun { account, books, .. } = run(rt, alloc, FOUR_MASTERS, workers, &OpenGate);
+    assert_eq!(rt; account.free.as_slice(), [0, 1].as_slice());
+    assert_eq!(rt; (account.held.len(), account.left.len()), (0, 4));
+    let book = books.first().expect(rt, "no book");
+    assert_eq!(rt; (book.history_len(), book.byte(0x1000)), (7, Some(5)));
+}
+
 #[test]
-fn every_run_ends_with_all_slots_free(rt: HostRuntime) -> Result<(), Fail> {
-    for k in 0..200u32 {
-        let workers = if k % 2 == 0 { 1 } else { 4 };
-        let run = run(&rt, rt.alloc(), FOUR_MASTERS, workers, &OpenGate)?;
-        assert_eq!(rt; run.account.free.as_slice(), [0, 1].as_slice());
-        assert_eq!(rt; (run.account.held.len(), run.account.left.len()), (0, 4));
-        let book = run.books.first().ok_or("no book")?;
-        assert_eq!(rt; (book.history_len(), book.byte(0x1000)), (7, Some(5)));
+fn every_run_ends_with_all_slots_free(rt: HostRuntime) {
+    for _ in 0..100u32 {
+        four_masters(&rt, rt.alloc(), 1);
+        four_masters(&rt, rt.alloc(), 4);
     }
-    Ok(())
 }
