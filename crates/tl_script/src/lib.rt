@@ -28,8 +28,6 @@ mod ports;
 mod print;
 mod script;
 mod system;
-#[cfg(test)]
-mod tests;
 mod value;
 mod words;
 

@@ -1,34 +1,27 @@
 //! Scripts with faults: the line of each, and which of two faults is told.
-use crate::ScriptFault;
-use crate::tests::fault_of;
-use std::alloc::{AllocError, Global};
-use std::test::Fail;
+use super::fault_of;
+use std::alloc::Global;
+use std::process::Abort;
 use tl_map::{MapFault, SourceFault};
+use tl_script::ScriptFault;
 
 /// A part of a script, and the line of the script's fault.
 type Row = (&'static str, &'static str);
 
 /// The line of a script's fault, and nothing where it has none.
-fn fault_line(alloc: Global, script: &str) -> Result<String, AllocError> {
+fn fault_line(rt: &impl Abort, alloc: Global, script: &str) -> String {
     match fault_of(alloc, script.as_bytes()) {
-        Some(fault) => format!(in alloc; "{fault}"),
-        None => Ok(String::new(alloc)),
+        Some(fault) => format!(in alloc; "{fault}").expect(rt, "memory"),
+        None => String::new(alloc),
     }
 }
 
-/// The first part that makes a script with another line than its row has. The part stands behind the head.
-fn first_other(
-    alloc: Global,
-    head: &str,
-    rows: &[Row],
-) -> Result<Option<&'static str>, AllocError> {
+/// Each part makes a script that has its row's line. The part stands behind the head.
+fn have_lines(rt: &impl Abort, alloc: Global, head: &str, rows: &[Row]) {
     for (part, line) in rows {
-        let script = format!(in alloc; "{head}{part}\n")?;
-        if fault_line(alloc, &script)?.as_str() != *line {
-            return Ok(Some(*part));
-        }
+        let script = format!(in alloc; "{head}{part}\n").expect(rt, "memory");
+        assert_eq!(rt; fault_line(rt, alloc, &script).as_str(), *line);
     }
-    Ok(None)
 }
 
 const DOCUMENTS: [Row; 18] = [
@@ -60,9 +53,8 @@ const DOCUMENTS: [Row; 18] = [
 ];
 
 #[test]
-fn documents_have_faults(rt: HostRuntime) -> Result<(), Fail> {
-    assert_eq!(rt; first_other(rt.alloc(), "", &DOCUMENTS)?, None);
-    Ok(())
+fn documents_have_faults(rt: HostRuntime) {
+    have_lines(&rt, rt.alloc(), "", &DOCUMENTS);
 }
 
 const PORTS: [Row; 16] = [
@@ -119,10 +111,8 @@ const PORTS: [Row; 16] = [
 ];
 
 #[test]
-fn ports_have_faults(rt: HostRuntime) -> Result<(), Fail> {
-    let other = first_other(rt.alloc(), "slots = 4\n[[port]]\n", &PORTS)?;
-    assert_eq!(rt; other, None);
-    Ok(())
+fn ports_have_faults(rt: HostRuntime) {
+    have_lines(&rt, rt.alloc(), "slots = 4\n[[port]]\n", &PORTS);
 }
 
 const MASTERS: [Row; 13] = [
@@ -160,10 +150,8 @@ const MASTERS: [Row; 13] = [
 ];
 
 #[test]
-fn masters_have_faults(rt: HostRuntime) -> Result<(), Fail> {
-    let other = first_other(rt.alloc(), "slots = 4\n[[master]]\n", &MASTERS)?;
-    assert_eq!(rt; other, None);
-    Ok(())
+fn masters_have_faults(rt: HostRuntime) {
+    have_lines(&rt, rt.alloc(), "slots = 4\n[[master]]\n", &MASTERS);
 }
 
 /// Of two faults the first is answered.
@@ -191,10 +179,8 @@ const TWO_MASTERS: [Row; 5] = [
 ];
 
 #[test]
-fn two_masters_have_faults(rt: HostRuntime) -> Result<(), Fail> {
-    let other = first_other(rt.alloc(), "slots = 4\n[[master]]\n", &TWO_MASTERS)?;
-    assert_eq!(rt; other, None);
-    Ok(())
+fn two_masters_have_faults(rt: HostRuntime) {
+    have_lines(&rt, rt.alloc(), "slots = 4\n[[master]]\n", &TWO_MASTERS);
 }
 
 /// What stands before two ports of RAM: a master with a fault of its count of sources and one of its operations. The
@@ -217,9 +203,8 @@ const RANGES: [Row; 3] = [
 ];
 
 #[test]
-fn ranges_have_faults(rt: HostRuntime) -> Result<(), Fail> {
-    assert_eq!(rt; first_other(rt.alloc(), BEFORE_RANGES, &RANGES)?, None);
-    Ok(())
+fn ranges_have_faults(rt: HostRuntime) {
+    have_lines(&rt, rt.alloc(), BEFORE_RANGES, &RANGES);
 }
 
 /// Lines that no script above is told.
@@ -237,11 +222,15 @@ const LINES: [(ScriptFault, &str); 4] = [
 ];
 
 #[test]
-fn the_other_faults_have_lines(rt: HostRuntime) -> Result<(), Fail> {
+fn the_other_faults_have_lines(rt: HostRuntime) {
     for (fault, line) in &LINES {
-        assert_eq!(rt; format!(in rt.alloc(); "{fault}")?.as_str(), *line);
+        assert_eq!(rt;
+            format!(in rt.alloc(); "{fault}")
+                .expect(&rt, "memory")
+                .as_str(),
+            *line
+        );
     }
-    Ok(())
 }
 
 #[test]

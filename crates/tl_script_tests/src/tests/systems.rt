@@ -1,9 +1,9 @@
 //! The systems that scripts describe.
-use crate::tests::are;
-use crate::{Job, ScriptFault, System, read_system};
+use super::are;
 use std::alloc::Global;
-use std::test::Fail;
+use std::process::Abort;
 use tl_ops::Kind;
+use tl_script::{Job, System, read_system};
 use tl_types::{Ask, AskOp};
 
 pub const FIRST: &str = "slots = 4
@@ -44,8 +44,8 @@ ops = ['wait', '0 get 0 0', 'wait']
 [extra]
 ";
 
-fn system_of(alloc: Global, script: &str) -> Result<System, ScriptFault> {
-    read_system(alloc, script.as_bytes())
+fn system_of(rt: &impl Abort, alloc: Global, script: &str) -> System {
+    read_system(alloc, script.as_bytes()).expect(rt, "a system")
 }
 
 /// Whether the system has this many slots, ports, masters and devices.
@@ -128,30 +128,28 @@ fn has_parts(ask: Option<Ask>, op: AskOp, address: u64, bytes: &[Option<u8>]) ->
 const PUT: [Option<u8>; 4] = [Some(0x11), Some(0x22), Some(0x33), Some(0x44)];
 
 #[test]
-fn the_first_script_is_read(rt: HostRuntime) -> Result<(), Fail> {
-    let system = system_of(rt.alloc(), FIRST)?;
+fn the_first_script_is_read(rt: HostRuntime) {
+    let system = system_of(&rt, rt.alloc(), FIRST);
     assert!(rt; has_counts(&system, 4, 2, 1, 1));
     assert!(rt; has_device(&system, 0, Kind::Ram, 0x1000, &[0; 64]));
     assert!(rt; has_sources(&system, 0, 16));
     assert!(rt; has_operations(&system, 0, 2));
     assert!(rt; has_parts(sent(&system, 0, 0), AskOp::PutFull, 0x1000, &PUT));
     assert!(rt; has_parts(sent(&system, 0, 1), AskOp::Get, 0x1000, &[]));
-    Ok(())
 }
 
 #[test]
-fn ports_keep_their_order(rt: HostRuntime) -> Result<(), Fail> {
-    let system = system_of(rt.alloc(), SEVERAL)?;
+fn ports_keep_their_order(rt: HostRuntime) {
+    let system = system_of(&rt, rt.alloc(), SEVERAL);
     assert!(rt; has_counts(&system, 256, 4, 2, 3));
     assert!(rt; has_device(&system, 0, Kind::Rom, 0x2000, &[0, 0xab, 0xcd, 0, 0]));
     assert!(rt; has_device(&system, 1, Kind::Regs, 0x7fff_ffff_ffff_ffff, &[0xff]));
     assert!(rt; has_length(&system, 2, 65536));
-    Ok(())
 }
 
 #[test]
-fn masters_keep_their_order(rt: HostRuntime) -> Result<(), Fail> {
-    let system = system_of(rt.alloc(), SEVERAL)?;
+fn masters_keep_their_order(rt: HostRuntime) {
+    let system = system_of(&rt, rt.alloc(), SEVERAL);
     assert!(rt; has_sources(&system, 0, 256));
     assert!(rt; has_operations(&system, 0, 0));
     assert!(rt; has_sources(&system, 1, 1));
@@ -159,7 +157,6 @@ fn masters_keep_their_order(rt: HostRuntime) -> Result<(), Fail> {
     assert!(rt; is_wait(&system, 1, 0));
     assert!(rt; has_parts(sent(&system, 1, 1), AskOp::Get, 0, &[]));
     assert!(rt; is_wait(&system, 1, 2));
-    Ok(())
 }
 
 /// Puts of both kinds among operations that carry nothing.
@@ -191,19 +188,17 @@ fn carries(system: &System, operation: usize, plain: &[u8], mask: u8) -> bool {
 }
 
 #[test]
-fn each_operation_keeps_its_own_bytes(rt: HostRuntime) -> Result<(), Fail> {
-    let system = system_of(rt.alloc(), MIXED)?;
+fn each_operation_keeps_its_own_bytes(rt: HostRuntime) {
+    let system = system_of(&rt, rt.alloc(), MIXED);
     for (operation, plain, mask) in &CARRIED {
         assert!(rt; carries(&system, *operation, plain, *mask), "{operation}");
     }
     assert!(rt; has_requests(&system, 0, 6));
-    Ok(())
 }
 
 #[test]
-fn a_script_may_have_no_port(rt: HostRuntime) -> Result<(), Fail> {
+fn a_script_may_have_no_port(rt: HostRuntime) {
     let script = "slots = 1\n[[master]]\nsources = 1\nops = []\n";
-    let system = system_of(rt.alloc(), script)?;
+    let system = system_of(&rt, rt.alloc(), script);
     assert!(rt; has_counts(&system, 1, 1, 1, 0));
-    Ok(())
 }

@@ -1,7 +1,7 @@
 //! The lines of traces, histories and accounts.
-use crate::{write_account, write_history, write_trace};
-use std::alloc::{AllocError, Global};
-use std::test::Fail;
+use std::alloc::Global;
+use std::process::Abort;
+use tl_script::{write_account, write_history, write_trace};
 use tl_types::{Arith, Ask, AskOp, Entry, Hint, Reply, ReplyOp};
 
 /// An operation, its size, source, address and bytes; its reply, whether that is denied, and the bytes that it shows.
@@ -79,65 +79,64 @@ const HISTORY: &str = "p0 #0 w12 putfull 0x1000 2 11223344 -> AccessAck
 p0 #1 w4095 get 0x1001 0 -> AccessAckData 22
 ";
 
-fn message(row: &Row) -> Result<(Ask, Reply), Fail> {
+fn message(rt: &impl Abort, row: &Row) -> (Ask, Reply) {
     let (op, size, source, address, bytes) = row.ask;
     let (reply, denied, shown) = row.reply;
-    let ask = Ask::new(op, size, source, address, bytes)?;
-    Ok((ask, Reply::new(reply, size, source, denied, shown)?))
+    let ask = Ask::new(op, size, source, address, bytes).expect(rt, "a request");
+    let reply = Reply::new(reply, size, source, denied, shown).expect(rt, "a reply");
+    (ask, reply)
 }
 
-fn entries(alloc: Global, rows: &[Row]) -> Result<Vec<Entry>, Fail> {
+fn entries(rt: &impl Abort, alloc: Global, rows: &[Row]) -> Vec<Entry> {
     let mut entries = Vec::new(alloc);
     for row in rows {
-        let (ask, reply) = message(row)?;
-        let (port, index) = (row.port, row.index);
-        entries.push(Entry {
+        let (ask, reply) = message(rt, row);
+        let entry = Entry {
             ask,
             reply,
-            port,
-            index,
-        })?;
+            port: row.port,
+            index: row.index,
+        };
+        entries.push(entry).expect(rt, "memory");
     }
-    Ok(entries)
+    entries
 }
 
-fn messages(alloc: Global, rows: &[Row]) -> Result<Vec<(Ask, Reply)>, Fail> {
+fn messages(rt: &impl Abort, alloc: Global, rows: &[Row]) -> Vec<(Ask, Reply)> {
     let mut messages = Vec::new(alloc);
     for row in rows {
-        messages.push(message(row)?)?;
+        messages.push(message(rt, row)).expect(rt, "memory");
     }
-    Ok(messages)
+    messages
 }
 
 /// The text of the traces of masters with these entries.
-fn trace_of(alloc: Global, masters: &[&[Row]]) -> Result<Vec<u8>, Fail> {
+fn trace_of(rt: &impl Abort, alloc: Global, masters: &[&[Row]]) -> Vec<u8> {
     let mut traces = Vec::new(alloc);
     for rows in masters {
-        traces.push(entries(alloc, rows)?)?;
+        traces.push(entries(rt, alloc, rows)).expect(rt, "memory");
     }
-    Ok(write_trace(alloc, &traces)?)
+    write_trace(alloc, &traces).expect(rt, "memory")
 }
 
 #[test]
-fn traces_have_a_line_for_each_entry(rt: HostRuntime) -> Result<(), Fail> {
-    let text = trace_of(rt.alloc(), &[&FIRST_MASTER, &[], &THIRD_MASTER])?;
+fn traces_have_a_line_for_each_entry(rt: HostRuntime) {
+    let text = trace_of(&rt, rt.alloc(), &[&FIRST_MASTER, &[], &THIRD_MASTER]);
     assert_eq!(rt; text.as_slice(), TRACE.as_bytes());
-    assert!(rt; trace_of(rt.alloc(), &[])?.is_empty());
-    Ok(())
+    assert!(rt; trace_of(&rt, rt.alloc(), &[]).is_empty());
 }
 
 #[test]
-fn histories_number_their_lines(rt: HostRuntime) -> Result<(), Fail> {
-    let served = messages(rt.alloc(), &SERVED)?;
-    let text = write_history(rt.alloc(), 0, &served)?;
+fn histories_number_their_lines(rt: HostRuntime) {
+    let served = messages(&rt, rt.alloc(), &SERVED);
+    let text = write_history(rt.alloc(), 0, &served).expect(&rt, "memory");
     assert_eq!(rt; text.as_slice(), HISTORY.as_bytes());
-    assert!(rt; write_history(rt.alloc(), 1, &[])?.is_empty());
-    Ok(())
+    let none = write_history(rt.alloc(), 1, &[]).expect(&rt, "memory");
+    assert!(rt; none.is_empty());
 }
 
 #[test]
-fn the_account_is_one_line(rt: HostRuntime) -> Result<(), Fail> {
-    let text = write_account(rt.alloc(), 4, 0)?;
+fn the_account_is_one_line(rt: HostRuntime) {
+    let text = write_account(rt.alloc(), 4, 0).expect(&rt, "memory");
     assert_eq!(rt; text.as_slice(), b"free 4 held 0\n".as_slice());
-    Ok(())
 }

@@ -8,8 +8,8 @@ mod operations;
 mod systems;
 mod texts;
 
-use crate::{ScriptFault, read_system};
 use std::alloc::Global;
+use tl_script::{ScriptFault, read_system};
 use tl_types::Bytes;
 
 /// The fault of a script, if it has one.

@@ -1,7 +1,6 @@
 //! The lines of operations.
-use crate::tests::are;
-use crate::{Job, read_operation};
-use std::test::Fail;
+use super::are;
+use tl_script::{Job, read_operation};
 use tl_types::{Arith, Ask, AskOp, Hint, Logic};
 
 /// The request that a line spells for a master with this many sources; none for another line.
@@ -25,11 +24,10 @@ fn is_refused(line: &str) -> bool {
 const WAITS: [&str; 3] = ["wait", " wait", "\twait \t"];
 
 #[test]
-fn a_line_may_be_a_wait(rt: HostRuntime) -> Result<(), Fail> {
+fn a_line_may_be_a_wait(rt: HostRuntime) {
     for line in &WAITS {
         assert!(rt; is_wait(line), "{line}");
     }
-    Ok(())
 }
 
 const NAMES: [(&str, AskOp); 14] = [
@@ -58,11 +56,10 @@ fn names(line: &str, op: AskOp) -> bool {
 }
 
 #[test]
-fn each_operation_has_a_name(rt: HostRuntime) -> Result<(), Fail> {
+fn each_operation_has_a_name(rt: HostRuntime) {
     for (line, op) in &NAMES {
         assert!(rt; names(line, *op), "{line}");
     }
-    Ok(())
 }
 
 /// A line, and what its request is.
@@ -145,11 +142,10 @@ fn is_spelled(form: &Form) -> bool {
 }
 
 #[test]
-fn parts_are_read_in_each_form(rt: HostRuntime) -> Result<(), Fail> {
+fn parts_are_read_in_each_form(rt: HostRuntime) {
     for form in &FORMS {
         assert!(rt; is_spelled(form), "{}", form.line);
     }
-    Ok(())
 }
 
 const OTHERS: [&str; 35] = [
@@ -196,9 +192,8 @@ const OTHERS: [&str; 35] = [
 ];
 
 #[test]
-fn every_other_line_is_refused(rt: HostRuntime) -> Result<(), Fail> {
+fn every_other_line_is_refused(rt: HostRuntime) {
     for line in &OTHERS {
         assert!(rt; is_refused(line), "{line}");
     }
-    Ok(())
 }
