@@ -18,8 +18,6 @@ mod lists;
 mod marks;
 mod order;
 mod recorded;
-#[cfg(test)]
-mod tests;
 
 pub use books::audit;
 pub use fault::AuditFault;

@@ -9,8 +9,6 @@
 
 pub mod laws;
 mod run;
-#[cfg(test)]
-mod tests;
 mod text;
 
 pub use run::{History, SerialRun, run_serial};

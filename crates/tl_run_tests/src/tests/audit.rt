@@ -1,7 +1,7 @@
 //! Audits of small traces and histories.
-use crate::{AuditFault, audit_lists};
 use std::alloc::Global;
-use std::test::Fail;
+use std::process::Abort;
+use tl_audit::{AuditFault, audit_lists};
 use tl_map::Sources;
 use tl_types::{Ask, AskOp, Entry, Reply, ReplyOp, Trace};
 
@@ -14,42 +14,44 @@ enum Message {
 
 const DATA: [u8; 4] = [0x11, 0x22, 0x33, 0x44];
 
-fn pair(message: Message, source: u16) -> Result<(Ask, Reply), Fail> {
+fn pair(rt: &impl Abort, message: Message, source: u16) -> (Ask, Reply) {
     let data = [Some(0x11), Some(0x22), Some(0x33), Some(0x44)];
-    Ok(match message {
+    let (ask, reply) = match message {
         Message::Put => (
-            Ask::new(AskOp::PutFull, 2, source, 0x1000, &data)?,
-            Reply::new(ReplyOp::AccessAck, 2, source, false, &[])?,
+            Ask::new(AskOp::PutFull, 2, source, 0x1000, &data),
+            Reply::new(ReplyOp::AccessAck, 2, source, false, &[]),
         ),
         Message::Got => (
-            Ask::new(AskOp::Get, 2, source, 0x1000, &[])?,
-            Reply::new(ReplyOp::AccessAckData, 2, source, false, &DATA)?,
+            Ask::new(AskOp::Get, 2, source, 0x1000, &[]),
+            Reply::new(ReplyOp::AccessAckData, 2, source, false, &DATA),
         ),
-    })
+    };
+    (ask.expect(rt, "a request"), reply.expect(rt, "a reply"))
 }
 
 /// The trace of a master whose source this is: messages at port 0 with their indexes.
-fn trace_of(alloc: Global, source: u16, entries: &[(Message, usize)]) -> Result<Trace, Fail> {
+fn trace_of(rt: &impl Abort, alloc: Global, source: u16, entries: &[(Message, usize)]) -> Trace {
     let mut trace = Trace::new(alloc);
     for (message, index) in entries {
-        let (ask, reply) = pair(*message, source)?;
-        trace.push(Entry {
+        let (ask, reply) = pair(rt, *message, source);
+        let entry = Entry {
             ask,
             reply,
             port: 0,
             index: *index,
-        })?;
+        };
+        trace.push(entry).expect(rt, "memory");
     }
-    Ok(trace)
+    trace
 }
 
 /// The history of a port: messages with the wide sources of those who sent them.
-fn history_of(alloc: Global, messages: &[(Message, u16)]) -> Result<Vec<(Ask, Reply)>, Fail> {
+fn history_of(rt: &impl Abort, alloc: Global, messages: &[(Message, u16)]) -> Vec<(Ask, Reply)> {
     let mut history = Vec::new(alloc);
     for (message, wide) in messages {
-        history.push(pair(*message, *wide)?)?;
+        history.push(pair(rt, *message, *wide)).expect(rt, "memory");
     }
-    Ok(history)
+    history
 }
 
 /// What one master's entries at port 0, and that port's history, are audited as.
@@ -113,30 +115,40 @@ const CASES: [Case; 9] = [
     },
 ];
 
+/// The audit of a case answers what it should.
+fn audit_case(rt: &impl Abort, alloc: Global, sources: &Sources, case: &Case) {
+    let mut traces = Vec::new(alloc);
+    traces
+        .push(trace_of(rt, alloc, 0, case.entries))
+        .expect(rt, "memory");
+    let history = history_of(rt, alloc, case.history);
+    let answer = audit_lists(alloc, sources, &traces, &[history.as_slice()]);
+    assert_eq!(rt; answer, case.answer);
+}
+
 #[test]
-fn small_runs_are_audited(rt: HostRuntime) -> Result<(), Fail> {
-    let alloc = rt.alloc();
-    let sources = Sources::new(alloc, &[16])?;
+fn small_runs_are_audited(rt: HostRuntime) {
+    let sources = Sources::new(rt.alloc(), &[16]).expect(&rt, "sources");
     for case in &CASES {
-        let traces = vec![in alloc; trace_of(alloc, 0, case.entries)?]?;
-        let history = history_of(alloc, case.history)?;
-        let answer = audit_lists(alloc, &sources, &traces, &[history.as_slice()]);
-        assert_eq!(rt; answer, case.answer);
+        audit_case(&rt, rt.alloc(), &sources, case);
     }
-    Ok(())
 }
 
 /// Two masters send from their sources 1; the second one's wide source is 17. Their entries stand in the history of port 0;
 /// port 1 has none.
 #[test]
-fn masters_are_told_apart_by_wide_sources(rt: HostRuntime) -> Result<(), Fail> {
+fn masters_are_told_apart_by_wide_sources(rt: HostRuntime) {
     let alloc = rt.alloc();
-    let sources = Sources::new(alloc, &[16, 16])?;
-    let first = trace_of(alloc, 1, &[(Put, 1)])?;
-    let second = trace_of(alloc, 1, &[(Put, 0)])?;
-    let traces = vec![in alloc; first, second]?;
-    let right = history_of(alloc, &[(Put, 17), (Put, 1)])?;
-    let wrong = history_of(alloc, &[(Put, 1), (Put, 17)])?;
+    let sources = Sources::new(alloc, &[16, 16]).expect(&rt, "sources");
+    let mut traces = Vec::new(alloc);
+    traces
+        .push(trace_of(&rt, alloc, 1, &[(Put, 1)]))
+        .expect(&rt, "memory");
+    traces
+        .push(trace_of(&rt, alloc, 1, &[(Put, 0)]))
+        .expect(&rt, "memory");
+    let right = history_of(&rt, alloc, &[(Put, 17), (Put, 1)]);
+    let wrong = history_of(&rt, alloc, &[(Put, 1), (Put, 17)]);
     assert_eq!(rt;
         audit_lists(alloc, &sources, &traces, &[right.as_slice(), &[]]),
         Ok(())
@@ -145,7 +157,6 @@ fn masters_are_told_apart_by_wide_sources(rt: HostRuntime) -> Result<(), Fail> {
         audit_lists(alloc, &sources, &traces, &[wrong.as_slice(), &[]]),
         Err(AuditFault::Missing(0, 0))
     );
-    Ok(())
 }
 
 const LINES: [(AuditFault, &str); 5] = [
@@ -169,9 +180,13 @@ const LINES: [(AuditFault, &str); 5] = [
 ];
 
 #[test]
-fn faults_have_lines(rt: HostRuntime) -> Result<(), Fail> {
+fn faults_have_lines(rt: HostRuntime) {
     for (fault, line) in &LINES {
-        assert_eq!(rt; format!(in rt.alloc(); "{fault}")?.as_str(), *line);
+        assert_eq!(rt;
+            format!(in rt.alloc(); "{fault}")
+                .expect(&rt, "memory")
+                .as_str(),
+            *line
+        );
     }
-    Ok(())
 }

@@ -1,9 +1,8 @@
 //! The command line.
-use crate::{Options, options_status, read_options};
-use std::test::Fail;
+use tl_options::{Options, options_status, read_options};
 
 #[test]
-fn words_give_options(rt: HostRuntime) -> Result<(), Fail> {
+fn words_give_options(rt: HostRuntime) {
     let rows: [(&[&str], bool, bool, usize); 9] = [
         (&["tlx"], false, false, 1),
         (&["tlx", "--serial"], true, false, 1),
@@ -21,7 +20,7 @@ fn words_give_options(rt: HostRuntime) -> Result<(), Fail> {
         ),
     ];
     for (words, serial, history, workers) in rows {
-        let options = read_options(rt.alloc(), words)?;
+        let options = read_options(rt.alloc(), words).expect(&rt, "options");
         assert_eq!(rt;
             options,
             Options {
@@ -31,7 +30,6 @@ fn words_give_options(rt: HostRuntime) -> Result<(), Fail> {
             }
         );
     }
-    Ok(())
 }
 
 #[test]
