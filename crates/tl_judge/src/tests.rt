@@ -12,7 +12,7 @@ use tl_link::{Beat, FormFault, Link, Sighting};
 use tl_map::{Map, Range, Sources};
 use tl_ops::{Bank, Kind};
 use tl_types::{MAX_MASTERS, MAX_PORTS};
-use tl_watch::{Fault, Links, Watch};
+use tl_watch::{Fault, Links, Order, Watch};
 
 fn judge(alloc: Global, links: Links) -> Result<Judge, Fail> {
     let ranges = [
@@ -40,7 +40,7 @@ fn judge(alloc: Global, links: Links) -> Result<Judge, Fail> {
     if banks.len() != map.ports() {
         return Err(Fail::from("a bank for each port"));
     }
-    let watch = Watch::new(alloc, links, map, sources, banks)?;
+    let watch = Watch::new(alloc, links, Order::Accept, map, sources, banks)?;
     Ok(Judge::new(watch, links))
 }
 
