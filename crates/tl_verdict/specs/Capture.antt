@@ -1,0 +1,73 @@
+-- What a text is as a capture. The format is this project's own; what the rows of a lawful one are is said in `tl_judge`.
+use Rattle.std.specs.Prelude.{◌≡◌, ◌≢◌, ◌⊎◌, ℕ, List, ⊤}
+use Rattle.tl_capture.specs.declared.row.Row.{Row}
+use Rattle.tl_judge.specs.Order.{IsLater}
+use Rattle.tl_judge.specs.Verdict.{HasCounts, IsFirstUnlawful, IsLawfulFile}
+use Rattle.tl_records.specs.Reading.{StopsLong}
+use Rattle.tl_records.specs.Source.{Between, Left}
+use Rattle.tl_records.specs.Text.{Ends, Gives, IsTooLong, Place}
+use Rattle.tl_records.specs.Text.{Row as Record}
+use Rattle.tl_watch.specs.Plan.{Plan}
+use Rattle.tl_verdict.specs.Header.{header}
+use Rattle.tl_verdict.specs.Rows.{GivesRow, HasNoRow, HasRows}
+use Rattle.tl_verdict.specs.declared.fault.CaptureFault.{CaptureFault}
+use Rattle.tl_verdict.specs.declared.fault.CaptureFault.TheVariants as fault
+use Rattle.tl_verdict.specs.declared.fault.Verdict.{Verdict}
+use Rattle.tl_verdict.specs.declared.fault.Verdict.TheVariants.{Lawful, Unlawful}
+use Rattle.tl_verdict.specs.declared.rows.Sizes.{Sizes}
+
+-- the next record is the header
+pub record HasHeader (from to : Place) : Type 0 where
+  pub first : Record
+  pub gives : Gives from first to
+  pub is : first.fields ≡ header
+
+-- from a place on a text has the header and these rows, up to another
+pub record Begins (sizes : Sizes) (from : Place) (rows : List Row) (at : Place) : Type 0 where
+  pub behind : Place
+  pub top : HasHeader from behind
+  pub has : HasRows sizes rows behind at
+
+-- from a place on it is the header and these rows
+pub record IsCapture (sizes : Sizes) (from : Place) (rows : List Row) : Type 0 where
+  pub last : Place
+  pub end : Place
+  pub begins : Begins sizes from rows last
+  pub ends : Ends last end
+
+-- no row of the time of these rows is to come: the text ends, or a row of a later time is next
+abbrev pub IsTimeOver : Sizes → List Row → Place → Type 0
+IsTimeOver sizes rows at =
+    ((end : Place) × Ends at end) ⊎ ((row : Row) × (to : Place) × GivesRow sizes row at to × IsLater rows row)
+
+-- the rows of a capture are lawful, and so many; or those to the end of some time are not, the first by this one
+abbrev pub IsVerdict : Plan → Sizes → Place → Verdict → Type 0
+IsVerdict plan sizes from (Lawful counts) =
+    (rows : List Row) × IsCapture sizes from rows × IsLawfulFile plan rows × HasCounts plan rows counts
+IsVerdict plan sizes from (Unlawful found) =
+    (rows : List Row) × (at : Place) × Begins sizes from rows at × IsTimeOver sizes rows at × IsFirstUnlawful plan rows found
+
+-- the first record is on this line and is not the header; or there is none, which is told of line 1
+abbrev pub HasNoHeader : Place → Place → ℕ → Type 0
+HasNoHeader from to line =
+    (Ends from to × (line ≡ 1)) ⊎ ((first : Record) × Gives from first to × (line ≡ first.line) × (first.fields ≢ header))
+
+-- why a text is no capture: of the first record that is no row, or none that may stand there, its line
+abbrev pub IsFault : Plan → Sizes → Place → CaptureFault → Type 0
+IsFault plan sizes from (fault.Header line) = (to : Place) × HasNoHeader from to line
+IsFault plan sizes from (fault.TooLong line) =
+    IsTooLong from line ⊎ ((rows : List Row) × (at : Place) × Begins sizes from rows at × IsTooLong at line)
+IsFault plan sizes from (fault.Row line why) =
+    (rows : List Row) × (at : Place) × (to : Place) × Begins sizes from rows at × HasNoRow sizes rows line why at to
+IsFault plan sizes from fault.Read = ⊤
+IsFault plan sizes from fault.Memory = ⊤
+
+-- ---- for the proofs
+
+-- why no header was read
+abbrev pub HasHeaderFault : Left → Left → CaptureFault → Type 0
+HasHeaderFault old new (fault.Header line) = Between old new (λ from to. HasNoHeader from to line)
+HasHeaderFault old new (fault.TooLong line) = StopsLong old line
+HasHeaderFault old new (fault.Row line why) = ⊥
+HasHeaderFault old new fault.Read = ⊤
+HasHeaderFault old new fault.Memory = ⊤

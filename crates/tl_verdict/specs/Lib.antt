@@ -1,0 +1,4 @@
+pub mod Header
+pub mod Fault
+pub mod Rows
+pub mod Capture

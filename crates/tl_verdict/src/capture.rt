@@ -1,0 +1,62 @@
+//! The verdict over a capture.
+ghost use Rattle.std.specs.Prelude.{◌≡◌, ◌≤◌, [], None, OnOk, IfOk, IfErr, IfSome};
+ghost use Rattle.tl_records.specs.Source.{Between};
+ghost use Rattle.tl_records.specs.Text.{start_of};
+ghost use Rattle.tl_watch.specs.Plan.{Plan};
+ghost use Rattle.tl_judge.specs.View.{Judges};
+ghost use Rattle.tl_verdict.specs.Capture.{HasHeader, HasHeaderFault, IsVerdict, IsFault};
+
+use crate::fault::{CaptureFault, Verdict};
+use crate::header::is_header;
+use crate::rows::{Halt, Sizes, take_rows};
+use std::alloc::Global;
+use std::io::Read;
+use tl_judge::Judge;
+use tl_records::Records;
+use tl_types::{MAX_MASTERS, MAX_PORTS};
+
+/// Reads the header.
+fn read_header<R: Read + Drop>(records: &mut Records<R>) -> Result<(), CaptureFault>
+    requires { records.old.fault ≡ None }
+    ensures ok { OnOk result (Between records.old.left records.new.left HasHeader) }
+    ensures goes_on { OnOk result (records.new.fault ≡ None) }
+    ensures fault { IfErr result (HasHeaderFault records.old.left records.new.left) }
+{
+    if !records.read()? {
+        return Err(CaptureFault::Header(1));
+    }
+    if !is_header(records.columns()) {
+        return Err(CaptureFault::Header(records.line()));
+    }
+    Ok(())
+}
+
+/// Judges a capture that a reader gives, of a system with so many masters and ports, by a judge that has taken no row. It
+/// reads to the end, or to the first row of a later time than one that is unlawful, or to the first record that is no row.
+pub fn judge_capture<R: Read + Drop>(
+    alloc: Global,
+    reader: R,
+    mut judge: Judge,
+    sizes: Sizes,
+) -> Result<Verdict, CaptureFault>
+    requires masters { sizes.masters ≤ MAX_MASTERS }
+    requires ports { sizes.ports ≤ MAX_PORTS }
+    ensures verdict { (plan : Plan) → Judges plan [] judge
+        → IfOk result (λ verdict. IfSome (R.remaining reader) (λ text.
+        IsVerdict plan sizes (start_of text) verdict)) }
+    ensures fault { (plan : Plan) → Judges plan [] judge
+        → IfErr result (λ fault. IfSome (R.remaining reader) (λ text.
+        IsFault plan sizes (start_of text) fault)) }
+{
+    let mut records = Records::new(alloc, reader)?;
+    read_header(&mut records)?;
+    match take_rows(&mut records, &mut judge, sizes) {
+        Ok(()) => {}
+        Err(Halt::Unlawful(found)) => return Ok(Verdict::Unlawful(found)),
+        Err(Halt::Fault(fault)) => return Err(fault),
+    }
+    match judge.end() {
+        Ok(counts) => Ok(Verdict::Lawful(counts)),
+        Err(found) => Ok(Verdict::Unlawful(found)),
+    }
+}

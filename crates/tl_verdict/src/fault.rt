@@ -1,0 +1,45 @@
+//! What becomes of a capture.
+ghost use Rattle.std.specs.Prelude.{◌≡◌};
+ghost use Rattle.tl_verdict.specs.Fault.{of_record};
+
+use thiserror::Error;
+use tl_capture::RowFault;
+use tl_judge::{Counts, Unlawful};
+use tl_records::RecordFault;
+
+/// The verdict over a capture.
+#[derive(Debug, Drop)]
+pub enum Verdict {
+    Lawful(Counts),
+    Unlawful(Unlawful),
+}
+
+/// Why a text is no capture, or was not read.
+#[derive(Debug, Clone, Copy, PartialEq, Eq, Error)]
+pub enum CaptureFault {
+    /// The first record, on this line, is not the header; or there is none.
+    #[error("wrong header")]
+    Header(u64),
+    /// The record that begins on this line has too many bytes.
+    #[error("row too long")]
+    TooLong(u64),
+    /// The record that begins on this line is no row, or none that may stand there.
+    #[error("{1}")]
+    Row(u64, RowFault),
+    #[error("read failed")]
+    Read,
+    #[error("memory refused")]
+    Memory,
+}
+
+impl From<RecordFault> for CaptureFault {
+    ghost from_gives = { λ fault e. e ≡ of_record fault };
+
+    fn from(fault: RecordFault) -> CaptureFault {
+        match fault {
+            RecordFault::TooLong(line) => CaptureFault::TooLong(line),
+            RecordFault::Read => CaptureFault::Read,
+            RecordFault::Memory => CaptureFault::Memory,
+        }
+    }
+}
