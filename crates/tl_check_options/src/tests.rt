@@ -1,0 +1,68 @@
+//! The command line, row by row.
+use crate::{Options, options_status, read_options};
+use tl_watch::{Links, Order};
+
+#[test]
+fn words_give_options(rt: HostRuntime) {
+    let rows: [(&[&str], Links, Order, Option<&str>); 6] = [
+        (&["tlcheck", "s"], Links::Both, Order::Accept, None),
+        (
+            &["tlcheck", "s", "c"],
+            Links::Both,
+            Order::Accept,
+            Some("c"),
+        ),
+        (&["tlcheck", "s", "-"], Links::Both, Order::Accept, None),
+        (
+            &["tlcheck", "--links", "masters", "s"],
+            Links::Masters,
+            Order::Accept,
+            None,
+        ),
+        (
+            &["tlcheck", "s", "--links=ports", "--order=reply", "c"],
+            Links::Ports,
+            Order::Reply,
+            Some("c"),
+        ),
+        (
+            &["tlcheck", "--order", "accept", "--", "s", "--links"],
+            Links::Both,
+            Order::Accept,
+            Some("--links"),
+        ),
+    ];
+    for (words, links, order, capture) in rows {
+        let options = read_options(rt.alloc(), words).expect(&rt, "options");
+        assert_eq!(rt;
+            options,
+            Options {
+                links,
+                order,
+                system: "s",
+                capture
+            }
+        );
+    }
+}
+
+#[test]
+fn other_words_have_a_status(rt: HostRuntime) {
+    let rows: [(&[&str], u8); 9] = [
+        (&["tlcheck"], 2),
+        (&["tlcheck", "s", "c", "stray"], 2),
+        (&["tlcheck", "--links", "all", "s"], 2),
+        (&["tlcheck", "--links", "Both", "s"], 2),
+        (&["tlcheck", "--order", "reply", "--order", "reply", "s"], 2),
+        (&["tlcheck", "s", "--order"], 2),
+        (&["tlcheck", "--verbose", "s"], 2),
+        (&["tlcheck", "--version"], 0),
+        (&["tlcheck", "--help"], 0),
+    ];
+    for (words, status) in rows {
+        match read_options(rt.alloc(), words) {
+            Ok(options) => panic!(&rt; "{options:?}"),
+            Err(error) => assert_eq!(rt; options_status(&error), status),
+        }
+    }
+}
