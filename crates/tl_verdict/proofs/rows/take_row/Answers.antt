@@ -2,7 +2,7 @@ use Rattle.std.proofs.Common.{◌≡◌, ◌∙◌, sym}
 use Rattle.tl_records.specs.Source.{Between}
 use Rattle.tl_records.specs.Text.{Gives}
 use Rattle.tl_verdict.specs.Rows.{Spells}
-use Rattle.tl_verdict.proofs.Taking.{row_refused, row_unlawful}
+use Rattle.tl_verdict.proofs.Taking.{no_row, row_refused, row_taken, row_unlawful}
 use Rattle.tl_verdict.proofs.rows.take_row.Goals as goal
 
 pub returns-in-Err-Row-clause-halt : goal.returns-in-Err-Row-clause-halt
@@ -22,3 +22,21 @@ returns-in-Err-Beat-clause-halt g c =
     let gives : Between old new (λ from to. Gives from r to) = rw c.in-Ok-true.field-0-test at c.in-Ok-true.ensures.ok in
     let spells : Spells c.args.sizes r c.in-Ok.row = rw (← c.line-line.ensures, ← c.columns.ensures) (sym c.in-Ok.ensures.value) in
     row_unlawful c.args.sizes r c.in-Ok.row spells old new gives c.args.judge.now c.in-Err-Beat.found (λ plan rows judges. rw c.in-Err-Beat.field-0-is at (c.in-Err-Beat.ensures.stop plan rows judges))
+
+pub returns-in-Ok-take-clause-ok : goal.returns-in-Ok-take-clause-ok
+returns-in-Ok-take-clause-ok g c =
+    let r = c.read.new.self.row in
+    let old = c.args.records.now.left in
+    let new = c.read.new.self.left in
+    let gives : Between old new (λ from to. Gives from r to) = rw c.in-Ok-true.field-0-test at c.in-Ok-true.ensures.ok in
+    let spells : Spells c.args.sizes r c.in-Ok.row = rw (← c.line-line.ensures, ← c.columns.ensures) (sym c.in-Ok.ensures.value) in
+    row_taken c.args.sizes r c.in-Ok.row spells old new gives c.args.judge.now c.take.new.self (λ plan rows judges. c.in-Ok-take.ensures.keeps plan rows judges)
+
+pub returns-in-Err-read_row-clause-halt : goal.returns-in-Err-read_row-clause-halt
+returns-in-Err-read_row-clause-halt g c =
+    let r = c.read.new.self.row in
+    let old = c.args.records.now.left in
+    let new = c.read.new.self.left in
+    let gives : Between old new (λ from to. Gives from r to) = rw c.in-Ok-true.field-0-test at c.in-Ok-true.ensures.ok in
+    rw c.line-line.ensures (no_row c.args.sizes r c.in-Err-read_row.fault old new c.args.judge.now gives
+    (rw (← c.line-line.ensures, ← c.columns.ensures) (sym c.in-Err-read_row.ensures.value)))
