@@ -4,13 +4,11 @@ use Rattle.std.specs.Prelude.{IsTrue}
 use Rattle.tl_types.specs.declared.operation.AskOp.{AskOp}
 use Rattle.tl_beats.specs.Beats.{IsLawfulMask}
 use Rattle.tl_beats.specs.declared.beat.ABeat.{ABeat}
-use Rattle.tl_types.specs.Request.{Request}
-use Rattle.tl_beats.specs.declared.beat.DBeat.{DBeat}
 use Rattle.tl_beats.proofs.Codes.{same_op}
 use Rattle.tl_map.specs.Map.{RoutesBytes}
 use Rattle.tl_link.specs.declared.beat.Link.{Link}
 use Rattle.tl_link.specs.declared.beat.Link.TheVariants.{Master, Port}
-use Rattle.tl_link.specs.declared.beat.Beat.TheVariants.{A, D}
+use Rattle.tl_link.specs.declared.beat.Beat.TheVariants.{A}
 use Rattle.tl_link.specs.declared.fault.FormFault.{FormFault}
 use Rattle.tl_link.specs.declared.fault.FormFault.TheVariants.{Changed, Opcode, Size, Mask, CorruptFlag, UnknownData as UnknownLanes}
 use Rattle.tl_link.specs.Form.{FitsAsk, IsKnown, HasAskFormFault}
@@ -23,7 +21,7 @@ use Rattle.tl_watch.specs.Allowed.{IsSent, BeginsFree, BeginsPlaced, EndsSent, I
 use Rattle.tl_watch.specs.Faults.{HasAskFault, IsFirstAskFault, fault_rank}
 use Rattle.tl_watch.specs.View.{View, Suits, under_in, flight_in, flight_at, crossing_at, scene_in}
 use Rattle.tl_watch.specs.declared.flight.Turn.{Turn}
-use Rattle.tl_watch.specs.declared.flight.Turn.TheVariants.{Idle, Asked}
+use Rattle.tl_watch.specs.declared.flight.Turn.TheVariants.{Idle}
 use Rattle.tl_link.specs.Message.{ask_of}
 use Rattle.tl_link.specs.Past.{ends_ask}
 
@@ -42,13 +40,6 @@ pub port_found : (plan : Plan) (view : View) (link : Link) (turn : Turn) (beat :
     → port ≡ port_of plan link turn (A beat)
 port_found plan view (Master m) turn beat port suits master at_port = port_is plan view beat.address beat.size port suits (λ other. master m other refl)
 port_found plan view (Port p) turn beat port suits master at_port = at_port p refl
-
--- the port of a request in flight
-pub port_in_flight : (plan : Plan) (view : View) (link : Link) (beat : DBeat) (turn : Turn) (at : ℕ) (ask : Request) (port : ℕ) → Suits plan view → turn ≡ Asked at ask
-    → ((number other : ℕ) → link ≡ Master number → (port ≡ other) ↔ RoutesBytes view.layout.ranges ask.address ask.size other) → ((number : ℕ) → link ≡ Port number → port ≡ number)
-    → port ≡ port_of plan link turn (D beat)
-port_in_flight plan view (Master m) beat turn at ask port suits is master at_port = rw is (port_is plan view ask.address ask.size port suits (λ other. master m other refl))
-port_in_flight plan view (Port p) beat turn at ask port suits is master at_port = at_port p refl
 
 -- ---- requests
 
