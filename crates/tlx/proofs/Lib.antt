@@ -1,3 +1,2 @@
-pub mod Scripts
 pub mod Failing
 mod OneThread

@@ -1,5 +1,5 @@
 -- What an engine reads, and what it writes for that. This project's own.
-use Rattle.std.specs.Prelude.{◌≡◌, ◌≢◌, ℕ, ◌+◌, Bool, List, ◌++◌, length, Option, Result, Err, OnOk, IfErr}
+use Rattle.std.specs.Prelude.{◌≡◌, ◌≢◌, ℕ, Bool, List, ◌++◌, length, Option, Result, Err, OnOk, IfErr}
 use Rattle.std.specs.Io.KnownBytes.{Appends, Keeps}
 use Rattle.tl_types.specs.declared.trace.Entry.{Entry}
 use Rattle.tl_arena.specs.declared.account.Held.{Held}
@@ -9,15 +9,14 @@ use Rattle.tl_audit.specs.Reader.{histories_of}
 use Rattle.tl_audit.specs.declared.fault.AuditFault.{AuditFault}
 use Rattle.tl_audit.specs.declared.fault.AuditFault.TheVariants as audit
 use Rattle.tl_script.specs.History.{account_text}
-use Rattle.tl_script.specs.Script.{Spells, IsFirstScriptFault}
 use Rattle.tl_script.specs.System.{System}
 use Rattle.tl_script.specs.declared.fault.ScriptFault.{ScriptFault}
-use Rattle.tl_script.specs.declared.script.TheConstants.{SCRIPT_LIMIT}
 use Rattle.tl_serial.specs.Text.{run_text}
+use Rattle.tl_streams.specs.Input.{GivesSystem, HasScriptFault}
+use Rattle.tl_streams.specs.Streams.{AppendsFront}
 use Rattle.tl_threads.specs.Run.{IsThreadedRun}
 use Rattle.tlx.specs.declared.fault.RunFault.{RunFault}
 use Rattle.tlx.specs.declared.fault.RunFault.TheVariants as run
-use Rattle.tlx.specs.Streams.{AppendsFront, ReadsAll, ReadsUpTo}
 
 -- the text is that of a run of the system by threads whose traces and histories agree: its traces, its histories where they
 -- are asked for, and how many slots are free and how many held at its end
@@ -46,12 +45,6 @@ pub record HasThreadedFault (system : System) (fault : AuditFault) : Type 0 wher
 abbrev pub HasNoFault : System → AuditFault → Type 0
 HasNoFault system fault = ⊥
 
--- the reader gave bytes that spell the system, and had no others
-pub record GivesSystem (old new : Option (List ℕ)) (system : System) : Type 0 where
-  pub script : List ℕ
-  pub read : ReadsAll old new script
-  pub spelled : Spells script system
-
 -- what was written is such a text of the system that all of what was read spells
 pub record Answers (IsText : System → List ℕ → Type 0) (read_old read_new written_old written_new : Option (List ℕ)) : Type 0 where
   pub system : System
@@ -67,12 +60,6 @@ pub record BeginsToAnswer (IsText : System → List ℕ → Type 0) (read_old re
   pub given : GivesSystem read_old read_new system
   pub of_run : IsText system text
   pub written : AppendsFront written_old written_new text
-
--- the fault is the first of what was read: of all that the reader had, or of a byte more than a script may have
-pub record HasScriptFault (read_old read_new : Option (List ℕ)) (fault : ScriptFault) : Type 0 where
-  pub script : List ℕ
-  pub read : ReadsUpTo (SCRIPT_LIMIT + 1) read_old read_new script
-  pub first : IsFirstScriptFault script fault
 
 -- a run of the system that all of what was read spells has this fault of an audit
 pub record FailsAudit (HasFault : System → AuditFault → Type 0) (read_old read_new : Option (List ℕ)) (fault : AuditFault) : Type 0 where

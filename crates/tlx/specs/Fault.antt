@@ -2,27 +2,23 @@
 use Rattle.std.specs.Prelude.{ℕ}
 use Rattle.tl_audit.specs.declared.fault.AuditFault.{AuditFault}
 use Rattle.tl_audit.specs.declared.fault.AuditFault.TheVariants as audit
-use Rattle.tl_script.specs.declared.fault.ScriptFault.{ScriptFault}
-use Rattle.tl_script.specs.declared.fault.ScriptFault.TheVariants as script
+use Rattle.tl_streams.specs.declared.input.InputFault.{InputFault}
+use Rattle.tl_streams.specs.declared.input.InputFault.TheVariants as input
 use Rattle.tl_threads.specs.declared.fault.ThreadFault.{ThreadFault}
 use Rattle.tl_threads.specs.declared.fault.ThreadFault.TheVariants as thread
-use Rattle.tlx.specs.declared.streams.ReadFault.{ReadFault}
-use Rattle.tlx.specs.declared.streams.ReadFault.TheVariants as read
 use Rattle.tlx.specs.declared.fault.RunFault.{RunFault}
 use Rattle.tlx.specs.declared.fault.RunFault.TheVariants.{Script, Read, Write, Audit, Memory, NoThread, GateHeld, StrayBook}
 
--- want of memory is one fault, whichever layer met it
-abbrev pub of_script : ScriptFault → RunFault
-of_script script.Memory = Memory
-of_script fault = Script fault
+-- a fault of the input is told as it is
+abbrev pub of_input : InputFault → RunFault
+of_input (input.Script fault) = Script fault
+of_input input.Read = Read
+of_input input.Memory = Memory
 
+-- want of memory is one fault, whichever layer met it
 abbrev pub of_audit : AuditFault → RunFault
 of_audit audit.Memory = Memory
 of_audit fault = Audit fault
-
-abbrev pub of_read : ReadFault → RunFault
-of_read read.Memory = Memory
-of_read read.Read = Read
 
 abbrev pub of_thread : ThreadFault → RunFault
 of_thread thread.Memory = Memory

@@ -1,4 +1,3 @@
-pub mod Streams
 pub mod Fault
 pub mod Engine
 pub mod OneThread

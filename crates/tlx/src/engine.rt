@@ -2,8 +2,8 @@
 //! (`IsAnswered`, `specs/Engine.antt`), and differs in whose run the text is of.
 //!
 //! However the reader and the writer behave, an engine ends: it reads through a `LimitedReader` and writes through a
-//! `LimitedWriter` alone (`limited`), which allow [`READS`](crate::limited::READS) reads, and
-//! [`RETRIES`](crate::limited::RETRIES) writes that are tried again since they were interrupted.
+//! `LimitedWriter` alone (crate `tl_streams`), which allow [`READS`](tl_streams::READS) reads, and
+//! [`RETRIES`](tl_streams::RETRIES) writes that are tried again since they were interrupted.
 
 pub mod serial;
 pub mod threads;

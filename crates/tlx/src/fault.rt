@@ -1,12 +1,12 @@
 //! Why a run has no text.
 ghost use Rattle.std.specs.Prelude.{◌≡◌};
-ghost use Rattle.tlx.specs.Fault.{of_audit, of_read, of_script, of_thread, status_of};
+ghost use Rattle.tlx.specs.Fault.{of_audit, of_input, of_thread, status_of};
 ghost use Rattle.tlx.specs.declared.fault.RunFault.TheVariants.{Write, Memory as WantOfMemory};
 
-use crate::streams::{ReadFault, WriteFault};
 use thiserror::Error;
 use tl_audit::AuditFault;
 use tl_script::ScriptFault;
+use tl_streams::{InputFault, WriteFault};
 use tl_threads::ThreadFault;
 use tl_types::Memory;
 
@@ -52,13 +52,14 @@ impl RunFault {
     }
 }
 
-impl From<ScriptFault> for RunFault {
-    ghost from_gives = { λ fault e. e ≡ of_script fault };
+impl From<InputFault> for RunFault {
+    ghost from_gives = { λ fault e. e ≡ of_input fault };
 
-    fn from(fault: ScriptFault) -> RunFault {
+    fn from(fault: InputFault) -> RunFault {
         match fault {
-            ScriptFault::Memory => RunFault::Memory,
-            other => RunFault::Script(other),
+            InputFault::Script(fault) => RunFault::Script(fault),
+            InputFault::Read => RunFault::Read,
+            InputFault::Memory => RunFault::Memory,
         }
     }
 }
@@ -70,17 +71,6 @@ impl From<AuditFault> for RunFault {
         match fault {
             AuditFault::Memory => RunFault::Memory,
             other => RunFault::Audit(other),
-        }
-    }
-}
-
-impl From<ReadFault> for RunFault {
-    ghost from_gives = { λ fault e. e ≡ of_read fault };
-
-    fn from(fault: ReadFault) -> RunFault {
-        match fault {
-            ReadFault::Memory => RunFault::Memory,
-            ReadFault::Read => RunFault::Read,
         }
     }
 }

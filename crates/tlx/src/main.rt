@@ -7,17 +7,14 @@
 //! clap's text.
 //!
 //! `serial_engine` and `threads_engine` (`engine`) carry the theorems: what is written is the text of the serial run
-//! (crate `tl_serial`), or of a run by threads (crate `tl_threads`), of the system that all of the input spells. `input`
-//! reads that, `streams` reads and writes, `limited` bounds how often; the crate `tl_options` reads the command line. Read on in
-//! `docs/ARCHITECTURE.md` and `docs/MODEL.md`, "Runs".
+//! (crate `tl_serial`), or of a run by threads (crate `tl_threads`), of the system that all of the input spells. The crate
+//! `tl_streams` reads that and writes, within bounds; `tl_options` reads the command line. Read on in `docs/ARCHITECTURE.md` and
+//! `docs/MODEL.md`, "Runs".
 #![tactic(auto)]
 
 pub mod engine;
 pub mod fault;
-pub mod input;
 pub mod laws;
-pub mod limited;
-pub mod streams;
 #[cfg(test)]
 mod tests;
 

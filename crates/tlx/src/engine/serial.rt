@@ -4,16 +4,14 @@ ghost use Rattle.tlx.specs.Engine.{HasNoFault, IsAnswered};
 ghost use Rattle.tl_serial.specs.Text.{IsSerialText};
 
 use crate::fault::RunFault;
-use crate::input::read_whole_system;
-use crate::limited::{LimitedReader, LimitedWriter};
-use crate::streams::write_all;
 use std::alloc::Global;
 use std::io::{Read, Write};
 use tl_serial::write_serial;
+use tl_streams::{LimitedReader, LimitedWriter, read_whole_system, write_all};
 
 /// Reads a script to its end, runs its system on one thread, and writes the traces and, where they are asked for, the
-/// histories. Nothing is written before the whole text is made. At most [`READS`](crate::limited::READS) reads are
-/// made, and at most [`RETRIES`](crate::limited::RETRIES) writes tried again.
+/// histories. Nothing is written before the whole text is made. At most [`READS`](tl_streams::READS) reads are
+/// made, and at most [`RETRIES`](tl_streams::RETRIES) writes tried again.
 pub fn serial_engine<R: Read, W: Write>(
     alloc: Global,
     reader: &mut R,

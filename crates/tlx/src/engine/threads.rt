@@ -7,9 +7,6 @@ ghost use Rattle.tl_serial.specs.Text.{histories_text, run_text};
 ghost use Rattle.tlx.specs.Engine.{HasThreadedFault, IsAnswered, IsThreadedText};
 
 use crate::fault::RunFault;
-use crate::input::read_whole_system;
-use crate::limited::{LimitedReader, LimitedWriter};
-use crate::streams::write_all;
 use std::alloc::{AllocError, Global};
 use std::io::{Read, Write};
 use std::sync::Wait;
@@ -17,6 +14,7 @@ use std::thread::Threads;
 use tl_audit::audit;
 use tl_port::Book;
 use tl_script::{push_account, push_history, push_traces};
+use tl_streams::{LimitedReader, LimitedWriter, read_whole_system, write_all};
 use tl_threads::{OpenGate, ThreadedRun, run_threads};
 use tl_types::{MAX_WORKERS, Memory};
 
@@ -50,7 +48,7 @@ fn text_of(alloc: Global, run: &ThreadedRun, history: bool) -> Result<Vec<u8>, M
 /// Reads a script to its end, runs its system by threads, each master on one of its own and each port on as many as
 /// there are workers, audits the run, and writes the traces, the histories where they are asked for, and the account of
 /// the slots. It returns when all threads have ended, and nothing is written before the whole text is made. At most
-/// [`READS`](crate::limited::READS) reads are made, and at most [`RETRIES`](crate::limited::RETRIES) writes tried again.
+/// [`READS`](tl_streams::READS) reads are made, and at most [`RETRIES`](tl_streams::RETRIES) writes tried again.
 pub fn threads_engine<R: Read, W: Write, T: Threads + Wait + Sync>(
     rt: &T,
     alloc: Global,

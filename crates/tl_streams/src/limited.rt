@@ -19,14 +19,14 @@ pub const RETRIES: u32 = 2_097_154;
 
 /// A reader of which so many reads are left. Each read spends one.
 #[derive(Drop)]
-pub(crate) struct LimitedReader<'r, R: Read> {
+pub struct LimitedReader<'r, R: Read> {
     reader: &'r mut R,
     reads_left: u32,
 }
 
 impl<'r, R: Read> LimitedReader<'r, R> {
     /// All reads are left.
-    pub(crate) fn new(reader: &'r mut R) -> LimitedReader<'r, R>
+    pub fn new(reader: &'r mut R) -> LimitedReader<'r, R>
         ensures same { result.reader.ghost_name ≡ reader.entry.ghost_name }
         ensures now { result.reader.now ≡ reader.old }
         ensures left { result.reads_left ≡ READS }
@@ -38,14 +38,14 @@ impl<'r, R: Read> LimitedReader<'r, R> {
     }
 
     /// Whether no read is left.
-    pub(crate) fn is_spent(&self) -> bool
+    pub fn is_spent(&self) -> bool
         ensures { IsTrue result ↔ (self.now.reads_left ≡ 0) }
     {
         self.reads_left == 0
     }
 
     /// Reads once.
-    pub(crate) fn read(&mut self, buf: &mut [u8]) -> io::Result<usize>
+    pub fn read(&mut self, buf: &mut [u8]) -> io::Result<usize>
         requires { 0 < self.old.reads_left }
         ensures same { self.new.reader.ghost_name ≡ self.old.reader.ghost_name }
         ensures spent { self.new.reads_left + 1 ≡ self.old.reads_left }
@@ -61,14 +61,14 @@ impl<'r, R: Read> LimitedReader<'r, R> {
 /// A writer of which so many tries are left. A write that is interrupted spends one: the first, and each that is made
 /// again.
 #[derive(Drop)]
-pub(crate) struct LimitedWriter<'w, W: Write> {
+pub struct LimitedWriter<'w, W: Write> {
     writer: &'w mut W,
     tries_left: u32,
 }
 
 impl<'w, W: Write> LimitedWriter<'w, W> {
     /// The first try and all retries are left.
-    pub(crate) fn new(writer: &'w mut W) -> LimitedWriter<'w, W>
+    pub fn new(writer: &'w mut W) -> LimitedWriter<'w, W>
         ensures same { result.writer.ghost_name ≡ writer.entry.ghost_name }
         ensures now { result.writer.now ≡ writer.old }
         ensures left { result.tries_left ≡ RETRIES + 1 }
@@ -80,14 +80,14 @@ impl<'w, W: Write> LimitedWriter<'w, W> {
     }
 
     /// Whether no try is left.
-    pub(crate) fn is_spent(&self) -> bool
+    pub fn is_spent(&self) -> bool
         ensures { IsTrue result ↔ (self.now.tries_left ≡ 0) }
     {
         self.tries_left == 0
     }
 
     /// Writes once.
-    pub(crate) fn write(&mut self, buf: &[u8]) -> io::Result<usize>
+    pub fn write(&mut self, buf: &[u8]) -> io::Result<usize>
         requires { 0 < self.old.tries_left }
         ensures same { self.new.writer.ghost_name ≡ self.old.writer.ghost_name }
         ensures spent { IfErr result (λ e. error_kind e ≡ ErrorKind.Interrupted

@@ -1,7 +1,7 @@
 -- The bytes so far are what was taken, and they are within the limit. Each turn takes a read.
 use Rattle.std.proofs.Common.{◌≡◌, ◌≤◌, vec_len}
 use Rattle.std.specs.Io.KnownBytes.{Consumes}
-use Rattle.tlx.proofs.streams.read_up_to.Given as goal
+use Rattle.tl_streams.proofs.streams.read_up_to.Given as goal
 
 abbrev pub invariant-loop-chunk : goal.invariant-loop-chunk
 invariant-loop-chunk g l = record {

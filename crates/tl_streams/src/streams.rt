@@ -1,8 +1,8 @@
 //! Reading a whole input and writing a whole output, within bounds.
 ghost use Rattle.std.specs.Prelude.{◌≡◌, ◌≤◌, ◌<◌, ◌+◌, IfOk, OnOk, IfErr, OnErr};
 ghost use Rattle.std.specs.Io.KnownBytes.{Appends};
-ghost use Rattle.tlx.specs.declared.streams.ReadFault.TheVariants.{Memory};
-ghost use Rattle.tlx.specs.Streams.{AppendsFront, ReadsUpTo, TakesUpTo};
+ghost use Rattle.tl_streams.specs.declared.streams.ReadFault.TheVariants.{Memory};
+ghost use Rattle.tl_streams.specs.Streams.{AppendsFront, ReadsUpTo, TakesUpTo};
 
 use crate::limited::{LimitedReader, LimitedWriter};
 use std::alloc::{AllocError, Global};
@@ -36,7 +36,7 @@ pub struct WriteFault;
 
 /// Reads to the end, or to `limit` bytes. A read that was interrupted is made again, as long as reads are left; any
 /// other error is the fault at once.
-pub(crate) fn read_up_to<R: Read>(
+pub fn read_up_to<R: Read>(
     alloc: Global,
     reader: &mut LimitedReader<'_, R>,
     limit: usize,
@@ -70,7 +70,7 @@ pub(crate) fn read_up_to<R: Read>(
 
 /// Writes all of the bytes. A write that was interrupted is made again, as long as tries are left; any other error,
 /// and a write that takes no byte, is the fault at once.
-pub(crate) fn write_all<W: Write>(
+pub fn write_all<W: Write>(
     writer: &mut LimitedWriter<'_, W>,
     bytes: &[u8],
 ) -> Result<(), WriteFault>

@@ -1,8 +1,8 @@
 -- A script that spells a system is shorter than what is read at most, so the reader is at its end.
 use Rattle.std.proofs.Common.{rules, arith}
 use Rattle.tl_script.specs.Script.{Spells}
-use Rattle.tlx.proofs.Scripts.{length-named}
-use Rattle.tlx.proofs.input.read_whole_system.Goals as goal
+use Rattle.tl_streams.proofs.Scripts.{length-named}
+use Rattle.tl_streams.proofs.input.read_whole_system.Goals as goal
 
 pub returns-clause-ok : goal.returns-clause-ok
 returns-clause-ok g c =

@@ -1,7 +1,7 @@
 -- What is gone from `rest` was appended. Each turn takes bytes or a try.
 use Rattle.std.proofs.Common.{◌≡◌, ◌+◌, List, ℕ, ◌++◌, length}
 use Rattle.std.specs.Io.KnownBytes.{Appends}
-use Rattle.tlx.proofs.streams.write_all.Given as goal
+use Rattle.tl_streams.proofs.streams.write_all.Given as goal
 
 abbrev pub invariant-loop-rest : goal.invariant-loop-rest
 invariant-loop-rest g l = record {

@@ -3,7 +3,7 @@ use Rattle.std.proofs.Common.{arith, ◌++◌, take, Result, Ok, Err}
 use Rattle.std.specs.Result.{OnErr}
 use Rattle.std.proofs.lemmas.Grind.{common_steps}
 use Rattle.std.proofs.KnownBytes.{Consumes-trans}
-use Rattle.tlx.proofs.streams.read_up_to.Goals as goal
+use Rattle.tl_streams.proofs.streams.read_up_to.Goals as goal
 
 at_err : {T E P : Type 0} (r : Result T E) → P → OnErr r P
 at_err (Ok x) p = tt
