@@ -28,6 +28,14 @@ pub struct System {
     jobs: Vec<Operations>,
 }
 
+/// A system without its slots and operations: a device for each range of the map, and the sources of the masters.
+#[derive(Drop)]
+pub struct Crossbar {
+    pub devices: Vec<Device>,
+    pub sources: Sources,
+    pub map: Map,
+}
+
 impl Model for System {
     ghost use Rattle.tl_script.specs.System.{System as Described, IsLawfulSystem, described};
 
@@ -94,5 +102,19 @@ impl System {
         ensures lawful { IsLawfulSystem self.now }
     {
         &self.jobs
+    }
+
+    /// The system without its slots and operations.
+    pub fn into_crossbar(self) -> Crossbar
+        ensures devices { map store_of result.devices.items ≡ self.stores }
+        ensures sources { result.sources ≡ self.counts }
+        ensures map { result.map ≡ self.ranges }
+        ensures lawful { IsLawfulSystem self }
+    {
+        Crossbar {
+            devices: self.devices,
+            sources: self.sources,
+            map: self.map,
+        }
     }
 }

@@ -14,17 +14,17 @@ pub enum Verdict {
     Unlawful(Unlawful),
 }
 
-/// Why a text is no capture, or was not read.
+/// Why a text is no capture, or was not read. The text of each is one line for standard error.
 #[derive(Debug, Clone, Copy, PartialEq, Eq, Error)]
 pub enum CaptureFault {
     /// The first record, on this line, is not the header; or there is none.
-    #[error("wrong header")]
+    #[error("capture: line {0}: wrong header")]
     Header(u64),
     /// The record that begins on this line has too many bytes.
-    #[error("row too long")]
+    #[error("capture: line {0}: row too long")]
     TooLong(u64),
     /// The record that begins on this line is no row, or none that may stand there.
-    #[error("{1}")]
+    #[error("capture: line {0}: {1}")]
     Row(u64, RowFault),
     #[error("read failed")]
     Read,

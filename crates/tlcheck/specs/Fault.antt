@@ -1,0 +1,33 @@
+-- What becomes of the fault of a step. This project's own.
+use Rattle.std.specs.Prelude.{ℕ, Bool, true, false}
+use Rattle.tl_streams.specs.declared.input.InputFault.{InputFault}
+use Rattle.tl_streams.specs.declared.input.InputFault.TheVariants as input
+use Rattle.tl_verdict.specs.declared.fault.CaptureFault.{CaptureFault}
+use Rattle.tl_verdict.specs.declared.fault.CaptureFault.TheVariants as capture
+use Rattle.tlcheck.specs.declared.fault.CheckFault.{CheckFault}
+use Rattle.tlcheck.specs.declared.fault.CheckFault.TheVariants.{Script, Capture, Read, Write, Memory}
+
+-- a fault of SYSTEM is told as it is
+abbrev pub of_input : InputFault → CheckFault
+of_input (input.Script fault) = Script fault
+of_input input.Read = Read
+of_input input.Memory = Memory
+
+-- want of memory and a failed read are each one fault, whichever layer met it
+abbrev pub of_capture : CaptureFault → CheckFault
+of_capture capture.Read = Read
+of_capture capture.Memory = Memory
+of_capture fault = Capture fault
+
+-- the status that the program ends with where there is no verdict
+abbrev pub status_of : CheckFault → ℕ
+status_of (Script _) = 1
+status_of (Capture _) = 1
+status_of Read = 5
+status_of Write = 5
+status_of Memory = 4
+
+-- the status of a verdict: whether the capture is lawful
+abbrev pub status_of_verdict : Bool → ℕ
+status_of_verdict true = 0
+status_of_verdict false = 3

@@ -1,0 +1,83 @@
+//! Why there is no verdict.
+ghost use Rattle.std.specs.Prelude.{◌≡◌};
+ghost use Rattle.tlcheck.specs.Fault.{of_capture, of_input, status_of};
+ghost use Rattle.tlcheck.specs.declared.fault.CheckFault.TheVariants.{Write, Memory as WantOfMemory};
+
+use thiserror::Error;
+use tl_script::ScriptFault;
+use tl_streams::{InputFault, WriteFault};
+use tl_types::Memory;
+use tl_verdict::CaptureFault;
+
+/// Why there is no verdict. The text of each is one line for standard error.
+#[derive(Debug, Drop, Error)]
+pub enum CheckFault {
+    /// The first fault of SYSTEM, but for want of memory.
+    #[error("{0}")]
+    Script(ScriptFault),
+    /// CAPTURE is no capture: which line of it, and why.
+    #[error("{0}")]
+    Capture(CaptureFault),
+    /// A file could not be opened or read.
+    #[error("read failed")]
+    Read,
+    /// Nothing is said of how much went out.
+    #[error("write failed")]
+    Write,
+    /// Want of memory, in whichever layer it was met.
+    #[error("memory refused")]
+    Memory,
+}
+
+impl CheckFault {
+    /// The status that the program ends with.
+    pub fn status(&self) -> u8
+        ensures { result ≡ status_of self.now }
+    {
+        match self {
+            CheckFault::Script(_) | CheckFault::Capture(_) => 1,
+            CheckFault::Memory => 4,
+            CheckFault::Read | CheckFault::Write => 5,
+        }
+    }
+}
+
+impl From<InputFault> for CheckFault {
+    ghost from_gives = { λ fault e. e ≡ of_input fault };
+
+    fn from(fault: InputFault) -> CheckFault {
+        match fault {
+            InputFault::Script(fault) => CheckFault::Script(fault),
+            InputFault::Read => CheckFault::Read,
+            InputFault::Memory => CheckFault::Memory,
+        }
+    }
+}
+
+impl From<CaptureFault> for CheckFault {
+    ghost from_gives = { λ fault e. e ≡ of_capture fault };
+
+    fn from(fault: CaptureFault) -> CheckFault {
+        match fault {
+            CaptureFault::Read => CheckFault::Read,
+            CaptureFault::Memory => CheckFault::Memory,
+            other => CheckFault::Capture(other),
+        }
+    }
+}
+
+impl From<WriteFault> for CheckFault {
+    ghost from_gives = { λ _ e. e ≡ Write };
+
+    fn from(_: WriteFault) -> CheckFault {
+        CheckFault::Write
+    }
+}
+
+impl From<Memory> for CheckFault {
+    ghost from_gives = { λ _ e. e ≡ WantOfMemory };
+
+    fn from(_: Memory) -> CheckFault {
+        CheckFault::Memory
+    }
+}

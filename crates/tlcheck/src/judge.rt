@@ -1,0 +1,50 @@
+//! The judge of a system's captures.
+ghost use Rattle.std.specs.Prelude.{◌≡◌, ◌++◌, ◌∷◌, [], ◌≤◌, IfOk, map};
+ghost use Rattle.tl_judge.specs.View.{Judges};
+ghost use Rattle.tl_ops.specs.Store.{Store};
+ghost use Rattle.tl_script.specs.System.{error_store, store_of};
+ghost use Rattle.tlcheck.specs.Engine.{ByThePlan, sizes_of};
+
+use std::alloc::Global;
+use tl_judge::Judge;
+use tl_ops::{Bank, Kind};
+use tl_script::{Device, System};
+use tl_types::{MAX_MASTERS, MAX_PORTS, Memory};
+use tl_verdict::Sizes;
+use tl_watch::{Links, Order, Watch};
+
+/// What the slaves of these devices hold at reset, and the error port's behind them.
+fn banks_of(alloc: Global, devices: &[Device]) -> Result<Vec<Bank>, Memory>
+    ensures { IfOk result (λ banks. banks.items ≡ map store_of devices.now ++ error_store ∷ []) }
+{
+    let mut banks = Vec::with_capacity(alloc, devices.len() + 1)?;
+    for device in devices {
+        let bank = Bank::new(alloc, device.kind, device.base, &device.reset).map_err(|_| Memory)?;
+        banks.push(bank)?;
+    }
+    let error_port = Bank::new(alloc, Kind::NoDevice, 0, &[]).map_err(|_| Memory)?;
+    banks.push(error_port)?;
+    Ok(banks)
+}
+
+/// How many masters a system has, and how many ports that have a link.
+pub fn sizes_of(system: &System) -> Sizes
+    ensures value { result ≡ sizes_of system.now }
+    ensures masters { result.masters ≤ MAX_MASTERS }
+    ensures ports { result.ports ≤ MAX_PORTS }
+{
+    Sizes {
+        masters: system.sources().masters(),
+        ports: system.map().ports() - 1,
+    }
+}
+
+/// The judge of captures of a crossbar that is this system, before any row.
+pub fn judge_of(alloc: Global, system: System, links: Links, order: Order) -> Result<Judge, Memory>
+    ensures { IfOk result (λ judge. ByThePlan links order system (λ plan. Judges plan [] judge)) }
+{
+    let crossbar = system.into_crossbar();
+    let banks = banks_of(alloc, &crossbar.devices)?;
+    let watch = Watch::new(alloc, links, order, crossbar.map, crossbar.sources, banks)?;
+    Ok(Judge::new(watch, links))
+}

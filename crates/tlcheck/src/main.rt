@@ -1,0 +1,119 @@
+//! tlcheck: judges whether a captured trace of a TileLink crossbar is lawful.
+//!
+//! SYSTEM is a script as `tlx` reads it, and says what the crossbar is; CAPTURE has a row for each beat that crossed one of its links.
+//! Standard output is one line, the verdict: lawful, with counts, or the first row that makes the capture unlawful, and why. A
+//! fault is one line on standard error, and then nothing was written, save for a failed write; a command line that is refused is
+//! told by clap's text.
+//!
+//! `check` (`engine`) carries the theorem, over the bytes of both files: lawful is written exactly where the rows that the capture
+//! spells are lawful for the system that SYSTEM spells. The crates `tl_streams` and `tl_verdict` read the two, `tl_check_options`
+//! reads the command line. Read on in `docs/CAPTURE.md`.
+#![tactic(auto)]
+
+pub mod engine;
+pub mod fault;
+pub mod file;
+pub mod judge;
+#[cfg(test)]
+mod tests;
+
+ghost use Rattle.std.specs.Prelude.{◌≡◌, ◌≢◌, IfOk, IfErr};
+ghost use Rattle.std.specs.IoError.{error_kind};
+ghost use Rattle.std.specs.Process.{exit_status};
+ghost use Rattle.clap.specs.Words.{kind_of};
+ghost use Rattle.tl_check_options.specs.Options.{status_of_kind};
+ghost use Rattle.tlcheck.specs.Fault.{status_of, status_of_verdict};
+
+use crate::engine::check;
+use crate::fault::CheckFault;
+use crate::file::NamedFile;
+use std::io::ErrorKind;
+use std::process::ExitCode;
+use std::{env, io};
+use tl_check_options::{Options, options_status, read_options};
+
+/// The status of a command line that is not text.
+const USAGE: u8 = 2;
+
+/// The status of a capture that is not lawful.
+const UNLAWFUL: u8 = 3;
+
+fn main(rt: HostRuntime) -> ExitCode {
+    let words = match env::args(&rt) {
+        Ok(words) => words.collect::<Vec<String>>(rt.alloc()),
+        Err(error) => return unread(&rt, &error),
+    };
+    let Ok(words) = words else {
+        return ended(&rt, Err(CheckFault::Memory));
+    };
+    let line = words.iter().map(|word| word.as_str());
+    let Ok(line) = line.collect::<Vec<&str>>(rt.alloc()) else {
+        return ended(&rt, Err(CheckFault::Memory));
+    };
+    match read_options(rt.alloc(), &line) {
+        Ok(options) => ended(&rt, run(&rt, &options)),
+        Err(error) => refused(&rt, error),
+    }
+}
+
+/// Judges the capture that was named, or the one on standard input.
+fn run(rt: &HostRuntime, options: &Options<'_>) -> Result<bool, CheckFault> {
+    let mut system = NamedFile::new(rt, options.system);
+    let mut writer = rt.stdout();
+    let (links, order) = (options.links, options.order);
+    match options.capture {
+        Some(name) => {
+            let capture = NamedFile::new(rt, name);
+            check(rt.alloc(), &mut system, capture, &mut writer, links, order)
+        }
+        None => check(
+            rt.alloc(),
+            &mut system,
+            rt.stdin(),
+            &mut writer,
+            links,
+            order,
+        ),
+    }
+}
+
+/// The status of a verdict or a fault. The line of a fault is printed, where there is one: the status is the fault's also where
+/// it can't be.
+fn ended(rt: &HostRuntime, outcome: Result<bool, CheckFault>) -> ExitCode
+    ensures verdict { IfOk outcome (λ lawful. exit_status result ≡ status_of_verdict lawful) }
+    ensures fault { IfErr outcome (λ fault. exit_status result ≡ status_of fault) }
+{
+    match outcome {
+        Ok(true) => ExitCode::from(0),
+        Ok(false) => ExitCode::from(UNLAWFUL),
+        Err(fault) => {
+            let _ = eprintln!(rt; "{fault}");
+            ExitCode::from(fault.status())
+        }
+    }
+}
+
+/// The status of a command line that could not be read: for want of memory, which is a fault of the run, or since a
+/// word is not text.
+fn unread(rt: &HostRuntime, error: &io::Error) -> ExitCode
+    ensures memory { error_kind error.now ≡ ErrorKind.OutOfMemory → exit_status result ≡ 4 }
+    ensures text { error_kind error.now ≢ ErrorKind.OutOfMemory → exit_status result ≡ USAGE }
+{
+    if error.kind() == ErrorKind::OutOfMemory {
+        return ended(rt, Err(CheckFault::Memory));
+    }
+    let _ = eprintln!(rt; "arguments are not text");
+    ExitCode::from(USAGE)
+}
+
+/// Prints the help that was asked for, or what is wrong with the command line, and answers its status. Want of memory
+/// is told as that of a run is.
+fn refused(rt: &HostRuntime, error: clap::Error) -> ExitCode
+    ensures { exit_status result ≡ status_of_kind (kind_of error) }
+{
+    if error.kind() == clap::error::ErrorKind::OutOfMemory {
+        return ended(rt, Err(CheckFault::Memory));
+    }
+    let _ = error.print(rt);
+    ExitCode::from(options_status(&error))
+}

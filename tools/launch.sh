@@ -1,0 +1,31 @@
+# What the launchers of the programs share: ./tlx and ./tlcheck read this with `top` set to the repository's folder.
+#
+# Only a proved crate is built, so the first run of a program proves and builds it (tools/build); later runs start at once.
+# A launcher has statuses beside the program's own 0 to 5: 66 where FILE can't be read, 69 where the toolchain `rt` is missing, 70
+# where a crate could not be built.
+
+# The name of a program, a status, and why it was not started.
+fail() {
+  echo "$1 (launcher): $3" >&2
+  exit "$2"
+}
+
+# A program is up to date where no source is newer.
+is_fresh() {
+  [ -x "$1" ] && [ -z "$(find "$top"/crates/*/src "$top"/crates/*/specs "$top"/crates/*/proofs "$top/crates.txt" -type f -newer "$1" -print -quit)" ]
+}
+
+# What is answered without the program, so also before it is built: the name of the program, and its words.
+answer_without() {
+  case "${2-}" in
+    --help | -h) exec cat "$top/docs/help/$1.txt" ;;
+    --version | -V) exec cat "$top/docs/help/$1.version" ;;
+  esac
+}
+
+# Proves and builds a program, unless it is up to date.
+make_program() {
+  is_fresh "$top/crates/$1/out/$1" && return
+  command -v rt >/dev/null || fail "$1" 69 'the toolchain `rt` is not on this machine, and the program is not built yet'
+  "$top/tools/build" "$1" || exit 70
+}
