@@ -13,8 +13,6 @@ mod lanes;
 mod moment;
 mod number;
 mod row;
-#[cfg(test)]
-mod tests;
 
 pub use fault::RowFault;
 pub use moment::Moment;

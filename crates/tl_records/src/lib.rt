@@ -15,8 +15,6 @@ mod fault;
 mod machine;
 mod records;
 mod source;
-#[cfg(test)]
-mod tests;
 
 pub use draft::MOST_ROW;
 pub use fault::RecordFault;

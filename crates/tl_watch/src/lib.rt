@@ -22,8 +22,6 @@ mod replies;
 mod seen;
 mod side;
 mod slave;
-#[cfg(test)]
-mod tests;
 mod watch;
 
 pub use fault::Fault;

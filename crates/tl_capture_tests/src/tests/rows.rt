@@ -1,25 +1,28 @@
 //! Rows as the format's page spells them: the values are worked out by hand.
 ghost use Rattle.std.specs.Prelude.{◌≡◌};
 
-use super::*;
 use csv::ByteRecord;
-use std::alloc::{AllocError, Global};
-use std::test::Fail;
+use std::alloc::Global;
+use std::process::Abort;
 use tl_beats::{ABeat, DBeat};
+use tl_capture::{Moment, Row, RowFault, read_row};
 use tl_link::{Beat, Link, Sighting};
 use tl_types::{MAX_MASTERS, MAX_PORTS};
 
 /// The row of a line without quotes, on line 7 of a capture of a system with two masters and three ports.
-fn read(alloc: Global, line: &str) -> Result<Result<Row, RowFault>, AllocError> {
+fn read(rt: &impl Abort, alloc: Global, line: &str) -> Result<Row, RowFault> {
     let mut columns = ByteRecord::new(alloc);
     for word in line.split(',') {
-        columns.push_field(word.as_bytes())?;
+        columns.push_field(word.as_bytes()).expect(rt, "memory");
     }
-    Ok(read_row(2, 3, 7, &columns))
+    read_row(2, 3, 7, &columns)
 }
 
-/// A beat of channel A at the first master, all fields at 0 but these.
-fn ask(source: u16, address: u64, mask: u8, lanes: [u8; 8]) -> Beat {
+/// A line, with the row that it spells: time, link, beat and the lanes that are known.
+type Line = (&'static str, u64, Link, Beat, u8);
+
+/// A beat of channel A, all fields at 0 but these.
+const fn ask(source: u16, address: u64, mask: u8, lanes: [u8; 8]) -> Beat {
     Beat::A(ABeat {
         opcode: 4,
         param: 0,
@@ -31,17 +34,30 @@ fn ask(source: u16, address: u64, mask: u8, lanes: [u8; 8]) -> Beat {
     })
 }
 
-#[test]
-fn rows_are_read(rt: HostRuntime) -> Result<(), Fail> {
-    let reply = DBeat {
-        opcode: 1,
-        size: 2,
-        source: 3,
-        denied: false,
-        corrupt: true,
-        lanes: [0x11, 0x22, 0x33, 0x44, 0, 0, 0, 0],
+const REPLY: DBeat = DBeat {
+    opcode: 1,
+    size: 2,
+    source: 3,
+    denied: false,
+    corrupt: true,
+    lanes: [0x11, 0x22, 0x33, 0x44, 0, 0, 0, 0],
+};
+
+/// A line spells this row.
+fn spells(rt: &impl Abort, alloc: Global, line: &Line) {
+    let (text, time, link, beat, known) = *line;
+    let sighting = Sighting { link, beat, known };
+    let row = Row {
+        line: 7,
+        time,
+        sighting,
     };
-    let rows = [
+    assert!(rt; read(rt, alloc, text) == Ok(row), "{text}");
+}
+
+#[test]
+fn rows_are_read(rt: HostRuntime) {
+    let lines: [Line; 4] = [
         (
             "1200,m0,A,4,0,2,3,1000,0f,,,",
             1200,
@@ -53,7 +69,7 @@ fn rows_are_read(rt: HostRuntime) -> Result<(), Fail> {
             "1250,p2,D,1,,2,3,,,xxxxxxxx44332211,0,1",
             1250,
             Link::Port(2),
-            Beat::D(reply),
+            Beat::D(REPLY),
             0x0f,
         ),
         // the largest values, digits of both cases, and zeros that lead
@@ -73,16 +89,9 @@ fn rows_are_read(rt: HostRuntime) -> Result<(), Fail> {
             0x6e,
         ),
     ];
-    for (line, time, link, beat, known) in rows {
-        let sighting = Sighting { link, beat, known };
-        let row = Row {
-            line: 7,
-            time,
-            sighting,
-        };
-        assert!(rt; read(rt.alloc(), line)? == Ok(row), "{line}");
+    for line in &lines {
+        spells(&rt, rt.alloc(), line);
     }
-    Ok(())
 }
 
 const FAULTS: [(&str, RowFault); 26] = [
@@ -126,12 +135,16 @@ const FAULTS: [(&str, RowFault); 26] = [
     ("1,m0,D,4,,2,3,,,,0,", RowFault::Number),
 ];
 
+/// A line's first fault is this.
+fn has_fault(rt: &impl Abort, alloc: Global, line: &str, fault: RowFault) {
+    assert!(rt; read(rt, alloc, line) == Err(fault), "{line}");
+}
+
 #[test]
-fn the_first_fault_is_named(rt: HostRuntime) -> Result<(), Fail> {
+fn the_first_fault_is_named(rt: HostRuntime) {
     for (line, fault) in &FAULTS {
-        assert!(rt; read(rt.alloc(), line)? == Err(*fault), "{line}");
+        has_fault(&rt, rt.alloc(), line, *fault);
     }
-    Ok(())
 }
 
 /// A row at this time on this line: a beat of channel A or D of this link.
@@ -173,49 +186,43 @@ fn lines(rows: &[Row]) -> [u64; 6] {
     lines
 }
 
+const GIVEN: [(Link, bool); 6] = [
+    (Link::Master(1), false),
+    (Link::Port(14), false),
+    (Link::Port(0), true),
+    (Link::Master(15), true),
+    (Link::Master(0), false),
+    (Link::Master(2), true),
+];
+
 #[test]
-fn rows_of_one_time_stand_as_they_cross(rt: HostRuntime) -> Result<(), Fail> {
-    let given = [
-        (Link::Master(1), false),
-        (Link::Port(14), false),
-        (Link::Port(0), true),
-        (Link::Master(15), true),
-        (Link::Master(0), false),
-        (Link::Master(2), true),
-    ];
+fn rows_of_one_time_stand_as_they_cross(rt: HostRuntime) {
     let mut moment = Moment::new();
-    for place in 0..given.len() {
-        let (link, is_ask) = given[place];
-        assert!(rt;
-            put(&mut moment, row(place as u64, 0, link, is_ask)) == Ok(true),
-            "{place}"
-        );
+    for (place, (link, is_ask)) in GIVEN.iter().enumerate() {
+        let taken = put(&mut moment, row(place as u64, 0, *link, *is_ask));
+        assert!(rt; taken == Ok(true), "{place}");
     }
     // A of masters 2 and 15, A of port 0, D of port 14, D of masters 0 and 1
     assert!(rt; lines(moment.rows()) == [5, 3, 2, 1, 4, 0], "{moment:?}");
-    Ok(())
 }
 
 #[test]
-fn times_rise_and_a_channel_carries_one_beat_a_time(rt: HostRuntime) -> Result<(), Fail> {
+fn a_later_time_takes_nothing(rt: HostRuntime) {
     let mut moment = Moment::new();
-    let first = row(1, 5, Link::Port(3), true);
-    assert!(rt; put(&mut moment, first) == Ok(false), "a later time");
-    assert!(rt; moment.rows().is_empty(), "a later time takes nothing");
+    let taken = put(&mut moment, row(1, 5, Link::Port(3), true));
+    assert!(rt; taken == Ok(false));
+    assert!(rt; moment.rows().is_empty());
+}
+
+#[test]
+fn times_rise_and_a_channel_carries_one_beat_a_time(rt: HostRuntime) {
     let mut moment = Moment::new();
-    moment.go_on(first);
-    let again = row(2, 5, Link::Port(3), true);
-    assert!(rt;
-        put(&mut moment, again) == Err(RowFault::TwoBeats),
-        "the same channel"
-    );
-    let other = row(3, 5, Link::Port(3), false);
-    assert!(rt; put(&mut moment, other) == Ok(true), "the other channel");
-    let earlier = row(4, 4, Link::Port(3), true);
-    assert!(rt;
-        put(&mut moment, earlier) == Err(RowFault::TimeFalls),
-        "an earlier time"
-    );
+    moment.go_on(row(1, 5, Link::Port(3), true));
+    let again = put(&mut moment, row(2, 5, Link::Port(3), true));
+    assert!(rt; again == Err(RowFault::TwoBeats));
+    let other = put(&mut moment, row(3, 5, Link::Port(3), false));
+    assert!(rt; other == Ok(true));
+    let earlier = put(&mut moment, row(4, 4, Link::Port(3), true));
+    assert!(rt; earlier == Err(RowFault::TimeFalls));
     assert!(rt; lines(moment.rows()) == [1, 3, 0, 0, 0, 0], "{moment:?}");
-    Ok(())
 }

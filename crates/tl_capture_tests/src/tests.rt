@@ -1,0 +1,3 @@
+mod records;
+mod rows;
+mod watch;
