@@ -5,7 +5,6 @@ use super::board::{Board, read, set_up};
 use std::alloc::Global;
 use std::process::Abort;
 use std::sync::Wait;
-use std::test::Fail;
 use std::thread;
 use std::thread::Threads;
 use tl_arena::Arena;
@@ -21,25 +20,24 @@ fn answer(rt: &impl Abort, board: &mut Board) {
 }
 
 #[test]
-fn a_source_waits_for_its_reply(rt: HostRuntime) -> Result<(), Fail> {
-    let mut board = set_up(rt.alloc(), 4, 2)?;
+fn a_source_waits_for_its_reply(rt: HostRuntime) {
+    let mut board = set_up(&rt, rt.alloc(), 4, 2);
     assert_eq!(rt; board.first.sources(), 16);
-    assert_eq!(rt; board.issue(16)?, Err(IssueFault::NoSuchSource));
-    assert_eq!(rt; board.issue(0)?, Ok(Issued { slot: 0, port: 0 }));
-    assert_eq!(rt; board.issue(0)?, Err(IssueFault::SourceBusy));
+    assert_eq!(rt; board.issue(&rt, 16), Err(IssueFault::NoSuchSource));
+    assert_eq!(rt; board.issue(&rt, 0), Ok(Issued { slot: 0, port: 0 }));
+    assert_eq!(rt; board.issue(&rt, 0), Err(IssueFault::SourceBusy));
     assert_eq!(rt; board.first.out(), 1);
-    assert_eq!(rt; board.issue(1)?, Ok(Issued { slot: 1, port: 0 }));
-    assert_eq!(rt; board.issue(0)?, Err(IssueFault::SourceBusy));
-    assert_eq!(rt; board.issue(2)?, Err(IssueFault::TraceFull));
-    Ok(())
+    assert_eq!(rt; board.issue(&rt, 1), Ok(Issued { slot: 1, port: 0 }));
+    assert_eq!(rt; board.issue(&rt, 0), Err(IssueFault::SourceBusy));
+    assert_eq!(rt; board.issue(&rt, 2), Err(IssueFault::TraceFull));
 }
 
 #[test]
-fn a_look_goes_over_what_is_out_alone(rt: HostRuntime) -> Result<(), Fail> {
-    let mut board = set_up(rt.alloc(), 4, 4)?;
+fn a_look_goes_over_what_is_out_alone(rt: HostRuntime) {
+    let mut board = set_up(&rt, rt.alloc(), 4, 4);
     assert_eq!(rt; board.first.next_out(0), None);
     for source in [9, 3, 15] {
-        assert!(rt; board.issue(source)?.is_ok());
+        assert!(rt; board.issue(&rt, source).is_ok());
     }
     for (from, next) in [
         (0, Some(3)),
@@ -56,36 +54,33 @@ fn a_look_goes_over_what_is_out_alone(rt: HostRuntime) -> Result<(), Fail> {
         (board.poll(3), board.first.next_out(4)),
         (Polled::NotYet, Some(15))
     );
-    Ok(())
 }
 
 #[test]
-fn poll_finds_answer(rt: HostRuntime) -> Result<(), Fail> {
-    let mut board = set_up(rt.alloc(), 4, 4)?;
+fn poll_finds_answer(rt: HostRuntime) {
+    let mut board = set_up(&rt, rt.alloc(), 4, 4);
     assert_eq!(rt; board.poll(3), Polled::Idle);
-    assert_eq!(rt; board.issue(3)?, Ok(Issued { slot: 0, port: 0 }));
+    assert_eq!(rt; board.issue(&rt, 3), Ok(Issued { slot: 0, port: 0 }));
     assert_eq!(rt; board.poll(3), Polled::NotYet);
     answer(&rt, &mut board);
     assert_eq!(rt; board.poll(3), Polled::Done(0));
     assert_eq!(rt; board.poll(3), Polled::Idle);
     assert_eq!(rt; (board.first.out(), board.first.trace_len()), (0, 1));
-    Ok(())
 }
 
 /// Ends a master that has one entry, at this place of the port's history.
-fn finish(rt: &impl Abort, arena: &Arena, master: Master, index: usize) -> Result<(), Fail>
+fn finish(rt: &impl Abort, arena: &Arena, master: Master, index: usize)
     requires { master.seat.arena ≡ arena.now }
 {
     assert!(rt; master.out() == 0);
     let trace = master.finish(arena);
-    let entry = trace.first().ok_or("no entry")?;
+    let entry = trace.first().expect(rt, "no entry");
     assert_eq!(rt; (entry.ask.source(), entry.reply.source()), (0, 0));
     assert_eq!(rt; (entry.port, entry.index), (0, index));
-    Ok(())
 }
 
 /// Ends both masters and the arena.
-fn end(rt: &impl Abort, alloc: Global, board: Board) -> Result<(), Fail> {
+fn end(rt: &impl Abort, alloc: Global, board: Board) {
     let Board {
         arena,
         map: _,
@@ -95,26 +90,25 @@ fn end(rt: &impl Abort, alloc: Global, board: Board) -> Result<(), Fail> {
     } = board;
     assert_eq!(rt; book.history_len(), 2);
     assert_eq!(rt; (first.number(), second.number()), (0, 1));
-    finish(rt, &arena, first, 0)?;
-    finish(rt, &arena, second, 1)?;
-    let account = arena.close(alloc)?;
+    finish(rt, &arena, first, 0);
+    finish(rt, &arena, second, 1);
+    let account = arena.close(alloc).expect(rt, "memory");
     assert!(rt; account.free.as_slice() == [0].as_slice());
     assert_eq!(rt; (account.held.len(), account.left.len()), (0, 2));
-    Ok(())
 }
 
 #[test]
-fn issue_finds_free_slot(rt: HostRuntime) -> Result<(), Fail> {
-    let mut board = set_up(rt.alloc(), 1, 4)?;
-    assert_eq!(rt; board.issue(0)?, Ok(Issued { slot: 0, port: 0 }));
-    assert_eq!(rt; board.issue_second(0)?, Err(IssueFault::NoSlot));
+fn issue_finds_free_slot(rt: HostRuntime) {
+    let mut board = set_up(&rt, rt.alloc(), 1, 4);
+    assert_eq!(rt; board.issue(&rt, 0), Ok(Issued { slot: 0, port: 0 }));
+    assert_eq!(rt; board.issue_second(&rt, 0), Err(IssueFault::NoSlot));
     assert_eq!(rt; (board.second.out(), board.second.trace_len()), (0, 0));
     answer(&rt, &mut board);
     assert_eq!(rt; board.poll(0), Polled::Done(0));
-    assert_eq!(rt; board.issue_second(0)?, Ok(Issued { slot: 0, port: 0 }));
+    assert_eq!(rt; board.issue_second(&rt, 0), Ok(Issued { slot: 0, port: 0 }));
     answer(&rt, &mut board);
     assert_eq!(rt; board.poll_second(0), Polled::Done(0));
-    end(&rt, rt.alloc(), board)
+    end(&rt, rt.alloc(), board);
 }
 
 /// A master, and the slots of two requests that it issues.
@@ -174,7 +168,7 @@ fn issue_at_once<R: Threads + Wait + Sync>(
 }
 
 /// Collects both replies of each master, and ends masters and arena.
-fn collect_all(rt: &impl Abort, alloc: Global, mut board: Board) -> Result<(), Fail> {
+fn collect_all(rt: &impl Abort, alloc: Global, mut board: Board) {
     for source in 0..2 {
         assert!(rt; matches!(board.poll(source), Polled::Done(_)));
         assert!(rt; matches!(board.poll_second(source), Polled::Done(_)));
@@ -190,21 +184,20 @@ fn collect_all(rt: &impl Abort, alloc: Global, mut board: Board) -> Result<(), F
     assert!(rt; second.out() == 0);
     let traces = [first.finish(&arena), second.finish(&arena)];
     assert!(rt; traces.iter().all(|trace| trace.len() == 2));
-    let account = arena.close(alloc)?;
+    let account = arena.close(alloc).expect(rt, "memory");
     assert!(rt; account.free.as_slice() == [0, 1, 2, 3].as_slice());
     assert_eq!(rt; (account.held.len(), account.left.len()), (0, 2));
-    Ok(())
 }
 
 #[test]
-fn two_threads_claim_four_slots(rt: HostRuntime) -> Result<(), Fail> {
-    let asks = [read(0)?, read(1)?];
-    let (mut board, slots) = issue_at_once(&rt, set_up(rt.alloc(), 4, 4)?, &asks);
-    let (one, two) = slots.ok_or("not issued")?;
+fn two_threads_claim_four_slots(rt: HostRuntime) {
+    let asks = [read(&rt, 0), read(&rt, 1)];
+    let (mut board, slots) = issue_at_once(&rt, set_up(&rt, rt.alloc(), 4, 4), &asks);
+    let (one, two) = slots.expect(&rt, "not issued");
     for slot in 0..4 {
         let times = one.iter().chain(two.iter()).filter(|s| **s == slot).count();
         assert_eq!(rt; times, 1);
         answer(&rt, &mut board);
     }
-    collect_all(&rt, rt.alloc(), board)
+    collect_all(&rt, rt.alloc(), board);
 }

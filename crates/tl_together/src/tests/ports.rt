@@ -5,7 +5,6 @@ use super::board::{Board, set_up};
 use std::marker::Brand;
 use std::process::Abort;
 use std::sync::Wait;
-use std::test::Fail;
 use std::thread;
 use std::thread::Threads;
 use tl_arena::{Arena, ArenaName};
@@ -13,39 +12,38 @@ use tl_master::{Issued, Polled};
 use tl_port::{Book, Flight, Intake, Port};
 
 /// Issues from the first master's source, and answers the slot.
-fn post(rt: &impl Abort, board: &mut Board, source: u16) -> Result<usize, Fail> {
-    let Issued { slot, port } = board.issue(source)?.ok().ok_or("not issued")?;
+fn post(rt: &impl Abort, board: &mut Board, source: u16) -> usize {
+    let Issued { slot, port } = board.issue(rt, source).expect(rt, "not issued");
     assert_eq!(rt; port, 0);
-    Ok(slot)
+    slot
 }
 
 /// Nothing but the posting tells the port where to look.
 #[test]
-fn intake_takes_what_is_posted(rt: HostRuntime) -> Result<(), Fail> {
-    let mut board = set_up(rt.alloc(), 4, 3)?;
+fn intake_takes_what_is_posted(rt: HostRuntime) {
+    let mut board = set_up(&rt, rt.alloc(), 4, 3);
     assert_eq!(rt; board.intake(), Intake::Nothing);
-    let slot = post(&rt, &mut board, 5)?;
+    let slot = post(&rt, &mut board, 5);
     assert_eq!(rt; board.intake(), Intake::Taken(5));
     assert_eq!(rt; board.intake(), Intake::Nothing);
     assert_eq!(rt; board.book.in_flight(0), Some(Flight { source: 5, slot }));
     assert_eq!(rt; board.book.in_flight(1), None);
     assert_eq!(rt; board.serve(), Some(0));
     assert_eq!(rt; board.book.in_flight_len(), 0);
-    let (ask, reply) = board.book.entry(0).ok_or("no entry")?;
+    let (ask, reply) = board.book.entry(0).expect(&rt, "no entry");
     assert_eq!(rt; (ask.source(), reply.source()), (5, 5));
     assert!(rt; reply.bytes() == [0; 4].as_slice());
     assert_eq!(rt;
         (board.book.number(), board.book.byte(0x1000)),
         (0, Some(0))
     );
-    Ok(())
 }
 
 #[test]
-fn a_full_journal_takes_no_more(rt: HostRuntime) -> Result<(), Fail> {
-    let mut board = set_up(rt.alloc(), 4, 3)?;
+fn a_full_journal_takes_no_more(rt: HostRuntime) {
+    let mut board = set_up(&rt, rt.alloc(), 4, 3);
     for source in 0..3 {
-        assert_eq!(rt; post(&rt, &mut board, source)?, source as usize);
+        assert_eq!(rt; post(&rt, &mut board, source), source as usize);
     }
     for source in 0..3 {
         assert_eq!(rt; board.intake(), Intake::Taken(source));
@@ -58,17 +56,16 @@ fn a_full_journal_takes_no_more(rt: HostRuntime) -> Result<(), Fail> {
     }
     assert_eq!(rt; board.serve(), None);
     assert_eq!(rt; board.book.history_len(), 3);
-    Ok(())
 }
 
 /// Each master's trace has room for one entry too, so the second request is the second master's, whose part of the four slots
 /// begins at slot 2.
 #[test]
-fn a_journal_of_one_takes_one(rt: HostRuntime) -> Result<(), Fail> {
-    let mut board = set_up(rt.alloc(), 4, 1)?;
-    post(&rt, &mut board, 5)?;
+fn a_journal_of_one_takes_one(rt: HostRuntime) {
+    let mut board = set_up(&rt, rt.alloc(), 4, 1);
+    post(&rt, &mut board, 5);
     assert_eq!(rt; board.intake(), Intake::Taken(5));
-    assert_eq!(rt; board.issue_second(0)?, Ok(Issued { slot: 2, port: 0 }));
+    assert_eq!(rt; board.issue_second(&rt, 0), Ok(Issued { slot: 2, port: 0 }));
     assert_eq!(rt; board.intake(), Intake::JournalFull);
     assert_eq!(rt; board.serve(), Some(0));
     assert_eq!(rt; board.intake(), Intake::JournalFull);
@@ -78,18 +75,16 @@ fn a_journal_of_one_takes_one(rt: HostRuntime) -> Result<(), Fail> {
     );
     assert_eq!(rt; board.poll(5), Polled::Done(0));
     assert_eq!(rt; board.poll_second(0), Polled::NotYet);
-    Ok(())
 }
 
 #[test]
-fn an_intake_takes_from_the_lowest_slot(rt: HostRuntime) -> Result<(), Fail> {
-    let mut board = set_up(rt.alloc(), 4, 3)?;
-    assert_eq!(rt; post(&rt, &mut board, 8)?, 0);
-    assert_eq!(rt; post(&rt, &mut board, 7)?, 1);
+fn an_intake_takes_from_the_lowest_slot(rt: HostRuntime) {
+    let mut board = set_up(&rt, rt.alloc(), 4, 3);
+    assert_eq!(rt; post(&rt, &mut board, 8), 0);
+    assert_eq!(rt; post(&rt, &mut board, 7), 1);
     assert_eq!(rt; board.intake(), Intake::Taken(8));
     assert_eq!(rt; board.intake(), Intake::Taken(7));
     assert_eq!(rt; board.intake(), Intake::Nothing);
-    Ok(())
 }
 
 /// Each call of a port, by one thread: it does what the book's call of that name does.
@@ -113,13 +108,12 @@ fn through_the_lock<N: ArenaName, R: Abort + Wait>(rt: &R, arena: &Arena, book: 
 }
 
 #[test]
-fn a_port_does_what_its_book_does(rt: HostRuntime) -> Result<(), Fail> {
-    let mut board = set_up(rt.alloc(), 4, 3)?;
-    assert_eq!(rt; post(&rt, &mut board, 5)?, 0);
+fn a_port_does_what_its_book_does(rt: HostRuntime) {
+    let mut board = set_up(&rt, rt.alloc(), 4, 3);
+    assert_eq!(rt; post(&rt, &mut board, 5), 0);
     let Board { arena, book, .. } = board;
     let book = through_the_lock::<Brand, HostRuntime>(&rt, &arena, book);
     assert_eq!(rt; (book.history_len(), book.in_flight_len()), (1, 0));
-    Ok(())
 }
 
 /// Three steps of a worker.
@@ -146,14 +140,13 @@ fn work<N: ArenaName + Send + Sync, R: Threads + Wait + Sync>(
 }
 
 #[test]
-fn two_threads_step_one_port(rt: HostRuntime) -> Result<(), Fail> {
-    let mut board = set_up(rt.alloc(), 8, 6)?;
+fn two_threads_step_one_port(rt: HostRuntime) {
+    let mut board = set_up(&rt, rt.alloc(), 8, 6);
     for source in 0..6 {
-        post(&rt, &mut board, source)?;
+        post(&rt, &mut board, source);
     }
     let Board { arena, book, .. } = board;
     let book = work::<Brand, HostRuntime>(&rt, &arena, book);
     assert_eq!(rt; book.history_len(), 6);
     assert_eq!(rt; book.in_flight_len(), 0);
-    Ok(())
 }
