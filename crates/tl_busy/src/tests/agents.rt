@@ -6,7 +6,6 @@ ghost use Rattle.tl_arena.specs.Promises.{memory_of};
 use std::alloc::Global;
 use std::collections::VecDeque;
 use std::process::Abort;
-use std::test::Fail;
 use tl_arena::{Accepted, Arena, MasterSeat, PortSeat};
 use tl_map::{Map, Sources};
 use tl_master::{IssueFault, Issued, Master, Polled};
@@ -25,13 +24,14 @@ pub(super) struct Client<'a> {
 
 /// A client for each master, with room for so many entries in each trace.
 pub(super) fn clients_of<'a>(
+    rt: &impl Abort,
     alloc: Global,
     arena: &'a Arena,
     map: &'a Map,
     sources: &Sources,
     seats: Vec<MasterSeat>,
     limit: usize,
-) -> Result<Vec<Client<'a>>, Fail>
+) -> Vec<Client<'a>>
     requires ports { length map.now + 1 ≤ arena.now.about.ports }
     requires blocks { sources.now ≡ arena.now.about.counts }
     requires seats { All (λ v. v ≡ new_master arena.now v.number) seats.items }
@@ -39,11 +39,13 @@ pub(super) fn clients_of<'a>(
     let mut clients = Vec::new(alloc);
     for seat in seats {
         let Ok(master) = Master::new(alloc, seat, sources, limit) else {
-            return Err(Fail::from("no memory for a master"));
+            panic!(rt; "memory");
         };
-        clients.push(Client { arena, map, master })?;
+        clients
+            .push(Client { arena, map, master })
+            .expect(rt, "memory");
     }
-    Ok(clients)
+    clients
 }
 
 impl<'a> Client<'a> {
@@ -60,17 +62,15 @@ impl<'a> Client<'a> {
         (self.master.out(), self.master.trace_len())
     }
 
-    /// Leaves the arena with the trace, if nothing is out.
-    pub(super) fn finish(self) -> Option<Trace> {
+    /// Leaves the arena with the trace: nothing is out.
+    pub(super) fn finish(self, rt: &impl Abort) -> Trace {
         let Client {
             arena,
             map: _,
             master,
         } = self;
-        if master.out() != 0 {
-            return None;
-        }
-        Some(master.finish(arena))
+        assert!(rt; master.out() == 0, "something is out");
+        master.finish(arena)
     }
 }
 

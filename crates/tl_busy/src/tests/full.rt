@@ -3,37 +3,30 @@ use super::agents::{Client, Desk};
 use super::floor::BASE;
 use super::stage::{Scene, play};
 use std::process::Abort;
-use std::test::Fail;
 use tl_master::{IssueFault, Issued, Polled};
 use tl_types::{Ask, AskOp};
 
 /// A read of one byte of the memory.
-fn read(source: u16) -> Result<Ask, Fail> {
-    Ok(Ask::new(AskOp::Get, 0, source, BASE, &[])?)
+fn read(rt: &impl Abort, source: u16) -> Ask {
+    Ask::new(AskOp::Get, 0, source, BASE, &[]).expect(rt, "a request")
 }
 
 /// Issues from each source below the end: the only master finds the lowest slot that is free.
-fn issue_up_to(rt: &impl Abort, master: &mut Client, end: u16) -> Result<(), Fail> {
+fn issue_up_to(rt: &impl Abort, master: &mut Client, end: u16) {
     for source in 0..end {
-        let issued = master.issue(&read(source)?);
+        let issued = master.issue(&read(rt, source));
         let slot = source as usize;
         assert_eq!(rt; issued, Ok(Issued { slot, port: 0 }));
     }
-    Ok(())
 }
 
 /// Issues from each of these sources are refused, and change nothing.
-fn issue_refused(
-    rt: &impl Abort,
-    master: &mut Client,
-    rows: &[(u16, IssueFault)],
-) -> Result<(), Fail> {
+fn issue_refused(rt: &impl Abort, master: &mut Client, rows: &[(u16, IssueFault)]) {
     let counts = master.counts();
     for (source, fault) in rows {
-        assert_eq!(rt; master.issue(&read(*source)?), Err(*fault));
+        assert_eq!(rt; master.issue(&read(rt, *source)), Err(*fault));
         assert_eq!(rt; master.counts(), counts);
     }
-    Ok(())
 }
 
 /// The port serves what is posted first, and the master collects the reply, which is its first entry.
@@ -88,28 +81,23 @@ const FULL_TRACE: Filling = Filling {
 };
 
 /// A master issues as much as it may, collects the first reply, and goes on.
-pub(super) fn fill(
-    rt: &impl Abort,
-    master: &mut Client,
-    port: &mut Desk,
-    filling: &Filling,
-) -> Result<(), Fail> {
-    issue_up_to(rt, master, filling.out)?;
+pub(super) fn fill(rt: &impl Abort, master: &mut Client, port: &mut Desk, filling: &Filling) {
+    issue_up_to(rt, master, filling.out);
     let out = filling.out as usize;
     assert_eq!(rt; master.counts(), (out, 0));
-    issue_refused(rt, master, filling.refused)?;
+    issue_refused(rt, master, filling.refused);
     serve_one(rt, master, port);
     assert_eq!(rt; master.counts(), (out.saturating_sub(1), 1));
     if filling.again {
-        issue_up_to(rt, master, 1)?;
+        issue_up_to(rt, master, 1);
         assert_eq!(rt; master.counts(), (out, 1));
     }
-    issue_refused(rt, master, filling.refused_then)
+    issue_refused(rt, master, filling.refused_then);
 }
 
 /// Nothing rings here: a master that looks finds every reply.
-pub(super) fn no_bell(rt: &impl Abort, master: &mut Client, port: &mut Desk) -> Result<(), Fail> {
-    issue_up_to(rt, master, 4)?;
+pub(super) fn no_bell(rt: &impl Abort, master: &mut Client, port: &mut Desk) {
+    issue_up_to(rt, master, 4);
     for slot in 0..4 {
         assert_eq!(rt; port.accept(rt), Some(slot));
         assert_eq!(rt; port.answer(), Some(slot));
@@ -119,18 +107,16 @@ pub(super) fn no_bell(rt: &impl Abort, master: &mut Client, port: &mut Desk) -> 
         assert_eq!(rt; master.poll(source), Polled::Idle);
     }
     assert_eq!(rt; master.counts(), (0, 4));
-    Ok(())
 }
 
 #[test]
-fn all_slots_and_all_sources_are_used(rt: HostRuntime) -> Result<(), Fail> {
-    let account = play(&rt, rt.alloc(), 256, &[256], 300, Scene::Fill(ALL_SLOTS))?;
+fn all_slots_and_all_sources_are_used(rt: HostRuntime) {
+    let account = play(&rt, rt.alloc(), 256, &[256], 300, Scene::Fill(ALL_SLOTS));
     assert_eq!(rt; (account.free.len(), account.held.len()), (0, 256));
-    Ok(())
 }
 
 #[test]
-fn one_slot_too_few_is_told(rt: HostRuntime) -> Result<(), Fail> {
+fn one_slot_too_few_is_told(rt: HostRuntime) {
     let account = play(
         &rt,
         rt.alloc(),
@@ -138,21 +124,18 @@ fn one_slot_too_few_is_told(rt: HostRuntime) -> Result<(), Fail> {
         &[256],
         300,
         Scene::Fill(ONE_SLOT_TOO_FEW),
-    )?;
+    );
     assert_eq!(rt; (account.free.len(), account.held.len()), (0, 255));
-    Ok(())
 }
 
 #[test]
-fn a_full_trace_is_told_after_a_busy_source(rt: HostRuntime) -> Result<(), Fail> {
-    let account = play(&rt, rt.alloc(), 4, &[16], 2, Scene::Fill(FULL_TRACE))?;
+fn a_full_trace_is_told_after_a_busy_source(rt: HostRuntime) {
+    let account = play(&rt, rt.alloc(), 4, &[16], 2, Scene::Fill(FULL_TRACE));
     assert_eq!(rt; (account.free.len(), account.held.len()), (3, 1));
-    Ok(())
 }
 
 #[test]
-fn a_master_that_hears_no_bell_collects_all(rt: HostRuntime) -> Result<(), Fail> {
-    let account = play(&rt, rt.alloc(), 4, &[4], 4, Scene::NoBell)?;
+fn a_master_that_hears_no_bell_collects_all(rt: HostRuntime) {
+    let account = play(&rt, rt.alloc(), 4, &[4], 4, Scene::NoBell);
     assert_eq!(rt; (account.free.len(), account.held.len()), (4, 0));
-    Ok(())
 }

@@ -5,7 +5,6 @@ use super::full::{Filling, fill, no_bell};
 use super::walk::walk_along;
 use std::alloc::Global;
 use std::process::Abort;
-use std::test::Fail;
 use tl_arena::Account;
 
 /// What is played. Each test is a scene of its own; they share one stage, since to set it up and to take it down is
@@ -26,7 +25,7 @@ pub(super) fn play(
     counts: &[u16],
     limit: usize,
     scene: Scene,
-) -> Result<Account, Fail> {
+) -> Account {
     let Floor {
         arena,
         map,
@@ -36,14 +35,14 @@ pub(super) fn play(
         memory,
         far,
         nothing,
-    } = open_floor(alloc, slots, counts)?;
+    } = open_floor(rt, alloc, slots, counts);
     {
-        let clients = clients_of(alloc, &arena, &map, &sources, masters, limit)?;
+        let clients = clients_of(rt, alloc, &arena, &map, &sources, masters, limit);
         let near = new_desk(alloc, &arena, near, memory);
         let far = new_desk(alloc, &arena, far, nothing);
-        play_with(rt, alloc, clients, near, far, scene)?;
+        play_with(rt, alloc, clients, near, far, scene);
     }
-    Ok(arena.close(alloc)?)
+    arena.close(alloc).expect(rt, "memory")
 }
 
 fn play_with<'a>(
@@ -53,16 +52,15 @@ fn play_with<'a>(
     mut near: Desk<'a>,
     far: Desk<'a>,
     scene: Scene,
-) -> Result<(), Fail> {
-    if let Scene::Walk = scene {
-        return walk_along(rt, alloc, masters, near, far);
-    }
-    let Some(master) = masters.first_mut() else {
-        return Err(Fail::from("no master"));
-    };
+) {
     match scene {
-        Scene::Fill(filling) => fill(rt, master, &mut near, &filling),
-        Scene::NoBell => no_bell(rt, master, &mut near),
-        Scene::Walk => Ok(()),
+        Scene::Fill(filling) => fill(rt, only(rt, &mut masters), &mut near, &filling),
+        Scene::NoBell => no_bell(rt, only(rt, &mut masters), &mut near),
+        Scene::Walk => walk_along(rt, alloc, masters, near, far),
     }
+}
+
+/// The first master, which in most scenes is the only one.
+fn only<'m, 'a>(rt: &impl Abort, masters: &'m mut Vec<Client<'a>>) -> &'m mut Client<'a> {
+    masters.first_mut().expect(rt, "no master")
 }

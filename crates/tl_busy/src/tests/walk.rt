@@ -7,7 +7,6 @@ use super::floor::BASE;
 use super::stage::{Scene, play};
 use std::alloc::Global;
 use std::process::Abort;
-use std::test::Fail;
 use tl_master::{IssueFault, Issued, Polled};
 use tl_slots::{Core, Event, Phase};
 use tl_types::{Ask, AskOp};
@@ -85,9 +84,9 @@ struct Walk<'a> {
 }
 
 /// A read of one byte, which the map has at this port.
-fn read_at(port: usize, source: u16) -> Result<Ask, Fail> {
+fn read_at(rt: &impl Abort, port: usize, source: u16) -> Ask {
     let address = if port == 0 { BASE } else { 0x9000 };
-    Ok(Ask::new(AskOp::Get, 0, source, address, &[])?)
+    Ask::new(AskOp::Get, 0, source, address, &[]).expect(rt, "a request")
 }
 
 impl<'a> Walk<'a> {
@@ -131,104 +130,132 @@ impl<'a> Walk<'a> {
         None
     }
 
-    /// A master claims a slot and posts a request.
-    fn issue(
-        &mut self,
-        rt: &impl Abort,
-        number: usize,
-        source: u16,
-        port: usize,
-    ) -> Result<(), Fail> {
-        let due = match (self.flight(number, source), self.free_slot(number)) {
+    /// The core is told an event, which it allows.
+    fn tell(&mut self, rt: &impl Abort, event: Event) {
+        self.core.apply(event).expect(rt, "the core refuses");
+    }
+
+    /// What an issue has to answer.
+    fn issue_due(&self, master: usize, source: u16, port: usize) -> Result<Issued, IssueFault> {
+        match (self.flight(master, source), self.free_slot(master)) {
             (Some(_), _) => Err(IssueFault::SourceBusy),
             (None, None) => Err(IssueFault::NoSlot),
             (None, Some(slot)) => Ok(Issued { slot, port }),
-        };
-        let master = self.masters.get_mut(number).ok_or("no such master")?;
-        let issued = master.issue(&read_at(port, source)?);
-        assert_eq!(rt; issued, due);
-        match issued {
-            Ok(Issued { slot, port }) => {
-                self.core.apply(Event::Claim(slot, number))?;
-                self.core.apply(Event::Post(slot, number, port))?;
-                self.out.push(Flight {
+        }
+    }
+
+    /// A master claims a slot and posts a request.
+    fn issue(&mut self, rt: &impl Abort, number: usize, source: u16, port: usize) {
+        let due = self.issue_due(number, source, port);
+        let ask = read_at(rt, port, source);
+        let master = self.masters.get_mut(number).expect(rt, "no such master");
+        assert_eq!(rt; master.issue(&ask), due);
+        match due {
+            Ok(Issued { slot, port }) => self.sent(
+                rt,
+                Flight {
                     master: number,
                     source,
                     slot,
                     port,
-                })?;
-                self.claims.note(true);
-            }
+                },
+            ),
             Err(IssueFault::NoSlot) => self.claims.note(false),
             Err(_) => (),
         }
-        Ok(())
+    }
+
+    /// A request is out.
+    fn sent(&mut self, rt: &impl Abort, flight: Flight) {
+        self.tell(rt, Event::Claim(flight.slot, flight.master));
+        self.tell(rt, Event::Post(flight.slot, flight.master, flight.port));
+        self.out.push(flight).expect(rt, "memory");
+        self.claims.note(true);
+    }
+
+    /// Whether the reply to what is out is there.
+    fn is_answered(&self, flight: &Flight) -> bool {
+        self.core.phase(flight.slot) == Some(Phase::Answered(flight.master, flight.port))
     }
 
     /// A master collects the reply to what is out for a source, and releases its slot.
-    fn poll(&mut self, rt: &impl Abort, number: usize, source: u16) -> Result<(), Fail> {
+    fn poll(&mut self, rt: &impl Abort, number: usize, source: u16) {
         let flight = self.flight(number, source);
-        let master = self.masters.get_mut(number).ok_or("no such master")?;
+        let master = self.masters.get_mut(number).expect(rt, "no such master");
         let (_, entries) = master.counts();
         let polled = master.poll(source);
-        let Some(Flight { slot, port, .. }) = flight else {
-            assert_eq!(rt; polled, Polled::Idle);
-            return Ok(());
-        };
-        if self.core.phase(slot) != Some(Phase::Answered(number, port)) {
-            assert_eq!(rt; polled, Polled::NotYet);
-            self.collections.note(false);
-            return Ok(());
+        match flight {
+            None => {
+                assert_eq!(rt; polled, Polled::Idle);
+            }
+            Some(flight) if self.is_answered(&flight) => {
+                assert_eq!(rt; polled, Polled::Done(entries));
+                self.collected(rt, flight);
+            }
+            Some(_) => {
+                assert_eq!(rt; polled, Polled::NotYet);
+                self.collections.note(false);
+            }
         }
-        assert_eq!(rt; polled, Polled::Done(entries));
-        self.core.apply(Event::Collect(slot, number, port))?;
-        self.core.apply(Event::Release(slot, number, port))?;
+    }
+
+    /// A reply is collected.
+    fn collected(&mut self, rt: &impl Abort, flight: Flight) {
+        let Flight {
+            master,
+            slot,
+            port,
+            ..
+        } = flight;
+        self.tell(rt, Event::Collect(slot, master, port));
+        self.tell(rt, Event::Release(slot, master, port));
         self.out.retain(|other| other.slot != slot);
         self.collections.note(true);
-        Ok(())
     }
 
     /// A port passes over the slots.
-    fn accept(&mut self, rt: &impl Abort, number: usize) -> Result<(), Fail> {
+    fn accept(&mut self, rt: &impl Abort, number: usize) {
         let due = self.lowest_posted(number);
-        let port = self.ports.get_mut(number).ok_or("no such port")?;
+        let port = self.ports.get_mut(number).expect(rt, "no such port");
         let slot = port.accept(rt);
         assert_eq!(rt; slot, due.map(|(slot, _)| slot));
         if let Some((slot, owner)) = due {
-            self.core.apply(Event::Accept(slot, owner, number))?;
+            self.tell(rt, Event::Accept(slot, owner, number));
         }
         self.passes.note(due.is_some());
-        Ok(())
     }
 
     /// A port looks at one slot.
-    fn accept_at(&mut self, rt: &impl Abort, number: usize, slot: usize) -> Result<(), Fail> {
+    fn accept_at(&mut self, rt: &impl Abort, number: usize, slot: usize) {
         let due = self.poster(slot, number);
-        let port = self.ports.get_mut(number).ok_or("no such port")?;
+        let port = self.ports.get_mut(number).expect(rt, "no such port");
         let accepted = port.accept_at(rt, slot);
         assert_eq!(rt; accepted, due.is_some());
         if let Some(owner) = due {
-            self.core.apply(Event::Accept(slot, owner, number))?;
+            self.tell(rt, Event::Accept(slot, owner, number));
         }
         self.acceptances.note(accepted);
-        Ok(())
+    }
+
+    /// The master whose request is served in this slot.
+    fn served(&self, rt: &impl Abort, slot: usize) -> usize {
+        match self.core.phase(slot) {
+            Some(Phase::Serving(owner, _)) => owner,
+            _ => panic!(rt; "answered what is not served"),
+        }
     }
 
     /// A port answers the oldest request that it serves, if there is one.
-    fn answer(&mut self, number: usize) -> Result<(), Fail> {
-        let port = self.ports.get_mut(number).ok_or("no such port")?;
-        let Some(slot) = port.answer() else {
-            return Ok(());
-        };
-        let Some(Phase::Serving(owner, _)) = self.core.phase(slot) else {
-            return Err(Fail::from("answered what is not served"));
-        };
-        self.core.apply(Event::Answer(slot, owner, number))?;
-        Ok(())
+    fn answer(&mut self, rt: &impl Abort, number: usize) {
+        let port = self.ports.get_mut(number).expect(rt, "no such port");
+        if let Some(slot) = port.answer() {
+            let owner = self.served(rt, slot);
+            self.tell(rt, Event::Answer(slot, owner, number));
+        }
     }
 
     /// One call, as the dice fall. Slot 4 is no slot.
-    fn call(&mut self, rt: &impl Abort, dice: &mut Dice) -> Result<(), Fail> {
+    fn call(&mut self, rt: &impl Abort, dice: &mut Dice) {
         let master = dice.throw(3) as usize;
         let source = dice.throw(4) as u16;
         let port = dice.throw(2) as usize;
@@ -238,29 +265,28 @@ impl<'a> Walk<'a> {
             3..7 => self.poll(rt, master, source),
             7 => self.accept(rt, port),
             8..11 => self.accept_at(rt, port, slot),
-            _ => self.answer(port),
+            _ => self.answer(rt, port),
         }
     }
 
     /// All that is out is served and collected.
-    fn settle(&mut self, rt: &impl Abort) -> Result<(), Fail> {
+    fn settle(&mut self, rt: &impl Abort) {
         for port in 0..PORTS {
             for _ in 0..SLOTS {
-                self.accept(rt, port)?;
-                self.answer(port)?;
+                self.accept(rt, port);
+                self.answer(rt, port);
             }
         }
         for master in 0..MASTERS {
             for source in 0..SOURCES {
-                self.poll(rt, master, source)?;
+                self.poll(rt, master, source);
             }
         }
         assert!(rt; self.out.is_empty());
-        Ok(())
     }
 
     /// All masters leave. Their traces have an entry for each collection.
-    fn leave(self, rt: &impl Abort) -> Result<(), Fail> {
+    fn leave(self, rt: &impl Abort) {
         let Walk {
             masters,
             ports: _,
@@ -273,12 +299,12 @@ impl<'a> Walk<'a> {
         } = self;
         let mut entries = 0u32;
         for (number, master) in masters.into_iter().enumerate() {
-            core.apply(Event::Leave(number))?;
-            let trace = master.finish().ok_or("something is out")?;
+            core.apply(Event::Leave(number))
+                .expect(rt, "the core refuses");
+            let trace = master.finish(rt);
             entries = entries.saturating_add(trace.len().min(100_000) as u32);
         }
         assert_eq!(rt; entries, collections.done);
-        Ok(())
     }
 }
 
@@ -289,14 +315,12 @@ pub(super) fn walk_along<'a>(
     masters: Vec<Client<'a>>,
     near: Desk<'a>,
     far: Desk<'a>,
-) -> Result<(), Fail> {
-    let mut ports = Vec::new(alloc);
-    ports.push(near)?;
-    ports.push(far)?;
+) {
+    let ports = Vec::from_array(alloc, [near, far]).expect(rt, "memory");
     let mut walk = Walk {
         masters,
         ports,
-        core: Core::new(alloc, SLOTS, MASTERS, PORTS)?,
+        core: Core::new(alloc, SLOTS, MASTERS, PORTS).expect(rt, "a core"),
         out: Vec::new(alloc),
         claims: Tally::NONE,
         collections: Tally::NONE,
@@ -305,21 +329,20 @@ pub(super) fn walk_along<'a>(
     };
     let mut dice = Dice(2026);
     for _ in 0..CALLS {
-        walk.call(rt, &mut dice)?;
+        walk.call(rt, &mut dice);
     }
     for tally in [walk.claims, walk.collections, walk.passes, walk.acceptances] {
         let Tally { done, refused } = tally;
         assert!(rt; done >= 100 && refused >= 100, "{done} and {refused}");
     }
-    walk.settle(rt)?;
-    walk.leave(rt)
+    walk.settle(rt);
+    walk.leave(rt);
 }
 
 #[test]
-fn a_lone_walk_goes_as_the_core_says(rt: HostRuntime) -> Result<(), Fail> {
+fn a_lone_walk_goes_as_the_core_says(rt: HostRuntime) {
     let counts = [SOURCES; MASTERS];
-    let account = play(&rt, rt.alloc(), SLOTS, &counts, LIMIT, Scene::Walk)?;
+    let account = play(&rt, rt.alloc(), SLOTS, &counts, LIMIT, Scene::Walk);
     assert!(rt; account.free.as_slice() == [0, 1, 2, 3].as_slice());
     assert_eq!(rt; (account.held.len(), account.left.len()), (0, 3));
-    Ok(())
 }

@@ -9,4 +9,4 @@ others : (a : ArenaId) (v : MasterView) (vs ws : List MasterView) → ws ≡ v �
 others a v vs ws is new = λ k d lt. (subst (AreNew a) is new) (suc k) d (omega arith)
 
 pub loop-seat-preserved : goal.loop-seat-preserved
-loop-seat-preserved c = others c.args.arena.now c.in-Some.seat _ _ c.in-Some.ensures.steps.0 c.loop-seat.invariant
+loop-seat-preserved g c = others c.args.arena.now c.in-Some.seat _ _ c.in-Some.ensures.steps.0 c.loop-seat.invariant

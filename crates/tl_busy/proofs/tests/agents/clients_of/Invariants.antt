@@ -5,4 +5,4 @@ use Rattle.tl_busy.proofs.tests.agents.clients_of.Given as goal
 
 -- the seats that are left are new
 abbrev pub invariant-loop-seat : goal.invariant-loop-seat
-invariant-loop-seat l = All (λ v. v ≡ new_master l.fn.arena v.number) (into_iter_items l.seat-iterator)
+invariant-loop-seat g l = All (λ v. v ≡ new_master l.fn.arena v.number) (into_iter_items l.seat-iterator)

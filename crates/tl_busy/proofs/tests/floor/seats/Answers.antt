@@ -8,11 +8,12 @@ numbered : (a : ArenaId) (k : ℕ) (v : MasterView) → v ≡ new_master a k →
 numbered a k v is = is ∙ ap (new_master a) (sym (ap (λ (w : MasterView). w.number) is))
 
 pub returns-clause-masters : goal.returns-clause-masters
-returns-clause-masters c = λ k d lt.
-    let made = c.in_ok-arena.field-0 in
-    numbered made.arena k _ (c.in_ok-arena.ensures.masters.each k _ (slice_get-get_or made.masters.items k d lt))
+returns-clause-masters g c = λ k d lt.
+    let made = c.in-Ok.field-0 in
+    numbered made.arena k _ (c.in-Ok.ensures.masters.each k _ (slice_get-get_or made.masters.items k d lt))
 
-pub returns-clause-ports : goal.returns-clause-ports
-returns-clause-ports c =
-    let ports = c.in_ok-arena.ensures.ports in
-    (ports.each 0 _ c.in_ok-near.ensures.0, ports.each 1 _ c.in_ok-near.ensures.1)
+pub returns-clause-near : goal.returns-clause-near
+returns-clause-near g c = c.in-Ok.ensures.ports.each 0 _ c.two-near.ensures.first
+
+pub returns-clause-far : goal.returns-clause-far
+returns-clause-far g c = c.in-Ok.ensures.ports.each 1 _ c.two-near.ensures.second
