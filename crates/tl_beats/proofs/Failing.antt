@@ -1,10 +1,9 @@
 -- The lowest beat without a property, beat by beat, and what is said of a first beat.
-use Rattle.std.proofs.Common.{◌≡◌, ℕ, ◌+◌, ◌<◌, ◌≤◌, ◌⊎◌, inl, inr, Bool, true, false, List, length, Option, Some, None, slice_get, get_or, refl, subst, arith}
-use Rattle.std.specs.Prelude.{IsSomeAnd, IsTrue, MatchOption, ◌↔◌}
+use Rattle.std.proofs.Common.{◌≡◌, ℕ, ◌+◌, ◌<◌, ◌≤◌, ◌⊎◌, inl, inr, List, length, Option, Some, None, slice_get, get_or, refl, subst, arith}
+use Rattle.std.specs.Prelude.{IsSomeAnd}
 use Rattle.std.proofs.lemmas.Bool.{cases_lt}
 use Rattle.std.proofs.lemmas.Option.{slice_get_within, slice_get-get_or}
 use Rattle.tl_types.specs.List.{HoldsBelow, FailsFirstAt}
-use Rattle.tl_beats.specs.Reading.{first_failing}
 
 -- what is said of an element, at the element
 pub at_element : {A : Type 0} (P : A → Type 0) (o : Option A) → IsSomeAnd o P → (x : A) × (o ≡ Some x) × P x
@@ -30,13 +29,3 @@ pub none_fails : {A : Type 0} (P : A → Type 0) (xs : List A) (b : ℕ) → Hol
 none_fails P xs b all fails =
     let bad = at_element (λ x. P x → ⊥) (slice_get xs b) fails.here in
     bad.2 (all b bad.0 (slice_get_within xs b bad.0 bad.1) bad.1)
-
--- the lowest element that fails, one element further
-pub failing_more : {A : Type 0} (P : A → Type 0) (xs : List A) (b : ℕ) (d : A) (failed : Option ℕ) (passes : Bool) → b < length xs → (IsTrue passes ↔ P (get_or xs b d)) → MatchOption failed (HoldsBelow P xs b) (λ k. FailsFirstAt P xs k) → MatchOption (first_failing failed passes b) (HoldsBelow P xs (b + 1)) (λ k. FailsFirstAt P xs k)
-failing_more P xs b d (Some k) passes within holds so_far = so_far
-failing_more P xs b d None true within holds so_far = holds_more_at P xs b d so_far within (holds.0 refl)
-failing_more P xs b d None false within holds so_far =
-    record {
-      here = rw (slice_get-get_or xs b d within) (λ h. let no : false ≡ true = holds.1 h in absurd (cc));
-      before = so_far;
-    }

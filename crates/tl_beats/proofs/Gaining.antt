@@ -57,6 +57,18 @@ place_of_gained address (suc (suc (suc s))) b k old count beat o n h =
 pub count_of_gained : (b old count total : ℕ) → old ≡ min (8 * b) total → count ≡ min (total - old) 8 → old + count ≡ min (8 * (b + 1)) total
 count_of_gained b old count total o n = omega arith
 
+-- each beat has as many bytes: those of the message, or a whole bus of them
+pub count_of_beat : (carries : Bool) (size b old count : ℕ) → b < beat_count carries size → old ≡ min (8 * b) (if carries then 2 ^ size else 0) → count ≡ min (if carries then 2 ^ size else 0) 8 → count ≡ min ((if carries then 2 ^ size else 0) - old) 8
+count_of_beat false size b old count beat o n = omega (arith, o, n)
+count_of_beat true zero b old count beat o n = omega arith
+count_of_beat true (suc zero) b old count beat o n = omega arith
+count_of_beat true (suc (suc zero)) b old count beat o n = omega arith
+count_of_beat true (suc (suc (suc s))) b old count beat o n =
+    let wide = pow-suc 2 (suc (suc s)) in
+    let wide' = pow-suc 2 (suc s) in
+    let wide'' = pow-suc 2 s in
+    omega arith
+
 -- each byte of the longer list stands where it is to stand: `Q b lane x` says that x stands at the lane of beat b
 pub gains_beat : {X : Type 0} (Q : ℕ → ℕ → X → Type 0) (address size b count : ℕ) (old new : List X) → b < max 1 (2 ^ size / 8) → length old ≡ min (8 * b) (2 ^ size) → count ≡ min (2 ^ size - length old) 8 → Gains (λ k x. Q b (low address size % 8 + k) x) count old new → ((j : ℕ) (x : X) → slice_get old j ≡ Some x → Q (j / 8) (lane_of address size j) x) → (j : ℕ) (x : X) → slice_get new j ≡ Some x → Q (j / 8) (lane_of address size j) x
 gains_beat Q address size b count old new beat o n gains so_far j x at =

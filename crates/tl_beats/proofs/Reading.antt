@@ -1,6 +1,6 @@
 -- What is known of the beats of a request that are read one by one.
 use Rattle.std.proofs.Common.{◌≡◌, ◌≢◌, ◌∙◌, ℕ, ◌+◌, ◌-◌, ◌*◌, ◌/◌, ◌%◌, ◌^◌, ◌<◌, ◌≤◌, min, Bool, true, false, List, [], length, Option, Some, None, if◌then◌else◌, slice_get, get_or, ap, sym, refl, subst, arith}
-use Rattle.std.specs.Prelude.{All, IsSome, IsSomeAnd, IsTrue, MatchOption, ◌↔◌}
+use Rattle.std.specs.Prelude.{All, IsSome, IsSomeAnd}
 use Rattle.std.specs.Int.{bit_at}
 use Rattle.std.proofs.lemmas.Option.{slice_get_within, slice_get-get_or}
 use Rattle.tl_types.specs.List.{HoldsBelow, FailsFirstAt}
@@ -12,48 +12,41 @@ use Rattle.tl_types.specs.declared.limits.TheConstants.{LARGEST_SIZE}
 use Rattle.tl_types.proofs.Operations.{no_fault_of_code}
 use Rattle.tl_beats.specs.Beats.{low, lane_of, beat_count, active_mask, IsLawfulMask, StandsAt, SpellsAsk}
 use Rattle.tl_beats.specs.Faults.{SameFields, HasBeatFault, beat_fault_rank, IsFirstBeatFault}
-use Rattle.tl_beats.specs.Reading.{first_failing, Gains, GainsLanes, HasLawfulMask, IsReadFrom, IsFaultOfBeats}
+use Rattle.tl_beats.specs.Reading.{Gains, GainsLanes, HasLawfulMask, AreFaultless, AreBytesOf, IsReadFrom, IsFaultOfBeats}
 use Rattle.tl_beats.specs.declared.beat.ABeat.{ABeat}
 use Rattle.tl_beats.specs.declared.beat.BeatFault.{BeatFault}
 use Rattle.tl_beats.specs.declared.beat.BeatFault.TheVariants.{NoBeat, Op, Size, Count, Changed, Mask, CorruptFlag}
 use Rattle.tl_beats.proofs.Places.{bytes_in_beats}
 use Rattle.tl_beats.proofs.Spelling.{active_lane}
-use Rattle.tl_beats.proofs.Gaining.{gains_so, count_of_gained, gains_in_message}
-use Rattle.tl_beats.proofs.Failing.{at_element, holds_more_at, none_fails, failing_more}
+use Rattle.tl_beats.proofs.Gaining.{gains_so, count_of_beat, count_of_gained, gains_in_message}
+use Rattle.tl_beats.proofs.Failing.{at_element, none_fails}
 use Rattle.tl_beats.proofs.Codes.{same_op}
 use Rattle.tl_beats.proofs.Only.{beat_of_byte, code_of_spelled, same_ask}
 
 -- ---- beat by beat
 
--- the first b beats agree with the first, their lowest unlawful mask is known, and their bytes are read
-pub record IsReadSoFar (beats : List ABeat) (first : ABeat) (op : AskOp) (b : ℕ) (bad_mask : Option ℕ) (bytes : List (Option ℕ)) : Type 0 where
-  pub same : HoldsBelow (SameFields first) beats b
-  pub masks : MatchOption bad_mask (HoldsBelow (HasLawfulMask op first) beats b) (λ k. FailsFirstAt (HasLawfulMask op first) beats k)
+-- the bytes of the first b beats are read
+pub record AreBytesSoFar (beats : List ABeat) (first : ABeat) (op : AskOp) (b : ℕ) (bytes : List (Option ℕ)) : Type 0 where
   pub counted : length bytes ≡ min (8 * b) (byte_count op first.size)
   pub each : (j : ℕ) (given : Option ℕ) → slice_get bytes j ≡ Some given → (beat : ABeat) → slice_get beats (j / 8) ≡ Some beat → StandsAt beat.mask beat.lanes (lane_of first.address first.size j) given
 
-pub read_none : (beats : List ABeat) (first : ABeat) (op : AskOp) → IsReadSoFar beats first op 0 None []
-read_none beats first op = record {
-  same = λ k x h at. absurd (omega (arith, h));
-  masks = λ k x h at. absurd (omega (arith, h));
-  counted = omega arith;
-  each = λ j given at. absurd (cc);
-}
+pub bytes_none : (beats : List ABeat) (first : ABeat) (op : AskOp) → AreBytesSoFar beats first op 0 []
+bytes_none beats first op = record { counted = omega arith; each = λ j given at. absurd (cc) }
 
-pub read_more : (beats : List ABeat) (first : ABeat) (op : AskOp) (b : ℕ) (d : ABeat) (bad_mask : Option ℕ) (lawful : Bool) (lane count : ℕ) (old new : List (Option ℕ)) → b < length beats → length beats ≡ beat_count (carries_bytes op) first.size → IsReadSoFar beats first op b bad_mask old → SameFields first (get_or beats b d) → (IsTrue lawful ↔ IsLawfulMask op first.size first.address (get_or beats b d).mask) → lane ≡ low first.address first.size % 8 → count ≡ min (byte_count op first.size - length old) 8 → GainsLanes (get_or beats b d) lane count old new → IsReadSoFar beats first op (b + 1) (first_failing bad_mask lawful b) new
-read_more beats first op b d bad_mask lawful lane count old new within counted so_far same passes lane_is count_is gains =
+pub bytes_more : (beats : List ABeat) (first : ABeat) (op : AskOp) (b : ℕ) (d : ABeat) (lane count : ℕ) (old new : List (Option ℕ)) → b < length beats → length beats ≡ beat_count (carries_bytes op) first.size → AreBytesSoFar beats first op b old → lane ≡ low first.address first.size % 8 → count ≡ min (byte_count op first.size) 8 → GainsLanes (get_or beats b d) lane count old new → AreBytesSoFar beats first op (b + 1) new
+bytes_more beats first op b d lane count old new within counted so_far lane_is count_is gains =
     let here = get_or beats b d in
     let at : slice_get beats b ≡ Some here = slice_get-get_or beats b d within in
-    let Q : ℕ → ℕ → Option ℕ → Type 0 = λ k l given. (beat : ABeat) → slice_get beats k ≡ Some beat → StandsAt beat.mask beat.lanes l given in
+    let beat : b < beat_count (carries_bytes op) first.size = rw (← counted) within in
+    let left : count ≡ min (byte_count op first.size - length old) 8 = count_of_beat (carries_bytes op) first.size b (length old) count beat so_far.counted count_is in
+    let Q : ℕ → ℕ → Option ℕ → Type 0 = λ k l given. (x : ABeat) → slice_get beats k ≡ Some x → StandsAt x.mask x.lanes l given in
     let gained : Gains (λ k given. Q b (low first.address first.size % 8 + k) given) count old new =
-    gains_so (λ k given. StandsAt here.mask here.lanes (lane + k) given) (λ k given. Q b (low first.address first.size % 8 + k) given) count old new (λ k given h stands beat found.
-    let is : here ≡ beat = cc in
-    subst (λ (x : ABeat). StandsAt x.mask x.lanes (low first.address first.size % 8 + k) given) is (subst (λ (l : ℕ). StandsAt here.mask here.lanes (l + k) given) lane_is stands)) gains in
+    gains_so (λ k given. StandsAt here.mask here.lanes (lane + k) given) (λ k given. Q b (low first.address first.size % 8 + k) given) count old new (λ k given h stands x found.
+    let is : here ≡ x = cc in
+    subst (λ (y : ABeat). StandsAt y.mask y.lanes (low first.address first.size % 8 + k) given) is (subst (λ (l : ℕ). StandsAt here.mask here.lanes (l + k) given) lane_is stands)) gains in
     record {
-      same = holds_more_at (SameFields first) beats b d so_far.same within same;
-      masks = failing_more (HasLawfulMask op first) beats b d bad_mask lawful within passes so_far.masks;
-      counted = gains.counted ∙ count_of_gained b (length old) count (byte_count op first.size) so_far.counted count_is;
-      each = gains_in_message Q (carries_bytes op) first.address first.size b count old new (rw (← counted) within) so_far.counted count_is gained so_far.each;
+      counted = gains.counted ∙ count_of_gained b (length old) count (byte_count op first.size) so_far.counted left;
+      each = gains_in_message Q (carries_bytes op) first.address first.size b count old new beat so_far.counted left gained so_far.each;
     }
 
 pub bytes_of_size : (carries : Bool) (size : ℕ) → (if carries then 2 ^ size else 0) ≤ 2 ^ size
@@ -65,15 +58,17 @@ pub bytes_fit : (carries : Bool) (size : ℕ) → (if carries then 2 ^ size else
 bytes_fit true size = bytes_in_beats size
 bytes_fit false size = omega arith
 
-pub read_all : (beats : List ABeat) (first : ABeat) (op : AskOp) (b : ℕ) (bytes : List (Option ℕ)) → length beats ≡ beat_count (carries_bytes op) first.size → length beats ≤ b → IsReadSoFar beats first op b None bytes → IsReadFrom beats first op bytes
-read_all beats first op b bytes counted over so_far =
+pub bytes_all : (beats : List ABeat) (first : ABeat) (op : AskOp) (b : ℕ) (bytes : List (Option ℕ)) → length beats ≡ beat_count (carries_bytes op) first.size → length beats ≤ b → AreBytesSoFar beats first op b bytes → AreBytesOf beats first op bytes
+bytes_all beats first op b bytes counted over so_far =
     let fits = bytes_fit (carries_bytes op) first.size in
     record {
-      same = λ k x h at. so_far.same k x (omega (arith, h, over)) at;
-      masks = λ k x h at. so_far.masks k x (omega (arith, h, over)) at;
       counted = omega (arith, so_far.counted, fits, counted, over);
       each = λ j given beat at found. so_far.each j given at beat found;
     }
+
+-- beats without fault and the bytes that stand in them
+pub read_from : (beats : List ABeat) (first : ABeat) (op : AskOp) (bytes : List (Option ℕ)) → AreFaultless beats first op → AreBytesOf beats first op bytes → IsReadFrom beats first op bytes
+read_from beats first op bytes faultless read = record { same = faultless.same; masks = faultless.masks; counted = read.counted; each = read.each }
 
 -- ---- a request that beats spell, against their first beat
 

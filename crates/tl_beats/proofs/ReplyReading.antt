@@ -1,6 +1,6 @@
 -- What is known of the beats of a reply that are read one by one.
-use Rattle.std.proofs.Common.{◌≡◌, ◌≢◌, ◌∙◌, ℕ, ◌+◌, ◌-◌, ◌*◌, ◌/◌, ◌%◌, ◌<◌, ◌≤◌, min, Bool, List, [], length, Option, Some, None, slice_get, slice_index, get_or, ap, sym, subst, arith}
-use Rattle.std.specs.Prelude.{IsSomeAnd, IsTrue, MatchOption, ◌↔◌}
+use Rattle.std.proofs.Common.{◌≡◌, ◌≢◌, ◌∙◌, ℕ, ◌/◌, ◌<◌, ◌≤◌, Bool, List, length, Some, None, slice_get, get_or, ap, sym, subst, arith}
+use Rattle.std.specs.Prelude.{IsSomeAnd}
 use Rattle.std.proofs.lemmas.Option.{slice_get_within, slice_get-get_or}
 use Rattle.tl_types.specs.List.{HoldsBelow, FailsFirstAt}
 use Rattle.tl_types.specs.Response.{Response, IsLawfulResponse}
@@ -10,65 +10,21 @@ use Rattle.tl_types.specs.declared.operation.ReplyOp.{ReplyOp}
 use Rattle.tl_types.specs.declared.wire.OpFault.{OpFault}
 use Rattle.tl_types.specs.declared.wire.OpFault.TheVariants.{Cached, UnknownOpcode, UnknownParam}
 use Rattle.tl_types.specs.declared.limits.TheConstants.{LARGEST_SIZE}
-use Rattle.tl_beats.specs.Beats.{low, lane_of, beat_count}
+use Rattle.tl_beats.specs.Beats.{beat_count}
 use Rattle.tl_beats.specs.Replies.{IsLawfulFlag, SpellsReply}
 use Rattle.tl_beats.specs.Faults.{SameReplyFields, HasReplyBeatFault, beat_fault_rank, IsFirstReplyBeatFault}
-use Rattle.tl_beats.specs.Reading.{first_failing, Gains, StandsInReply, HasLawfulFlag, IsReplyReadFrom, IsFaultOfReplyBeats}
+use Rattle.tl_beats.specs.Reading.{HasLawfulFlag, AreFaultlessReply, AreReplyBytesOf, IsReplyReadFrom, IsFaultOfReplyBeats}
 use Rattle.tl_beats.specs.declared.beat.DBeat.{DBeat}
 use Rattle.tl_beats.specs.declared.beat.BeatFault.{BeatFault}
 use Rattle.tl_beats.specs.declared.beat.BeatFault.TheVariants.{NoBeat, Op, Size, Count, Changed, Mask, CorruptFlag}
-use Rattle.tl_beats.proofs.Gaining.{gains_so, count_of_gained, gains_in_message}
-use Rattle.tl_beats.proofs.Failing.{at_element, holds_more_at, none_fails, failing_more}
+use Rattle.tl_beats.proofs.Failing.{at_element, none_fails}
 use Rattle.tl_beats.proofs.Codes.{same_reply_op}
 use Rattle.tl_beats.proofs.Only.{beat_of_byte}
-use Rattle.tl_beats.proofs.Reading.{bytes_fit}
 use Rattle.tl_beats.proofs.ReplyOnly.{same_reply}
 
--- ---- beat by beat
-
--- the first b beats agree with the first, their lowest unlawful flag is known, and their bytes are read
-pub record IsReplyReadSoFar (beats : List DBeat) (first : DBeat) (op : ReplyOp) (address b : ℕ) (bad_flag : Option ℕ) (bytes : List ℕ) : Type 0 where
-  pub same : HoldsBelow (SameReplyFields first) beats b
-  pub flags : MatchOption bad_flag (HoldsBelow (HasLawfulFlag op first) beats b) (λ k. FailsFirstAt (HasLawfulFlag op first) beats k)
-  pub counted : length bytes ≡ min (8 * b) (reply_byte_count op first.size)
-  pub each : (j byte : ℕ) → slice_get bytes j ≡ Some byte → (beat : DBeat) → slice_get beats (j / 8) ≡ Some beat → StandsInReply first.denied beat.lanes (lane_of address first.size j) byte
-
-pub reply_read_none : (beats : List DBeat) (first : DBeat) (op : ReplyOp) (address : ℕ) → IsReplyReadSoFar beats first op address 0 None []
-reply_read_none beats first op address = record {
-  same = λ k x h at. absurd (omega (arith, h));
-  flags = λ k x h at. absurd (omega (arith, h));
-  counted = omega arith;
-  each = λ j byte at. absurd (cc);
-}
-
-StandsInReply-byte : (denied : Bool) (lanes : List ℕ) (lane byte byte' : ℕ) → StandsInReply denied lanes lane byte → byte ≡ byte' → StandsInReply denied lanes lane byte'
-StandsInReply-byte denied lanes lane byte byte' stands e = subst (λ (x : ℕ). StandsInReply denied lanes lane x) e stands
-
-pub reply_read_more : (beats : List DBeat) (first : DBeat) (op : ReplyOp) (address b : ℕ) (d : DBeat) (bad_flag : Option ℕ) (lawful : Bool) (lane count : ℕ) (word old new : List ℕ) → b < length beats → length beats ≡ beat_count (reply_carries_bytes op) first.size → IsReplyReadSoFar beats first op address b bad_flag old → SameReplyFields first (get_or beats b d) → (IsTrue lawful ↔ IsLawfulFlag op first.denied (get_or beats b d).corrupt) → lane ≡ low address first.size % 8 → count ≡ min (reply_byte_count op first.size - length old) 8 → lane + count ≤ 8 → ((k : ℕ) → k < 8 → StandsInReply first.denied (get_or beats b d).lanes k (slice_index word k)) → Gains (λ k byte. slice_index word (lane + k) ≡ byte) count old new → IsReplyReadSoFar beats first op address (b + 1) (first_failing bad_flag lawful b) new
-reply_read_more beats first op address b d bad_flag lawful lane count word old new within counted so_far same passes lane_is count_is in_bus carried gains =
-    let here = get_or beats b d in
-    let at : slice_get beats b ≡ Some here = slice_get-get_or beats b d within in
-    let Q : ℕ → ℕ → ℕ → Type 0 = λ k l byte. (beat : DBeat) → slice_get beats k ≡ Some beat → StandsInReply first.denied beat.lanes l byte in
-    let gained : Gains (λ k byte. Q b (low address first.size % 8 + k) byte) count old new =
-    gains_so (λ k byte. slice_index word (lane + k) ≡ byte) (λ k byte. Q b (low address first.size % 8 + k) byte) count old new (λ k byte h stands beat found.
-    let is : here ≡ beat = cc in
-    subst (λ (x : DBeat). StandsInReply first.denied x.lanes (low address first.size % 8 + k) byte) is (subst (λ (l : ℕ). StandsInReply first.denied here.lanes (l + k) byte) lane_is (StandsInReply-byte first.denied here.lanes (lane + k) (slice_index word (lane + k)) byte (carried (lane + k) (omega (arith, h, in_bus))) stands))) gains in
-    record {
-      same = holds_more_at (SameReplyFields first) beats b d so_far.same within same;
-      flags = failing_more (HasLawfulFlag op first) beats b d bad_flag lawful within passes so_far.flags;
-      counted = gains.counted ∙ count_of_gained b (length old) count (reply_byte_count op first.size) so_far.counted count_is;
-      each = gains_in_message Q (reply_carries_bytes op) address first.size b count old new (rw (← counted) within) so_far.counted count_is gained so_far.each;
-    }
-
-pub reply_read_all : (beats : List DBeat) (first : DBeat) (op : ReplyOp) (address b : ℕ) (bytes : List ℕ) → length beats ≡ beat_count (reply_carries_bytes op) first.size → length beats ≤ b → IsReplyReadSoFar beats first op address b None bytes → IsReplyReadFrom beats first op address bytes
-reply_read_all beats first op address b bytes counted over so_far =
-    let fits = bytes_fit (reply_carries_bytes op) first.size in
-    record {
-      same = λ k x h at. so_far.same k x (omega (arith, h, over)) at;
-      flags = λ k x h at. so_far.flags k x (omega (arith, h, over)) at;
-      counted = omega (arith, so_far.counted, fits, counted, over);
-      each = λ j byte beat at found. so_far.each j byte at beat found;
-    }
+-- beats without fault and the bytes that stand in them
+pub reply_read_from : (beats : List DBeat) (first : DBeat) (op : ReplyOp) (address : ℕ) (bytes : List ℕ) → AreFaultlessReply beats first op → AreReplyBytesOf beats first op address bytes → IsReplyReadFrom beats first op address bytes
+reply_read_from beats first op address bytes faultless read = record { same = faultless.same; flags = faultless.flags; counted = read.counted; each = read.each }
 
 -- ---- a reply that beats spell, against their first beat
 

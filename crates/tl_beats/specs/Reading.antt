@@ -1,5 +1,5 @@
 -- What the steps of assembling know: this project's own words.
-use Rattle.std.specs.Prelude.{◌≡◌, ℕ, ◌+◌, ◌/◌, ◌<◌, ◌⊎◌, Bool, true, false, List, length, Option, Some, None, slice_get, slice_index, IsTrue}
+use Rattle.std.specs.Prelude.{◌≡◌, ℕ, ◌+◌, ◌/◌, ◌%◌, ◌<◌, ◌⊎◌, Bool, false, List, length, Option, Some, slice_get, slice_index, IsTrue}
 use Rattle.tl_types.specs.List.{HoldsBelow, FailsFirstAt}
 use Rattle.tl_types.specs.Operation.{byte_count, reply_byte_count}
 use Rattle.tl_types.specs.declared.operation.AskOp.{AskOp}
@@ -12,12 +12,6 @@ use Rattle.tl_beats.specs.declared.beat.DBeat.{DBeat}
 use Rattle.tl_beats.specs.declared.beat.BeatFault.{BeatFault}
 use Rattle.tl_beats.specs.declared.beat.BeatFault.TheVariants.{NoBeat, Op, Size, Count, Changed, Mask, CorruptFlag}
 use Rattle.tl_types.specs.declared.limits.TheConstants.{BUS_BYTES}
-
--- the lowest beat that fails, after beat b is tried: the one that failed before, or b
-abbrev pub first_failing : Option ℕ → Bool → ℕ → Option ℕ
-first_failing (Some earlier) passes b = Some earlier
-first_failing None true b = None
-first_failing None false b = Some b
 
 -- a list has gained this many elements at its end, of which the k-th has the property `P k`, and kept the others
 pub record Gains {X : Type 0} (P : ℕ → X → Type 0) (count : ℕ) (old new : List X) : Type 0 where
@@ -32,6 +26,17 @@ GainsLanes beat first = Gains (λ k given. StandsAt beat.mask beat.lanes (first 
 -- the mask of the beat is lawful in a request that begins with `first`
 abbrev pub HasLawfulMask : AskOp → ABeat → ABeat → Type 0
 HasLawfulMask op first beat = IsLawfulMask op first.size first.address beat.mask
+
+-- the beats all agree with the first, and each mask is lawful
+pub record AreFaultless (beats : List ABeat) (first : ABeat) (op : AskOp) : Type 0 where
+  pub same : HoldsBelow (SameFields first) beats (length beats)
+  pub masks : HoldsBelow (HasLawfulMask op first) beats (length beats)
+
+-- the bytes are those that stand in the beats
+pub record AreBytesOf (beats : List ABeat) (first : ABeat) (op : AskOp) (bytes : List (Option ℕ)) : Type 0 where
+  pub counted : length bytes ≡ byte_count op first.size
+  pub each : (j : ℕ) (given : Option ℕ) (beat : ABeat) → slice_get bytes j ≡ Some given → slice_get beats (j / BUS_BYTES) ≡ Some beat
+      → StandsAt beat.mask beat.lanes (lane_of first.address first.size j) given
 
 -- the beats all agree with the first, each mask is lawful, and the bytes are those that stand in the beats
 pub record IsReadFrom (beats : List ABeat) (first : ABeat) (op : AskOp) (bytes : List (Option ℕ)) : Type 0 where
@@ -60,6 +65,22 @@ pub record StandsInReply (denied : Bool) (lanes : List ℕ) (lane byte : ℕ) : 
 -- `corrupt` of the beat is lawful in a reply that begins with `first`
 abbrev pub HasLawfulFlag : ReplyOp → DBeat → DBeat → Type 0
 HasLawfulFlag op first beat = IsLawfulFlag op first.denied beat.corrupt
+
+-- the beats all agree with the first, and each `corrupt` is lawful
+pub record AreFaultlessReply (beats : List DBeat) (first : DBeat) (op : ReplyOp) : Type 0 where
+  pub same : HoldsBelow (SameReplyFields first) beats (length beats)
+  pub flags : HoldsBelow (HasLawfulFlag op first) beats (length beats)
+
+-- the bytes begin with the lanes of all beats, one beat after the other
+abbrev pub AreLanesOf : List DBeat → List ℕ → Type 0
+AreLanesOf beats bytes =
+    (j : ℕ) (beat : DBeat) → slice_get beats (j / BUS_BYTES) ≡ Some beat → slice_index bytes j ≡ slice_index beat.lanes (j % BUS_BYTES)
+
+-- the bytes are those that stand in the beats
+pub record AreReplyBytesOf (beats : List DBeat) (first : DBeat) (op : ReplyOp) (address : ℕ) (bytes : List ℕ) : Type 0 where
+  pub counted : length bytes ≡ reply_byte_count op first.size
+  pub each : (j byte : ℕ) (beat : DBeat) → slice_get bytes j ≡ Some byte → slice_get beats (j / BUS_BYTES) ≡ Some beat
+      → StandsInReply first.denied beat.lanes (lane_of address first.size j) byte
 
 -- the beats all agree with the first, each `corrupt` is lawful, and the bytes are those that stand in the beats
 pub record IsReplyReadFrom (beats : List DBeat) (first : DBeat) (op : ReplyOp) (address : ℕ) (bytes : List ℕ) : Type 0 where

@@ -1,14 +1,14 @@
 //! Beats to requests.
-ghost use Rattle.std.specs.Prelude.{◌≡◌, ℕ, ◌+◌, ◌%◌, ◌<◌, ◌≤◌, ◌↔◌, length, Ok, IsTrue, IfOk, IfErr};
-ghost use Rattle.std.specs.Int.{bit_at};
+ghost use Rattle.std.specs.Prelude.{◌≡◌, ℕ, ◌+◌, ◌%◌, ◌<◌, ◌≤◌, ◌↔◌, length, Ok, IsTrue, MatchOption, OnOk, IfOk, IfErr};
+ghost use Rattle.tl_types.specs.List.{HoldsBelow, FailsFirstAt};
 ghost use Rattle.tl_types.specs.Operation.{carries_bytes};
 ghost use Rattle.tl_types.specs.Request.{Request, IsLawfulRequest};
 ghost use Rattle.tl_beats.specs.Beats.{beat_count, active_mask, IsLawfulMask, StandsAt, SpellsAsk};
 ghost use Rattle.tl_beats.specs.Faults.{SameFields, IsFirstBeatFault};
-ghost use Rattle.tl_beats.specs.Reading.{GainsLanes, IsReadFrom, IsFaultOfBeats};
+ghost use Rattle.tl_beats.specs.Reading.{GainsLanes, AreFaultless, AreBytesOf, IsFaultOfBeats};
 
 use crate::beat::{ABeat, BeatFault};
-use crate::bus::{active_mask, beat_count, first_failing, first_lane};
+use crate::bus::{active_mask, beat_count, first_lane};
 use tl_types::{Ask, AskOp, BUS_BYTES, Bytes, LARGEST_SIZE, MAX_BYTES, read_op};
 
 /// Whether two beats have the same shared fields.
@@ -54,16 +54,6 @@ fn byte_at(beat: &ABeat, lane: usize) -> Option<u8>
     }
 }
 
-/// Whether a mask sets all of so many lanes from `first` on.
-fn sets_all(mask: u8, first: usize, count: usize) -> bool
-    requires some { 0 < count }
-    requires in_bus { first + count ≤ BUS_BYTES }
-    ensures { IsTrue result → (k : ℕ) → k < count → bit_at mask (first + k) ≡ 1 }
-{
-    let ones = u8::MAX >> (BUS_BYTES - count);
-    mask >> first & ones == ones
-}
-
 /// Appends what stands at some lanes of a beat.
 fn push_lanes(bytes: &mut Bytes, beat: &ABeat, first: usize, count: usize)
     requires aligned { length bytes.old % BUS_BYTES ≡ 0 }
@@ -71,8 +61,8 @@ fn push_lanes(bytes: &mut Bytes, beat: &ABeat, first: usize, count: usize)
     requires room { length bytes.old + count ≤ MAX_BYTES }
     ensures { GainsLanes beat.now first count bytes.old bytes.new }
 {
-    if count > 0 && sets_all(beat.mask, first, count) {
-        bytes.push_given(&beat.lanes[first..first + count]);
+    if count == BUS_BYTES && beat.mask == u8::MAX {
+        bytes.push_given(&beat.lanes);
         return;
     }
     for k in 0..count {
@@ -80,31 +70,55 @@ fn push_lanes(bytes: &mut Bytes, beat: &ABeat, first: usize, count: usize)
     }
 }
 
-/// The bytes that stand in the beats of a request, or the first fault that shows from beat to beat.
-fn read_beats(beats: &[ABeat], first: &ABeat, op: AskOp) -> Result<Bytes, BeatFault>
-    requires in_limit { first.now.size ≤ LARGEST_SIZE }
-    requires count { length beats.now ≡ beat_count (carries_bytes op) first.now.size }
-    ensures ok { IfOk result (λ bytes. IsReadFrom beats.now first.now op bytes) }
+/// The lowest beat from `from` on that has other fields than the first, where none before it has.
+fn first_changed(beats: &[ABeat], first: &ABeat, from: usize) -> Option<usize>
+    requires { HoldsBelow (SameFields first.now) beats.now from }
+    ensures { MatchOption result (HoldsBelow (SameFields first.now) beats.now (length beats.now))
+        (λ b. FailsFirstAt (SameFields first.now) beats.now b) }
+{
+    for b in from..beats.len() {
+        if !same_fields(first, &beats[b]) {
+            return Some(b);
+        }
+    }
+    None
+}
+
+/// Tries the beats of a request one by one, and names the first fault that shows.
+// An unlawful mask comes behind a changed field of a later beat, so the beats after it are tried for that alone.
+fn check_beats(beats: &[ABeat], first: &ABeat, op: AskOp) -> Result<(), BeatFault>
+    requires { first.now.size ≤ LARGEST_SIZE }
+    ensures ok { OnOk result (AreFaultless beats.now first.now op) }
     ensures fault { IfErr result (IsFaultOfBeats beats.now first.now op) }
 {
-    let wanted = op.byte_count(first.size);
-    let lane = first_lane(first.address, first.size);
     let active = active_mask(first.address, first.size);
-    let mut bytes = Bytes::new();
-    let mut bad_mask = None;
     for (b, beat) in beats.iter().enumerate() {
         if !same_fields(first, beat) {
             return Err(BeatFault::Changed(b));
         }
-        let lawful = sets_active(beat.mask, op, active);
-        bad_mask = first_failing(bad_mask, lawful, b);
-        let count = (wanted - bytes.len()).min(BUS_BYTES);
+        if !sets_active(beat.mask, op, active) {
+            return Err(match first_changed(beats, first, b) {
+                Some(changed) => BeatFault::Changed(changed),
+                None => BeatFault::Mask(b),
+            });
+        }
+    }
+    Ok(())
+}
+
+/// The bytes that stand in the beats of a request.
+fn bytes_of_beats(beats: &[ABeat], first: &ABeat, op: AskOp) -> Bytes
+    requires in_limit { first.now.size ≤ LARGEST_SIZE }
+    requires count { length beats.now ≡ beat_count (carries_bytes op) first.now.size }
+    ensures { AreBytesOf beats.now first.now op result }
+{
+    let lane = first_lane(first.address, first.size);
+    let count = op.byte_count(first.size).min(BUS_BYTES);
+    let mut bytes = Bytes::new();
+    for beat in beats {
         push_lanes(&mut bytes, beat, lane, count);
     }
-    match bad_mask {
-        Some(b) => Err(BeatFault::Mask(b)),
-        None => Ok(bytes),
-    }
+    bytes
 }
 
 /// The request that beats spell, or the first fault that they have.
@@ -122,6 +136,7 @@ pub fn assemble_ask(beats: &[ABeat]) -> Result<Ask, BeatFault>
     if beats.len() != beat_count(op.carries_bytes(), first.size) {
         return Err(BeatFault::Count);
     }
-    let bytes = read_beats(beats, first, op)?;
+    check_beats(beats, first, op)?;
+    let bytes = bytes_of_beats(beats, first, op);
     Ok(Ask::from_parts(op, first.size, first.source, first.address, bytes))
 }

@@ -2,7 +2,6 @@
 ghost use Rattle.std.specs.Prelude.{◌≡◌, ℕ, ◌+◌, ◌%◌, ◌<◌, ◌≤◌, length, slice_index};
 ghost use Rattle.tl_beats.specs.Beats.{low, beat_count, active_mask};
 ghost use Rattle.tl_beats.specs.Packing.{plain_at_place};
-ghost use Rattle.tl_beats.specs.Reading.{first_failing};
 
 use crate::beat::MAX_BEATS;
 use tl_types::{BUS_BYTES, LARGEST_SIZE, width};
@@ -38,17 +37,6 @@ pub fn active_mask(address: u64, size: u8) -> u8
     let first = first_lane(address, size);
     let end = first + width(size).min(BUS_BYTES);
     ((1u16 << end) - (1u16 << first)) as u8
-}
-
-/// The lowest beat that fails, where `failed` is that of the beats before `b`.
-pub fn first_failing(failed: Option<usize>, passes: bool, b: usize) -> Option<usize>
-    ensures { result ≡ first_failing failed passes b }
-{
-    if failed.is_none() && !passes {
-        Some(b)
-    } else {
-        failed
-    }
 }
 
 /// The lanes of a beat whose bytes begin at the lane `first`, with zeros on all others.

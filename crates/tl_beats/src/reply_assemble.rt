@@ -1,92 +1,136 @@
 //! Beats to replies.
-ghost use Rattle.std.specs.Prelude.{◌≡◌, ℕ, ◌+◌, ◌<◌, ◌≤◌, ◌↔◌, length, slice_index, Ok, IsTrue, IfOk, IfErr};
+ghost use Rattle.std.specs.Prelude.{◌≡◌, ◌+◌, ◌*◌, ◌/◌, ◌%◌, ◌^◌, ◌≤◌, ◌↔◌, ◌&&◌, Bool, length, take, drop, slice_get, Ok, Some, IsTrue, MatchOption, OnOk, IfOk, IfErr};
+ghost use Rattle.tl_types.specs.List.{HoldsBelow, FailsFirstAt};
 ghost use Rattle.tl_types.specs.Operation.{reply_carries_bytes};
 ghost use Rattle.tl_types.specs.Response.{Response, IsLawfulResponse};
 ghost use Rattle.tl_beats.specs.Beats.{beat_count};
 ghost use Rattle.tl_beats.specs.Replies.{IsLawfulFlag, SpellsReply};
 ghost use Rattle.tl_beats.specs.Faults.{SameReplyFields, IsFirstReplyBeatFault};
-ghost use Rattle.tl_beats.specs.Reading.{Gains, StandsInReply, IsReplyReadFrom, IsFaultOfReplyBeats};
+ghost use Rattle.tl_beats.specs.Reading.{AreFaultlessReply, AreLanesOf, AreReplyBytesOf, IsFaultOfReplyBeats};
 
-use crate::beat::{BeatFault, DBeat};
-use crate::bus::{beat_count, first_failing, first_lane};
+use crate::beat::{BeatFault, DBeat, MAX_BEATS};
+use crate::bus::{beat_count, first_lane};
 use arrayvec::ArrayVec;
 use tl_types::{BUS_BYTES, LARGEST_SIZE, MAX_BYTES, Reply, ReplyOp, read_reply_op};
+
+/// The opcode, size and source of a beat as one number. They lie side by side, so that they are read at once.
+fn shared_word(beat: &DBeat) -> u32
+    ensures value { result ≡ beat.now.opcode + 2 ^ 8 * beat.now.size + 2 ^ 16 * beat.now.source }
+    ensures opcode { beat.now.opcode ≡ result % 2 ^ 8 }
+    ensures size { beat.now.size ≡ result / 2 ^ 8 % 2 ^ 8 }
+    ensures source { beat.now.source ≡ result / 2 ^ 16 }
+{
+    beat.opcode as u32 + ((beat.size as u32) << 8) + ((beat.source as u32) << 16)
+}
 
 /// Whether two beats have the same shared fields.
 pub fn same_reply_fields(first: &DBeat, beat: &DBeat) -> bool
     ensures { IsTrue result ↔ SameReplyFields first.now beat.now }
 {
-    beat.opcode == first.opcode
-        && beat.size == first.size
-        && beat.source == first.source
-        && beat.denied == first.denied
+    shared_word(beat) == shared_word(first) && beat.denied == first.denied
 }
 
 /// Whether a `corrupt` flag is lawful.
 pub fn is_lawful_flag(op: ReplyOp, denied: bool, corrupt: bool) -> bool
     ensures { IsTrue result ↔ IsLawfulFlag op denied corrupt }
 {
-    !corrupt || (op.carries_bytes() && denied)
+    is_lawful_where(op.carries_bytes() && denied, corrupt)
 }
 
-/// The lanes of a beat as bytes of the reply: all are zero where it is denied.
-fn carried_lanes(denied: bool, lanes: &[u8; BUS_BYTES]) -> [u8; BUS_BYTES]
-    ensures { (k : ℕ) → k < BUS_BYTES → StandsInReply denied lanes.now k (slice_index result k) }
+/// Whether a `corrupt` flag is lawful, where it may be set or not.
+fn is_lawful_where(may_be_set: bool, corrupt: bool) -> bool
+    ensures { (op : ReplyOp) (denied : Bool) → may_be_set ≡ (reply_carries_bytes op && denied)
+        → (IsTrue result ↔ IsLawfulFlag op denied corrupt) }
 {
-    if denied { [0; BUS_BYTES] } else { *lanes }
+    !corrupt || may_be_set
 }
 
-/// Appends the bytes of some lanes.
-fn push_reply_lanes(
-    bytes: &mut ArrayVec<u8, MAX_BYTES>,
-    lanes: &[u8; BUS_BYTES],
-    first: usize,
-    count: usize,
-)
-    requires in_bus { first + count ≤ BUS_BYTES }
-    requires room { length bytes.old.items + count ≤ MAX_BYTES }
-    ensures { Gains (λ k byte. slice_index lanes.now (first + k) ≡ byte) count
-        bytes.old.items bytes.new.items }
+/// The lowest beat from `from` on that has other fields than the first, where none before it has.
+fn first_changed(beats: &[DBeat], first: &DBeat, from: usize) -> Option<usize>
+    requires { HoldsBelow (SameReplyFields first.now) beats.now from }
+    ensures { MatchOption result (HoldsBelow (SameReplyFields first.now) beats.now (length beats.now))
+        (λ b. FailsFirstAt (SameReplyFields first.now) beats.now b) }
 {
-    if count == BUS_BYTES {
-        bytes.try_extend_from_slice(lanes).unwrap();
-        return;
+    for b in from..beats.len() {
+        if !same_reply_fields(first, &beats[b]) {
+            return Some(b);
+        }
     }
-    for k in 0..count {
-        bytes.push(lanes[first + k]);
-    }
+    None
 }
 
-/// The bytes that stand in the beats of a reply, or the first fault that shows from beat to beat.
-fn read_reply_beats(
-    beats: &[DBeat],
-    first: &DBeat,
-    op: ReplyOp,
-    address: u64,
-) -> Result<ArrayVec<u8, MAX_BYTES>, BeatFault>
-    requires in_limit { first.now.size ≤ LARGEST_SIZE }
-    requires count { length beats.now ≡ beat_count (reply_carries_bytes op) first.now.size }
-    ensures ok { IfOk result (λ bytes. IsReplyReadFrom beats.now first.now op address bytes.items) }
+/// Tries the beats of a reply one by one, and names the first fault that shows.
+// An unlawful flag comes behind a changed field of a later beat, so the beats after it are tried for that alone.
+fn check_reply_beats(beats: &[DBeat], first: &DBeat, op: ReplyOp) -> Result<(), BeatFault>
+    ensures ok { OnOk result (AreFaultlessReply beats.now first.now op) }
     ensures fault { IfErr result (IsFaultOfReplyBeats beats.now first.now op) }
 {
-    let wanted = op.byte_count(first.size);
-    let lane = first_lane(address, first.size);
-    let mut bytes = ArrayVec::new();
-    let mut bad_flag = None;
+    let may_be_set = op.carries_bytes() && first.denied;
     for (b, beat) in beats.iter().enumerate() {
         if !same_reply_fields(first, beat) {
             return Err(BeatFault::Changed(b));
         }
-        let lawful = is_lawful_flag(op, first.denied, beat.corrupt);
-        bad_flag = first_failing(bad_flag, lawful, b);
-        let count = (wanted - bytes.len()).min(BUS_BYTES);
-        let lanes = carried_lanes(first.denied, &beat.lanes);
-        push_reply_lanes(&mut bytes, &lanes, lane, count);
+        if !is_lawful_where(may_be_set, beat.corrupt) {
+            return Err(match first_changed(beats, first, b) {
+                Some(changed) => BeatFault::Changed(changed),
+                None => BeatFault::CorruptFlag(b),
+            });
+        }
     }
-    match bad_flag {
-        Some(b) => Err(BeatFault::CorruptFlag(b)),
-        None => Ok(bytes),
+    Ok(())
+}
+
+/// The lanes of all beats, one beat after the other.
+fn lanes_of(beats: &[DBeat]) -> [u8; MAX_BYTES]
+    requires { length beats.now ≤ MAX_BEATS }
+    ensures { AreLanesOf beats.now result }
+{
+    let mut lanes = [0; MAX_BYTES];
+    for (b, beat) in beats.iter().enumerate() {
+        let start = BUS_BYTES * b;
+        lanes[start..start + BUS_BYTES].copy_from_slice(&beat.lanes);
     }
+    lanes
+}
+
+/// So many lanes from `first` on.
+fn part_of_lanes(lanes: &[u8; BUS_BYTES], first: usize, count: usize) -> ArrayVec<u8, MAX_BYTES>
+    requires { first + count ≤ BUS_BYTES }
+    ensures { result.items ≡ take count (drop first lanes.now) }
+{
+    ArrayVec::try_from(&lanes[first..first + count]).unwrap()
+}
+
+/// The first so many of these bytes.
+fn leading(plain: [u8; MAX_BYTES], count: usize) -> ArrayVec<u8, MAX_BYTES>
+    ensures { result.items ≡ take count plain }
+{
+    let mut bytes = ArrayVec::from_array_in((), plain);
+    bytes.truncate(count);
+    bytes
+}
+
+/// The bytes that stand in the beats of a reply.
+fn bytes_of_beats(
+    beats: &[DBeat],
+    first: &DBeat,
+    op: ReplyOp,
+    address: u64,
+) -> ArrayVec<u8, MAX_BYTES>
+    requires head { slice_get beats.now 0 ≡ Some first.now }
+    requires in_limit { first.now.size ≤ LARGEST_SIZE }
+    requires count { length beats.now ≡ beat_count (reply_carries_bytes op) first.now.size }
+    ensures { AreReplyBytesOf beats.now first.now op address result.items }
+{
+    let count = op.byte_count(first.size);
+    if first.denied {
+        return leading([0; MAX_BYTES], count);
+    }
+    if count < BUS_BYTES {
+        let lane = first_lane(address, first.size);
+        return part_of_lanes(&first.lanes, lane, count);
+    }
+    leading(lanes_of(beats), count)
 }
 
 /// The reply to a request at the address that beats spell, or the first fault that they have.
@@ -104,6 +148,7 @@ pub fn assemble_reply(beats: &[DBeat], address: u64) -> Result<Reply, BeatFault>
     if beats.len() != beat_count(op.carries_bytes(), first.size) {
         return Err(BeatFault::Count);
     }
-    let bytes = read_reply_beats(beats, first, op, address)?;
+    check_reply_beats(beats, first, op)?;
+    let bytes = bytes_of_beats(beats, first, op, address);
     Ok(Reply::from_parts(op, first.size, first.source, first.denied, bytes))
 }

@@ -2,7 +2,7 @@ use Rattle.std.proofs.Common.{rules, arith, ◌≡◌, ◌∙◌, ap, Ok, Some, 
 use Rattle.std.proofs.lemmas.Result.{MatchResult-at_ok, err_from_is_err_and}
 use Rattle.tl_beats.specs.declared.beat.BeatFault.TheVariants.{Op}
 use Rattle.tl_beats.proofs.Only.{code_of_spelled}
-use Rattle.tl_beats.proofs.Reading.{IsBegun, no_request, first_of_beats, read_request, read_lawful, read_spells, read_only}
+use Rattle.tl_beats.proofs.Reading.{IsBegun, no_request, first_of_beats, read_from, read_request, read_lawful, read_spells, read_only}
 use Rattle.tl_beats.proofs.ask_assemble.assemble_ask.Goals as goal
 
 pub returns-in_err-op-clause-all : goal.returns-in_err-op-clause-all
@@ -30,45 +30,47 @@ returns-then-beats-beat_count-clause-all c ask lawful spells =
     let same : ask.op ≡ c.in_ok-op.op = cc kept in
     absurd (c.if-beats-beat_count.true (cc (spells.count, (spells.each 0 first head).fields.size)))
 
-pub returns-in_err-bytes-clause-all : goal.returns-in_err-bytes-clause-all
-returns-in_err-bytes-clause-all c ask lawful spells =
+pub returns-in_err-check_beats-clause-all : goal.returns-in_err-check_beats-clause-all
+returns-in_err-check_beats-clause-all c ask lawful spells =
     let begun : IsBegun c.args.beats.now c.in_ok-first.first.now c.in_ok-op.op = record {
       head = search rules;
       code = search rules;
       in_limit = c.if-first-gt-LARGEST_SIZE.false;
       count = search rules;
     } in
-    absurd (no_request c.args.beats.now c.in_ok-first.first.now c.in_ok-op.op c.in_err-bytes.field-0.0 begun c.in_err-bytes.ensures.fault ask spells)
+    absurd (no_request c.args.beats.now c.in_ok-first.first.now c.in_ok-op.op c.in_err-check_beats.field-0.0 begun c.in_err-check_beats.ensures.fault ask spells)
 
-pub returns-in_err-bytes-clause-fault : goal.returns-in_err-bytes-clause-fault
-returns-in_err-bytes-clause-fault c =
+pub returns-in_err-check_beats-clause-fault : goal.returns-in_err-check_beats-clause-fault
+returns-in_err-check_beats-clause-fault c =
     let begun : IsBegun c.args.beats.now c.in_ok-first.first.now c.in_ok-op.op = record {
       head = search rules;
       code = search rules;
       in_limit = c.if-first-gt-LARGEST_SIZE.false;
       count = search rules;
     } in
-    let exit = err_from_is_err_and c.from_residual-in_err-bytes.result c.from_residual-in_err-bytes.ensures.1 in
-    rw (exit.1, exit.2) (first_of_beats c.args.beats.now c.in_ok-first.first.now c.in_ok-op.op begun c.in_err-bytes.field-0.0 c.in_err-bytes.ensures.fault)
+    let exit = err_from_is_err_and c.from_residual-in_err-check_beats.result c.from_residual-in_err-check_beats.ensures.1 in
+    rw (exit.1, exit.2) (first_of_beats c.args.beats.now c.in_ok-first.first.now c.in_ok-op.op begun c.in_err-check_beats.field-0.0 c.in_err-check_beats.ensures.fault)
 
 pub from_parts-requires : goal.from_parts-requires
 from_parts-requires c =
     let first = c.in_ok-first.first.now in
     let op = c.in_ok-op.op in
-    let bytes = c.in_ok-bytes.bytes in
+    let bytes = c.bytes_of_beats-bytes.result in
+    let read = read_from c.args.beats.now first op bytes c.in_ok-check_beats.ensures.ok c.bytes_of_beats-bytes.ensures in
     let begun : IsBegun c.args.beats.now first op = record {
       head = search rules;
       code = search rules;
       in_limit = c.if-first-gt-LARGEST_SIZE.false;
       count = search rules;
     } in
-    read_lawful c.args.beats.now first op begun bytes c.in_ok-bytes.ensures.ok
+    read_lawful c.args.beats.now first op begun bytes read
 
 pub returns-clause-ok : goal.returns-clause-ok
 returns-clause-ok c =
     let first = c.in_ok-first.first.now in
     let op = c.in_ok-op.op in
-    let bytes = c.in_ok-bytes.bytes in
+    let bytes = c.bytes_of_beats-bytes.result in
+    let read = read_from c.args.beats.now first op bytes c.in_ok-check_beats.ensures.ok c.bytes_of_beats-bytes.ensures in
     let begun : IsBegun c.args.beats.now first op = record {
       head = search rules;
       code = search rules;
@@ -76,13 +78,14 @@ returns-clause-ok c =
       count = search rules;
     } in
     let is : c.from_parts.result ≡ read_request first op bytes = search rules in
-    rw is (read_spells c.args.beats.now first op begun bytes c.in_ok-bytes.ensures.ok)
+    rw is (read_spells c.args.beats.now first op begun bytes read)
 
 pub returns-clause-all : goal.returns-clause-all
 returns-clause-all c ask lawful spells =
     let first = c.in_ok-first.first.now in
     let op = c.in_ok-op.op in
-    let bytes = c.in_ok-bytes.bytes in
+    let bytes = c.bytes_of_beats-bytes.result in
+    let read = read_from c.args.beats.now first op bytes c.in_ok-check_beats.ensures.ok c.bytes_of_beats-bytes.ensures in
     let begun : IsBegun c.args.beats.now first op = record {
       head = search rules;
       code = search rules;
@@ -90,4 +93,4 @@ returns-clause-all c ask lawful spells =
       count = search rules;
     } in
     let is : c.from_parts.result ≡ read_request first op bytes = search rules in
-    ap Ok (is ∙ read_only c.args.beats.now first op begun bytes c.in_ok-bytes.ensures.ok ask lawful spells)
+    ap Ok (is ∙ read_only c.args.beats.now first op begun bytes read ask lawful spells)

@@ -2,7 +2,7 @@ use Rattle.std.proofs.Common.{rules, arith, ◌≡◌, ◌∙◌, sym, ap, Ok, S
 use Rattle.tl_types.specs.Wire.{reply_opcode_of}
 use Rattle.std.proofs.lemmas.Result.{MatchResult-at_ok, err_from_is_err_and}
 use Rattle.tl_beats.specs.declared.beat.BeatFault.TheVariants.{Op}
-use Rattle.tl_beats.proofs.ReplyReading.{IsReplyBegun, no_reply, first_of_reply_beats, read_reply, reply_read_lawful, reply_read_spells, reply_read_only}
+use Rattle.tl_beats.proofs.ReplyReading.{IsReplyBegun, no_reply, first_of_reply_beats, reply_read_from, read_reply, reply_read_lawful, reply_read_spells, reply_read_only}
 use Rattle.tl_beats.proofs.reply_assemble.assemble_reply.Goals as goal
 
 pub returns-in_err-op-clause-all : goal.returns-in_err-op-clause-all
@@ -32,45 +32,47 @@ returns-then-beats-beat_count-clause-all c reply lawful spells =
     let same : reply.op ≡ c.in_ok-op.op = cc kept in
     absurd (c.if-beats-beat_count.true (cc (spells.count, (spells.each 0 first head).fields.size)))
 
-pub returns-in_err-bytes-clause-all : goal.returns-in_err-bytes-clause-all
-returns-in_err-bytes-clause-all c reply lawful spells =
+pub returns-in_err-check_reply_beats-clause-all : goal.returns-in_err-check_reply_beats-clause-all
+returns-in_err-check_reply_beats-clause-all c reply lawful spells =
     let begun : IsReplyBegun c.args.beats.now c.in_ok-first.first.now c.in_ok-op.op = record {
       head = search rules;
       code = search rules;
       in_limit = c.if-first-gt-LARGEST_SIZE.false;
       count = search rules;
     } in
-    absurd (no_reply c.args.beats.now c.in_ok-first.first.now c.in_ok-op.op c.in_err-bytes.field-0.0 begun c.in_err-bytes.ensures.fault reply c.args.address spells)
+    absurd (no_reply c.args.beats.now c.in_ok-first.first.now c.in_ok-op.op c.in_err-check_reply_beats.field-0.0 begun c.in_err-check_reply_beats.ensures.fault reply c.args.address spells)
 
-pub returns-in_err-bytes-clause-fault : goal.returns-in_err-bytes-clause-fault
-returns-in_err-bytes-clause-fault c =
+pub returns-in_err-check_reply_beats-clause-fault : goal.returns-in_err-check_reply_beats-clause-fault
+returns-in_err-check_reply_beats-clause-fault c =
     let begun : IsReplyBegun c.args.beats.now c.in_ok-first.first.now c.in_ok-op.op = record {
       head = search rules;
       code = search rules;
       in_limit = c.if-first-gt-LARGEST_SIZE.false;
       count = search rules;
     } in
-    let exit = err_from_is_err_and c.from_residual-in_err-bytes.result c.from_residual-in_err-bytes.ensures.1 in
-    rw (exit.1, exit.2) (first_of_reply_beats c.args.beats.now c.in_ok-first.first.now c.in_ok-op.op begun c.in_err-bytes.field-0.0 c.in_err-bytes.ensures.fault)
+    let exit = err_from_is_err_and c.from_residual-in_err-check_reply_beats.result c.from_residual-in_err-check_reply_beats.ensures.1 in
+    rw (exit.1, exit.2) (first_of_reply_beats c.args.beats.now c.in_ok-first.first.now c.in_ok-op.op begun c.in_err-check_reply_beats.field-0.0 c.in_err-check_reply_beats.ensures.fault)
 
 pub from_parts-requires : goal.from_parts-requires
 from_parts-requires c =
     let first = c.in_ok-first.first.now in
     let op = c.in_ok-op.op in
-    let bytes = c.in_ok-bytes.bytes.items in
+    let bytes = c.bytes_of_beats-bytes.result.items in
+    let read = reply_read_from c.args.beats.now first op c.args.address bytes c.in_ok-check_reply_beats.ensures.ok c.bytes_of_beats-bytes.ensures in
     let begun : IsReplyBegun c.args.beats.now first op = record {
       head = search rules;
       code = search rules;
       in_limit = c.if-first-gt-LARGEST_SIZE.false;
       count = search rules;
     } in
-    reply_read_lawful c.args.beats.now first op c.args.address begun bytes c.in_ok-bytes.ensures.ok
+    reply_read_lawful c.args.beats.now first op c.args.address begun bytes read
 
 pub returns-clause-ok : goal.returns-clause-ok
 returns-clause-ok c =
     let first = c.in_ok-first.first.now in
     let op = c.in_ok-op.op in
-    let bytes = c.in_ok-bytes.bytes.items in
+    let bytes = c.bytes_of_beats-bytes.result.items in
+    let read = reply_read_from c.args.beats.now first op c.args.address bytes c.in_ok-check_reply_beats.ensures.ok c.bytes_of_beats-bytes.ensures in
     let begun : IsReplyBegun c.args.beats.now first op = record {
       head = search rules;
       code = search rules;
@@ -78,13 +80,14 @@ returns-clause-ok c =
       count = search rules;
     } in
     let is : c.from_parts.result ≡ read_reply first op bytes = search rules in
-    rw is (reply_read_spells c.args.beats.now first op c.args.address begun bytes c.in_ok-bytes.ensures.ok)
+    rw is (reply_read_spells c.args.beats.now first op c.args.address begun bytes read)
 
 pub returns-clause-all : goal.returns-clause-all
 returns-clause-all c reply lawful spells =
     let first = c.in_ok-first.first.now in
     let op = c.in_ok-op.op in
-    let bytes = c.in_ok-bytes.bytes.items in
+    let bytes = c.bytes_of_beats-bytes.result.items in
+    let read = reply_read_from c.args.beats.now first op c.args.address bytes c.in_ok-check_reply_beats.ensures.ok c.bytes_of_beats-bytes.ensures in
     let begun : IsReplyBegun c.args.beats.now first op = record {
       head = search rules;
       code = search rules;
@@ -92,4 +95,4 @@ returns-clause-all c reply lawful spells =
       count = search rules;
     } in
     let is : c.from_parts.result ≡ read_reply first op bytes = search rules in
-    ap Ok (is ∙ reply_read_only c.args.beats.now first op c.args.address begun bytes c.in_ok-bytes.ensures.ok reply lawful spells)
+    ap Ok (is ∙ reply_read_only c.args.beats.now first op c.args.address begun bytes read reply lawful spells)

@@ -1,0 +1,6 @@
+use Rattle.tl_beats.proofs.Reading.{AreBytesSoFar}
+use Rattle.tl_beats.proofs.ask_assemble.bytes_of_beats.Given as goal
+
+-- the beats so far are read
+abbrev pub invariant-loop-beat : goal.invariant-loop-beat
+invariant-loop-beat l = AreBytesSoFar l.beats l.first l.fn.op l.beat-index l.bytes
