@@ -179,6 +179,20 @@ impl Watch {
         }
     }
 
+    /// The links that are watched.
+    pub fn links(&self) -> Links
+        ensures { result ≡ self.now.layout.links }
+    {
+        self.links
+    }
+
+    /// The wide sources of the masters.
+    pub fn sources(&self) -> &Sources
+        ensures { result.now ≡ self.now.layout.counts }
+    {
+        &self.sources
+    }
+
     /// The side that a link is on.
     fn side(&self, link: Link) -> &Side
         ensures { result.now ≡ side_in self.now (side_of link) }
