@@ -1,5 +1,5 @@
 -- One row of a file more.
-use Rattle.std.proofs.Common.{◌≡◌, ◌∙◌, ℕ, inl, ◌+◌, ◌-◌, ◌%◌, ◌^◌, ◌<◌, ◌≤◌, List, [], ◌∷◌, ◌++◌, reverse, length, All, Contains, refl, sym, ap, subst, arith}
+use Rattle.std.proofs.Common.{◌≡◌, ◌∙◌, ℕ, inl, append-nil, append_assoc, length-append, ◌+◌, ◌-◌, ◌%◌, ◌^◌, ◌<◌, ◌≤◌, List, [], ◌∷◌, ◌++◌, Bool, reverse, length, All, Contains, refl, sym, ap, subst, arith}
 use Rattle.std.specs.List.{AllByRecursion}
 use Rattle.std.specs.List.Sorted.{IsPermutation}
 use Rattle.std.proofs.lemmas.List.{length_push}
@@ -13,29 +13,33 @@ use Rattle.tl_capture.specs.declared.fault.RowFault.{RowFault}
 use Rattle.tl_capture.specs.declared.fault.RowFault.TheVariants as fault
 use Rattle.tl_capture.specs.declared.row.Row.{Row}
 use Rattle.tl_judge.specs.declared.judge.Judge.{Judge}
+use Rattle.tl_judge.specs.declared.stop.Refusal.{Refusal}
+use Rattle.tl_judge.specs.declared.stop.Refusal.TheVariants as refusal
 use Rattle.tl_judge.specs.declared.stop.Unlawful.{Unlawful}
 use Rattle.tl_judge.specs.declared.tally.Tally.{Tally}
-use Rattle.tl_judge.specs.Order.{CrossesBefore, IsCrossing, NeverFalls, HasRowFault, seen}
-use Rattle.tl_judge.specs.View.{Kept, Judges}
-use Rattle.tl_judge.specs.Verdict.{IsLawfulFile, IsFirstUnlawful, StopsAt}
+use Rattle.tl_judge.specs.Order.{CrossesBefore, IsCrossing, IsLater, NeverFalls, HasRowFault, seen}
+use Rattle.tl_judge.specs.Told.{AppendsTold, IsTold}
+use Rattle.tl_judge.specs.View.{HasTold, Judges, Kept, TellsOn, TellsStop, is_traced}
+use Rattle.tl_judge.specs.Verdict.{IsLawfulFile, IsFirstUnlawful, IsStop, IsToldBefore, IsToldEarlier, IsToldFile, IsToldPart, OfUnlawful, StopsAt, StopsTelling, stop_of}
 use Rattle.tl_judge.proofs.Watched.{seen_one, lawful_rest}
 use Rattle.tl_judge.proofs.Ordered.{all_weaker, in_order_rest, in_order_onto, reversed_middle}
 use Rattle.tl_judge.proofs.Unique.{crossing_is_unique}
 
 -- ---- none yet
 
-pub judges_none : (plan : Plan) (judge : Judge) → judge.moment ≡ record { time = 0; rows = [] } → judge.rows ≡ 0 → judge.tally.links ≡ judge.tally.watch.layout.links
+pub judges_none : (plan : Plan) (judge : Judge) → judge.moment ≡ record { time = 0; rows = [] } → judge.rows ≡ 0
     → judge.tally.requests ≡ 0 → judge.tally.answered ≡ 0 → Keeps plan [] judge.tally.watch → Judges plan [] judge
-judges_none plan judge fresh rows links requests answered keeps =
+judges_none plan judge fresh rows requests answered keeps =
     let none : judge.moment.rows ≡ [] = ap (λ (m : Moment). m.rows) fresh in
     let P : List Row → Type 0 = λ l. IsCrossing [] (reverse l ++ []) in
     record {
       before = [];
       crossing = subst P (sym none) (record { same = IsPermutation-refl []; in_order = tt });
+      now = (let All_now : List Row → Type 0 = λ l. AllByRecursion (λ row. row.time ≡ judge.moment.time) l in subst All_now (sym none) tt);
       earlier = tt;
       begun = λ is. ap (λ (m : Moment). m.time) fresh;
       never_falls = IsNonDecreasingBy-short (λ (row : Row). row.time) [] (omega arith);
-      kept = record { links = links ∙ ap (λ l. l.links) keeps.suits.layout; keeps = keeps; requests = requests; answered = answered };
+      kept = record { keeps = keeps; requests = requests; answered = answered };
       rows = rows;
     }
 
@@ -92,26 +96,30 @@ put_same row rows next before same =
     let all = IsPermutation-trans (row ∷ reverse rows) (row ∷ rows) (reverse next) turned_back (IsPermutation-trans (row ∷ rows) next (reverse next) same (IsPermutation-reverse next)) in
     IsPermutation-append (row ∷ reverse rows) (reverse next) before before all (IsPermutation-refl before)
 
-pub judges_now : (plan : Plan) (file : List Row) (row : Row) (old new : Judge) → Judges plan file old → Takes old.moment row new.moment → IsRowMore old new
-    → Judges plan (file ++ row ∷ []) new
+-- the rows of earlier times are the same
+pub judges_now : (plan : Plan) (file : List Row) (row : Row) (old new : Judge) (judges : Judges plan file old) → Takes old.moment row new.moment → IsRowMore old new
+    → (next : Judges plan (file ++ row ∷ []) new) × (next.before ≡ judges.before)
 judges_now plan file row old new judges takes more =
     let earlier : AllByRecursion (λ r. r.time < new.moment.time) judges.before =
-    all_weaker (λ r. r.time < old.moment.time) (λ r. r.time < new.moment.time) (λ r lt. let e = takes.time in omega (arith, lt, e)) judges.before judges.earlier in
-    record {
-      before = judges.before;
-      crossing = record {
-        same = IsPermutation-push_more file (reverse old.moment.rows ++ judges.before) (reverse new.moment.rows ++ judges.before) row judges.crossing.same
-            (put_same row old.moment.rows new.moment.rows judges.before takes.rows);
-        in_order = in_order_onto new.moment.time new.moment.rows judges.before more.moment.in_order more.moment.at_time earlier
-            (in_order_rest (reverse old.moment.rows) judges.before judges.crossing.in_order);
-      };
-      earlier = earlier;
-      begun = λ none. absurd (no_rows_left row old.moment.rows new.moment.rows takes.rows none);
-      never_falls = falls_never file row old.moment.time judges.never_falls
-          (latest old.moment file judges.before more.was judges.crossing.same judges.earlier) (let e = takes.now in omega (arith, e));
-      kept = (let P : Tally → Type 0 = λ t. Kept plan judges.before t in subst P (sym more.tally) judges.kept);
-      rows = row_more file row old.rows new.rows judges.rows more.rows;
-    }
+    all_weaker (λ r. r.time < old.moment.time) (λ r. r.time < new.moment.time) (λ r lt. let e = takes.time in omega (arith, lt, e)) judges.before judges.earlier in (
+      record {
+        before = judges.before;
+        crossing = record {
+          same = IsPermutation-push_more file (reverse old.moment.rows ++ judges.before) (reverse new.moment.rows ++ judges.before) row judges.crossing.same
+              (put_same row old.moment.rows new.moment.rows judges.before takes.rows);
+          in_order = in_order_onto new.moment.time new.moment.rows judges.before more.moment.in_order more.moment.at_time earlier
+              (in_order_rest (reverse old.moment.rows) judges.before judges.crossing.in_order);
+        };
+        now = recursion_from_All (λ r. r.time ≡ new.moment.time) new.moment.rows more.moment.at_time;
+        earlier = earlier;
+        begun = λ none. absurd (no_rows_left row old.moment.rows new.moment.rows takes.rows none);
+        never_falls = falls_never file row old.moment.time judges.never_falls
+            (latest old.moment file judges.before more.was judges.crossing.same judges.earlier) (let e = takes.now in omega (arith, e));
+        kept = (let P : Tally → Type 0 = λ t. Kept plan judges.before t in subst P (sym more.tally) judges.kept);
+        rows = row_more file row old.rows new.rows judges.rows more.rows;
+      },
+      refl,
+    )
 
 -- ---- a row of a later time
 
@@ -128,7 +136,8 @@ later_all moment file before row is same earlier later =
     All-weaker (λ r. r.time ≤ moment.time) (λ r. r.time < row.time) (λ r le. omega (arith, le, later)) file (latest moment file before is same earlier)
 
 pub judges_later : (plan : Plan) (file : List Row) (row : Row) (old new : Judge) (judges : Judges plan file old) → IsLaterRow row old new
-    → Kept plan (reverse old.moment.rows ++ judges.before) new.tally → Judges plan (file ++ row ∷ []) new
+    → Kept plan (reverse old.moment.rows ++ judges.before) new.tally
+    → (next : Judges plan (file ++ row ∷ []) new) × (next.before ≡ reverse old.moment.rows ++ judges.before)
 judges_later plan file row old new judges more kept =
     let crossed : List Row = reverse old.moment.rows ++ judges.before in
     let all_file : All (λ r. r.time < row.time) file = later_all old.moment file judges.before row more.was judges.crossing.same judges.earlier more.later in
@@ -138,19 +147,23 @@ judges_later plan file row old new judges more kept =
     let time_is : new.moment.time ≡ row.time = ap (λ (m : Moment). m.time) more.moment in
     let Crossing : List Row → Type 0 = λ l. IsCrossing (file ++ row ∷ []) (reverse l ++ crossed) in
     let Earlier : ℕ → Type 0 = λ t. AllByRecursion (λ r. r.time < t) crossed in
-    record {
-      before = crossed;
-      crossing = subst Crossing (sym rows_is) (record {
-        same = IsPermutation-push_more file crossed (row ∷ crossed) row judges.crossing.same (IsPermutation-refl (row ∷ crossed));
-        in_order = (all_weaker (λ r. r.time < row.time) (λ r. CrossesBefore r row) (λ r lt. inl lt) crossed all, judges.crossing.in_order);
-      });
-      earlier = subst Earlier (sym time_is) all;
-      begun = λ none. absurd (cc);
-      never_falls = falls_never file row old.moment.time judges.never_falls
-          (latest old.moment file judges.before more.was judges.crossing.same judges.earlier) (let lt = more.later in omega (arith, lt));
-      kept = kept;
-      rows = row_more file row old.rows new.rows judges.rows more.rows;
-    }
+    let Now : List Row → Type 0 = λ l. AllByRecursion (λ r. r.time ≡ new.moment.time) l in (
+      record {
+        before = crossed;
+        crossing = subst Crossing (sym rows_is) (record {
+          same = IsPermutation-push_more file crossed (row ∷ crossed) row judges.crossing.same (IsPermutation-refl (row ∷ crossed));
+          in_order = (all_weaker (λ r. r.time < row.time) (λ r. CrossesBefore r row) (λ r lt. inl lt) crossed all, judges.crossing.in_order);
+        });
+        now = subst Now (sym rows_is) (sym time_is, tt);
+        earlier = subst Earlier (sym time_is) all;
+        begun = λ none. absurd (cc);
+        never_falls = falls_never file row old.moment.time judges.never_falls
+            (latest old.moment file judges.before more.was judges.crossing.same judges.earlier) (let lt = more.later in omega (arith, lt));
+        kept = kept;
+        rows = row_more file row old.rows new.rows judges.rows more.rows;
+      },
+      refl,
+    )
 
 -- ---- a row that is refused
 
@@ -186,17 +199,20 @@ fault_of plan file row judge fault.Channel moment judges has = has
 -- ---- rows that are not lawful
 
 pub first_unlawful : (plan : Plan) (file : List Row) (judge : Judge) (found : Unlawful) (judges : Judges plan file judge)
-    → StopsAt plan judge.moment.rows judges.before found → IsFirstUnlawful plan file found
+    (stops : StopsAt plan judge.moment.rows judges.before found)
+    → (first : IsFirstUnlawful plan file found) × (first.before ≡ reverse stops.done ++ judges.before)
 first_unlawful plan file judge found judges stops =
     let P : List Row → Type 0 = λ l. IsCrossing file l in
     let is : reverse judge.moment.rows ++ judges.before ≡ reverse stops.left ++ (found.row ∷ (reverse stops.done ++ judges.before)) =
-    ap (λ l. reverse l ++ judges.before) stops.are ∙ reversed_middle stops.done stops.left judges.before found.row in
-    record {
-      after = reverse stops.left;
-      before = reverse stops.done ++ judges.before;
-      crossing = subst P is judges.crossing;
-      is = stops.is;
-    }
+    ap (λ l. reverse l ++ judges.before) stops.are ∙ reversed_middle stops.done stops.left judges.before found.row in (
+      record {
+        after = reverse stops.left;
+        before = reverse stops.done ++ judges.before;
+        crossing = subst P is judges.crossing;
+        is = stops.is;
+      },
+      refl,
+    )
 
 -- a file that has such a row is not lawful
 pub not_lawful : (plan : Plan) (file : List Row) (found : Unlawful) → IsFirstUnlawful plan file found → IsLawfulFile plan file → ⊥
@@ -205,3 +221,137 @@ not_lawful plan file found first whole =
     let P : List Row → Type 0 = λ l. IsLawful plan (seen plan.layout l) in
     let rest : IsLawful plan (seen plan.layout (found.row ∷ first.before)) = lawful_rest plan first.after (found.row ∷ first.before) (subst P same whole.lawful) in
     first.is.unlawful (subst (IsLawful plan) (seen_one plan.layout found.row first.before first.is.watched) rest)
+
+-- ---- what is told
+
+none : (rows : List Row) → length rows ≡ 0 → rows ≡ []
+none [] is = refl
+none (row ∷ rows) is = absurd (omega (arith, is))
+
+rest_none : (now before : List Row) → length (now ++ before) ≡ 0 → length before ≡ 0
+rest_none now before is = let both = length-append now before in omega (arith, is, both)
+
+-- of no rows nothing is told
+pub told_none : (plan : Plan) (judge : Judge) → Judges plan [] judge → HasTold plan [] judge []
+told_none plan judge judges =
+    let P : List Row → Type 0 = λ l. IsTold (is_traced judge) plan (seen plan.layout l) [] in
+    record { judges = judges; told = subst P (sym (none judges.before (rest_none (reverse judge.moment.rows) judges.before (length_permutation [] _ judges.crossing.same)))) refl }
+
+told_of : (trace other : Bool) (plan : Plan) (rows others : List Row) (text : List ℕ) → other ≡ trace → others ≡ rows → IsTold trace plan (seen plan.layout rows) text
+    → IsTold other plan (seen plan.layout others) text
+told_of trace other plan rows others text same_trace same_rows is = rw (same_trace, same_rows) is
+
+-- the rows of the moment at hand are told
+pub told_later : (plan : Plan) (file : List Row) (row : Row) (old new : Judge) (so_far now next : List ℕ) (has : HasTold plan file old so_far) → IsLaterRow row old new
+    → Kept plan (reverse old.moment.rows ++ has.judges.before) new.tally → is_traced new ≡ is_traced old
+    → AppendsTold (is_traced old) plan (seen plan.layout has.judges.before) (seen plan.layout (reverse old.moment.rows ++ has.judges.before)) now next
+    → TellsOn plan (file ++ row ∷ []) new so_far now next
+told_later plan file row old new so_far now next has more kept trace told =
+    let judged = judges_later plan file row old new has.judges more kept in
+    record {
+      more = told.more;
+      grown = told.grown;
+      told = record {
+        judges = judged.0;
+        told = told_of (is_traced old) (is_traced new) plan _ _ _ trace judged.1 (told.told so_far has.told);
+      };
+    }
+
+-- a row of the moment's time tells nothing
+pub told_now : (plan : Plan) (file : List Row) (row : Row) (old new : Judge) (so_far text : List ℕ) → HasTold plan file old so_far → Takes old.moment row new.moment → IsRowMore old new
+    → TellsOn plan (file ++ row ∷ []) new so_far text text
+told_now plan file row old new so_far text has takes more =
+    let judged = judges_now plan file row old new has.judges takes more in
+    let trace : is_traced new ≡ is_traced old = ap (λ (t : Tally). t.trace) more.tally in
+    record {
+      more = [];
+      grown = sym (append-nil text);
+      told = record {
+        judges = judged.0;
+        told = told_of (is_traced old) (is_traced new) plan _ _ _ trace judged.1 (subst (λ text. IsTold (is_traced old) plan (seen plan.layout has.judges.before) text) (sym (append-nil so_far)) has.told);
+      };
+    }
+
+-- what is told before the first unlawful row
+pub told_before : (plan : Plan) (file : List Row) (judge : Judge) (found : Unlawful) (so_far now next : List ℕ) (has : HasTold plan file judge so_far)
+    → StopsTelling (is_traced judge) plan judge.moment.rows has.judges.before now next found
+    → (more : List ℕ) × (next ≡ now ++ more) × IsToldBefore (is_traced judge) plan file (so_far ++ more) found
+told_before plan file judge found so_far now next has stops =
+    let first = first_unlawful plan file judge found has.judges stops.stops in
+    (stops.told.more, stops.told.grown, record { first = first.0; told = told_of (is_traced judge) (is_traced judge) plan _ _ _ refl first.1 (stops.told.told so_far has.told) })
+
+-- what is told of a lawful file
+pub told_file : (plan : Plan) (file : List Row) (judge : Judge) (tally : Tally) (so_far now next : List ℕ) (has : HasTold plan file judge so_far)
+    → Kept plan (reverse judge.moment.rows ++ has.judges.before) tally
+    → AppendsTold (is_traced judge) plan (seen plan.layout has.judges.before) (seen plan.layout (reverse judge.moment.rows ++ has.judges.before)) now next
+    → (more : List ℕ) × (next ≡ now ++ more) × IsToldFile (is_traced judge) plan file (so_far ++ more)
+told_file plan file judge tally so_far now next has kept told = (
+  told.more,
+  told.grown,
+  record {
+    lawful = record { crossed = reverse judge.moment.rows ++ has.judges.before; crossing = has.judges.crossing; lawful = kept.keeps.lawful };
+    told = told.told so_far has.told;
+  },
+)
+
+-- rows that are refused, but not for want of memory, are not lawful
+pub refused_is_not_lawful : (plan : Plan) (file : List Row) (why : Refusal) → OfUnlawful (IsFirstUnlawful plan file) why → (why ≡ refusal.Memory → ⊥) → IsLawfulFile plan file → ⊥
+refused_is_not_lawful plan file (refusal.Unlawful found) first other lawful = not_lawful plan file found first lawful
+refused_is_not_lawful plan file refusal.Memory first other lawful = other refl
+
+-- what becomes of a row of a later time where those before it are refused, and what is told then
+pub stops_so : (plan : Plan) (file : List Row) (row : Row) (why : Refusal) → IsLater file row → OfUnlawful (IsFirstUnlawful plan file) why → IsStop plan file row (stop_of why)
+stops_so plan file row (refusal.Unlawful found) later first = (later, first)
+stops_so plan file row refusal.Memory later first = later
+
+pub tells_so : (trace : Bool) (plan : Plan) (file : List Row) (so_far now next : List ℕ) (why : Refusal)
+    → OfUnlawful (λ found. (more : List ℕ) × (next ≡ now ++ more) × IsToldBefore trace plan file (so_far ++ more) found) why
+    → TellsStop trace plan file so_far now next (stop_of why)
+tells_so trace plan file so_far now next (refusal.Unlawful found) told = told
+tells_so trace plan file so_far now next refusal.Memory told = tt
+
+-- ---- parts of a file
+
+all_turned : (P : Row → Type 0) (rows : List Row) → AllByRecursion P rows → AllByRecursion P (reverse rows)
+all_turned P rows all = recursion_from_All P (reverse rows) (turned rows P (All-from_recursion P rows all))
+
+no_earlier : (time : ℕ) (rows : List Row) → time ≡ 0 → AllByRecursion (λ row. row.time < time) rows → rows ≡ []
+no_earlier time [] is all = refl
+no_earlier time (row ∷ rows) is all = let lt = all.0 in absurd (omega (arith, is, lt))
+
+turned_none : (rows : List Row) → reverse rows ≡ [] → rows ≡ []
+turned_none rows is = none rows (let long = length_permutation rows (reverse rows) (IsPermutation-reverse rows) in let short = ap length is in omega (arith, long, short))
+
+-- what a judge has told is told of the rows of earlier times
+pub told_earlier : (plan : Plan) (file : List Row) (judge : Judge) (text : List ℕ) → HasTold plan file judge text → IsToldEarlier (is_traced judge) plan file text
+told_earlier plan file judge text has = record {
+  time = judge.moment.time;
+  part = record {
+    after = reverse judge.moment.rows;
+    before = has.judges.before;
+    crossing = has.judges.crossing;
+    lawful = has.judges.kept.keeps.lawful;
+    told = has.told;
+  };
+  now = all_turned (λ row. row.time ≡ judge.moment.time) judge.moment.rows has.judges.now;
+  earlier = has.judges.earlier;
+  none = λ is. no_earlier judge.moment.time has.judges.before (has.judges.begun (turned_none judge.moment.rows is)) has.judges.earlier;
+}
+
+pub part_of_file : (trace : Bool) (plan : Plan) (file : List Row) (text : List ℕ) → IsToldFile trace plan file text → IsToldPart trace plan file text
+part_of_file trace plan file text told = record {
+  after = [];
+  before = told.lawful.crossed;
+  crossing = told.lawful.crossing;
+  lawful = told.lawful.lawful;
+  told = told.told;
+}
+
+pub part_before : (trace : Bool) (plan : Plan) (file : List Row) (text : List ℕ) (found : Unlawful) → IsToldBefore trace plan file text found → IsToldPart trace plan file text
+part_before trace plan file text found told = record {
+  after = told.first.after ++ found.row ∷ [];
+  before = told.first.before;
+  crossing = subst (IsCrossing file) (sym (append_assoc told.first.after (found.row ∷ []) told.first.before)) told.first.crossing;
+  lawful = told.first.is.lawful;
+  told = told.told;
+}

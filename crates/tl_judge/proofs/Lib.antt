@@ -1,5 +1,6 @@
 pub mod Watched
 pub mod Ordered
 pub mod Unique
+pub mod Telling
 pub mod Keeping
 pub mod Judging

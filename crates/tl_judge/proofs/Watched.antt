@@ -26,7 +26,7 @@ port_watched Both p count = ((λ h. (below p count h, tt)), λ h. is_below p cou
 port_watched Masters p count = ((λ h. absurd (cc)), λ h. absurd h.1)
 port_watched Ports p count = ((λ h. (below p count h, tt)), λ h. is_below p count h.0)
 
-watched_is : (layout : Layout) (link : Link) → IsTrue (is_watched layout link) ↔ (HasLink layout link × IsWatched layout.links link)
+pub watched_is : (layout : Layout) (link : Link) → IsTrue (is_watched layout link) ↔ (HasLink layout link × IsWatched layout.links link)
 watched_is layout (Master m) = master_watched layout.links m (length layout.counts)
 watched_is layout (Port p) = port_watched layout.links p (length layout.ranges)
 

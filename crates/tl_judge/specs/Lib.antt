@@ -1,6 +1,6 @@
 pub mod Order
 pub mod Count
-pub mod View
-pub mod Verdict
-pub mod Text
 pub mod Told
+pub mod Verdict
+pub mod View
+pub mod Text

@@ -6,10 +6,14 @@
 //! rows in crossing order are lawful at the links that are watched, or [`Unlawful`] is the first one that makes them unlawful,
 //! with its first fault. Of a judge that has answered an error nothing is promised: it must not be used again.
 //!
+//! If replies are traced, what is told of rows is appended to a text as they are judged: a line for each whole reply that is
+//! counted, in the order in which the replies end (`specs/Told.antt`).
+//!
 //! Read on in `docs/CAPTURE.md`, and in `docs/MODEL.md`, "Traces of others".
 #![tactic(auto)]
 
 mod judge;
+pub mod laws;
 mod stop;
 mod tally;
 #[cfg(test)]
@@ -18,6 +22,5 @@ mod text;
 mod trace;
 
 pub use judge::Judge;
-pub use stop::{Counts, Stop, Unlawful};
+pub use stop::{Counts, Refusal, Stop, Unlawful};
 pub use text::{kind_words, push_lawful, push_no_capture, push_unlawful};
-pub use trace::push_answer;

@@ -1,4 +1,7 @@
 //! How the rows of a capture end.
+ghost use Rattle.std.specs.Prelude.{◌≡◌};
+ghost use Rattle.tl_judge.specs.Verdict.{stop_of};
+
 use tl_capture::{Row, RowFault};
 use tl_watch::Fault;
 
@@ -17,6 +20,14 @@ pub struct Unlawful {
     pub fault: Fault,
 }
 
+/// Why rows are refused as they are judged.
+#[derive(Debug, Drop)]
+pub enum Refusal {
+    Unlawful(Unlawful),
+    /// There was no memory for what is told of them.
+    Memory,
+}
+
 /// Why a row is not taken.
 #[derive(Debug, Drop)]
 pub enum Stop {
@@ -24,4 +35,16 @@ pub enum Stop {
     Row(RowFault),
     /// It is of a later time, and the rows before it are not lawful.
     Beat(Unlawful),
+    /// It is of a later time, and there was no memory for what is told of the rows before it.
+    Memory,
+}
+
+/// What becomes of a row where those before it are refused.
+pub(crate) fn stop_of(refusal: Refusal) -> Stop
+    ensures { result ≡ stop_of refusal }
+{
+    match refusal {
+        Refusal::Unlawful(found) => Stop::Beat(found),
+        Refusal::Memory => Stop::Memory,
+    }
 }

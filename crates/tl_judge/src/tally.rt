@@ -1,14 +1,18 @@
 //! Beats judged in the order in which they cross, and what they end, counted.
 ghost use Rattle.std.specs.Prelude.{◌≡◌, ◌&&◌, List, ◌∷◌, ◌++◌, reverse, OnOk, IfErr};
-ghost use Rattle.tl_watch.specs.Plan.{Plan};
+ghost use Rattle.tl_watch.specs.Plan.{Plan, HasSource, source_of};
 ghost use Rattle.tl_capture.specs.declared.row.Row.{Row};
 ghost use Rattle.tl_judge.specs.Count.{is_counted, is_whole_ask, is_whole_reply, one_more};
+ghost use Rattle.tl_judge.specs.Order.{seen};
+ghost use Rattle.tl_judge.specs.Told.{AppendsTold, AppendsToldOf};
 ghost use Rattle.tl_judge.specs.View.{Kept};
-ghost use Rattle.tl_judge.specs.Verdict.{IsUnlawfulAfter, StopsAt};
+ghost use Rattle.tl_judge.specs.Verdict.{IsUnlawfulAfter, OfUnlawful, StopsTelling};
 
-use crate::stop::Unlawful;
+use crate::stop::{Refusal, Unlawful};
+use crate::trace::{push_answer, source_of};
+use std::alloc::AllocError;
 use tl_capture::Row;
-use tl_link::Link;
+use tl_link::{Link, Sighting};
 use tl_watch::{Links, Seen, Watch};
 
 /// Whether messages are counted at a link: at the masters' where these are watched, else at the ports'.
@@ -24,8 +28,9 @@ fn is_counted(links: Links, link: Link) -> bool
 /// The judge of beats in the order in which they cross, with how many whole requests and replies it has seen.
 #[derive(Drop)]
 pub struct Tally {
-    pub links: Links,
     pub watch: Watch,
+    /// Whether replies are told.
+    pub trace: bool,
     pub requests: u64,
     pub answered: u64,
 }
@@ -33,14 +38,16 @@ pub struct Tally {
 impl Tally {
     /// Counts what a beat ends at a link.
     fn count(&mut self, link: Link, seen: &Seen)
-        ensures links { self.new.links ≡ self.old.links }
         ensures watch { self.new.watch ≡ self.old.watch }
+        ensures trace { self.new.trace ≡ self.old.trace }
         ensures requests { self.new.requests
-            ≡ one_more (is_counted self.old.links link && is_whole_ask seen.now) self.old.requests }
+            ≡ one_more (is_counted self.old.watch.layout.links link && is_whole_ask seen.now)
+            self.old.requests }
         ensures answered { self.new.answered
-            ≡ one_more (is_counted self.old.links link && is_whole_reply seen.now) self.old.answered }
+            ≡ one_more (is_counted self.old.watch.layout.links link && is_whole_reply seen.now)
+            self.old.answered }
     {
-        if !is_counted(self.links, link) {
+        if !is_counted(self.watch.links(), link) {
             return;
         }
         match seen {
@@ -50,37 +57,71 @@ impl Tally {
         }
     }
 
-    /// Judges the beat of a row behind those before it, if its link is watched.
-    fn judge_row(&mut self, row: &Row) -> Result<(), Unlawful>
+    /// Appends what is told of a beat that ends this.
+    fn tell(&self, sighting: &Sighting, seen: &Seen, text: &mut Vec<u8>) -> Result<(), AllocError>
+        ensures { HasSource self.now.watch.layout sighting.now.link (source_of sighting.now.beat)
+            → OnOk result (AppendsToldOf
+            (self.now.trace && is_counted self.now.watch.layout.links sighting.now.link)
+            self.now.watch.layout.counts sighting.now.link (source_of sighting.now.beat) seen.now
+            text.old.items text.new.items) }
+    {
+        let link = sighting.link;
+        if !self.trace || !is_counted(self.watch.links(), link) {
+            return Ok(());
+        }
+        match seen {
+            Seen::Part | Seen::WholeAsk => Ok(()),
+            Seen::WholeReply(entry) => {
+                let source = source_of(&sighting.beat);
+                push_answer(text, self.watch.sources(), link, source, entry)
+            }
+        }
+    }
+
+    /// Judges the beat of a row behind those before it, if its link is watched, and appends what is told of it.
+    fn judge_row(&mut self, row: &Row, text: &mut Vec<u8>) -> Result<(), Refusal>
+        ensures trace { self.new.trace ≡ self.old.trace }
         ensures keeps { (plan : Plan) (before : List Row) → Kept plan before self.old
             → OnOk result (Kept plan (row.now ∷ before) self.new) }
+        ensures told { (plan : Plan) (before : List Row) → Kept plan before self.old
+            → OnOk result (AppendsTold self.old.trace plan (seen plan.layout before)
+            (seen plan.layout (row.now ∷ before)) text.old.items text.new.items) }
         ensures fault { (plan : Plan) (before : List Row) → Kept plan before self.old
-            → IfErr result (IsUnlawfulAfter plan before) }
-        ensures row { IfErr result (λ found. found.row ≡ row.now) }
+            → IfErr result (OfUnlawful (IsUnlawfulAfter plan before)) }
+        ensures row { IfErr result (OfUnlawful (λ found. found.row ≡ row.now)) }
+        ensures quiet { IfErr result (OfUnlawful (λ _. text.new.items ≡ text.old.items)) }
     {
         let link = row.sighting.link;
         if !self.watch.watches(link) {
             return Ok(());
         }
-        match self.watch.step(&row.sighting) {
-            Ok(seen) => {
-                self.count(link, &seen);
-                Ok(())
-            }
-            Err(fault) => Err(Unlawful { row: *row, fault }),
+        let seen = match self.watch.step(&row.sighting) {
+            Ok(seen) => seen,
+            Err(fault) => return Err(Refusal::Unlawful(Unlawful { row: *row, fault })),
+        };
+        self.count(link, &seen);
+        match self.tell(&row.sighting, &seen, text) {
+            Ok(()) => Ok(()),
+            Err(_) => Err(Refusal::Memory),
         }
     }
 
-    /// Judges the beats of rows that cross in this order behind those before them, up to the first that is not lawful.
-    pub fn judge_rows(&mut self, rows: &[Row]) -> Result<(), Unlawful>
+    /// Judges the beats of rows that cross in this order behind those before them, up to the first that is not lawful, and
+    /// appends what is told of them.
+    pub fn judge_rows(&mut self, rows: &[Row], text: &mut Vec<u8>) -> Result<(), Refusal>
+        ensures trace { self.new.trace ≡ self.old.trace }
         ensures keeps { (plan : Plan) (before : List Row) → Kept plan before self.old
             → OnOk result (Kept plan (reverse rows.now ++ before) self.new) }
+        ensures told { (plan : Plan) (before : List Row) → Kept plan before self.old
+            → OnOk result (AppendsTold self.old.trace plan (seen plan.layout before)
+            (seen plan.layout (reverse rows.now ++ before)) text.old.items text.new.items) }
         ensures fault { (plan : Plan) (before : List Row) → Kept plan before self.old
-            → IfErr result (StopsAt plan rows.now before) }
+            → IfErr result (OfUnlawful (StopsTelling self.old.trace plan rows.now before
+            text.old.items text.new.items)) }
     {
         for row in rows {
-            if let Err(found) = self.judge_row(row) {
-                return Err(found);
+            if let Err(refusal) = self.judge_row(row, text) {
+                return Err(refusal);
             }
         }
         Ok(())

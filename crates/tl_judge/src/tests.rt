@@ -14,7 +14,7 @@ use tl_ops::{Bank, Kind};
 use tl_types::{MAX_MASTERS, MAX_PORTS};
 use tl_watch::{Fault, Links, Order, Watch};
 
-fn judge(alloc: Global, links: Links) -> Result<Judge, Fail> {
+fn judge(alloc: Global, links: Links, trace: bool) -> Result<Judge, Fail> {
     let ranges = [
         Range {
             base: 0x1000,
@@ -41,7 +41,7 @@ fn judge(alloc: Global, links: Links) -> Result<Judge, Fail> {
         return Err(Fail::from("a bank for each port"));
     }
     let watch = Watch::new(alloc, links, Order::Accept, map, sources, banks)?;
-    Ok(Judge::new(watch, links))
+    Ok(Judge::new(watch, trace))
 }
 
 /// The row of this line, which has no quotes.
@@ -54,10 +54,10 @@ fn read(alloc: Global, line: u64, text: &str) -> Result<Result<Row, RowFault>, A
 }
 
 /// Takes a row, where some system has its link.
-fn take(judge: &mut Judge, row: Row) -> Result<(), Stop> {
+fn take(judge: &mut Judge, row: Row, text: &mut Vec<u8>) -> Result<(), Stop> {
     match row.sighting.link {
-        Link::Master(number) if number < MAX_MASTERS => judge.take(row),
-        Link::Port(number) if number < MAX_PORTS => judge.take(row),
+        Link::Master(number) if number < MAX_MASTERS => judge.take(row, text),
+        Link::Port(number) if number < MAX_PORTS => judge.take(row, text),
         _ => Err(Stop::Row(RowFault::Link)),
     }
 }
@@ -68,21 +68,22 @@ fn read_and_take(
     judge: &mut Judge,
     line: u64,
     columns: &str,
+    text: &mut Vec<u8>,
 ) -> Result<Result<(), Stop>, AllocError> {
     match read(alloc, line, columns)? {
-        Ok(row) => Ok(take(judge, row)),
+        Ok(row) => Ok(take(judge, row, text)),
         Err(fault) => Ok(Err(Stop::Row(fault))),
     }
 }
 
 /// What is written of a capture with these rows behind its header.
-fn verdict(alloc: Global, links: Links, rows: &[&str]) -> Result<Vec<u8>, Fail> {
-    let mut judge = judge(alloc, links)?;
+fn verdict(alloc: Global, links: Links, trace: bool, rows: &[&str]) -> Result<Vec<u8>, Fail> {
+    let mut judge = judge(alloc, links, trace)?;
     let mut text = Vec::new(alloc);
     let mut line = 1u64;
     for columns in rows {
         line = line.wrapping_add(1);
-        match read_and_take(alloc, &mut judge, line, columns)? {
+        match read_and_take(alloc, &mut judge, line, columns, &mut text)? {
             Ok(()) => {}
             Err(Stop::Row(fault)) => {
                 push_no_capture(&mut text, line, kind_words(fault))?;
@@ -92,19 +93,26 @@ fn verdict(alloc: Global, links: Links, rows: &[&str]) -> Result<Vec<u8>, Fail> 
                 push_unlawful(&mut text, &found)?;
                 return Ok(text);
             }
+            Err(Stop::Memory) => return Err(Fail::from("memory refused")),
         }
     }
-    match judge.end() {
+    match judge.end(&mut text) {
         Ok(counts) => push_lawful(&mut text, &counts)?,
-        Err(found) => push_unlawful(&mut text, &found)?,
+        Err(Refusal::Unlawful(found)) => push_unlawful(&mut text, &found)?,
+        Err(Refusal::Memory) => return Err(Fail::from("memory refused")),
     }
     Ok(text)
 }
 
 /// Whether the verdicts on some captures are these.
-fn are_verdicts(alloc: Global, links: Links, captures: &[(&[&str], &str)]) -> Result<bool, Fail> {
+fn are_verdicts(
+    alloc: Global,
+    links: Links,
+    trace: bool,
+    captures: &[(&[&str], &str)],
+) -> Result<bool, Fail> {
     for (rows, line) in captures {
-        let text = verdict(alloc, links, rows)?;
+        let text = verdict(alloc, links, trace, rows)?;
         if text.as_slice() != line.as_bytes() {
             return Ok(false);
         }
@@ -154,7 +162,10 @@ fn both_sides_are_watched(rt: HostRuntime) -> Result<(), Fail> {
             "unlawful: line 3, time 7, m1 A: no such source\n",
         ),
     ];
-    assert!(rt; are_verdicts(rt.alloc(), Links::Both, &captures)?, "both");
+    assert!(rt;
+        are_verdicts(rt.alloc(), Links::Both, false, &captures)?,
+        "both"
+    );
     Ok(())
 }
 
@@ -164,7 +175,7 @@ fn one_side_is_watched(rt: HostRuntime) -> Result<(), Fail> {
     let rows: &[&str] = &[ASK, ASK_AT_PORT, WRONG_REPLY, REPLY];
     let masters: [(&[&str], &str); 1] = [(rows, "lawful: 4 rows, 1 requests, 1 answered\n")];
     assert!(rt;
-        are_verdicts(rt.alloc(), Links::Masters, &masters)?,
+        are_verdicts(rt.alloc(), Links::Masters, false, &masters)?,
         "masters"
     );
     let ports: [(&[&str], &str); 2] = [
@@ -177,7 +188,90 @@ fn one_side_is_watched(rt: HostRuntime) -> Result<(), Fail> {
             "lawful: 2 rows, 1 requests, 0 answered\n",
         ),
     ];
-    assert!(rt; are_verdicts(rt.alloc(), Links::Ports, &ports)?, "ports");
+    assert!(rt;
+        are_verdicts(rt.alloc(), Links::Ports, false, &ports)?,
+        "ports"
+    );
+    Ok(())
+}
+
+#[test]
+fn replies_are_told_as_they_end(rt: HostRuntime) -> Result<(), Fail> {
+    let again = "14,m0,A,4,0,2,3,1000,0f,,,";
+    let both: [(&[&str], &str); 5] = [
+        (
+            &[ASK, ASK_AT_PORT, REPLY_AT_PORT, REPLY],
+            "m0 s3 get 0x1000 2 -> AccessAckData 00112233 p0 #0\n\
+             lawful: 4 rows, 1 requests, 1 answered\n",
+        ),
+        // what a port gives is not told where its master is watched
+        (
+            &[ASK, ASK_AT_PORT, REPLY_AT_PORT],
+            "lawful: 3 rows, 1 requests, 0 answered\n",
+        ),
+        (
+            &[
+                ASK,
+                ASK_AT_PORT,
+                REPLY_AT_PORT,
+                REPLY,
+                "14,m0,D,1,,2,3,,,,0,0",
+            ],
+            "m0 s3 get 0x1000 2 -> AccessAckData 00112233 p0 #0\n\
+             unlawful: line 6, time 14, m0 D: reply without request\n",
+        ),
+        // rows of the time at hand are not told before a row that is none
+        (
+            &[
+                ASK,
+                ASK_AT_PORT,
+                REPLY_AT_PORT,
+                REPLY,
+                "9,m0,A,4,0,2,3,1000,0f,,,",
+            ],
+            "capture: line 6: time falls\n",
+        ),
+        (
+            &[ASK, ASK_AT_PORT, REPLY_AT_PORT, REPLY, again, again],
+            "m0 s3 get 0x1000 2 -> AccessAckData 00112233 p0 #0\n\
+             capture: line 7: two beats at one time\n",
+        ),
+    ];
+    assert!(rt; are_verdicts(rt.alloc(), Links::Both, true, &both)?, "both");
+    Ok(())
+}
+
+#[test]
+fn replies_are_told_at_one_side(rt: HostRuntime) -> Result<(), Fail> {
+    // of one time those of master 0 come first, whatever the order of the rows
+    let masters: [(&[&str], &str); 1] = [(
+        &[
+            "10,m0,A,4,0,2,0,1000,0f,,,",
+            "10,m1,A,4,0,2,1,2000,0f,,,",
+            "12,m1,D,1,,2,1,,,xxxxxxxx04030201,0,0",
+            "12,m0,D,1,,2,0,,,xxxxxxxx33221100,0,0",
+        ],
+        "m0 s0 get 0x1000 2 -> AccessAckData 00112233 p0 #0\n\
+         m1 s1 get 0x2000 2 -> AccessAckData 01020304 p1 #0\n\
+         lawful: 4 rows, 2 requests, 2 answered\n",
+    )];
+    assert!(rt;
+        are_verdicts(rt.alloc(), Links::Masters, true, &masters)?,
+        "masters"
+    );
+    // wide source 6 is source 2 of master 1
+    let ports: [(&[&str], &str); 1] = [(
+        &[
+            "10,p0,A,4,0,2,6,1000,0f,,,",
+            "11,p0,D,1,,2,6,,,0000000033221100,0,0",
+        ],
+        "m1 s2 get 0x1000 2 -> AccessAckData 00112233 p0 #0\n\
+         lawful: 2 rows, 1 requests, 1 answered\n",
+    )];
+    assert!(rt;
+        are_verdicts(rt.alloc(), Links::Ports, true, &ports)?,
+        "ports"
+    );
     Ok(())
 }
 
@@ -202,7 +296,10 @@ fn kinds_are_spelled(rt: HostRuntime) -> Result<(), Fail> {
             "capture: line 2: bad number\n",
         ),
     ];
-    assert!(rt; are_verdicts(rt.alloc(), Links::Both, &captures)?, "kinds");
+    assert!(rt;
+        are_verdicts(rt.alloc(), Links::Both, false, &captures)?,
+        "kinds"
+    );
     Ok(())
 }
 

@@ -1,15 +1,26 @@
 //! The line of a reply that was seen at a link.
-ghost use Rattle.std.specs.Prelude.{◌≡◌, ◌++◌, ℕ, List, OnOk};
-ghost use Rattle.tl_judge.specs.Told.{IsLine};
+ghost use Rattle.std.specs.Prelude.{◌≡◌, OnOk};
+ghost use Rattle.tl_judge.specs.Told.{AppendsLine};
+ghost use Rattle.tl_watch.specs.Plan.{source_of};
 
 use std::alloc::AllocError;
-use tl_link::Link;
+use tl_link::{Beat, Link};
 use tl_map::Sources;
 use tl_script::push_entry;
 use tl_types::Entry;
 
+/// The source of a beat.
+pub fn source_of(beat: &Beat) -> u16
+    ensures { result ≡ source_of beat.now }
+{
+    match beat {
+        Beat::A(beat) => beat.source,
+        Beat::D(beat) => beat.source,
+    }
+}
+
 /// Appends the line of an entry whose reply was seen at a link, to this source of the link, as a trace has it. At a port's link
-/// that is a wide source, and the line has its master and the master's own source.
+/// that is a wide source, and the line has its master and the master's own source; where nobody has the source, there is none.
 pub fn push_answer(
     text: &mut Vec<u8>,
     sources: &Sources,
@@ -17,10 +28,8 @@ pub fn push_answer(
     source: u16,
     entry: &Entry,
 ) -> Result<(), AllocError>
-    ensures { OnOk result
-        ((line : List ℕ)
-        × (text.new.items ≡ text.old.items ++ line)
-        × IsLine sources.now link source entry.now line) }
+    ensures { OnOk result (AppendsLine sources.now link source entry.now
+        text.old.items text.new.items) }
 {
     match link {
         Link::Master(master) => push_entry(

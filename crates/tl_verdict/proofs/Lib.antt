@@ -1,2 +1,4 @@
 mod HeaderLemmas
+mod OutLemmas
 mod Taking
+mod Answering

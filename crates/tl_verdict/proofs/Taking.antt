@@ -1,31 +1,28 @@
 -- One row after another, and what they come to.
-use Rattle.std.proofs.Common.{◌≡◌, ℕ, ◌⊎◌, inl, inr, true, false, List, [], ◌∷◌, ◌++◌, Option, Some, None, Err, IfSome, option_map, refl, sym, subst}
-use Rattle.std.specs.Io.KnownBytes.{Keeps}
-use Rattle.csv.specs.Reading.{strip_bom}
+use Rattle.std.proofs.Common.{◌≡◌, ◌∙◌, ℕ, inl, inr, true, false, List, [], ◌∷◌, ◌++◌, Option, Some, None, Err, IfSome, refl, sym, subst}
 use Rattle.tl_capture.specs.declared.row.Row.{Row}
 use Rattle.tl_capture.specs.Row.{row_of}
 use Rattle.tl_capture.specs.declared.fault.RowFault.{RowFault}
 use Rattle.tl_judge.specs.Order.{HasRowFault, IsLater}
-use Rattle.tl_judge.specs.Verdict.{HasCounts, IsFirstUnlawful, IsLawfulFile}
-use Rattle.tl_judge.specs.View.{Judges}
+use Rattle.tl_judge.specs.Verdict.{IsFirstUnlawful, IsToldBefore, IsToldEarlier, IsToldPart}
+use Rattle.tl_judge.specs.View.{HasTold, Judges, is_traced}
 use Rattle.tl_judge.specs.declared.judge.Judge.{Judge}
-use Rattle.tl_judge.specs.declared.stop.Counts.{Counts}
 use Rattle.tl_judge.specs.declared.stop.Unlawful.{Unlawful}
-use Rattle.tl_records.specs.Reading.{StopsLong}
+use Rattle.tl_judge.proofs.Judging.{told_earlier, told_none}
 use Rattle.tl_records.specs.Source.{Between, Left}
-use Rattle.tl_records.specs.Text.{Gives, IsTooLong, Place, Reads, start_of}
+use Rattle.tl_records.specs.Text.{Gives, IsTooLong, Place, Reads}
 use Rattle.tl_records.specs.Text.{Row as Record}
 use Rattle.tl_records.proofs.Chain.{reads-more}
 use Rattle.tl_records.proofs.KnownLemmas.{between-trans}
+use Rattle.tl_streams.specs.Streams.{AppendsFront}
 use Rattle.tl_watch.specs.Plan.{Plan}
-use Rattle.tl_verdict.specs.Capture.{HasHeader, HasHeaderFault, HasNoHeader, IsFault, IsVerdict}
-use Rattle.tl_verdict.specs.Rows.{AllTaken, GivesRow, HasNoRow, HasRows, IsUnlawfulBefore, OfRows, SpellAll, Spells, StopsAfter, StopsAt, TakesNext, Took, TookRows}
-use Rattle.tl_verdict.specs.declared.fault.CaptureFault.{CaptureFault}
+use Rattle.tl_verdict.specs.Out.{Moves, WritesFront}
+use Rattle.tl_verdict.specs.Rows.{AllTaken, GivesRow, HasNoRow, HasRows, IsJudged, IsJudgedAt, IsUnlawfulBefore, SpellAll, Spells, StopsAt, TakesNext, TellsBefore, Took, TookRows, answer_of}
 use Rattle.tl_verdict.specs.declared.fault.CaptureFault.TheVariants as fault
-use Rattle.tl_verdict.specs.declared.fault.Verdict.TheVariants as verdict
 use Rattle.tl_verdict.specs.declared.rows.Halt.{Halt}
 use Rattle.tl_verdict.specs.declared.rows.Halt.TheVariants as halt
 use Rattle.tl_verdict.specs.declared.rows.Sizes.{Sizes}
+use Rattle.tl_verdict.proofs.OutLemmas.{wrote_as, wrote_front, wrote_more, wrote_moved, wrote_none, wrote_so_far}
 
 spell_more : (sizes : Sizes) (records : List Record) (rows : List Row) (r : Record) (row : Row) → SpellAll sizes records rows → Spells sizes r row
     → SpellAll sizes (records ++ r ∷ []) (rows ++ row ∷ [])
@@ -54,10 +51,8 @@ between_same a P all = go a.text
     go None = tt
     go (Some text) = all (record { line = a.line; text = text })
 
--- ---- one row
-
 -- what follows from a relation between two places
-between_map : (a b : Left) (P Q : Place → Place → Type 0) → ((x y : Place) → P x y → Q x y) → Between a b P → Between a b Q
+pub between_map : (a b : Left) (P Q : Place → Place → Type 0) → ((x y : Place) → P x y → Q x y) → Between a b P → Between a b Q
 between_map a b P Q maps holds = go a.text b.text holds
   where
     go : (from to : Option (List ℕ)) → Between (record { line = a.line; text = from }) (record { line = b.line; text = to }) P
@@ -66,86 +61,8 @@ between_map a b P Q maps holds = go a.text b.text holds
     go (Some from) None holds = absurd holds
     go (Some from) (Some to) holds = maps (record { line = a.line; text = from }) (record { line = b.line; text = to }) holds
 
-module _ (sizes : Sizes) (r : Record) (row : Row) (spells : Spells sizes r row) (a b : Left) (gives : Between a b (λ from to. Gives from r to)) where
-  pub row_taken : (old new : Judge) → Took old row new → Between a b (TakesNext sizes old new true)
-  row_taken old new took =
-      between_map a b (λ from to. Gives from r to) (TakesNext sizes old new true) (λ x y g. (row, record { next = r; gives = g; spells = spells }, took)) gives
-
-  pub row_refused : (judge : Judge) (why : RowFault) → ((plan : Plan) (rows : List Row) → Judges plan rows judge → HasRowFault rows row why)
-      → StopsAt sizes judge a b (halt.Fault (fault.Row r.line why))
-  row_refused judge why refused =
-      between_map a b (λ from to. Gives from r to)
-      (λ from to. (plan : Plan) (rows : List Row) → Judges plan rows judge → HasNoRow sizes rows r.line why from to)
-      (λ x y g plan rows judges. record { next = r; gives = g; on_line = refl; no_row = inr (row, spells, refused plan rows judges) }) gives
-
-  pub row_unlawful : (judge : Judge) (found : Unlawful) → ((plan : Plan) (rows : List Row) → Judges plan rows judge → IsLater rows row × IsFirstUnlawful plan rows found)
-      → StopsAt sizes judge a b (halt.Unlawful found)
-  row_unlawful judge found unlawful =
-      between_map a b (λ from to. Gives from r to)
-      (λ from to. (plan : Plan) (rows : List Row) → Judges plan rows judge → IsUnlawfulBefore plan sizes rows found from to)
-      (λ x y g plan rows judges. let both = unlawful plan rows judges in record {
-        row = row;
-        next = record { next = r; gives = g; spells = spells };
-        later = both.0;
-        first = both.1;
-      }) gives
-
--- a record that spells no row
-pub no_row : (sizes : Sizes) (r : Record) (why : RowFault) (a b : Left) (judge : Judge) → Between a b (λ from to. Gives from r to)
-    → row_of sizes.masters sizes.ports r.line r.fields ≡ Err why → StopsAt sizes judge a b (halt.Fault (fault.Row r.line why))
-no_row sizes r why a b judge gives is =
-    between_map a b (λ from to. Gives from r to)
-    (λ from to. (plan : Plan) (rows : List Row) → Judges plan rows judge → HasNoRow sizes rows r.line why from to)
-    (λ x y g plan rows judges. record { next = r; gives = g; on_line = refl; no_row = inl is }) gives
-
--- ---- the loop
-
-module _ (sizes : Sizes) (first : Judge) where
-  pub took_none : (a : Left) → Between a a (TookRows sizes first first)
-  took_none a = between_same a (TookRows sizes first first) (λ x. record { rows = []; has = no_rows sizes x; judged = λ plan start. start })
-
-  pub took_more : (now next : Judge) (a b c : Left) → Between a b (TookRows sizes first now) → Between b c (TakesNext sizes now next true)
-      → Between a c (TookRows sizes first next)
-  took_more now next a b c so_far one =
-      between-trans a b c (TookRows sizes first now) (TakesNext sizes now next true) (TookRows sizes first next) (λ x y z took more. record {
-        rows = took.rows ++ more.0 ∷ [];
-        has = rows_more sizes took.rows more.0 x y z took.has more.1;
-        judged = λ plan start. more.2 plan took.rows (took.judged plan start);
-      }) so_far one
-
-  pub took_all : (now next : Judge) (a b c : Left) → Between a b (TookRows sizes first now) → Between b c (TakesNext sizes now next false)
-      → Between a c (AllTaken sizes first next)
-  took_all now next a b c so_far none =
-      between-trans a b c (TookRows sizes first now) (TakesNext sizes now next false) (AllTaken sizes first next)
-      (λ x y z took ends. (y, subst (λ (j : Judge). TookRows sizes first j x y) (sym ends.1) took, ends.0)) so_far none
-
-  pub halts : (now : Judge) (a b c : Left) (why : Halt) → Between a b (TookRows sizes first now) → StopsAt sizes now b c why → StopsAfter sizes first a c why
-  halts now a b c (halt.Unlawful found) so_far stop =
-      between-trans a b c (TookRows sizes first now)
-      (λ from to. (plan : Plan) (rows : List Row) → Judges plan rows now → IsUnlawfulBefore plan sizes rows found from to)
-      (OfRows sizes first (λ plan rows last to. IsUnlawfulBefore plan sizes rows found last to))
-      (λ x y z took stopped. (took.rows, y, took.has, λ plan start. stopped plan took.rows (took.judged plan start))) so_far stop
-  halts now a b c (halt.Fault (fault.Row line kind)) so_far stop =
-      between-trans a b c (TookRows sizes first now)
-      (λ from to. (plan : Plan) (rows : List Row) → Judges plan rows now → HasNoRow sizes rows line kind from to)
-      (OfRows sizes first (λ plan rows last to. HasNoRow sizes rows line kind last to))
-      (λ x y z took stopped. (took.rows, y, took.has, λ plan start. stopped plan took.rows (took.judged plan start))) so_far stop
-  halts now a b c (halt.Fault (fault.TooLong line)) so_far stop = go a.text b.text so_far stop
-    where
-      go : (from to : Option (List ℕ)) → Between (record { line = a.line; text = from }) (record { line = b.line; text = to }) (TookRows sizes first now)
-          → StopsLong (record { line = b.line; text = to }) line
-          → IfSome from (λ text. (rows : List Row) × (last : Place) × HasRows sizes rows (record { line = a.line; text = text }) last × IsTooLong last line)
-      go None to so_far stop = tt
-      go (Some from) None so_far stop = absurd so_far
-      go (Some from) (Some to) so_far stop = (so_far.rows, record { line = b.line; text = to }, so_far.has, stop)
-  halts now a b c (halt.Fault (fault.Header line)) so_far stop = absurd stop
-  halts now a b c (halt.Fault fault.Read) so_far stop = tt
-  halts now a b c (halt.Fault fault.Memory) so_far stop = tt
-
--- ---- the whole
-
 -- what is said of the place where a text begins
-at_start : (a c : Left) (Q : Place → Type 0) → Between a c (λ from to. Q from) → IfSome a.text (λ text. Q (record { line = a.line; text = text }))
+pub at_start : (a c : Left) (Q : Place → Type 0) → Between a c (λ from to. Q from) → IfSome a.text (λ text. Q (record { line = a.line; text = text }))
 at_start a c Q holds = go a.text c.text holds
   where
     go : (from to : Option (List ℕ)) → Between (record { line = a.line; text = from }) (record { line = c.line; text = to }) (λ from to. Q from)
@@ -154,90 +71,201 @@ at_start a c Q holds = go a.text c.text holds
     go (Some from) None holds = absurd holds
     go (Some from) (Some to) holds = holds
 
--- is said of the start of what a reader gives
-pub told : (known : Option (List ℕ)) (a : Left) (Q : Place → Type 0) → Keeps (option_map strip_bom known) a.text → a.line ≡ 1
-    → IfSome a.text (λ text. Q (record { line = a.line; text = text })) → IfSome known (λ text. Q (start_of text))
-told known a Q keeps line_is holds = go known a.text keeps holds
+-- what is said of two places, and of the text at the second
+pub behind_start : (a b : Left) (P : Place → Place → Type 0) (Q : Place → Type 0) (S : Place → Type 0) → ((x y : Place) → P x y → Q y → S x) → Between a b P
+    → IfSome b.text (λ text. Q (record { line = b.line; text = text })) → IfSome a.text (λ text. S (record { line = a.line; text = text }))
+behind_start a b P Q S join one two = go a.text b.text one two
   where
-    go : (known from : Option (List ℕ)) → Keeps (option_map strip_bom known) from → IfSome from (λ text. Q (record { line = a.line; text = text }))
-        → IfSome known (λ text. Q (start_of text))
-    go None from keeps holds = tt
-    go (Some text) None keeps holds = absurd keeps
-    go (Some text) (Some from) keeps holds = rw (← line_is, ← keeps) holds
+    go : (from to : Option (List ℕ)) → Between (record { line = a.line; text = from }) (record { line = b.line; text = to }) P
+        → IfSome to (λ text. Q (record { line = b.line; text = text })) → IfSome from (λ text. S (record { line = a.line; text = text }))
+    go None to one two = tt
+    go (Some from) None one two = absurd one
+    go (Some from) (Some to) one two = join (record { line = a.line; text = from }) (record { line = b.line; text = to }) one two
 
-module _ (plan : Plan) (sizes : Sizes) (first : Judge) (start : Judges plan [] first) (a b c : Left) (header : Between a b HasHeader) where
-  abbrev Of : (Place → Type 0) → Type 0
-  Of Q = IfSome a.text (λ text. Q (record { line = a.line; text = text }))
+-- ---- one row
 
-  pub lawful_told : (now : Judge) (counts : Counts) → Between b c (AllTaken sizes first now)
-      → ((rows : List Row) → Judges plan rows now → IsLawfulFile plan rows) → ((rows : List Row) → Judges plan rows now → HasCounts plan rows counts)
-      → Of (λ from. IsVerdict plan sizes from (verdict.Lawful counts))
-  lawful_told now counts all lawful counted =
-      at_start a c (λ from. IsVerdict plan sizes from (verdict.Lawful counts))
-      (between-trans a b c HasHeader (AllTaken sizes first now) (λ from to. IsVerdict plan sizes from (verdict.Lawful counts))
-      (λ x y z top taken. (
-        taken.1.rows,
-        record { last = taken.0; end = z; begins = record { behind = y; top = top; has = taken.1.has }; ends = taken.2 },
-        lawful taken.1.rows (taken.1.judged plan start),
-        counted taken.1.rows (taken.1.judged plan start),
-      )) header all)
+module _ (sizes : Sizes) (r : Record) (row : Row) (spells : Spells sizes r row) (a b : Left) (gives : Between a b (λ from to. Gives from r to)) where
+  pub row_taken : (old new : Judge) (text grown : List ℕ) → Took old row new text grown → Between a b (TakesNext sizes old new text grown true)
+  row_taken old new text grown took =
+      between_map a b (λ from to. Gives from r to) (TakesNext sizes old new text grown true) (λ x y g. (row, record { next = r; gives = g; spells = spells }, took)) gives
 
-  pub unlawful_told : (now : Judge) (found : Unlawful) → Between b c (AllTaken sizes first now) → ((rows : List Row) → Judges plan rows now → IsFirstUnlawful plan rows found)
-      → Of (λ from. IsVerdict plan sizes from (verdict.Unlawful found))
-  unlawful_told now found all unlawful =
-      at_start a c (λ from. IsVerdict plan sizes from (verdict.Unlawful found))
-      (between-trans a b c HasHeader (AllTaken sizes first now) (λ from to. IsVerdict plan sizes from (verdict.Unlawful found))
-      (λ x y z top taken. (
-        taken.1.rows,
-        taken.0,
-        record { behind = y; top = top; has = taken.1.has },
-        inl (z, taken.2),
-        unlawful taken.1.rows (taken.1.judged plan start),
-      )) header all)
+  pub row_refused : (judge : Judge) (text grown : List ℕ) (why : RowFault)
+      → ((plan : Plan) (rows : List Row) (so_far : List ℕ) → HasTold plan rows judge so_far → HasRowFault rows row why × (grown ≡ text))
+      → StopsAt sizes judge text grown a b (halt.Fault (fault.Row r.line why))
+  row_refused judge text grown why refused =
+      between_map a b (λ from to. Gives from r to)
+      (λ from to. (plan : Plan) (rows : List Row) (so_far : List ℕ) → HasTold plan rows judge so_far → HasNoRow sizes rows r.line why from to × (grown ≡ text))
+      (λ x y g plan rows so_far has. let is = refused plan rows so_far has in
+      (record { next = r; gives = g; on_line = refl; no_row = inr (row, spells, is.0) }, is.1)) gives
 
-  pub halt_told : (found : Unlawful) → StopsAfter sizes first b c (halt.Unlawful found) → Of (λ from. IsVerdict plan sizes from (verdict.Unlawful found))
-  halt_told found stop =
-      at_start a c (λ from. IsVerdict plan sizes from (verdict.Unlawful found))
-      (between-trans a b c HasHeader (OfRows sizes first (λ plan rows last to. IsUnlawfulBefore plan sizes rows found last to)) (λ from to. IsVerdict plan sizes from (verdict.Unlawful found))
-      (λ x y z top of. let is = of.3 plan start in (of.0, of.1, record { behind = y; top = top; has = of.2 }, inr (is.row, z, is.next, is.later), is.first)) header stop)
+  pub row_unlawful : (judge : Judge) (text grown : List ℕ) (found : Unlawful)
+      → ((plan : Plan) (rows : List Row) (so_far : List ℕ) → HasTold plan rows judge so_far
+      → (IsLater rows row × IsFirstUnlawful plan rows found) × TellsBefore (is_traced judge) plan rows so_far text grown found)
+      → StopsAt sizes judge text grown a b (halt.Unlawful found)
+  row_unlawful judge text grown found unlawful =
+      between_map a b (λ from to. Gives from r to)
+      (λ from to. (plan : Plan) (rows : List Row) (so_far : List ℕ) → HasTold plan rows judge so_far
+      → IsUnlawfulBefore plan sizes rows found from to × TellsBefore (is_traced judge) plan rows so_far text grown found)
+      (λ x y g plan rows so_far has. let is = unlawful plan rows so_far has in (
+        record {
+          row = row;
+          next = record { next = r; gives = g; spells = spells };
+          later = is.0.0;
+          first = is.0.1;
+        },
+        is.1,
+      )) gives
 
-  pub fault_told : (why : CaptureFault) → StopsAfter sizes first b c (halt.Fault why) → Of (λ from. IsFault plan sizes from why)
-  fault_told (fault.Row line kind) stop =
-      at_start a c (λ from. IsFault plan sizes from (fault.Row line kind))
-      (between-trans a b c HasHeader (OfRows sizes first (λ plan rows last to. HasNoRow sizes rows line kind last to)) (λ from to. IsFault plan sizes from (fault.Row line kind))
-      (λ x y z top of. (of.0, of.1, z, record { behind = y; top = top; has = of.2 }, of.3 plan start)) header stop)
-  fault_told (fault.TooLong line) stop = go a.text b.text header stop
-    where
-      go : (from to : Option (List ℕ)) → Between (record { line = a.line; text = from }) (record { line = b.line; text = to }) HasHeader
-          → IfSome to (λ text. (rows : List Row) × (last : Place) × HasRows sizes rows (record { line = b.line; text = text }) last × IsTooLong last line)
-          → IfSome from (λ text. IsFault plan sizes (record { line = a.line; text = text }) (fault.TooLong line))
-      go None to top stop = tt
-      go (Some from) None top stop = absurd top
-      go (Some from) (Some to) top stop =
-          inr (stop.0, stop.1, record { behind = record { line = b.line; text = to }; top = top; has = stop.2 }, stop.3)
-  fault_told (fault.Header line) stop = absurd stop
-  fault_told fault.Read stop = anything a.text
-    where
-      anything : (text : Option (List ℕ)) → IfSome text (λ t. IsFault plan sizes (record { line = a.line; text = t }) fault.Read)
-      anything None = tt
-      anything (Some text) = tt
-  fault_told fault.Memory stop = anything a.text
-    where
-      anything : (text : Option (List ℕ)) → IfSome text (λ t. IsFault plan sizes (record { line = a.line; text = t }) fault.Memory)
-      anything None = tt
-      anything (Some text) = tt
+-- a record that spells no row
+pub no_row : (sizes : Sizes) (r : Record) (why : RowFault) (a b : Left) (judge : Judge) (text : List ℕ) → Between a b (λ from to. Gives from r to)
+    → row_of sizes.masters sizes.ports r.line r.fields ≡ Err why → StopsAt sizes judge text text a b (halt.Fault (fault.Row r.line why))
+no_row sizes r why a b judge text gives is =
+    between_map a b (λ from to. Gives from r to)
+    (λ from to. (plan : Plan) (rows : List Row) (so_far : List ℕ) → HasTold plan rows judge so_far → HasNoRow sizes rows r.line why from to × (text ≡ text))
+    (λ x y g plan rows so_far has. (record { next = r; gives = g; on_line = refl; no_row = inl is }, refl)) gives
 
--- no header was read
-pub header_told : (plan : Plan) (sizes : Sizes) (a b : Left) (why : CaptureFault) → HasHeaderFault a b why
-    → IfSome a.text (λ text. IsFault plan sizes (record { line = a.line; text = text }) why)
-header_told plan sizes a b why has = go a.text b.text why has
-  where
-    go : (from to : Option (List ℕ)) (why : CaptureFault) → HasHeaderFault (record { line = a.line; text = from }) (record { line = b.line; text = to }) why
-        → IfSome from (λ text. IsFault plan sizes (record { line = a.line; text = text }) why)
-    go None to why has = tt
-    go (Some from) None (fault.Header line) has = absurd has
-    go (Some from) (Some to) (fault.Header line) has = (record { line = b.line; text = to }, has)
-    go (Some from) to (fault.TooLong line) has = inl has
-    go (Some from) to (fault.Row line kind) has = absurd has
-    go (Some from) to fault.Read has = tt
-    go (Some from) to fault.Memory has = tt
+-- ---- the loop
+
+module _ (sizes : Sizes) (first : Judge) (old : Option (List ℕ)) where
+  pub took_none : (a : Left) → Between a a (TookRows sizes first first old old [])
+  took_none a = between_same a (TookRows sizes first first old old []) (λ x. record {
+    rows = [];
+    has = no_rows sizes x;
+    traced = refl;
+    told = λ plan start. wrote_none (HasTold plan [] first) old (told_none plan first start);
+  })
+
+  -- a row more, and the text grows; and then a front of it is written
+  pub took_more : (now next : Judge) (mid new : Option (List ℕ)) (text grown left : List ℕ) (a b c : Left) → Between a b (TookRows sizes first now old mid text)
+      → Between b c (TakesNext sizes now next text grown true) → Moves mid new grown left → Between a c (TookRows sizes first next old new left)
+  took_more now next mid new text grown left a b c so_far one moves =
+      between-trans a b c (TookRows sizes first now old mid text) (TakesNext sizes now next text grown true) (TookRows sizes first next old new left) (λ x y z took more. record {
+        rows = took.rows ++ more.0 ∷ [];
+        has = rows_more sizes took.rows more.0 x y z took.has more.1;
+        traced = more.2.traced ∙ took.traced;
+        told = λ plan start.
+            let wrote = took.told plan start in
+            let on = more.2.tells plan took.rows wrote.told wrote.holds in
+            wrote_moved (HasTold plan (took.rows ++ more.0 ∷ []) next) old mid grown
+            (wrote_more (HasTold plan took.rows now) old mid text wrote (HasTold plan (took.rows ++ more.0 ∷ []) next) on.more grown on.grown on.told)
+            new left moves;
+      }) so_far one
+
+  pub took_all : (now next : Judge) (mid : Option (List ℕ)) (text grown : List ℕ) (a b c : Left) → Between a b (TookRows sizes first now old mid text)
+      → Between b c (TakesNext sizes now next text grown false) → Between a c (AllTaken sizes first next old mid grown)
+  took_all now next mid text grown a b c so_far none =
+      between-trans a b c (TookRows sizes first now old mid text) (TakesNext sizes now next text grown false) (AllTaken sizes first next old mid grown)
+      (λ x y z took ends.
+      let by_judge = subst (λ (j : Judge). TookRows sizes first j old mid text x y) (sym ends.1) took in
+      (y, subst (λ (t : List ℕ). TookRows sizes first next old mid t x y) (sym ends.2) by_judge, ends.0)) so_far none
+
+  -- what is told of earlier times, and a part of a file
+  earlier : (plan : Plan) (rows : List Row) (now : Judge) (text : List ℕ) → is_traced now ≡ is_traced first → HasTold plan rows now text → IsToldEarlier (is_traced first) plan rows text
+  earlier plan rows now text traced has = subst (λ t. IsToldEarlier t plan rows text) traced (told_earlier plan rows now text has)
+
+  -- a write fails
+  pub fails : (now next : Judge) (mid new : Option (List ℕ)) (text grown left : List ℕ) (a b c : Left) → Between a b (TookRows sizes first now old mid text)
+      → Between b c (TakesNext sizes now next text grown true) → AppendsFront mid new grown → IsJudged sizes first old new left a (Err fault.Write)
+  fails now next mid new text grown left a b c so_far one front =
+      at_start a c (IsJudgedAt sizes first old new left (Err fault.Write))
+      (between-trans a b c (TookRows sizes first now old mid text) (TakesNext sizes now next text grown true) (λ from to. IsJudgedAt sizes first old new left (Err fault.Write) from) (λ x y z took more. record {
+        rows = took.rows ++ more.0 ∷ [];
+        last = z;
+        has = rows_more sizes took.rows more.0 x y z took.has more.1;
+        answers = λ plan start. tt;
+        told = λ plan start.
+            let wrote = took.told plan start in
+            let rows = took.rows ++ more.0 ∷ [] in
+            let on = more.2.tells plan took.rows wrote.told wrote.holds in
+            let is = wrote_more (HasTold plan took.rows now) old mid text wrote (HasTold plan rows next) on.more grown on.grown on.told in
+            wrote_front (HasTold plan rows next) old mid grown is (IsToldPart (is_traced first) plan rows) new front
+            (earlier plan rows next is.told (more.2.traced ∙ took.traced) is.holds).part;
+      }) so_far one)
+
+  -- the rows so far, with whatever stands behind them
+  rest : (now : Judge) (mid : Option (List ℕ)) (text : List ℕ) (a b : Left) (S : Place → Type 0) → Between a b (TookRows sizes first now old mid text)
+      → ((x y : Place) → TookRows sizes first now old mid text x y → S x) → IfSome a.text (λ t. S (record { line = a.line; text = t }))
+  rest now mid text a b S so_far to =
+      at_start a b S (between_map a b (TookRows sizes first now old mid text) (λ from at. S from) to so_far)
+
+  pub read_fails : (now : Judge) (mid : Option (List ℕ)) (text grown : List ℕ) (a b : Left) → Between a b (TookRows sizes first now old mid text) → grown ≡ text
+      → IsJudged sizes first old mid grown a (Err fault.Read)
+  read_fails now mid text grown a b so_far same =
+      rest now mid text a b (IsJudgedAt sizes first old mid grown (Err fault.Read)) so_far (λ x y took. record {
+        rows = took.rows;
+        last = y;
+        has = took.has;
+        answers = λ plan start. tt;
+        told = λ plan start.
+            let wrote = took.told plan start in
+            wrote_as (HasTold plan took.rows now) old mid text wrote (IsToldEarlier (is_traced first) plan took.rows) grown same (earlier plan took.rows now wrote.told took.traced wrote.holds);
+      })
+
+  so_far_part : (now : Judge) (mid : Option (List ℕ)) (text : List ℕ) (x y : Place) (took : TookRows sizes first now old mid text x y) (plan : Plan) → Judges plan [] first
+      → WritesFront (IsToldPart (is_traced first) plan took.rows) old mid
+  so_far_part now mid text x y took plan start =
+      let wrote = took.told plan start in
+      wrote_so_far (HasTold plan took.rows now) old mid text wrote (IsToldPart (is_traced first) plan took.rows) (earlier plan took.rows now wrote.told took.traced wrote.holds).part
+
+  pub halts : (now : Judge) (mid : Option (List ℕ)) (text grown : List ℕ) (a b c : Left) (why : Halt) → Between a b (TookRows sizes first now old mid text)
+      → StopsAt sizes now text grown b c why → IsJudged sizes first old mid grown a (answer_of why)
+  halts now mid text grown a b c (halt.Unlawful found) so_far stop =
+      at_start a c (IsJudgedAt sizes first old mid grown (answer_of (halt.Unlawful found)))
+      (between-trans a b c (TookRows sizes first now old mid text)
+      (λ from to. (plan : Plan) (rows : List Row) (told : List ℕ) → HasTold plan rows now told → IsUnlawfulBefore plan sizes rows found from to × TellsBefore (is_traced now) plan rows told text grown found)
+      (λ from to. IsJudgedAt sizes first old mid grown (answer_of (halt.Unlawful found)) from) (λ x y z took stopped. record {
+        rows = took.rows;
+        last = y;
+        has = took.has;
+        answers = λ plan start.
+            let wrote = took.told plan start in
+            let is = (stopped plan took.rows wrote.told wrote.holds).0 in
+            (inr (is.row, z, is.next, is.later), is.first);
+        told = λ plan start.
+            let wrote = took.told plan start in
+            let tells = (stopped plan took.rows wrote.told wrote.holds).1 in
+            wrote_more (HasTold plan took.rows now) old mid text wrote (λ t. IsToldBefore (is_traced first) plan took.rows t found) tells.0 grown tells.1
+            (subst (λ t. IsToldBefore t plan took.rows (wrote.told ++ tells.0) found) took.traced tells.2);
+      }) so_far stop)
+  halts now mid text grown a b c (halt.Fault (fault.Row line kind)) so_far stop =
+      at_start a c (IsJudgedAt sizes first old mid grown (Err (fault.Row line kind)))
+      (between-trans a b c (TookRows sizes first now old mid text)
+      (λ from to. (plan : Plan) (rows : List Row) (told : List ℕ) → HasTold plan rows now told → HasNoRow sizes rows line kind from to × (grown ≡ text))
+      (λ from to. IsJudgedAt sizes first old mid grown (Err (fault.Row line kind)) from) (λ x y z took stopped. record {
+        rows = took.rows;
+        last = y;
+        has = took.has;
+        answers = λ plan start. let wrote = took.told plan start in (z, (stopped plan took.rows wrote.told wrote.holds).0);
+        told = λ plan start.
+            let wrote = took.told plan start in
+            wrote_as (HasTold plan took.rows now) old mid text wrote (IsToldEarlier (is_traced first) plan took.rows) grown (stopped plan took.rows wrote.told wrote.holds).1
+            (earlier plan took.rows now wrote.told took.traced wrote.holds);
+      }) so_far stop)
+  halts now mid text grown a b c (halt.Fault (fault.TooLong line)) so_far stop =
+      behind_start a b (TookRows sizes first now old mid text) (λ at. IsTooLong at line) (IsJudgedAt sizes first old mid grown (Err (fault.TooLong line))) (λ x y took long. record {
+        rows = took.rows;
+        last = y;
+        has = took.has;
+        answers = λ plan start. long;
+        told = λ plan start.
+            let wrote = took.told plan start in
+            wrote_as (HasTold plan took.rows now) old mid text wrote (IsToldEarlier (is_traced first) plan took.rows) grown stop.1 (earlier plan took.rows now wrote.told took.traced wrote.holds);
+      }) so_far stop.0
+  halts now mid text grown a b c (halt.Fault (fault.Header line)) so_far stop = absurd stop
+  halts now mid text grown a b c (halt.Fault fault.Read) so_far stop = read_fails now mid text grown a b so_far stop
+  halts now mid text grown a b c (halt.Fault fault.Memory) so_far stop =
+      rest now mid text a b (IsJudgedAt sizes first old mid grown (Err fault.Memory)) so_far (λ x y took. record {
+        rows = took.rows;
+        last = y;
+        has = took.has;
+        answers = λ plan start. tt;
+        told = λ plan start. so_far_part now mid text x y took plan start;
+      })
+  halts now mid text grown a b c (halt.Fault fault.Write) so_far stop =
+      rest now mid text a b (IsJudgedAt sizes first old mid grown (Err fault.Write)) so_far (λ x y took. record {
+        rows = took.rows;
+        last = y;
+        has = took.has;
+        answers = λ plan start. tt;
+        told = λ plan start. so_far_part now mid text x y took plan start;
+      })

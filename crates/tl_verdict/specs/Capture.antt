@@ -1,7 +1,7 @@
 -- What a text is as a capture. The format is this project's own; what the rows of a lawful one are is said in `tl_judge`.
-use Rattle.std.specs.Prelude.{◌≡◌, ◌≢◌, ◌⊎◌, ℕ, List, ⊤}
+use Rattle.std.specs.Prelude.{◌≡◌, ◌≢◌, ◌⊎◌, ℕ, Bool, List, [], Option, Result, Ok, Err, ⊤}
+use Rattle.std.specs.Io.KnownBytes.{Appends}
 use Rattle.tl_capture.specs.declared.row.Row.{Row}
-use Rattle.tl_judge.specs.Order.{IsLater}
 use Rattle.tl_judge.specs.Verdict.{HasCounts, IsFirstUnlawful, IsLawfulFile}
 use Rattle.tl_records.specs.Reading.{StopsLong}
 use Rattle.tl_records.specs.Source.{Between, Left}
@@ -9,7 +9,7 @@ use Rattle.tl_records.specs.Text.{Ends, Gives, IsTooLong, Place}
 use Rattle.tl_records.specs.Text.{Row as Record}
 use Rattle.tl_watch.specs.Plan.{Plan}
 use Rattle.tl_verdict.specs.Header.{header}
-use Rattle.tl_verdict.specs.Rows.{GivesRow, HasNoRow, HasRows}
+use Rattle.tl_verdict.specs.Rows.{HasNoRow, HasRows, IsAnswer, IsOut, IsTimeOver}
 use Rattle.tl_verdict.specs.declared.fault.CaptureFault.{CaptureFault}
 use Rattle.tl_verdict.specs.declared.fault.CaptureFault.TheVariants as fault
 use Rattle.tl_verdict.specs.declared.fault.Verdict.{Verdict}
@@ -35,11 +35,6 @@ pub record IsCapture (sizes : Sizes) (from : Place) (rows : List Row) : Type 0 w
   pub begins : Begins sizes from rows last
   pub ends : Ends last end
 
--- no row of the time of these rows is to come: the text ends, or a row of a later time is next
-abbrev pub IsTimeOver : Sizes → List Row → Place → Type 0
-IsTimeOver sizes rows at =
-    ((end : Place) × Ends at end) ⊎ ((row : Row) × (to : Place) × GivesRow sizes row at to × IsLater rows row)
-
 -- the rows of a capture are lawful, and so many; or those to the end of some time are not, the first by this one
 abbrev pub IsVerdict : Plan → Sizes → Place → Verdict → Type 0
 IsVerdict plan sizes from (Lawful counts) =
@@ -61,6 +56,26 @@ IsFault plan sizes from (fault.Row line why) =
     (rows : List Row) × (at : Place) × (to : Place) × Begins sizes from rows at × HasNoRow sizes rows line why at to
 IsFault plan sizes from fault.Read = ⊤
 IsFault plan sizes from fault.Memory = ⊤
+IsFault plan sizes from fault.Write = ⊤
+
+-- what is written before an answer that is given behind the header and some rows
+pub record IsWrittenOf (trace : Bool) (plan : Plan) (sizes : Sizes) (from : Place) (old new : Option (List ℕ)) (answer : Result Verdict CaptureFault) : Type 0 where
+  pub rows : List Row
+  pub at : Place
+  pub begins : Begins sizes from rows at
+  pub answers : IsAnswer plan sizes answer rows at
+  pub out : IsOut trace plan answer rows old new
+
+-- what is written before an answer: nothing before a fault of the header
+abbrev pub IsWritten : Bool → Plan → Sizes → Place → Option (List ℕ) → Option (List ℕ) → Result Verdict CaptureFault → Type 0
+IsWritten trace plan sizes from old new (Ok verdict) = IsWrittenOf trace plan sizes from old new (Ok verdict)
+IsWritten trace plan sizes from old new (Err (fault.Header line)) = Appends old new []
+IsWritten trace plan sizes from old new (Err (fault.TooLong line)) =
+    (IsTooLong from line × Appends old new []) ⊎ IsWrittenOf trace plan sizes from old new (Err (fault.TooLong line))
+IsWritten trace plan sizes from old new (Err (fault.Row line why)) = IsWrittenOf trace plan sizes from old new (Err (fault.Row line why))
+IsWritten trace plan sizes from old new (Err fault.Read) = Appends old new [] ⊎ IsWrittenOf trace plan sizes from old new (Err fault.Read)
+IsWritten trace plan sizes from old new (Err fault.Memory) = Appends old new [] ⊎ IsWrittenOf trace plan sizes from old new (Err fault.Memory)
+IsWritten trace plan sizes from old new (Err fault.Write) = IsWrittenOf trace plan sizes from old new (Err fault.Write)
 
 -- ---- for the proofs
 
@@ -71,3 +86,4 @@ HasHeaderFault old new (fault.TooLong line) = StopsLong old line
 HasHeaderFault old new (fault.Row line why) = ⊥
 HasHeaderFault old new fault.Read = ⊤
 HasHeaderFault old new fault.Memory = ⊤
+HasHeaderFault old new fault.Write = ⊥

@@ -1,4 +1,5 @@
 pub mod Header
 pub mod Fault
+pub mod Out
 pub mod Rows
 pub mod Capture

@@ -3,16 +3,18 @@ ghost use Rattle.std.specs.Prelude.{◌≡◌, ◌≤◌, [], None, OnOk, IfOk, 
 ghost use Rattle.tl_records.specs.Source.{Between};
 ghost use Rattle.tl_records.specs.Text.{start_of};
 ghost use Rattle.tl_watch.specs.Plan.{Plan};
-ghost use Rattle.tl_judge.specs.View.{Judges};
-ghost use Rattle.tl_verdict.specs.Capture.{HasHeader, HasHeaderFault, IsVerdict, IsFault};
+ghost use Rattle.tl_judge.specs.View.{Judges, is_traced};
+ghost use Rattle.tl_verdict.specs.Capture.{HasHeader, HasHeaderFault, IsFault, IsVerdict, IsWritten};
 
 use crate::fault::{CaptureFault, Verdict};
 use crate::header::is_header;
-use crate::rows::{Halt, Sizes, take_rows};
+use crate::out::finish;
+use crate::rows::{Sizes, judge_rows};
 use std::alloc::Global;
-use std::io::Read;
+use std::io::{Read, Write};
 use tl_judge::Judge;
 use tl_records::Records;
+use tl_streams::LimitedWriter;
 use tl_types::{MAX_MASTERS, MAX_PORTS};
 
 /// Reads the header.
@@ -32,11 +34,13 @@ fn read_header<R: Read + Drop>(records: &mut Records<R>) -> Result<(), CaptureFa
 }
 
 /// Judges a capture that a reader gives, of a system with so many masters and ports, by a judge that has taken no row. It
-/// reads to the end, or to the first row of a later time than one that is unlawful, or to the first record that is no row.
-pub fn judge_capture<R: Read + Drop>(
+/// reads to the end, or to the first row of a later time than one that is unlawful, or to the first record that is no row;
+/// what the judge tells of the rows by then is written.
+pub fn judge_capture<R: Read + Drop, W: Write>(
     alloc: Global,
     reader: R,
-    mut judge: Judge,
+    writer: &mut LimitedWriter<'_, W>,
+    judge: Judge,
     sizes: Sizes,
 ) -> Result<Verdict, CaptureFault>
     requires masters { sizes.masters ≤ MAX_MASTERS }
@@ -47,16 +51,14 @@ pub fn judge_capture<R: Read + Drop>(
     ensures fault { (plan : Plan) → Judges plan [] judge
         → IfErr result (λ fault. IfSome (R.remaining reader) (λ text.
         IsFault plan sizes (start_of text) fault)) }
+    ensures same { writer.new.writer.ghost_name ≡ writer.old.writer.ghost_name }
+    ensures told { (plan : Plan) → Judges plan [] judge → IfSome (R.remaining reader) (λ text.
+        IsWritten (is_traced judge) plan sizes (start_of text)
+        (W.contents writer.old.writer.now) (W.contents writer.new.writer.now) result) }
 {
     let mut records = Records::new(alloc, reader)?;
     read_header(&mut records)?;
-    match take_rows(&mut records, &mut judge, sizes) {
-        Ok(()) => {}
-        Err(Halt::Unlawful(found)) => return Ok(Verdict::Unlawful(found)),
-        Err(Halt::Fault(fault)) => return Err(fault),
-    }
-    match judge.end() {
-        Ok(counts) => Ok(Verdict::Lawful(counts)),
-        Err(found) => Ok(Verdict::Unlawful(found)),
-    }
+    let mut text = Vec::new(alloc);
+    let answer = judge_rows(&mut records, judge, sizes, writer, &mut text);
+    finish(writer, &text, answer)
 }

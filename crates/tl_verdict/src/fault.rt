@@ -30,6 +30,9 @@ pub enum CaptureFault {
     Read,
     #[error("memory refused")]
     Memory,
+    /// What is told was not written whole.
+    #[error("write failed")]
+    Write,
 }
 
 impl From<RecordFault> for CaptureFault {

@@ -6,12 +6,13 @@ ghost use Rattle.std.specs.Prelude.{None};
 use super::*;
 use std::alloc::Global;
 use std::io;
-use std::io::{ErrorKind, Read};
+use std::io::{ErrorKind, Read, Write};
 use std::process::Abort;
 use tl_capture::RowFault;
 use tl_judge::Judge;
 use tl_map::{Map, Range, Sources};
 use tl_ops::{Bank, Kind};
+use tl_streams::LimitedWriter;
 use tl_watch::{Links, Order, Watch};
 
 const SIZES: Sizes = Sizes {
@@ -19,7 +20,7 @@ const SIZES: Sizes = Sizes {
     ports: 1,
 };
 
-fn judge(rt: &impl Abort, alloc: Global) -> Judge {
+fn judge(rt: &impl Abort, alloc: Global, trace: bool) -> Judge {
     let mut ram = [0; 64];
     ram[1] = 0x11;
     let range = Range {
@@ -35,7 +36,7 @@ fn judge(rt: &impl Abort, alloc: Global) -> Judge {
     let sources = Sources::new(alloc, &[4]).expect(rt, "sources");
     assert!(rt; banks.len() == map.ports(), "a bank for each port");
     let watch = Watch::new(alloc, Links::Both, Order::Accept, map, sources, banks);
-    Judge::new(watch.expect(rt, "memory"), Links::Both)
+    Judge::new(watch.expect(rt, "memory"), trace)
 }
 
 const HEADER: &str =
@@ -45,14 +46,30 @@ const ASKED: &str = "10,m0,A,4,0,2,3,1000,0f,,,\n10,p0,A,4,0,2,3,1000,0f,,,\n";
 
 const GIVEN: &str = "12,p0,D,1,,2,3,,,xxxxxxxx00001100,0,0\n";
 
-/// What becomes of a header and these lines.
-fn outcome(rt: &impl Abort, alloc: Global, lines: &[&str]) -> Result<Verdict, CaptureFault> {
+/// What becomes of a header and these lines, and what is written.
+fn traced(
+    rt: &impl Abort,
+    alloc: Global,
+    trace: bool,
+    lines: &[&str],
+) -> (Result<Verdict, CaptureFault>, Vec<u8>) {
     let mut text = String::new(alloc);
     text.push_str(HEADER).expect(rt, "memory");
     for line in lines {
         text.push_str(line).expect(rt, "memory");
     }
-    judge_capture(alloc, text.as_bytes(), judge(rt, alloc), SIZES)
+    let mut out = Vec::new(alloc);
+    let mut writer = LimitedWriter::new(&mut out);
+    let judge = judge(rt, alloc, trace);
+    let answer = judge_capture(alloc, text.as_bytes(), &mut writer, judge, SIZES);
+    (answer, out)
+}
+
+/// What becomes of a header and these lines, where replies are not traced.
+fn outcome(rt: &impl Abort, alloc: Global, lines: &[&str]) -> Result<Verdict, CaptureFault> {
+    let (answer, out) = traced(rt, alloc, false, lines);
+    assert!(rt; out.is_empty(), "nothing is told");
+    answer
 }
 
 #[test]
@@ -105,7 +122,10 @@ fn what_is_no_capture_is_told_by_its_line(rt: HostRuntime) {
     }
     let rows: [(&str, u64); 3] = [("", 1), ("\n\r\n", 1), ("\n\ntime,link", 3)];
     for (text, line) in rows {
-        let answer = judge_capture(rt.alloc(), text.as_bytes(), judge(&rt, rt.alloc()), SIZES);
+        let mut out = Vec::new(rt.alloc());
+        let mut writer = LimitedWriter::new(&mut out);
+        let judge = judge(&rt, rt.alloc(), true);
+        let answer = judge_capture(rt.alloc(), text.as_bytes(), &mut writer, judge, SIZES);
         assert_eq!(&rt; answer.err(), Some(CaptureFault::Header(line)));
     }
 }
@@ -132,11 +152,71 @@ impl Read for Failing {
 
 #[test]
 fn a_failed_read_is_told(rt: HostRuntime) {
-    let answer = judge_capture(
-        rt.alloc(),
-        Failing { reads: 0 },
-        judge(&rt, rt.alloc()),
-        SIZES,
-    );
+    let mut out = Vec::new(rt.alloc());
+    let mut writer = LimitedWriter::new(&mut out);
+    let judge = judge(&rt, rt.alloc(), false);
+    let reader = Failing { reads: 0 };
+    let answer = judge_capture(rt.alloc(), reader, &mut writer, judge, SIZES);
     assert_eq!(&rt; answer.err(), Some(CaptureFault::Read));
+}
+
+const READ: &str = "12,m0,D,1,,2,3,,,xxxxxxxx00001100,0,0\n";
+
+const LINE: &str = "m0 s3 get 0x1000 2 -> AccessAckData 00110000 p0 #0\n";
+
+#[test]
+fn replies_are_written_before_the_answer(rt: HostRuntime) {
+    let later = "13,m0,D,1,,2,3,,,xxxxxxxx00001101,0,0\n";
+    let rows: [(&[&str], &str, Option<CaptureFault>); 5] = [
+        (&[ASKED, GIVEN, READ], LINE, None),
+        (&[ASKED, GIVEN, READ, later], LINE, None),
+        (&[ASKED, GIVEN], "", None),
+        // what is of the last time is not judged before a fault of the text
+        (
+            &[ASKED, GIVEN, READ, "13,m0\n"],
+            "",
+            Some(CaptureFault::Row(6, RowFault::Columns)),
+        ),
+        (
+            &[ASKED, GIVEN, READ, "13,m0,A,4,0,2,3,1000,0f,,,\n13,m0\n"],
+            LINE,
+            Some(CaptureFault::Row(7, RowFault::Columns)),
+        ),
+    ];
+    for (lines, told, fault) in rows {
+        let (answer, out) = traced(&rt, rt.alloc(), true, lines);
+        assert_eq!(&rt; answer.err(), fault);
+        assert_eq!(&rt; out.as_slice(), told.as_bytes());
+    }
+}
+
+/// A writer that takes nothing.
+#[derive(Drop)]
+struct Full;
+
+impl Write for Full {
+    ghost contents = { λ _. None };
+
+    fn write(&mut self, _buf: &[u8]) -> io::Result<usize> {
+        Ok(0)
+    }
+
+    fn flush(&mut self) -> io::Result<()> {
+        Ok(())
+    }
+}
+
+#[test]
+fn a_failed_write_is_told(rt: HostRuntime) {
+    let mut text = String::new(rt.alloc());
+    for part in [HEADER, ASKED, GIVEN, READ] {
+        text.push_str(part).expect(&rt, "memory");
+    }
+    for (trace, fault) in [(true, Some(CaptureFault::Write)), (false, None)] {
+        let mut full = Full;
+        let mut writer = LimitedWriter::new(&mut full);
+        let judge = judge(&rt, rt.alloc(), trace);
+        let answer = judge_capture(rt.alloc(), text.as_bytes(), &mut writer, judge, SIZES);
+        assert_eq!(&rt; answer.err(), fault);
+    }
 }

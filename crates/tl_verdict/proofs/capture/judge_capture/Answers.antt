@@ -1,45 +1,33 @@
-use Rattle.std.proofs.Common.{◌≡◌, refl}
-use Rattle.tl_verdict.specs.Capture.{IsFault, IsVerdict}
-use Rattle.tl_verdict.specs.Rows.{StopsAfter}
-use Rattle.tl_verdict.specs.declared.fault.Verdict.TheVariants as verdict
-use Rattle.tl_verdict.specs.declared.rows.Halt.TheVariants as halt
-use Rattle.tl_verdict.proofs.Taking.{fault_told, halt_told, lawful_told, told, unlawful_told}
+-- What is said of the answer, at the place where the text begins.
+use Rattle.std.proofs.Common.{List, ℕ, [], IfSome, rules, subst}
+use Rattle.tl_records.specs.Text.{start_of}
+use Rattle.tl_judge.specs.View.{Judges, is_traced}
+use Rattle.tl_watch.specs.Plan.{Plan}
+use Rattle.tl_verdict.specs.Out.{Finishes}
+use Rattle.tl_verdict.proofs.Answering.{Says, says_fault, says_judged, says_verdict, says_written, told}
 use Rattle.tl_verdict.proofs.capture.judge_capture.Goals as goal
 
-pub returns-in-Err-Unlawful-clause-verdict : goal.returns-in-Err-Unlawful-clause-verdict
-returns-in-Err-Unlawful-clause-verdict g c plan start =
+pub returns : goal.returns
+returns g c =
+    let contents = g.W.Write.contents in
+    let known = g.R.Read.remaining c.args.reader in
+    let sizes = c.args.sizes in
+    let trace = is_traced c.args.judge in
     let a = c.in_ok-records.records.left in
     let b = c.read_header.new.records.left in
-    let last = c.take_rows.new.records.left in
-    let found = c.in-Err-Unlawful.found in
-    let stop : StopsAfter c.args.sizes c.args.judge b last (halt.Unlawful found) = rw c.in-Err-Unlawful.field-0-is at c.in-Err-Unlawful.ensures.halt in
-    told (g.R.Read.remaining c.args.reader) a (λ from. IsVerdict plan c.args.sizes from (verdict.Unlawful found)) c.in_ok-records.ensures.text c.in_ok-records.ensures.line
-    (halt_told plan c.args.sizes c.args.judge start a b last c.in_ok-read_header.ensures.ok found stop)
-
-pub returns-in-Err-Fault-clause-fault : goal.returns-in-Err-Fault-clause-fault
-returns-in-Err-Fault-clause-fault g c plan start =
-    let a = c.in_ok-records.records.left in
-    let b = c.read_header.new.records.left in
-    let last = c.take_rows.new.records.left in
-    let why = c.in-Err-Fault.fault in
-    let stop : StopsAfter c.args.sizes c.args.judge b last (halt.Fault why) = rw c.in-Err-Fault.field-0-is at c.in-Err-Fault.ensures.halt in
-    told (g.R.Read.remaining c.args.reader) a (λ from. IsFault plan c.args.sizes from why) c.in_ok-records.ensures.text c.in_ok-records.ensures.line
-    (fault_told plan c.args.sizes c.args.judge start a b last c.in_ok-read_header.ensures.ok why stop)
-
-pub returns-in-Ok-end-clause-verdict : goal.returns-in-Ok-end-clause-verdict
-returns-in-Ok-end-clause-verdict g c plan start =
-    let a = c.in_ok-records.records.left in
-    let b = c.read_header.new.records.left in
-    let last = c.take_rows.new.records.left in
-    told (g.R.Read.remaining c.args.reader) a (λ from. IsVerdict plan c.args.sizes from (verdict.Lawful c.in-Ok-end.counts)) c.in_ok-records.ensures.text c.in_ok-records.ensures.line
-    (lawful_told plan c.args.sizes c.args.judge start a b last c.in_ok-read_header.ensures.ok c.take_rows.new.judge c.in-Ok-end.counts c.in-Ok.ensures.ok
-    (λ rows judged. (c.in-Ok-end.ensures.lawful plan rows judged).0 refl) (λ rows judged. c.in-Ok-end.ensures.counts plan rows judged))
-
-pub returns-clause-verdict : goal.returns-clause-verdict
-returns-clause-verdict g c plan start =
-    let a = c.in_ok-records.records.left in
-    let b = c.read_header.new.records.left in
-    let last = c.take_rows.new.records.left in
-    told (g.R.Read.remaining c.args.reader) a (λ from. IsVerdict plan c.args.sizes from (verdict.Unlawful c.in-Err.found)) c.in_ok-records.ensures.text c.in_ok-records.ensures.line
-    (unlawful_told plan c.args.sizes c.args.judge start a b last c.in_ok-read_header.ensures.ok c.take_rows.new.judge c.in-Err.found c.in-Ok.ensures.ok
-    (λ rows judged. c.in-Err.ensures.fault plan rows judged))
+    let old = contents c.args.writer.now.writer.now in
+    let mid = contents c.judge_rows-answer.new.writer.writer.now in
+    let new = contents c.finish.new.writer.writer.now in
+    let result = c.finish.result in
+    let left = c.judge_rows-answer.new.text.items in
+    let F : List ℕ → Type 0 = λ t. Finishes mid new t c.judge_rows-answer.result result in
+    let says : (plan : Plan) → Judges plan [] c.args.judge → IfSome known (λ text. Says trace plan sizes old new result (start_of text)) = λ plan start.
+    told known a (Says trace plan sizes old new result) c.in_ok-records.ensures.text c.in_ok-records.ensures.line
+    (says_judged plan sizes a b old mid new left c.judge_rows-answer.result result c.args.judge start
+    c.in_ok-read_header.ensures.ok c.judge_rows-answer.ensures.judged (subst F c.deref.ensures.value c.finish.ensures.finishes)) in
+    record {
+      verdict = λ plan start. says_verdict trace plan sizes old new known result (says plan start);
+      fault = λ plan start. says_fault trace plan sizes old new known result (says plan start);
+      same = search rules;
+      told = λ plan start. says_written trace plan sizes old new known result (says plan start);
+    }

@@ -1,5 +1,4 @@
-use Rattle.std.proofs.Common.{◌≡◌, ◌∙◌, ℕ, ◌<◌, [], Some, true, false, get_or, length, ap, sym, arith, eqb-true, eq-eqb}
-use Rattle.std.specs.Prelude.{IsTrue}
+use Rattle.std.proofs.Common.{◌≡◌, ◌∙◌, [], Some, get_or, length, ap, sym, arith, eqb-true, eq-eqb}
 use Rattle.csv.specs.Records.{field_at, fields_of}
 use Rattle.tl_verdict.specs.Header.{header}
 use Rattle.tl_verdict.proofs.HeaderLemmas.{field_inside, one_more, same_fields}

@@ -1,4 +1,4 @@
--- The judge has taken the rows so far.
+-- The judge has taken the rows so far, and what it told is written, but for the text that is left.
 use Rattle.std.proofs.Common.{◌≡◌, None}
 use Rattle.tl_records.specs.Source.{Between}
 use Rattle.tl_verdict.specs.Rows.{TookRows}
@@ -7,5 +7,7 @@ use Rattle.tl_verdict.proofs.rows.take_rows.Given as goal
 abbrev pub invariant-loop : goal.invariant-loop
 invariant-loop g l = record {
   fresh : l.records.fault ≡ None;
-  taken : Between l.fn.records.left l.records.left (TookRows l.sizes l.fn.judge l.judge);
+  same : l.writer.writer.ghost_name ≡ l.fn.writer.writer.ghost_name;
+  taken : Between l.fn.records.left l.records.left
+      (TookRows l.sizes l.fn.judge l.judge (g.W.Write.contents l.fn.writer.writer.now) (g.W.Write.contents l.writer.writer.now) l.text.items);
 }
