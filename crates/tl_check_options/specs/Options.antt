@@ -1,10 +1,10 @@
 -- The command line of tlcheck: the options and words that there are, what the words ask for, and the status that the
 -- program ends with where they ask for nothing. This project's own.
-use Rattle.std.specs.Prelude.{◌≡◌, ℕ, List, [], ◌∷◌, true, Option, Some, None, Result, IfOk, codes, map, option_map, if◌then◌else◌, unwrap_or}
+use Rattle.std.specs.Prelude.{◌≡◌, ℕ, List, [], ◌∷◌, Bool, true, Option, Some, None, Result, IfOk, codes, map, option_map, if◌then◌else◌, unwrap_or}
 use Rattle.std.specs.Borrow.{Bor}
 use Rattle.std.specs.Str.{bytes_eq}
 use Rattle.clap.specs.Words.{App, FailsBy, Rule, Text, fault_of, first_of, matches_of, new_app, new_rule, with_rule}
-use Rattle.clap.specs.declared.builder.action.ArgAction.TheVariants.{Set}
+use Rattle.clap.specs.declared.builder.action.ArgAction.TheVariants.{Set, SetTrue}
 use Rattle.clap.specs.declared.builder.value_parser.ValueParser.TheVariants as values
 use Rattle.clap.specs.declared.error.Error.{Error}
 use Rattle.clap.specs.declared.error.ErrorKind.{ErrorKind}
@@ -51,6 +51,14 @@ order_rule names = record (new_rule (codes "order")) {
   defaults = codes "accept" ∷ [];
 }
 
+-- `--trace`, a flag
+abbrev pub trace_rule : Rule
+trace_rule = record (new_rule (codes "trace")) {
+  long = Some (codes "trace");
+  action = Some SetTrue;
+  parser = Some values.Bool;
+}
+
 -- SYSTEM, a word that there must be
 abbrev pub system_rule : Rule
 system_rule = record (new_rule (codes "system")) { action = Some Set; value_names = 1; required = true }
@@ -63,10 +71,10 @@ capture_rule = record (new_rule (codes "capture")) { action = Some Set; value_na
 abbrev pub program : App
 program = let plain = new_app (codes "tlcheck") in record plain { top = record plain.top { has_version = true } }
 
--- these four, and `--help` and `--version`, which clap adds
+-- these five, and `--help` and `--version`, which clap adds
 abbrev pub with_rules : Names → Names → App
 with_rules links orders =
-    let options = with_rule (with_rule program (links_rule links)) (order_rule orders) in
+    let options = with_rule (with_rule (with_rule program (links_rule links)) (order_rule orders)) trace_rule in
     with_rule (with_rule options system_rule) capture_rule
 
 -- the rule is that of `--links`, or of `--order`, wherever its list of words lies
@@ -94,6 +102,7 @@ pub record IsCommandLine (app : App) : Type 0 where
 pub record Asked : Type 0 where
   pub links : Links
   pub order : Order
+  pub trace : Bool
   pub system : Text
   pub capture : Option Text
 
@@ -101,6 +110,7 @@ abbrev pub asked_of : Options → Asked
 asked_of options = record {
   links = options.links;
   order = options.order;
+  trace = options.trace;
   system = options.system.now;
   capture = option_map (λ name. name.now) options.capture;
 }
@@ -112,6 +122,10 @@ links_of word =
 
 abbrev pub order_of : Text → Order
 order_of word = if bytes_eq word (codes "reply") then Reply else Accept
+
+-- whether a flag with this value is set
+abbrev pub flag_of : Text → Bool
+flag_of word = bytes_eq word (codes "true")
 
 -- the file that a word names, where it names one: `-` is standard input
 abbrev pub file_of : Option Text → Option Text
@@ -127,6 +141,7 @@ abbrev pub asked_in : App → List Text → Asked
 asked_in app words = record {
   links = links_of (value_in app words (codes "links"));
   order = order_of (value_in app words (codes "order"));
+  trace = flag_of (value_in app words (codes "trace"));
   system = value_in app words (codes "system");
   capture = file_of (first_of (codes "capture") (matches_of app words));
 }

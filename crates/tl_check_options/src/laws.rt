@@ -1,7 +1,7 @@
 //! Laws of the command line, each on a function that does nothing but carry it: what lines that the documents name ask
 //! for, or are refused as.
-ghost use Rattle.std.specs.Prelude.{[], ◌∷◌, codes, Some, None};
-ghost use Rattle.clap.specs.declared.error.ErrorKind.TheVariants.{DisplayHelp, DisplayVersion, InvalidValue, MissingRequiredArgument, UnknownArgument};
+ghost use Rattle.std.specs.Prelude.{[], ◌∷◌, codes, true, false, Some, None};
+ghost use Rattle.clap.specs.declared.error.ErrorKind.TheVariants.{DisplayHelp, DisplayVersion, InvalidValue, MissingRequiredArgument, TooManyValues, UnknownArgument};
 ghost use Rattle.tl_watch.specs.declared.links.Links.TheVariants.{Both, Masters, Ports};
 ghost use Rattle.tl_watch.specs.declared.order.Order.TheVariants.{Accept, Reply};
 ghost use Rattle.tl_check_options.specs.Options.{AskFor, AreRefusedAs};
@@ -11,6 +11,7 @@ pub fn lines_ask_for_options()
     ensures alone { AskFor (record {
       links = Both;
       order = Accept;
+      trace = false;
       system = codes "s.toml";
       capture = None;
     })
@@ -18,6 +19,7 @@ pub fn lines_ask_for_options()
     ensures file { AskFor (record {
       links = Both;
       order = Accept;
+      trace = false;
       system = codes "s.toml";
       capture = Some (codes "c.csv");
     })
@@ -25,6 +27,7 @@ pub fn lines_ask_for_options()
     ensures input { AskFor (record {
       links = Both;
       order = Accept;
+      trace = false;
       system = codes "s.toml";
       capture = None;
     })
@@ -32,6 +35,7 @@ pub fn lines_ask_for_options()
     ensures masters { AskFor (record {
       links = Masters;
       order = Accept;
+      trace = false;
       system = codes "s.toml";
       capture = None;
     })
@@ -39,14 +43,33 @@ pub fn lines_ask_for_options()
     ensures ports { AskFor (record {
       links = Ports;
       order = Reply;
+      trace = false;
       system = codes "s.toml";
       capture = Some (codes "c.csv");
     })
         (codes "tlcheck" ∷ codes "--links=ports" ∷ codes "s.toml" ∷ codes "c.csv"
         ∷ codes "--order" ∷ codes "reply" ∷ []) }
+    ensures trace { AskFor (record {
+      links = Masters;
+      order = Accept;
+      trace = true;
+      system = codes "s.toml";
+      capture = None;
+    })
+        (codes "tlcheck" ∷ codes "--links" ∷ codes "masters" ∷ codes "--trace"
+        ∷ codes "s.toml" ∷ []) }
+    ensures trace_behind { AskFor (record {
+      links = Both;
+      order = Accept;
+      trace = true;
+      system = codes "s.toml";
+      capture = Some (codes "c.csv");
+    })
+        (codes "tlcheck" ∷ codes "s.toml" ∷ codes "c.csv" ∷ codes "--trace" ∷ []) }
     ensures defaults { AskFor (record {
       links = Both;
       order = Accept;
+      trace = false;
       system = codes "s.toml";
       capture = None;
     })
@@ -65,6 +88,8 @@ pub fn lines_are_refused()
         (codes "tlcheck" ∷ codes "--order=" ∷ codes "s.toml" ∷ []) }
     ensures stray { AreRefusedAs UnknownArgument
         (codes "tlcheck" ∷ codes "s.toml" ∷ codes "c.csv" ∷ codes "d.csv" ∷ []) }
+    ensures trace { AreRefusedAs TooManyValues
+        (codes "tlcheck" ∷ codes "--trace=true" ∷ codes "s.toml" ∷ []) }
     ensures unknown { AreRefusedAs UnknownArgument
         (codes "tlcheck" ∷ codes "--verbose" ∷ codes "s.toml" ∷ []) }
 {}

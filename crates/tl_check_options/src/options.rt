@@ -1,11 +1,11 @@
-//! The command line: `tlcheck [--links both|masters|ports] [--order accept|reply] SYSTEM [CAPTURE]`.
+//! The command line: `tlcheck [--links both|masters|ports] [--order accept|reply] [--trace] SYSTEM [CAPTURE]`.
 ghost use Rattle.std.specs.Prelude.{◌≡◌, IfOk, [], map, false, option_map, unwrap_or};
 ghost use Rattle.clap.specs.Words.{app_of, first_value, found_of, kind_of, rule_of};
-ghost use Rattle.tl_check_options.specs.Options.{Answers, IsCommandLine, IsLinksRule, IsOrderRule, capture_rule, file_of, links_of, order_of, program, status_of_kind, system_rule};
+ghost use Rattle.tl_check_options.specs.Options.{Answers, IsCommandLine, IsLinksRule, IsOrderRule, capture_rule, file_of, flag_of, links_of, order_of, program, status_of_kind, system_rule, trace_rule};
 
 use clap::builder::ValueParser;
 use clap::error::ErrorKind;
-use clap::{Arg, ArgAction, ArgMatches, Command, Error};
+use clap::{Arg, ArgAction, ArgMatches, Command, Error, value_parser};
 use std::alloc::{AllocError, Global};
 use tl_watch::{Links, Order};
 
@@ -26,6 +26,8 @@ pub struct Options<'a> {
     pub links: Links,
     /// When a request takes effect at its port.
     pub order: Order,
+    /// Whether a line is printed for each request that was answered.
+    pub trace: bool,
     /// The file with the system.
     pub system: &'a str,
     /// The file with the capture; where there is none it comes on standard input.
@@ -44,6 +46,7 @@ pub fn read_options<'a>(alloc: Global, words: &'a [&'a str]) -> Result<Options<'
     Ok(Options {
         links: read_links(value(&matches, "links")),
         order: read_order(value(&matches, "order")),
+        trace: read_flag(value(&matches, "trace")),
         system: value(&matches, "system"),
         capture: read_file(matches.get_str("capture")),
     })
@@ -75,6 +78,13 @@ fn read_order(word: &str) -> Order
         "reply" => Order::Reply,
         _ => Order::Accept,
     }
+}
+
+/// Whether a flag is set, by its value.
+fn read_flag(word: &str) -> bool
+    ensures { result ≡ flag_of word.now }
+{
+    word == "true"
 }
 
 /// The file that a word names, where it names one.
@@ -128,6 +138,18 @@ fn order_option<'a>(alloc: Global) -> Arg<'a>
         .help("When a request takes effect at its port")
 }
 
+/// `--trace`.
+fn trace_flag<'a>(alloc: Global) -> Arg<'a>
+    ensures rule { rule_of result ≡ trace_rule }
+    ensures local { result.global ≡ false }
+{
+    Arg::new(alloc, "trace")
+        .long("trace")
+        .action(ArgAction::SetTrue)
+        .value_parser(value_parser!(bool))
+        .help("Print a line for each request that was answered")
+}
+
 /// SYSTEM.
 fn system_word<'a>(alloc: Global) -> Arg<'a>
     ensures rule { rule_of result ≡ system_rule }
@@ -158,6 +180,7 @@ fn command<'a>(alloc: Global) -> Result<Command<'a>, AllocError>
     program(alloc)
         .arg(links_option(alloc))?
         .arg(order_option(alloc))?
+        .arg(trace_flag(alloc))?
         .arg(system_word(alloc))?
         .arg(capture_word(alloc))
 }

@@ -13,5 +13,6 @@ returns c = record {
   links = wherever (Refuses _ _) (λ l a b c o d e. refl);
   order = wherever (Refuses _ _) (λ l a b c o d e. refl);
   stray = wherever (Refuses _ _) (λ l a b c o d e. refl);
+  trace = wherever (Refuses _ _) (λ l a b c o d e. refl);
   unknown = wherever (Refuses _ _) (λ l a b c o d e. refl);
 }

@@ -12,5 +12,7 @@ returns c = record {
   input = wherever (Asks _ _) (λ l a b c o d e. (refl, refl));
   masters = wherever (Asks _ _) (λ l a b c o d e. (refl, refl));
   ports = wherever (Asks _ _) (λ l a b c o d e. (refl, refl));
+  trace = wherever (Asks _ _) (λ l a b c o d e. (refl, refl));
+  trace_behind = wherever (Asks _ _) (λ l a b c o d e. (refl, refl));
   defaults = wherever (Asks _ _) (λ l a b c o d e. (refl, refl));
 }

@@ -1,7 +1,7 @@
 use Rattle.std.proofs.Common.{◌≡◌, ◌∙◌, rules, ap, map, refl, codes, [], Option}
 use Rattle.std.specs.Prelude.{option_map, unwrap_or}
 use Rattle.clap.specs.Words.{Text, app_of, first_of, matches_of}
-use Rattle.tl_check_options.specs.Options.{file_of, links_of, order_of, value_in}
+use Rattle.tl_check_options.specs.Options.{file_of, flag_of, links_of, order_of, value_in}
 use Rattle.tl_check_options.proofs.CommandLine.{first_read, is_free_line, some_line}
 use Rattle.tl_check_options.proofs.options.read_options.Goals as goal
 
@@ -26,8 +26,10 @@ returns c =
     c.read_links.ensures ∙ ap links_of (c.value.ensures ∙ ap or_none (read (codes "links"))) in
     let order : c.read_order.result ≡ order_of (value_in (app_of command) words (codes "order")) =
     c.read_order.ensures ∙ ap order_of (c.value-2.ensures ∙ ap or_none (read (codes "order"))) in
-    let system : c.value-3.result.now ≡ value_in (app_of command) words (codes "system") =
-    c.value-3.ensures ∙ ap or_none (read (codes "system")) in
+    let trace : c.read_flag.result ≡ flag_of (value_in (app_of command) words (codes "trace")) =
+    c.read_flag.ensures ∙ ap flag_of (c.value-3.ensures ∙ ap or_none (read (codes "trace"))) in
+    let system : c.value-4.result.now ≡ value_in (app_of command) words (codes "system") =
+    c.value-4.ensures ∙ ap or_none (read (codes "system")) in
     let capture : option_map (λ name. name.now) c.read_file.result
     ≡ file_of (first_of (codes "capture") (matches_of (app_of command) words)) =
     c.read_file.ensures ∙ ap file_of (c.get_str.ensures ∙ read (codes "capture")) in
@@ -36,6 +38,6 @@ returns c =
         app = app_of command;
         is = line;
         faults = c.in_ok-matches.ensures.kinds (is_free_line _ line);
-        asked = rw (links, order, system, capture) refl;
+        asked = rw (links, order, trace, system, capture) refl;
       };
     }
