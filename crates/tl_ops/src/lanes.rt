@@ -145,21 +145,38 @@ impl Lanes {
         self.words[i] = new_cell(AskOp::PutPartial, word, given, k);
     }
 
-    /// Appends the bytes from a place on: a cell, or whole words.
-    pub fn read(&self, start: usize, width: usize, bytes: &mut Window)
-        requires fits { FitsWords start width }
-        requires room { length bytes.old.items + width ≤ MAX_BYTES }
-        requires inside { start + width ≤ length self.now }
-        ensures { bytes.new.items ≡ bytes.old.items ++ take width (drop start self.now) }
+    /// So many words from a place on.
+    fn whole_words(&self, start: usize, count: usize) -> Window
+        requires whole { start % BUS_BYTES ≡ 0 }
+        requires room { BUS_BYTES * count ≤ MAX_BYTES }
+        requires inside { start + BUS_BYTES * count ≤ length self.now }
+        ensures { result.items ≡ take (BUS_BYTES * count) (drop start self.now) }
     {
-        if width < BUS_BYTES {
-            push_cell(bytes, self.cell(start, width), width);
-            return;
-        }
-        for k in 0..width / BUS_BYTES {
+        // in an array each word has its place, where a list that grows has a length to wait for
+        let mut plain = [0; MAX_BYTES];
+        for k in 0..count {
+            let place = BUS_BYTES * k;
             let word = self.word(start / BUS_BYTES + k);
-            bytes.try_extend_from_slice(&word.to_le_bytes()).unwrap();
+            plain[place..place + BUS_BYTES].copy_from_slice(&word.to_le_bytes());
         }
+        let mut bytes = ArrayVec::from_array_in((), plain);
+        bytes.truncate(BUS_BYTES * count);
+        bytes
+    }
+
+    /// The bytes from a place on: a cell, or whole words.
+    pub fn read(&self, start: usize, width: usize) -> Window
+        requires fits { FitsWords start width }
+        requires room { width ≤ MAX_BYTES }
+        requires inside { start + width ≤ length self.now }
+        ensures { result.items ≡ take width (drop start self.now) }
+    {
+        if width <= BUS_BYTES {
+            let mut bytes = Window::new();
+            push_cell(&mut bytes, self.cell(start, width), width);
+            return bytes;
+        }
+        self.whole_words(start, width / BUS_BYTES)
     }
 
     /// Puts the given bytes from a place on: into a cell, or into whole words.

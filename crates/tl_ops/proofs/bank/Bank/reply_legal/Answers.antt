@@ -17,8 +17,8 @@ returns c =
     let ask = c.args.ask.now in
     let inside = c.self.inside in
     let legal_here : legal c.args.self.now ask ≡ true = c.requires in
-    let read = rw (c.first_lane.ensures, c.address.ensures, c.width.ensures.value, c.new-bytes.ensures) at c.read.ensures in
+    let read = rw (c.first_lane.ensures, c.address.ensures, c.width.ensures.value) at c.read.ensures in
     let window_is = window_read inside.kind inside.base inside.len inside.lanes ask c.self.invariant (ap (λ (s : Store). legal s ask) c.self.view_is ∙ legal_here) in
     let carries : reply_carries_bytes (reply_op_of ask.op) ≡ true = rw (← c.op.ensures, ← c.reply_op.ensures, ← c.carries_bytes.ensures) c.if-not-carries_bytes.false in
     let shows : window c.args.self.now ask ≡ shown (reply_op_of ask.op) (window c.args.self.now ask) = rw carries refl in
-    answered c.args.self.now ask c.done-2.result c.read.new.bytes.items legal_here c.done-2.ensures (read ∙ window_is ∙ ap (λ (s : Store). window s ask) c.self.view_is ∙ shows)
+    answered c.args.self.now ask c.done-2.result c.read.result.items legal_here c.done-2.ensures (read ∙ window_is ∙ ap (λ (s : Store). window s ask) c.self.view_is ∙ shows)
