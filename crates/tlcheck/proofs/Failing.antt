@@ -1,6 +1,24 @@
--- What holds of each error holds of a result's.
-use Rattle.std.proofs.Common.{Result, Ok, Err, IfErr}
+-- What a fault says of a result.
+use Rattle.std.proofs.Common.{◌≡◌, ℕ, Bool, List, Option, Result, Ok, Err, inl, inr, sym, subst}
+use Rattle.std.specs.Result.{IsErrAnd}
+use Rattle.tl_verdict.specs.declared.fault.CaptureFault.{CaptureFault}
+use Rattle.tl_verdict.specs.declared.fault.CaptureFault.TheVariants as stop
+use Rattle.tlcheck.specs.Engine.{IsChecked, IsFaulty, IsStopped}
+use Rattle.tlcheck.specs.Fault.{of_capture}
+use Rattle.tlcheck.specs.declared.fault.CheckFault.{CheckFault}
+use Rattle.tlcheck.specs.declared.terms.Terms.{Terms}
 
-pub at_err : {T E : Type 0} (P : E → Type 0) (r : Result T E) → ((e : E) → P e) → IfErr r P
-at_err P (Ok x) p = tt
-at_err P (Err e) p = p e
+pub checked_by : (terms : Terms) (read_old read_new capture old new : Option (List ℕ)) (result : Result Bool CheckFault) (fault : CheckFault)
+    → IsErrAnd result (λ e. e ≡ fault) → IsFaulty terms read_old read_new capture old new fault → IsChecked terms read_old read_new capture old new result
+checked_by terms read_old read_new capture old new (Ok lawful) fault is faulty = absurd is
+checked_by terms read_old read_new capture old new (Err e) fault is faulty =
+    record { ok = tt; fault = subst (IsFaulty terms read_old read_new capture old new) (sym is) faulty }
+
+pub of_stopped : (terms : Terms) (read_old read_new capture old new : Option (List ℕ)) (fault : CaptureFault)
+    → IsStopped terms read_old read_new capture old new fault → IsFaulty terms read_old read_new capture old new (of_capture fault)
+of_stopped terms read_old read_new capture old new (stop.Header line) stopped = stopped
+of_stopped terms read_old read_new capture old new (stop.TooLong line) stopped = stopped
+of_stopped terms read_old read_new capture old new (stop.Row line why) stopped = stopped
+of_stopped terms read_old read_new capture old new stop.Read stopped = inr stopped
+of_stopped terms read_old read_new capture old new stop.Memory stopped = inr (inl stopped)
+of_stopped terms read_old read_new capture old new stop.Write stopped = inl stopped

@@ -13,11 +13,14 @@ of_input (input.Script fault) = Script fault
 of_input input.Read = Read
 of_input input.Memory = Memory
 
--- want of memory and a failed read are each one fault, whichever layer met it
+-- want of memory, a failed read and a failed write are each one fault, whichever layer met it
 abbrev pub of_capture : CaptureFault → CheckFault
+of_capture (capture.Header line) = Capture (capture.Header line)
+of_capture (capture.TooLong line) = Capture (capture.TooLong line)
+of_capture (capture.Row line why) = Capture (capture.Row line why)
 of_capture capture.Read = Read
 of_capture capture.Memory = Memory
-of_capture fault = Capture fault
+of_capture capture.Write = Write
 
 -- the status that the program ends with where there is no verdict
 abbrev pub status_of : CheckFault → ℕ

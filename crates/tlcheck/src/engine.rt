@@ -4,13 +4,13 @@ ghost use Rattle.tlcheck.specs.Engine.{IsChecked, is_lawful, line_of};
 
 use crate::fault::CheckFault;
 use crate::judge::{judge_of, sizes_of};
+use crate::terms::Terms;
 use std::alloc::Global;
 use std::io::{Read, Write};
 use tl_judge::{push_lawful, push_unlawful};
 use tl_streams::{LimitedReader, LimitedWriter, read_whole_system, write_all};
 use tl_types::Memory;
 use tl_verdict::{Verdict, judge_capture};
-use tl_watch::{Links, Order};
 
 /// The line of a verdict.
 fn line_of(alloc: Global, verdict: &Verdict) -> Result<Vec<u8>, Memory>
@@ -32,22 +32,21 @@ fn is_lawful(verdict: &Verdict) -> bool
 }
 
 /// Reads a system and then a capture, each to its end or first fault, and writes the line of the verdict: whether what
-/// crossed these links of a crossbar that is the system is lawful, where requests take effect in this order. The answer is the
-/// same. Nothing is written before the verdict is known.
+/// crossed the watched links of a crossbar that is the system is lawful. The answer is the same. Where replies are told, their lines are
+/// written before, as the capture is read.
 pub fn check<S: Read, C: Read + Drop, W: Write>(
     alloc: Global,
     system: &mut S,
     capture: C,
     writer: &mut W,
-    links: Links,
-    order: Order,
+    terms: Terms,
 ) -> Result<bool, CheckFault>
-    ensures { IsChecked links order (S.remaining system.old) (S.remaining system.new) (C.remaining capture)
+    ensures { IsChecked terms (S.remaining system.old) (S.remaining system.new) (C.remaining capture)
         (W.contents writer.old) (W.contents writer.new) result }
 {
     let mut system = LimitedReader::new(system);
     let mut writer = LimitedWriter::new(writer);
-    check_within(alloc, &mut system, capture, &mut writer, links, order)
+    check_within(alloc, &mut system, capture, &mut writer, terms)
 }
 
 /// The same, through what limits the reads of the system and the retried writes.
@@ -56,19 +55,18 @@ fn check_within<S: Read, C: Read + Drop, W: Write>(
     reader: &mut LimitedReader<'_, S>,
     capture: C,
     writer: &mut LimitedWriter<'_, W>,
-    links: Links,
-    order: Order,
+    terms: Terms,
 ) -> Result<bool, CheckFault>
     ensures same_reader { reader.new.reader.ghost_name ≡ reader.old.reader.ghost_name }
     ensures same_writer { writer.new.writer.ghost_name ≡ writer.old.writer.ghost_name }
-    ensures checked { IsChecked links order (S.remaining reader.old.reader.now)
+    ensures checked { IsChecked terms (S.remaining reader.old.reader.now)
         (S.remaining reader.new.reader.now) (C.remaining capture)
         (W.contents writer.old.writer.now) (W.contents writer.new.writer.now) result }
 {
     let system = read_whole_system(alloc, reader)?;
     let sizes = sizes_of(&system);
-    let judge = judge_of(alloc, system, links, order)?;
-    let verdict = judge_capture(alloc, capture, judge, sizes)?;
+    let judge = judge_of(alloc, system, terms)?;
+    let verdict = judge_capture(alloc, capture, writer, judge, sizes)?;
     let line = line_of(alloc, &verdict)?;
     write_all(writer, &line)?;
     Ok(is_lawful(&verdict))

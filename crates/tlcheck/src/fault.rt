@@ -61,6 +61,7 @@ impl From<CaptureFault> for CheckFault {
         match fault {
             CaptureFault::Read => CheckFault::Read,
             CaptureFault::Memory => CheckFault::Memory,
+            CaptureFault::Write => CheckFault::Write,
             other => CheckFault::Capture(other),
         }
     }

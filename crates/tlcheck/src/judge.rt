@@ -1,17 +1,18 @@
 //! The judge of a system's captures.
 ghost use Rattle.std.specs.Prelude.{◌≡◌, ◌++◌, ◌∷◌, [], ◌≤◌, IfOk, map};
-ghost use Rattle.tl_judge.specs.View.{Judges};
+ghost use Rattle.tl_judge.specs.View.{Judges, is_traced};
 ghost use Rattle.tl_ops.specs.Store.{Store};
 ghost use Rattle.tl_script.specs.System.{error_store, store_of};
 ghost use Rattle.tlcheck.specs.Engine.{ByThePlan, sizes_of};
 
+use crate::terms::Terms;
 use std::alloc::Global;
 use tl_judge::Judge;
 use tl_ops::{Bank, Kind};
 use tl_script::{Device, System};
 use tl_types::{MAX_MASTERS, MAX_PORTS, Memory};
 use tl_verdict::Sizes;
-use tl_watch::{Links, Order, Watch};
+use tl_watch::Watch;
 
 /// What the slaves of these devices hold at reset, and the error port's behind them.
 fn banks_of(alloc: Global, devices: &[Device]) -> Result<Vec<Bank>, Memory>
@@ -40,11 +41,19 @@ pub fn sizes_of(system: &System) -> Sizes
 }
 
 /// The judge of captures of a crossbar that is this system, before any row.
-pub fn judge_of(alloc: Global, system: System, links: Links, order: Order) -> Result<Judge, Memory>
-    ensures { IfOk result (λ judge. ByThePlan links order system (λ plan. Judges plan [] judge)) }
+pub fn judge_of(alloc: Global, system: System, terms: Terms) -> Result<Judge, Memory>
+    ensures judges { IfOk result (λ judge. ByThePlan terms system (λ plan. Judges plan [] judge)) }
+    ensures trace { IfOk result (λ judge. is_traced judge ≡ terms.trace) }
 {
     let crossbar = system.into_crossbar();
     let banks = banks_of(alloc, &crossbar.devices)?;
-    let watch = Watch::new(alloc, links, order, crossbar.map, crossbar.sources, banks)?;
-    Ok(Judge::new(watch, links))
+    let watch = Watch::new(
+        alloc,
+        terms.links,
+        terms.order,
+        crossbar.map,
+        crossbar.sources,
+        banks,
+    )?;
+    Ok(Judge::new(watch, terms.trace))
 }

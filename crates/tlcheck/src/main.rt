@@ -14,6 +14,7 @@ pub mod engine;
 pub mod fault;
 pub mod file;
 pub mod judge;
+pub mod terms;
 #[cfg(test)]
 mod tests;
 
@@ -27,6 +28,7 @@ ghost use Rattle.tlcheck.specs.Fault.{status_of, status_of_verdict};
 use crate::engine::check;
 use crate::fault::CheckFault;
 use crate::file::NamedFile;
+use crate::terms::Terms;
 use std::io::ErrorKind;
 use std::process::ExitCode;
 use std::{env, io};
@@ -60,20 +62,17 @@ fn main(rt: HostRuntime) -> ExitCode {
 fn run(rt: &HostRuntime, options: &Options<'_>) -> Result<bool, CheckFault> {
     let mut system = NamedFile::new(rt, options.system);
     let mut writer = rt.stdout();
-    let (links, order) = (options.links, options.order);
+    let terms = Terms {
+        links: options.links,
+        order: options.order,
+        trace: options.trace,
+    };
     match options.capture {
         Some(name) => {
             let capture = NamedFile::new(rt, name);
-            check(rt.alloc(), &mut system, capture, &mut writer, links, order)
+            check(rt.alloc(), &mut system, capture, &mut writer, terms)
         }
-        None => check(
-            rt.alloc(),
-            &mut system,
-            rt.stdin(),
-            &mut writer,
-            links,
-            order,
-        ),
+        None => check(rt.alloc(), &mut system, rt.stdin(), &mut writer, terms),
     }
 }
 

@@ -4,6 +4,7 @@ ghost use Rattle.std.specs.Prelude.{Some, ◌<◌};
 
 use crate::engine::check;
 use crate::fault::CheckFault;
+use crate::terms::Terms;
 use std::alloc::Global;
 use std::io;
 use std::io::{ErrorKind, Read, Write};
@@ -22,6 +23,10 @@ const LAWFUL: &[u8] =
     b"time,link,channel,opcode,param,size,source,address,mask,data,denied,corrupt\n1,m0,A,4,0,0,0,1000,01,,,\n2,p0,A,4,0,0,0,1000,01,,,\n3,p0,D,1,,0,0,,,,0,0\n4,m0,D,1,,0,0,,,,0,0\n";
 
 const LAWFUL_LINE: &[u8] = b"lawful: 4 rows, 1 requests, 1 answered\n";
+
+/// Its one reply, and the verdict.
+const TOLD_AND_LAWFUL: &[u8] =
+    b"m0 s0 get 0x1000 0 -> AccessAckData 00 p0 #0\nlawful: 4 rows, 1 requests, 1 answered\n";
 
 /// The same, and the port answers that it is one.
 const UNLAWFUL: &[u8] =
@@ -124,12 +129,13 @@ impl Write for Drips {
     }
 }
 
-/// What becomes of two texts, and what is written.
+/// What becomes of two texts, and what is written, with replies told or not.
 fn outcome_of(
     alloc: Global,
     system: &[u8],
     capture: &[u8],
     trouble: (Trouble, Trouble, Trouble),
+    trace: bool,
 ) -> (Result<bool, CheckFault>, Vec<u8>) {
     let mut reader = Trickle::new(system, trouble.0);
     let capture = Trickle::new(capture, trouble.1);
@@ -139,8 +145,11 @@ fn outcome_of(
         &mut reader,
         capture,
         &mut writer,
-        Links::Both,
-        Order::Accept,
+        Terms {
+            links: Links::Both,
+            order: Order::Accept,
+            trace,
+        },
     );
     (outcome, writer.held)
 }
@@ -148,7 +157,13 @@ fn outcome_of(
 /// Two texts are judged so, by streams without trouble and by those that are interrupted again and again.
 fn expect_verdict(rt: &impl Abort, alloc: Global, capture: &[u8], lawful: bool, line: &[u8]) {
     for trouble in [Trouble::Never, Trouble::BeforeEach] {
-        let (outcome, written) = outcome_of(alloc, SYSTEM, capture, (trouble, trouble, trouble));
+        let (outcome, written) = outcome_of(
+            alloc,
+            SYSTEM,
+            capture,
+            (trouble, trouble, trouble),
+            false,
+        );
         assert!(rt; matches!(outcome, Ok(answer) if answer == lawful));
         assert_eq!(rt; written.as_slice(), line);
     }
@@ -158,6 +173,23 @@ fn expect_verdict(rt: &impl Abort, alloc: Global, capture: &[u8], lawful: bool, 
 fn a_lawful_and_an_unlawful_capture(rt: HostRuntime) {
     expect_verdict(&rt, rt.alloc(), LAWFUL, true, LAWFUL_LINE);
     expect_verdict(&rt, rt.alloc(), UNLAWFUL, false, UNLAWFUL_LINE);
+}
+
+/// The same lines with the replies told: this is written, in whole or where a write fails in so many bytes.
+fn expect_told(rt: &impl Abort, alloc: Global, capture: &[u8], trouble: Trouble, written: &[u8]) {
+    let never = Trouble::Never;
+    let (_, found) = outcome_of(alloc, SYSTEM, capture, (never, never, trouble), true);
+    assert_eq!(rt; found.as_slice(), written);
+}
+
+#[test]
+fn replies_are_told_before_the_verdict(rt: HostRuntime) {
+    let never = Trouble::Never;
+    expect_told(&rt, rt.alloc(), LAWFUL, never, TOLD_AND_LAWFUL);
+    expect_told(&rt, rt.alloc(), UNLAWFUL, never, UNLAWFUL_LINE);
+    // the line of the reply has 45 bytes, and that of the verdict comes behind it
+    expect_told(&rt, rt.alloc(), LAWFUL, Trouble::At(5), b"m0 s0");
+    expect_told(&rt, rt.alloc(), LAWFUL, Trouble::At(52), b"m0 s0 get 0x1000 0 -> AccessAckData 00 p0 #0\nlawful:");
 }
 
 /// Two texts have this fault: its line and its status, and nothing is written.
@@ -174,6 +206,7 @@ fn expect_fault(
         texts.0,
         texts.1,
         (trouble.0, trouble.1, Trouble::Never),
+        false,
     );
     let fault = outcome.err().expect(rt, "a fault");
     let text = format!(in alloc; "{fault}").ok().expect(rt, "a line");
@@ -235,7 +268,7 @@ fn reads_that_are_interrupted_for_ever_are_read(rt: HostRuntime) {
 /// A writer with this trouble is a failed write, after so many bytes.
 fn expect_front(rt: &impl Abort, alloc: Global, trouble: Trouble, count: usize) {
     let never = Trouble::Never;
-    let (outcome, written) = outcome_of(alloc, SYSTEM, UNLAWFUL, (never, never, trouble));
+    let (outcome, written) = outcome_of(alloc, SYSTEM, UNLAWFUL, (never, never, trouble), false);
     assert!(rt; matches!(outcome, Err(CheckFault::Write)));
     assert_eq!(rt; Some(written.as_slice()), UNLAWFUL_LINE.get(..count));
 }

@@ -1,49 +1,58 @@
--- The verdict is that of the system, and what went out before a failed write is a front of its line.
-use Rattle.std.proofs.Common.{rules, ◌∙◌}
-use Rattle.tlcheck.proofs.Failing.{at_err}
-use Rattle.tlcheck.proofs.Judged.{verdict_of}
-use Rattle.tlcheck.specs.Engine.{IsVerdictOf}
+-- The verdict or the fault is that of the system, and what was written is what is told with it.
+use Rattle.std.proofs.Common.{◌∙◌, inr}
+use Rattle.std.proofs.KnownBytes.{Keeps-refl}
+use Rattle.tlcheck.proofs.Failing.{checked_by, of_stopped}
+use Rattle.tlcheck.proofs.Judged.{IsJudgeOf, has_verdict, is_stopped}
+use Rattle.tlcheck.specs.Fault.{of_capture}
+use Rattle.tlcheck.specs.declared.fault.CheckFault.TheVariants as check
 use Rattle.tlcheck.proofs.engine.check_within.Goals as goal
+
+pub returns-in_err-verdict-clause-checked : goal.returns-in_err-verdict-clause-checked
+returns-in_err-verdict-clause-checked g c =
+    let system = c.in_ok-system.system in
+    let fault = c.in_err-verdict.field-0.0 in
+    let of_it : IsJudgeOf c.args.terms system c.in_ok-judge.judge c.sizes_of-sizes.result =
+    record { judges = c.in_ok-judge.ensures.judges; trace = c.in_ok-judge.ensures.trace; sized = c.sizes_of-sizes.ensures.value } in
+    let stopped = is_stopped _ system _ _ _ _ _ _ _ fault of_it c.in_ok-system.ensures.ok c.in_err-verdict.ensures.fault c.in_err-verdict.ensures.told in
+    checked_by _ _ _ _ _ _ _ (of_capture fault) c.from_residual-in_err-verdict.ensures.1 (of_stopped _ _ _ _ _ _ fault stopped)
+
+pub returns-in_err-line-clause-checked : goal.returns-in_err-line-clause-checked
+returns-in_err-line-clause-checked g c =
+    let system = c.in_ok-system.system in
+    let verdict = c.in_ok-verdict.verdict in
+    let of_it : IsJudgeOf c.args.terms system c.in_ok-judge.judge c.sizes_of-sizes.result =
+    record { judges = c.in_ok-judge.ensures.judges; trace = c.in_ok-judge.ensures.trace; sized = c.sizes_of-sizes.ensures.value } in
+    let has = has_verdict _ system _ _ _ _ _ _ _ verdict of_it c.in_ok-system.ensures.ok c.in_ok-verdict.ensures.verdict c.in_ok-verdict.ensures.told in
+    checked_by _ _ _ _ _ _ _ check.Memory c.from_residual-in_err-line.ensures.1
+    (inr (inr (record { system = system; verdict = verdict; told = _; has = has; line = Keeps-refl _ })))
 
 pub returns-in_err-write_all-clause-checked : goal.returns-in_err-write_all-clause-checked
 returns-in_err-write_all-clause-checked g c =
-    let front = c.in_err-write_all.ensures.front in
     let system = c.in_ok-system.system in
     let verdict = c.in_ok-verdict.verdict in
-    let is : IsVerdictOf c.args.links c.args.order system (g.C.Read.remaining c.args.capture) verdict =
-    verdict_of _ _ system _ c.sizes_of-sizes.result _ verdict c.in_ok-judge.ensures c.sizes_of-sizes.ensures.value c.in_ok-verdict.ensures.verdict in
-    record {
-      ok = search rules;
-      script = search rules;
-      no_capture = search rules;
-      quiet = search rules;
-      part = at_err _ c.from_residual-in_err-write_all.result (λ e failed. record {
-        system = system;
-        verdict = verdict;
-        given = c.in_ok-system.ensures.ok;
-        is = is;
-        written = rw (c.deref.ensures.value ∙ c.in_ok-line.ensures) at front;
-      });
-    }
+    let front = c.in_err-write_all.ensures.front in
+    let of_it : IsJudgeOf c.args.terms system c.in_ok-judge.judge c.sizes_of-sizes.result =
+    record { judges = c.in_ok-judge.ensures.judges; trace = c.in_ok-judge.ensures.trace; sized = c.sizes_of-sizes.ensures.value } in
+    let has = has_verdict _ system _ _ _ _ _ _ _ verdict of_it c.in_ok-system.ensures.ok c.in_ok-verdict.ensures.verdict c.in_ok-verdict.ensures.told in
+    checked_by _ _ _ _ _ _ _ check.Write c.from_residual-in_err-write_all.ensures.1
+    (inr (record { system = system; verdict = verdict; told = _; has = has; line = rw (c.deref.ensures.value ∙ c.in_ok-line.ensures) at front }))
 
 pub returns-clause-checked : goal.returns-clause-checked
 returns-clause-checked g c =
     let system = c.in_ok-system.system in
     let verdict = c.in_ok-verdict.verdict in
     let bytes = c.in_ok-write_all.ensures.bytes in
-    let is : IsVerdictOf c.args.links c.args.order system (g.C.Read.remaining c.args.capture) verdict =
-    verdict_of _ _ system _ c.sizes_of-sizes.result _ verdict c.in_ok-judge.ensures c.sizes_of-sizes.ensures.value c.in_ok-verdict.ensures.verdict in
+    let of_it : IsJudgeOf c.args.terms system c.in_ok-judge.judge c.sizes_of-sizes.result =
+    record { judges = c.in_ok-judge.ensures.judges; trace = c.in_ok-judge.ensures.trace; sized = c.sizes_of-sizes.ensures.value } in
+    let has = has_verdict _ system _ _ _ _ _ _ _ verdict of_it c.in_ok-system.ensures.ok c.in_ok-verdict.ensures.verdict c.in_ok-verdict.ensures.told in
     record {
       ok = record {
         system = system;
         verdict = verdict;
-        given = c.in_ok-system.ensures.ok;
-        is = is;
-        answered = search rules;
+        told = _;
+        has = has;
+        answered = c.is_lawful.ensures;
         written = rw (c.deref.ensures.value ∙ c.in_ok-line.ensures) at bytes;
       };
-      script = search rules;
-      no_capture = search rules;
-      quiet = search rules;
-      part = search rules;
+      fault = tt;
     }
