@@ -1,5 +1,5 @@
 //! The judge of the rows of a file.
-ghost use Rattle.std.specs.Prelude.{◌≡◌, ◌+◌, ◌%◌, ◌^◌, ◌<◌, ◌↔◌, ℕ, List, [], ◌∷◌, ◌++◌, Err, IsOk, IfOk, OnOk, IfErr};
+ghost use Rattle.std.specs.Prelude.{◌≡◌, ◌+◌, ◌%◌, ◌^◌, ◌<◌, ◌↔◌, ℕ, true, List, [], ◌∷◌, ◌++◌, Err, IsOk, IfOk, OnOk, IfErr};
 ghost use Rattle.tl_watch.specs.Plan.{Plan};
 ghost use Rattle.tl_watch.specs.View.{Keeps};
 ghost use Rattle.tl_capture.specs.Moment.{IsLink, IsMoment};
@@ -65,6 +65,7 @@ impl Judge {
         ensures stop_told { (plan : Plan) (file : List Row) (so_far : List ℕ)
             → HasTold plan file self.old so_far
             → IfErr result (TellsStop (is_traced self.old) plan file so_far text.old.items text.new.items) }
+        ensures memory { IfErr result (λ stop. stop ≡ Stop.Memory → is_traced self.old ≡ true) }
     {
         if let Err(refusal) = self.tally.judge_rows(self.moment.rows(), text) {
             return Err(stop_of(refusal));
@@ -89,6 +90,7 @@ impl Judge {
         ensures stop_told { (plan : Plan) (file : List Row) (so_far : List ℕ)
             → HasTold plan file self.old so_far
             → IfErr result (TellsStop (is_traced self.old) plan file so_far text.old.items text.new.items) }
+        ensures memory { IfErr result (λ stop. stop ≡ Stop.Memory → is_traced self.old ≡ true) }
     {
         // asked for its clause that they are a moment
         let _rows = self.moment.rows();
@@ -118,6 +120,7 @@ impl Judge {
             → IfErr result (OfUnlawful (λ found. (more : List ℕ)
             × (text.new.items ≡ text.old.items ++ more)
             × IsToldBefore (is_traced self) plan file (so_far ++ more) found)) }
+        ensures memory { IfErr result (λ why. why ≡ Refusal.Memory → is_traced self ≡ true) }
     {
         if let Err(refusal) = self.tally.judge_rows(self.moment.rows(), text) {
             return Err(refusal);

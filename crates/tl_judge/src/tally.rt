@@ -1,5 +1,5 @@
 //! Beats judged in the order in which they cross, and what they end, counted.
-ghost use Rattle.std.specs.Prelude.{◌≡◌, ◌&&◌, List, ◌∷◌, ◌++◌, reverse, OnOk, IfErr};
+ghost use Rattle.std.specs.Prelude.{◌≡◌, ◌&&◌, true, List, ◌∷◌, ◌++◌, reverse, OnOk, IfErr};
 ghost use Rattle.tl_watch.specs.Plan.{Plan, HasSource, source_of};
 ghost use Rattle.tl_capture.specs.declared.row.Row.{Row};
 ghost use Rattle.tl_judge.specs.Count.{is_counted, is_whole_ask, is_whole_reply, one_more};
@@ -59,11 +59,12 @@ impl Tally {
 
     /// Appends what is told of a beat that ends this.
     fn tell(&self, sighting: &Sighting, seen: &Seen, text: &mut Vec<u8>) -> Result<(), AllocError>
-        ensures { HasSource self.now.watch.layout sighting.now.link (source_of sighting.now.beat)
+        ensures told { HasSource self.now.watch.layout sighting.now.link (source_of sighting.now.beat)
             → OnOk result (AppendsToldOf
             (self.now.trace && is_counted self.now.watch.layout.links sighting.now.link)
             self.now.watch.layout.counts sighting.now.link (source_of sighting.now.beat) seen.now
             text.old.items text.new.items) }
+        ensures memory { IfErr result (λ _. self.now.trace ≡ true) }
     {
         let link = sighting.link;
         if !self.trace || !is_counted(self.watch.links(), link) {
@@ -90,6 +91,7 @@ impl Tally {
             → IfErr result (OfUnlawful (IsUnlawfulAfter plan before)) }
         ensures row { IfErr result (OfUnlawful (λ found. found.row ≡ row.now)) }
         ensures quiet { IfErr result (OfUnlawful (λ _. text.new.items ≡ text.old.items)) }
+        ensures memory { IfErr result (λ why. why ≡ Refusal.Memory → self.old.trace ≡ true) }
     {
         let link = row.sighting.link;
         if !self.watch.watches(link) {
@@ -118,6 +120,7 @@ impl Tally {
         ensures fault { (plan : Plan) (before : List Row) → Kept plan before self.old
             → IfErr result (OfUnlawful (StopsTelling self.old.trace plan rows.now before
             text.old.items text.new.items)) }
+        ensures memory { IfErr result (λ why. why ≡ Refusal.Memory → self.old.trace ≡ true) }
     {
         for row in rows {
             if let Err(refusal) = self.judge_row(row, text) {
