@@ -59,12 +59,14 @@ impl Judge {
             → OnOk result (Judges plan (file ++ row ∷ []) self.new) }
         ensures told { (plan : Plan) (file : List Row) (so_far : List ℕ)
             → HasTold plan file self.old so_far
-            → OnOk result (TellsOn plan (file ++ row ∷ []) self.new so_far text.old.items text.new.items) }
+            → OnOk result (TellsOn plan (file ++ row ∷ []) self.new so_far
+            text.old.items text.new.items) }
         ensures stop { (plan : Plan) (file : List Row) → Judges plan file self.old
             → IfErr result (IsStop plan file row) }
         ensures stop_told { (plan : Plan) (file : List Row) (so_far : List ℕ)
             → HasTold plan file self.old so_far
-            → IfErr result (TellsStop (is_traced self.old) plan file so_far text.old.items text.new.items) }
+            → IfErr result (TellsStop (is_traced self.old) plan file so_far
+            text.old.items text.new.items) }
         ensures memory { IfErr result (λ stop. stop ≡ Stop.Memory → is_traced self.old ≡ true) }
     {
         if let Err(refusal) = self.tally.judge_rows(self.moment.rows(), text) {
@@ -84,12 +86,14 @@ impl Judge {
             → OnOk result (Judges plan (file ++ row ∷ []) self.new) }
         ensures told { (plan : Plan) (file : List Row) (so_far : List ℕ)
             → HasTold plan file self.old so_far
-            → OnOk result (TellsOn plan (file ++ row ∷ []) self.new so_far text.old.items text.new.items) }
+            → OnOk result (TellsOn plan (file ++ row ∷ []) self.new so_far
+            text.old.items text.new.items) }
         ensures stop { (plan : Plan) (file : List Row) → Judges plan file self.old
             → IfErr result (IsStop plan file row) }
         ensures stop_told { (plan : Plan) (file : List Row) (so_far : List ℕ)
             → HasTold plan file self.old so_far
-            → IfErr result (TellsStop (is_traced self.old) plan file so_far text.old.items text.new.items) }
+            → IfErr result (TellsStop (is_traced self.old) plan file so_far
+            text.old.items text.new.items) }
         ensures memory { IfErr result (λ stop. stop ≡ Stop.Memory → is_traced self.old ≡ true) }
     {
         // asked for its clause that they are a moment
