@@ -22,20 +22,20 @@ fn answer(rt: &impl Abort, board: &mut Board) {
 #[test]
 fn a_source_waits_for_its_reply(rt: HostRuntime) {
     let mut board = set_up(&rt, rt.alloc(), 4, 2);
-    assert_eq!(rt; board.first.sources(), 16);
-    assert_eq!(rt; board.issue(&rt, 16), Err(IssueFault::NoSuchSource));
-    assert_eq!(rt; board.issue(&rt, 0), Ok(Issued { slot: 0, port: 0 }));
-    assert_eq!(rt; board.issue(&rt, 0), Err(IssueFault::SourceBusy));
-    assert_eq!(rt; board.first.out(), 1);
-    assert_eq!(rt; board.issue(&rt, 1), Ok(Issued { slot: 1, port: 0 }));
-    assert_eq!(rt; board.issue(&rt, 0), Err(IssueFault::SourceBusy));
-    assert_eq!(rt; board.issue(&rt, 2), Err(IssueFault::TraceFull));
+    assert!(rt; board.first.sources() == 16);
+    assert!(rt; board.issue(&rt, 16) == Err(IssueFault::NoSuchSource));
+    assert!(rt; board.issue(&rt, 0) == Ok(Issued { slot: 0, port: 0 }));
+    assert!(rt; board.issue(&rt, 0) == Err(IssueFault::SourceBusy));
+    assert!(rt; board.first.out() == 1);
+    assert!(rt; board.issue(&rt, 1) == Ok(Issued { slot: 1, port: 0 }));
+    assert!(rt; board.issue(&rt, 0) == Err(IssueFault::SourceBusy));
+    assert!(rt; board.issue(&rt, 2) == Err(IssueFault::TraceFull));
 }
 
 #[test]
 fn a_look_goes_over_what_is_out_alone(rt: HostRuntime) {
     let mut board = set_up(&rt, rt.alloc(), 4, 4);
-    assert_eq!(rt; board.first.next_out(0), None);
+    assert!(rt; board.first.next_out(0) == None);
     for source in [9, 3, 15] {
         assert!(rt; board.issue(&rt, source).is_ok());
     }
@@ -46,26 +46,23 @@ fn a_look_goes_over_what_is_out_alone(rt: HostRuntime) {
         (10, Some(15)),
         (16, None),
     ] {
-        assert_eq!(rt; board.first.next_out(from), next);
+        assert!(rt; board.first.next_out(from) == next);
     }
     answer(&rt, &mut board);
-    assert_eq!(rt; board.poll(9), Polled::Done(0));
-    assert_eq!(rt;
-        (board.poll(3), board.first.next_out(4)),
-        (Polled::NotYet, Some(15))
-    );
+    assert!(rt; board.poll(9) == Polled::Done(0));
+    assert!(rt; (board.poll(3), board.first.next_out(4)) == (Polled::NotYet, Some(15)));
 }
 
 #[test]
 fn poll_finds_answer(rt: HostRuntime) {
     let mut board = set_up(&rt, rt.alloc(), 4, 4);
-    assert_eq!(rt; board.poll(3), Polled::Idle);
-    assert_eq!(rt; board.issue(&rt, 3), Ok(Issued { slot: 0, port: 0 }));
-    assert_eq!(rt; board.poll(3), Polled::NotYet);
+    assert!(rt; board.poll(3) == Polled::Idle);
+    assert!(rt; board.issue(&rt, 3) == Ok(Issued { slot: 0, port: 0 }));
+    assert!(rt; board.poll(3) == Polled::NotYet);
     answer(&rt, &mut board);
-    assert_eq!(rt; board.poll(3), Polled::Done(0));
-    assert_eq!(rt; board.poll(3), Polled::Idle);
-    assert_eq!(rt; (board.first.out(), board.first.trace_len()), (0, 1));
+    assert!(rt; board.poll(3) == Polled::Done(0));
+    assert!(rt; board.poll(3) == Polled::Idle);
+    assert!(rt; (board.first.out(), board.first.trace_len()) == (0, 1));
 }
 
 /// Ends a master that has one entry, at this place of the port's history.
@@ -75,8 +72,8 @@ fn finish(rt: &impl Abort, arena: &Arena, master: Master, index: usize)
     assert!(rt; master.out() == 0);
     let trace = master.finish(arena);
     let entry = trace.first().expect(rt, "no entry");
-    assert_eq!(rt; (entry.ask.source(), entry.reply.source()), (0, 0));
-    assert_eq!(rt; (entry.port, entry.index), (0, index));
+    assert!(rt; (entry.ask.source(), entry.reply.source()) == (0, 0));
+    assert!(rt; (entry.port, entry.index) == (0, index));
 }
 
 /// Ends both masters and the arena.
@@ -88,26 +85,26 @@ fn end(rt: &impl Abort, alloc: Global, board: Board) {
         second,
         book,
     } = board;
-    assert_eq!(rt; book.history_len(), 2);
-    assert_eq!(rt; (first.number(), second.number()), (0, 1));
+    assert!(rt; book.history_len() == 2);
+    assert!(rt; (first.number(), second.number()) == (0, 1));
     finish(rt, &arena, first, 0);
     finish(rt, &arena, second, 1);
     let account = arena.close(alloc).expect(rt, "memory");
     assert!(rt; account.free.as_slice() == [0].as_slice());
-    assert_eq!(rt; (account.held.len(), account.left.len()), (0, 2));
+    assert!(rt; (account.held.len(), account.left.len()) == (0, 2));
 }
 
 #[test]
 fn issue_finds_free_slot(rt: HostRuntime) {
     let mut board = set_up(&rt, rt.alloc(), 1, 4);
-    assert_eq!(rt; board.issue(&rt, 0), Ok(Issued { slot: 0, port: 0 }));
-    assert_eq!(rt; board.issue_second(&rt, 0), Err(IssueFault::NoSlot));
-    assert_eq!(rt; (board.second.out(), board.second.trace_len()), (0, 0));
+    assert!(rt; board.issue(&rt, 0) == Ok(Issued { slot: 0, port: 0 }));
+    assert!(rt; board.issue_second(&rt, 0) == Err(IssueFault::NoSlot));
+    assert!(rt; (board.second.out(), board.second.trace_len()) == (0, 0));
     answer(&rt, &mut board);
-    assert_eq!(rt; board.poll(0), Polled::Done(0));
-    assert_eq!(rt; board.issue_second(&rt, 0), Ok(Issued { slot: 0, port: 0 }));
+    assert!(rt; board.poll(0) == Polled::Done(0));
+    assert!(rt; board.issue_second(&rt, 0) == Ok(Issued { slot: 0, port: 0 }));
     answer(&rt, &mut board);
-    assert_eq!(rt; board.poll_second(0), Polled::Done(0));
+    assert!(rt; board.poll_second(0) == Polled::Done(0));
     end(&rt, rt.alloc(), board);
 }
 
@@ -186,7 +183,7 @@ fn collect_all(rt: &impl Abort, alloc: Global, mut board: Board) {
     assert!(rt; traces.iter().all(|trace| trace.len() == 2));
     let account = arena.close(alloc).expect(rt, "memory");
     assert!(rt; account.free.as_slice() == [0, 1, 2, 3].as_slice());
-    assert_eq!(rt; (account.held.len(), account.left.len()), (0, 2));
+    assert!(rt; (account.held.len(), account.left.len()) == (0, 2));
 }
 
 #[test]
@@ -196,7 +193,7 @@ fn two_threads_claim_four_slots(rt: HostRuntime) {
     let (one, two) = slots.expect(&rt, "not issued");
     for slot in 0..4 {
         let times = one.iter().chain(two.iter()).filter(|s| **s == slot).count();
-        assert_eq!(rt; times, 1);
+        assert!(rt; times == 1);
         answer(&rt, &mut board);
     }
     collect_all(&rt, rt.alloc(), board);

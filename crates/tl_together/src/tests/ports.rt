@@ -14,7 +14,7 @@ use tl_port::{Book, Flight, Intake, Port};
 /// Issues from the first master's source, and answers the slot.
 fn post(rt: &impl Abort, board: &mut Board, source: u16) -> usize {
     let Issued { slot, port } = board.issue(rt, source).expect(rt, "not issued");
-    assert_eq!(rt; port, 0);
+    assert!(rt; port == 0);
     slot
 }
 
@@ -22,40 +22,37 @@ fn post(rt: &impl Abort, board: &mut Board, source: u16) -> usize {
 #[test]
 fn intake_takes_what_is_posted(rt: HostRuntime) {
     let mut board = set_up(&rt, rt.alloc(), 4, 3);
-    assert_eq!(rt; board.intake(), Intake::Nothing);
+    assert!(rt; board.intake() == Intake::Nothing);
     let slot = post(&rt, &mut board, 5);
-    assert_eq!(rt; board.intake(), Intake::Taken(5));
-    assert_eq!(rt; board.intake(), Intake::Nothing);
-    assert_eq!(rt; board.book.in_flight(0), Some(Flight { source: 5, slot }));
-    assert_eq!(rt; board.book.in_flight(1), None);
-    assert_eq!(rt; board.serve(), Some(0));
-    assert_eq!(rt; board.book.in_flight_len(), 0);
+    assert!(rt; board.intake() == Intake::Taken(5));
+    assert!(rt; board.intake() == Intake::Nothing);
+    assert!(rt; board.book.in_flight(0) == Some(Flight { source: 5, slot }));
+    assert!(rt; board.book.in_flight(1) == None);
+    assert!(rt; board.serve() == Some(0));
+    assert!(rt; board.book.in_flight_len() == 0);
     let (ask, reply) = board.book.entry(0).expect(&rt, "no entry");
-    assert_eq!(rt; (ask.source(), reply.source()), (5, 5));
+    assert!(rt; (ask.source(), reply.source()) == (5, 5));
     assert!(rt; reply.bytes() == [0; 4].as_slice());
-    assert_eq!(rt;
-        (board.book.number(), board.book.byte(0x1000)),
-        (0, Some(0))
-    );
+    assert!(rt; (board.book.number(), board.book.byte(0x1000)) == (0, Some(0)));
 }
 
 #[test]
 fn a_full_journal_takes_no_more(rt: HostRuntime) {
     let mut board = set_up(&rt, rt.alloc(), 4, 3);
     for source in 0..3 {
-        assert_eq!(rt; post(&rt, &mut board, source), source as usize);
+        assert!(rt; post(&rt, &mut board, source) == source as usize);
     }
     for source in 0..3 {
-        assert_eq!(rt; board.intake(), Intake::Taken(source));
+        assert!(rt; board.intake() == Intake::Taken(source));
     }
-    assert_eq!(rt; board.book.in_flight_len(), 3);
-    assert_eq!(rt; board.intake(), Intake::JournalFull);
-    assert_eq!(rt; board.book.in_flight_len(), 3);
+    assert!(rt; board.book.in_flight_len() == 3);
+    assert!(rt; board.intake() == Intake::JournalFull);
+    assert!(rt; board.book.in_flight_len() == 3);
     for place in 0..3 {
-        assert_eq!(rt; board.serve(), Some(place));
+        assert!(rt; board.serve() == Some(place));
     }
-    assert_eq!(rt; board.serve(), None);
-    assert_eq!(rt; board.book.history_len(), 3);
+    assert!(rt; board.serve() == None);
+    assert!(rt; board.book.history_len() == 3);
 }
 
 /// Each master's trace has room for one entry too, so the second request is the second master's, whose part of the four slots
@@ -64,27 +61,24 @@ fn a_full_journal_takes_no_more(rt: HostRuntime) {
 fn a_journal_of_one_takes_one(rt: HostRuntime) {
     let mut board = set_up(&rt, rt.alloc(), 4, 1);
     post(&rt, &mut board, 5);
-    assert_eq!(rt; board.intake(), Intake::Taken(5));
-    assert_eq!(rt; board.issue_second(&rt, 0), Ok(Issued { slot: 2, port: 0 }));
-    assert_eq!(rt; board.intake(), Intake::JournalFull);
-    assert_eq!(rt; board.serve(), Some(0));
-    assert_eq!(rt; board.intake(), Intake::JournalFull);
-    assert_eq!(rt;
-        (board.book.in_flight_len(), board.book.history_len()),
-        (0, 1)
-    );
-    assert_eq!(rt; board.poll(5), Polled::Done(0));
-    assert_eq!(rt; board.poll_second(0), Polled::NotYet);
+    assert!(rt; board.intake() == Intake::Taken(5));
+    assert!(rt; board.issue_second(&rt, 0) == Ok(Issued { slot: 2, port: 0 }));
+    assert!(rt; board.intake() == Intake::JournalFull);
+    assert!(rt; board.serve() == Some(0));
+    assert!(rt; board.intake() == Intake::JournalFull);
+    assert!(rt; (board.book.in_flight_len(), board.book.history_len()) == (0, 1));
+    assert!(rt; board.poll(5) == Polled::Done(0));
+    assert!(rt; board.poll_second(0) == Polled::NotYet);
 }
 
 #[test]
 fn an_intake_takes_from_the_lowest_slot(rt: HostRuntime) {
     let mut board = set_up(&rt, rt.alloc(), 4, 3);
-    assert_eq!(rt; post(&rt, &mut board, 8), 0);
-    assert_eq!(rt; post(&rt, &mut board, 7), 1);
-    assert_eq!(rt; board.intake(), Intake::Taken(8));
-    assert_eq!(rt; board.intake(), Intake::Taken(7));
-    assert_eq!(rt; board.intake(), Intake::Nothing);
+    assert!(rt; post(&rt, &mut board, 8) == 0);
+    assert!(rt; post(&rt, &mut board, 7) == 1);
+    assert!(rt; board.intake() == Intake::Taken(8));
+    assert!(rt; board.intake() == Intake::Taken(7));
+    assert!(rt; board.intake() == Intake::Nothing);
 }
 
 /// Each call of a port, by one thread: it does what the book's call of that name does.
@@ -93,27 +87,24 @@ fn through_the_lock<N: ArenaName, R: Abort + Wait>(rt: &R, arena: &Arena, book: 
     requires book { book.seat.arena ≡ N.arena }
 {
     let port = Port::<N>::new(book);
-    assert_eq!(rt; port.intake(rt, arena), Intake::Taken(5));
-    assert_eq!(rt; port.intake(rt, arena), Intake::Nothing);
-    assert_eq!(rt; port.in_flight_len(rt), 1);
-    assert_eq!(rt; port.serve(rt, arena), Some(0));
-    assert_eq!(rt; port.in_flight_len(rt), 0);
-    assert_eq!(rt; port.serve(rt, arena), None);
+    assert!(rt; port.intake(rt, arena) == Intake::Taken(5));
+    assert!(rt; port.intake(rt, arena) == Intake::Nothing);
+    assert!(rt; port.in_flight_len(rt) == 1);
+    assert!(rt; port.serve(rt, arena) == Some(0));
+    assert!(rt; port.in_flight_len(rt) == 0);
+    assert!(rt; port.serve(rt, arena) == None);
     let step = port.step(rt, arena);
-    assert_eq!(rt;
-        (step.intake, step.index, step.source),
-        (Intake::Nothing, None, None)
-    );
+    assert!(rt; (step.intake, step.index, step.source) == (Intake::Nothing, None, None));
     port.into_book()
 }
 
 #[test]
 fn a_port_does_what_its_book_does(rt: HostRuntime) {
     let mut board = set_up(&rt, rt.alloc(), 4, 3);
-    assert_eq!(rt; post(&rt, &mut board, 5), 0);
+    assert!(rt; post(&rt, &mut board, 5) == 0);
     let Board { arena, book, .. } = board;
     let book = through_the_lock::<Brand, HostRuntime>(&rt, &arena, book);
-    assert_eq!(rt; (book.history_len(), book.in_flight_len()), (1, 0));
+    assert!(rt; (book.history_len(), book.in_flight_len()) == (1, 0));
 }
 
 /// Three steps of a worker.
@@ -147,6 +138,6 @@ fn two_threads_step_one_port(rt: HostRuntime) {
     }
     let Board { arena, book, .. } = board;
     let book = work::<Brand, HostRuntime>(&rt, &arena, book);
-    assert_eq!(rt; book.history_len(), 6);
-    assert_eq!(rt; book.in_flight_len(), 0);
+    assert!(rt; book.history_len() == 6);
+    assert!(rt; book.in_flight_len() == 0);
 }
