@@ -23,7 +23,7 @@ const COUNTS: [(usize, usize, u8, Option<ArenaFault>); 7] = [
 #[test]
 fn counts_have_limits(rt: HostRuntime) {
     for (slots, masters, ports, fault) in &COUNTS {
-        assert_eq!(rt; fault_of(&rt, rt.alloc(), *slots, *masters, *ports), *fault);
+        assert!(rt; fault_of(&rt, rt.alloc(), *slots, *masters, *ports) == *fault);
     }
 }
 
@@ -41,13 +41,13 @@ fn a_request_is_accepted_once_by_its_own_port(rt: HostRuntime) {
     let mut other = shop(&rt, &arena, &mut ports, &mut banks);
     let ticket = master.send(&read(&rt, BASE), 1).expect(&rt, "no slot");
     // The second of two masters looks for a slot from the middle of four on.
-    assert_eq!(rt; ticket.slot(), 2);
+    assert!(rt; ticket.slot() == 2);
     assert!(rt; other.accept(2).is_none());
     assert!(rt; port.accept(1).is_none());
     let accepted = port.accept(2).expect(&rt, "nothing is posted");
     // The second master's source is 1 on the wide side.
-    assert_eq!(rt; accepted.ask().source(), 1);
-    assert_eq!(rt; accepted.ask().address(), BASE);
+    assert!(rt; accepted.ask().source() == 1);
+    assert!(rt; accepted.ask().address() == BASE);
     assert!(rt; port.accept(2).is_none());
 }
 
@@ -66,12 +66,12 @@ fn a_ticket_comes_back_until_the_answer(rt: HostRuntime) {
     let ticket = master.wait_in_vain(&rt, ticket);
     port.pass();
     let received = master.receive_now(&rt, ticket);
-    assert_eq!(rt; (received.port, received.index), (1, 0));
-    assert_eq!(rt; received.reply.op(), ReplyOp::AccessAckData);
-    assert_eq!(rt; received.reply.bytes(), [1].as_slice());
-    assert_eq!(rt; received.read, [Some(1), None, None]);
+    assert!(rt; (received.port, received.index) == (1, 0));
+    assert!(rt; received.reply.op() == ReplyOp::AccessAckData);
+    assert!(rt; received.reply.bytes() == [1].as_slice());
+    assert!(rt; received.read == [Some(1), None, None]);
     let again = master.send(&read(&rt, BASE), 1).expect(&rt, "no slot");
-    assert_eq!(rt; again.slot(), 2);
+    assert!(rt; again.slot() == 2);
 }
 
 #[test]
@@ -86,9 +86,9 @@ fn all_slots_are_free_after_all_have_left(rt: HostRuntime) {
     leave(&rt, &arena, &mut masters);
     leave(&rt, &arena, &mut masters);
     let Account { free, held, left } = arena.close(rt.alloc()).expect(&rt, "memory");
-    assert_eq!(rt; free.as_slice(), [0, 1, 2, 3].as_slice());
+    assert!(rt; free.as_slice() == [0, 1, 2, 3].as_slice());
     assert!(rt; held.is_empty());
-    assert_eq!(rt; left.as_slice(), [0, 1].as_slice());
+    assert!(rt; left.as_slice() == [0, 1].as_slice());
 }
 
 #[test]
@@ -106,8 +106,8 @@ fn a_slot_whose_ticket_was_dropped_is_held(rt: HostRuntime) {
         let _ticket = master.send(&read(&rt, BASE), 1).expect(&rt, "no slot");
     }
     let Account { free, held, left } = arena.close(rt.alloc()).expect(&rt, "memory");
-    assert_eq!(rt; free.as_slice(), [1, 2, 3].as_slice());
-    assert_eq!(rt; held.len(), 1);
-    assert_eq!(rt; (held[0].slot, held[0].master), (0, 0));
+    assert!(rt; free.as_slice() == [1, 2, 3].as_slice());
+    assert!(rt; held.len() == 1);
+    assert!(rt; (held[0].slot, held[0].master) == (0, 0));
     assert!(rt; left.is_empty());
 }

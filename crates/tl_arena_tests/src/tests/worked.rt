@@ -37,32 +37,32 @@ fn first_turn(
     let claimed = (claim.slot(), first.seat.owned());
     let refused = second.send(&read(rt, 0), 0);
     let ticket = first.post(claim, &ask, 0);
-    assert_eq!(rt; claimed, (0, 1));
+    assert!(rt; claimed == (0, 1));
     assert!(rt; refused.is_none());
     assert!(rt; error.accept(0).is_none());
     assert!(rt; memory.accept(1).is_none());
     let ticket = first.wait_in_vain(rt, ticket);
     let accepted = memory.accept(0).expect(rt, "nothing is posted");
     let seen = accepted.ask();
-    assert_eq!(rt; (seen.op(), seen.size()), (AskOp::Get, 2));
-    assert_eq!(rt; (seen.source(), seen.address()), (3, BASE));
+    assert!(rt; (seen.op(), seen.size()) == (AskOp::Get, 2));
+    assert!(rt; (seen.source(), seen.address()) == (3, BASE));
     assert!(rt; memory.answer(accepted));
     let received = first.receive_now(rt, ticket);
-    assert_eq!(rt; (received.port, received.index), (0, 0));
-    assert_eq!(rt; received.reply.bytes(), [0; 4].as_slice());
-    assert_eq!(rt; received.read, [Some(0), Some(0), None]);
+    assert!(rt; (received.port, received.index) == (0, 0));
+    assert!(rt; received.reply.bytes() == [0; 4].as_slice());
+    assert!(rt; received.read == [Some(0), Some(0), None]);
 }
 
 /// The second master's turn, in the same slot. Its first source is 16 on the wide side.
 fn second_turn(rt: &impl Abort, second: &mut Client, memory: &mut Shop) {
     let ticket = second.send(&read(rt, 0), 0).expect(rt, "no slot");
-    assert_eq!(rt; ticket.slot(), 0);
+    assert!(rt; ticket.slot() == 0);
     let accepted = memory.accept(0).expect(rt, "nothing is posted");
-    assert_eq!(rt; accepted.ask().source(), 16);
+    assert!(rt; accepted.ask().source() == 16);
     assert!(rt; memory.answer(accepted));
     let received = second.receive_now(rt, ticket);
-    assert_eq!(rt; (received.port, received.index), (0, 1));
-    assert_eq!(rt; received.reply.bytes(), [0; 4].as_slice());
+    assert!(rt; (received.port, received.index) == (0, 1));
+    assert!(rt; received.reply.bytes() == [0; 4].as_slice());
 }
 
 #[test]
@@ -85,7 +85,7 @@ fn one_slot_serves_one_turn_after_the_other(rt: HostRuntime) {
         second.leave();
     }
     let Account { free, held, left } = arena.close(rt.alloc()).expect(&rt, "memory");
-    assert_eq!(rt; free.as_slice(), [0].as_slice());
+    assert!(rt; free.as_slice() == [0].as_slice());
     assert!(rt; held.is_empty());
-    assert_eq!(rt; left.as_slice(), [0, 1].as_slice());
+    assert!(rt; left.as_slice() == [0, 1].as_slice());
 }
