@@ -189,7 +189,13 @@ fn replies_are_told_before_the_verdict(rt: HostRuntime) {
     expect_told(&rt, rt.alloc(), UNLAWFUL, never, UNLAWFUL_LINE);
     // the line of the reply has 45 bytes, and that of the verdict comes behind it
     expect_told(&rt, rt.alloc(), LAWFUL, Trouble::At(5), b"m0 s0");
-    expect_told(&rt, rt.alloc(), LAWFUL, Trouble::At(52), b"m0 s0 get 0x1000 0 -> AccessAckData 00 p0 #0\nlawful:");
+    expect_told(
+        &rt,
+        rt.alloc(),
+        LAWFUL,
+        Trouble::At(52),
+        b"m0 s0 get 0x1000 0 -> AccessAckData 00 p0 #0\nlawful:",
+    );
 }
 
 /// Two texts have this fault: its line and its status, and nothing is written.
