@@ -40,11 +40,17 @@ __attribute__((constructor)) static void begin(void) {
   is_on = 1;
 }
 
-/* The program ends by this call, which runs no destructor. */
-void _exit(int status) {
+static void tell(void) {
   const char *to = getenv("COUNT");
   is_on = 0;
   if (to) dprintf(atoi(to), "%ld\n", atomic_load(&made));
+}
+
+/* A program with threads ends by this call, which runs no destructor; one without returns from its main function. */
+void _exit(int status) {
+  tell();
   syscall(SYS_exit_group, status);
   __builtin_unreachable();
 }
+
+__attribute__((destructor)) static void end(void) { tell(); }
