@@ -1,5 +1,5 @@
--- The lines of verdicts: `lawful: ROWS rows, ASKED requests, ANSWERED answered`, `unlawful: line N, time T, LINK CHANNEL: FAULT` and
--- `capture: line N: KIND`. This project's own.
+-- The lines of verdicts: `lawful: ROWS rows, ASKED requests, ANSWERED answered` and `unlawful: line N, time T, LINK CHANNEL: FAULT`.
+-- This project's own.
 use Rattle.std.specs.Prelude.{ℕ, List, [], ◌∷◌, ◌++◌, codes}
 use Rattle.std.specs.Fmt.{decimal}
 use Rattle.tl_types.specs.Response.{Response}
@@ -11,8 +11,6 @@ use Rattle.tl_link.specs.declared.fault.FormFault.{FormFault}
 use Rattle.tl_link.specs.declared.fault.FormFault.TheVariants as form
 use Rattle.tl_watch.specs.declared.fault.Fault.{Fault}
 use Rattle.tl_watch.specs.declared.fault.Fault.TheVariants.{Form, NoSuchSource, SourceBusy, WrongPort, NoRequest, EarlyReply, WrongSize, WrongOpcode, UnknownData, NotSent, NotGiven, WrongReply}
-use Rattle.tl_capture.specs.declared.fault.RowFault.{RowFault}
-use Rattle.tl_capture.specs.declared.fault.RowFault.TheVariants as row
 use Rattle.tl_script.specs.Trace.{reply_text}
 use Rattle.tl_judge.specs.declared.stop.Counts.{Counts}
 use Rattle.tl_judge.specs.declared.stop.Unlawful.{Unlawful}
@@ -51,16 +49,6 @@ fault_text NotSent = codes "no master sent this request"
 fault_text NotGiven = codes "the port gave no such reply"
 fault_text (WrongReply expected captured) = wrong_text expected captured
 
--- the kind of a row that may not stand where it does, or is none
-unfoldable pub kind_text : RowFault → List ℕ
-kind_text row.Columns = codes "wrong count of columns"
-kind_text row.Number = codes "bad number"
-kind_text row.Range = codes "number out of range"
-kind_text row.Link = codes "no such link"
-kind_text row.Channel = codes "no such channel"
-kind_text row.TimeFalls = codes "time falls"
-kind_text row.TwoBeats = codes "two beats at one time"
-
 unfoldable pub lawful_line : Counts → List ℕ
 lawful_line counts =
     codes "lawful: " ++ decimal counts.rows ++ codes " rows, " ++ decimal counts.requests ++ codes " requests, " ++ decimal counts.answered ++ codes " answered"
@@ -70,7 +58,3 @@ unfoldable pub unlawful_line : Unlawful → List ℕ
 unlawful_line found =
     codes "unlawful: line " ++ decimal found.row.line ++ codes ", time " ++ decimal found.row.time ++ codes ", " ++ link_text found.row.sighting.link
     ++ channel_text found.row.sighting.beat ++ fault_text found.fault ++ 10 ∷ []
-
--- the line of a record that is no row, or stands where it may not: on this line of the file, of this kind
-unfoldable pub capture_line : ℕ → List ℕ → List ℕ
-capture_line line kind = codes "capture: line " ++ decimal line ++ codes ": " ++ kind ++ 10 ∷ []

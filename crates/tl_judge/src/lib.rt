@@ -23,4 +23,4 @@ mod trace;
 
 pub use judge::Judge;
 pub use stop::{Counts, Refusal, Stop, Unlawful};
-pub use text::{kind_words, push_lawful, push_no_capture, push_unlawful};
+pub use text::{push_lawful, push_unlawful};

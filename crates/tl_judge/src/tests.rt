@@ -86,7 +86,8 @@ fn verdict(alloc: Global, links: Links, trace: bool, rows: &[&str]) -> Result<Ve
         match read_and_take(alloc, &mut judge, line, columns, &mut text)? {
             Ok(()) => {}
             Err(Stop::Row(fault)) => {
-                push_no_capture(&mut text, line, kind_words(fault))?;
+                let line = format!(in alloc; "line {line}: {fault}\n")?;
+                text.extend_from_slice(line.as_bytes())?;
                 return Ok(text);
             }
             Err(Stop::Beat(found)) => {
@@ -146,11 +147,11 @@ fn both_sides_are_watched(rt: HostRuntime) -> Result<(), Fail> {
         // a row that is none is told first
         (
             &[ASK, ASK_AT_PORT, WRONG_REPLY, ASK],
-            "capture: line 5: time falls\n",
+            "line 5: time falls\n",
         ),
         (
             &[ASK, ASK_AT_PORT, WRONG_REPLY, REPLY_AT_PORT],
-            "capture: line 5: two beats at one time\n",
+            "line 5: two beats at one time\n",
         ),
         (
             &[ASK_AT_PORT, REPLY_AT_PORT],
@@ -229,12 +230,12 @@ fn replies_are_told_as_they_end(rt: HostRuntime) -> Result<(), Fail> {
                 REPLY,
                 "9,m0,A,4,0,2,3,1000,0f,,,",
             ],
-            "capture: line 6: time falls\n",
+            "line 6: time falls\n",
         ),
         (
             &[ASK, ASK_AT_PORT, REPLY_AT_PORT, REPLY, again, again],
             "m0 s3 get 0x1000 2 -> AccessAckData 00112233 p0 #0\n\
-             capture: line 7: two beats at one time\n",
+             line 7: two beats at one time\n",
         ),
     ];
     assert!(rt; are_verdicts(rt.alloc(), Links::Both, true, &both)?, "both");
@@ -278,23 +279,14 @@ fn replies_are_told_at_one_side(rt: HostRuntime) -> Result<(), Fail> {
 #[test]
 fn kinds_are_spelled(rt: HostRuntime) -> Result<(), Fail> {
     let captures: [(&[&str], &str); 5] = [
-        (&["1,m0,B"], "capture: line 2: wrong count of columns\n"),
-        (
-            &["1,m0,B,4,0,2,3,1000,0f,,,"],
-            "capture: line 2: no such channel\n",
-        ),
-        (
-            &["1,p2,A,4,0,2,3,1000,0f,,,"],
-            "capture: line 2: no such link\n",
-        ),
+        (&["1,m0,B"], "line 2: wrong count of columns\n"),
+        (&["1,m0,B,4,0,2,3,1000,0f,,,"], "line 2: no such channel\n"),
+        (&["1,p2,A,4,0,2,3,1000,0f,,,"], "line 2: no such link\n"),
         (
             &["1,m0,A,4,0,256,3,1000,0f,,,"],
-            "capture: line 2: number out of range\n",
+            "line 2: number out of range\n",
         ),
-        (
-            &["1s,m0,A,4,0,2,3,1000,0f,,,"],
-            "capture: line 2: bad number\n",
-        ),
+        (&["1s,m0,A,4,0,2,3,1000,0f,,,"], "line 2: bad number\n"),
     ];
     assert!(rt;
         are_verdicts(rt.alloc(), Links::Both, false, &captures)?,

@@ -1,11 +1,10 @@
 //! The lines of verdicts.
 ghost use Rattle.std.specs.Prelude.{◌≡◌, ◌++◌, OnOk};
 ghost use Rattle.tl_script.specs.Trace.{reply_text};
-ghost use Rattle.tl_judge.specs.Text.{capture_line, channel_text, fault_text, form_text, kind_text, lawful_line, link_text, unlawful_line, wrong_text};
+ghost use Rattle.tl_judge.specs.Text.{channel_text, fault_text, form_text, lawful_line, link_text, unlawful_line, wrong_text};
 
 use crate::stop::{Counts, Unlawful};
 use std::alloc::AllocError;
-use tl_capture::RowFault;
 use tl_link::{Beat, FormFault, Link};
 use tl_script::{push_field, push_reply};
 use tl_types::Reply;
@@ -23,22 +22,6 @@ fn form_words(fault: FormFault) -> &'static str
         FormFault::Mask => "wrong mask",
         FormFault::CorruptFlag => "wrong corrupt flag",
         FormFault::UnknownData => "unknown data",
-    }
-}
-
-/// The kind of a row that may not stand where it does, or is none.
-#[tactic(auto, unfolding(crate::specs::Text::kind_text))]
-pub fn kind_words(fault: RowFault) -> &'static str
-    ensures { result.now ≡ kind_text fault }
-{
-    match fault {
-        RowFault::Columns => "wrong count of columns",
-        RowFault::Number => "bad number",
-        RowFault::Range => "number out of range",
-        RowFault::Link => "no such link",
-        RowFault::Channel => "no such channel",
-        RowFault::TimeFalls => "time falls",
-        RowFault::TwoBeats => "two beats at one time",
     }
 }
 
@@ -131,18 +114,6 @@ pub fn push_unlawful(text: &mut Vec<u8>, found: &Unlawful) -> Result<(), AllocEr
     push_link(text, found.row.sighting.link)?;
     push_words(text, channel_words(&found.row.sighting.beat))?;
     push_fault(text, &found.fault)?;
-    text.push(b'\n')?;
-    Ok(())
-}
-
-/// Appends the line of what is no capture: on this line of it stands no row, or none that may stand there.
-#[tactic(auto, unfolding(crate::specs::Text::capture_line))]
-pub fn push_no_capture(text: &mut Vec<u8>, line: u64, kind: &str) -> Result<(), AllocError>
-    ensures { OnOk result (text.new.items ≡ text.old.items ++ capture_line line kind.now) }
-{
-    push_field(text, b"capture: line ", line)?;
-    text.extend_from_slice(b": ")?;
-    push_words(text, kind)?;
     text.push(b'\n')?;
     Ok(())
 }
