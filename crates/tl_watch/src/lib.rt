@@ -16,6 +16,7 @@
 mod asks;
 mod fault;
 mod flight;
+pub mod laws;
 mod links;
 mod order;
 mod replies;
