@@ -1,16 +1,16 @@
 -- A beat of a reply whose lanes are filled by places spells its part of the reply.
-use Rattle.std.proofs.Common.{◌≡◌, ◌∙◌, ℕ, ◌+◌, ◌-◌, ◌*◌, ◌/◌, ◌%◌, ◌^◌, ◌<◌, ◌≤◌, ◌⊎◌, inl, inr, min, max, Bool, true, false, List, length, take, drop, Some, nat_lt, slice_get, slice_index, unwrap_or, ap, sym, refl, arith}
+use Rattle.std.proofs.Common.{◌≡◌, ◌∙◌, ℕ, ◌+◌, ◌-◌, ◌*◌, ◌/◌, ◌%◌, ◌^◌, ◌<◌, ◌≤◌, ◌⊎◌, inl, inr, min, Bool, true, false, if◌then◌else◌, List, length, take, drop, Some, nat_lt, slice_get, slice_index, unwrap_or, ap, sym, refl, arith}
 use Rattle.std.specs.Prelude.{All, IsTrue, ◌&&◌}
 use Rattle.std.proofs.lemmas.Bool.{cases_lt}
 use Rattle.std.proofs.lemmas.Bool.Decides.{nat_tests}
 use Rattle.std.proofs.lemmas.Option.{slice_get_within, slice_get_past, unwrap_or-slice_get, get_or_from_slice_get}
-use Rattle.tl_types.specs.Operation.{reply_carries_bytes}
+use Rattle.tl_types.specs.Operation.{reply_carries_bytes, reply_byte_count}
 use Rattle.tl_types.specs.Response.{Response}
 use Rattle.tl_types.specs.declared.operation.ReplyOp.{ReplyOp}
 use Rattle.tl_beats.specs.Replies.{IsLawfulFlag}
-use Rattle.tl_beats.specs.Beats.{low, lane_of, IsActive}
+use Rattle.tl_beats.specs.Beats.{low, lane_of, beat_count, IsActive}
 use Rattle.tl_beats.specs.Packing.{plain_at_place}
-use Rattle.tl_beats.proofs.Places.{place_beat, place_is_active}
+use Rattle.tl_beats.proofs.Places.{place_beat, place_is_active, bytes_of_size, beat_of_size}
 use Rattle.tl_beats.proofs.Words.{slice_get-word}
 
 -- nothing stands past the end
@@ -60,14 +60,22 @@ plain_at_place-zero bytes first place zero = go (cases_lt place first)
     go (inl below) = plain_at_place-before bytes first place below
     go (inr above) = plain_at_place-first bytes first (place - first) place (omega (arith, above)) ∙ within (place - first) (cases_lt _ _)
 
-module _ (reply : Response) (address b : ℕ) (lanes : List ℕ) (counted : length reply.bytes ≡ 2 ^ reply.size) (beat : b < max 1 (2 ^ reply.size / 8)) (filled : (k : ℕ) → k < 8 → slice_index lanes k ≡ plain_at_place reply.bytes (low address reply.size % 8) (8 * b + k)) where
+-- what stands at a lane of beat b that has a whole word
+pub filled_wide : (bytes : List ℕ) (first b : ℕ) → first ≡ 0 → 8 * b + 8 ≤ length bytes → (k : ℕ) → k < 8 → slice_index (take 8 (drop (8 * b) bytes)) k ≡ plain_at_place bytes first (8 * b + k)
+filled_wide bytes first b at_zero within k in_bus =
+    slice_index-word bytes (8 * b) 8 k (omega (arith, within)) (omega (arith, within)) in_bus ∙ sym (plain_at_place-first bytes first (8 * b + k) (8 * b + k) (omega (arith, at_zero)))
+
+module _ (reply : Response) (address b : ℕ) (lanes : List ℕ) (counted : length reply.bytes ≡ reply_byte_count reply.op reply.size) (beat : b < beat_count (reply_carries_bytes reply.op) reply.size) (filled : (k : ℕ) → k < 8 → slice_index lanes k ≡ plain_at_place reply.bytes (low address reply.size % 8) (8 * b + k)) where
+  no_more : length reply.bytes ≤ 2 ^ reply.size
+  no_more = omega (arith, counted, bytes_of_size (reply_carries_bytes reply.op) reply.size)
+
   -- each byte of beat b stands where it is to stand
   pub reply_bytes_stand : (j byte : ℕ) → slice_get reply.bytes j ≡ Some byte → j / 8 ≡ b → slice_index lanes (lane_of address reply.size j) ≡ byte
   reply_bytes_stand j byte at in_beat =
       let within : j < length reply.bytes = slice_get_within reply.bytes j byte at in
       let first = low address reply.size % 8 in
       let lane = lane_of address reply.size j in
-      let same_beat : (first + j) / 8 ≡ j / 8 = place_beat address reply.size j (omega arith) in
+      let same_beat : (first + j) / 8 ≡ j / 8 = place_beat address reply.size j (omega (arith, within, no_more)) in
       let place : 8 * b + lane ≡ first + j = omega arith in
       filled lane (omega arith) ∙ plain_at_place-first reply.bytes first j (8 * b + lane) place ∙ get_or_from_slice_get reply.bytes j byte 0 at
 
@@ -75,12 +83,18 @@ module _ (reply : Response) (address b : ℕ) (lanes : List ℕ) (counted : leng
   pub reply_idle : (k : ℕ) → k < 8 → (IsActive address reply.size k → ⊥) → slice_index lanes k ≡ 0
   reply_idle k in_bus idle = filled k in_bus ∙ go (cases_lt _ _) (cases_lt _ _)
     where
-      go : (8 * b + k < low address reply.size % 8) ⊎ (low address reply.size % 8 ≤ 8 * b + k) → (8 * b + k < low address reply.size % 8 + 2 ^ reply.size) ⊎ (low address reply.size % 8 + 2 ^ reply.size ≤ 8 * b + k) → plain_at_place reply.bytes (low address reply.size % 8) (8 * b + k) ≡ 0
+      go : (8 * b + k < low address reply.size % 8) ⊎ (low address reply.size % 8 ≤ 8 * b + k) → (8 * b + k < low address reply.size % 8 + length reply.bytes) ⊎ (low address reply.size % 8 + length reply.bytes ≤ 8 * b + k) → plain_at_place reply.bytes (low address reply.size % 8) (8 * b + k) ≡ 0
       go (inl before) _ = plain_at_place-before reply.bytes _ _ before
-      go (inr above) (inr past) = plain_at_place-past reply.bytes _ _ (rw counted past)
+      go (inr above) (inr past) = plain_at_place-past reply.bytes _ _ past
       go (inr above) (inl below) =
-          let active = place_is_active address reply.size b k in_bus beat above below in
+          let active = place_is_active address reply.size b k in_bus (beat_of_size (reply_carries_bytes reply.op) reply.size b beat) above (omega (arith, below, no_more)) in
           absurd (idle record { above = active.0; below = active.1 })
+
+  -- none stands in a reply that carries no bytes
+  pub reply_empty : reply_carries_bytes reply.op ≡ false → (k : ℕ) → k < 8 → slice_index lanes k ≡ 0
+  reply_empty none k in_bus =
+      let no_byte : length reply.bytes ≡ 0 = counted ∙ ap (λ carries. if carries then 2 ^ reply.size else 0) none in
+      filled k in_bus ∙ plain_at_place-zero reply.bytes _ _ (λ i byte at. absurd (omega (arith, at, no_byte)))
 
 both : (a b : Bool) → IsTrue (a && b) → IsTrue a × IsTrue b
 both true true h = (refl, refl)

@@ -1,5 +1,5 @@
 //! Where the bytes of a message stand on the bus.
-ghost use Rattle.std.specs.Prelude.{◌≡◌, ℕ, ◌+◌, ◌%◌, ◌<◌, ◌≤◌, length, slice_index};
+ghost use Rattle.std.specs.Prelude.{◌≡◌, ℕ, ◌+◌, ◌%◌, ◌<◌, ◌≤◌, length, take, drop, slice_index};
 ghost use Rattle.tl_beats.specs.Beats.{low, beat_count, active_mask};
 ghost use Rattle.tl_beats.specs.Packing.{plain_at_place};
 
@@ -52,5 +52,15 @@ pub fn placed(given: &[u8], first: usize) -> [u8; BUS_BYTES]
     for k in 0..given.len() {
         lanes[first + k] = given[k];
     }
+    lanes
+}
+
+/// As many bytes from a place on as the bus has lanes.
+pub fn word_from(bytes: &[u8], start: usize) -> [u8; BUS_BYTES]
+    requires { start + BUS_BYTES ≤ length bytes.now }
+    ensures { result ≡ take BUS_BYTES (drop start bytes.now) }
+{
+    let mut lanes = [0; BUS_BYTES];
+    lanes.copy_from_slice(&bytes[start..start + BUS_BYTES]);
     lanes
 }

@@ -1,12 +1,12 @@
 //! Replies to beats.
-ghost use Rattle.std.specs.Prelude.{◌≡◌, ◌%◌, ◌<◌, All};
+ghost use Rattle.std.specs.Prelude.{◌≡◌, ℕ, ◌<◌, ◌≤◌, [], length, All};
 ghost use Rattle.tl_types.specs.Operation.{reply_carries_bytes};
-ghost use Rattle.tl_beats.specs.Beats.{beat_count, low};
+ghost use Rattle.tl_beats.specs.Beats.{beat_count};
 ghost use Rattle.tl_beats.specs.Replies.{IsReplyBeatOf, IsCleanReply, SpellsReply};
 ghost use Rattle.tl_beats.specs.Packing.{IsBlankReplyOf};
 
 use crate::beat::{DBeat, MAX_BEATS};
-use crate::bus::{beat_count, first_lane, placed};
+use crate::bus::{beat_count, first_lane, placed, word_from};
 use arrayvec::ArrayVec;
 use tl_types::{BUS_BYTES, Reply, reply_opcode};
 
@@ -25,23 +25,45 @@ fn blank_reply_beat(reply: &Reply) -> DBeat
     }
 }
 
-/// Beat number `b` of a reply whose bytes begin at the lane `first`, which is that of the address.
-fn reply_beat(reply: &Reply, address: u64, blank: &DBeat, first: usize, b: usize) -> DBeat
+/// The beat of a reply that has fewer bytes than the bus has lanes.
+fn only_beat(reply: &Reply, address: u64, blank: &DBeat) -> DBeat
     requires blank { IsBlankReplyOf reply.now blank.now }
-    requires first { first ≡ low address reply.now.size % BUS_BYTES }
-    requires beat { b < beat_count (reply_carries_bytes reply.now.op) reply.now.size }
-    ensures spells { IsReplyBeatOf reply.now address b result }
+    requires narrow { length reply.now.bytes < BUS_BYTES }
+    ensures spells { IsReplyBeatOf reply.now address 0 result }
     ensures clean { IsCleanReply reply.now address result }
 {
-    let bytes = reply.bytes();
-    if !reply.op().carries_bytes() {
-        return *blank;
-    }
-    let start = BUS_BYTES * b;
-    let given = &bytes[start..bytes.len().min(start + BUS_BYTES)];
+    let first = first_lane(address, reply.size());
     DBeat {
-        lanes: placed(given, first),
+        lanes: placed(reply.bytes(), first),
         ..*blank
+    }
+}
+
+/// Beat number `b` of a reply that fills the bus: each has a whole word of the bytes, whatever the address.
+fn whole_beat(reply: &Reply, blank: &DBeat, b: usize) -> DBeat
+    requires blank { IsBlankReplyOf reply.now blank.now }
+    requires wide { BUS_BYTES ≤ length reply.now.bytes }
+    requires beat { b < beat_count (reply_carries_bytes reply.now.op) reply.now.size }
+    ensures spells { (address : ℕ) → IsReplyBeatOf reply.now address b result }
+    ensures clean { (address : ℕ) → IsCleanReply reply.now address result }
+{
+    DBeat {
+        lanes: word_from(reply.bytes(), BUS_BYTES * b),
+        ..*blank
+    }
+}
+
+/// Puts the beats of a reply that fills the bus where none are.
+fn push_whole_beats(reply: &Reply, blank: &DBeat, beats: &mut ArrayVec<DBeat, MAX_BEATS>)
+    requires blank { IsBlankReplyOf reply.now blank.now }
+    requires wide { BUS_BYTES ≤ length reply.now.bytes }
+    requires none { beats.old.items ≡ [] }
+    ensures spells { (address : ℕ) → SpellsReply reply.now address beats.new.items }
+    ensures clean { (address : ℕ)
+        → All (λ beat. IsCleanReply reply.now address beat) beats.new.items }
+{
+    for b in 0..beat_count(reply.op().carries_bytes(), reply.size()) {
+        beats.push(whole_beat(reply, blank, b));
     }
 }
 
@@ -63,9 +85,10 @@ pub fn pack_reply_into(reply: &Reply, address: u64, beats: &mut ArrayVec<DBeat, 
     ensures clean { All (λ beat. IsCleanReply reply.now address beat) beats.new.items }
 {
     let blank = blank_reply_beat(reply);
-    let first = first_lane(address, reply.size());
     beats.clear();
-    for b in 0..beat_count(reply.op().carries_bytes(), reply.size()) {
-        beats.push(reply_beat(reply, address, &blank, first, b));
+    if reply.bytes().len() < BUS_BYTES {
+        beats.push(only_beat(reply, address, &blank));
+    } else {
+        push_whole_beats(reply, &blank, beats);
     }
 }

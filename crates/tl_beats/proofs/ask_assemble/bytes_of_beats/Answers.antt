@@ -1,8 +1,8 @@
 use Rattle.std.proofs.Common.{rules, arith, ◌≡◌, ◌%◌, min}
 use Rattle.tl_types.specs.Operation.{carries_bytes, byte_count}
 use Rattle.tl_beats.specs.Beats.{low}
-use Rattle.tl_beats.proofs.Places.{first_fits}
-use Rattle.tl_beats.proofs.Reading.{bytes_of_size, bytes_none, bytes_more, bytes_all}
+use Rattle.tl_beats.proofs.Places.{first_fits, bytes_of_size}
+use Rattle.tl_beats.proofs.Reading.{bytes_none, bytes_more, bytes_all}
 use Rattle.tl_beats.proofs.ask_assemble.bytes_of_beats.Goals as goal
 
 pub loop-beat-init : goal.loop-beat-init

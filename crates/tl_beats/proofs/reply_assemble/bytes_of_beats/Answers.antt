@@ -1,8 +1,7 @@
 use Rattle.std.proofs.Common.{rules, arith, ◌≡◌, ◌+◌, ◌%◌, ◌<◌, ◌≤◌, false, length}
 use Rattle.tl_types.specs.Operation.{reply_carries_bytes, reply_byte_count}
 use Rattle.tl_beats.specs.Beats.{low}
-use Rattle.tl_beats.proofs.Places.{first_fits}
-use Rattle.tl_beats.proofs.Reading.{bytes_of_size}
+use Rattle.tl_beats.proofs.Places.{first_fits, bytes_of_size}
 use Rattle.tl_beats.proofs.ReplyBytes.{wide_bytes, narrow_bytes, denied_bytes}
 use Rattle.tl_beats.proofs.reply_assemble.bytes_of_beats.Goals as goal
 

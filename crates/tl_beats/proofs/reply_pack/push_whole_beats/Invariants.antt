@@ -2,12 +2,12 @@ use Rattle.std.proofs.Common.{◌≡◌, ℕ, length, Some, slice_get}
 use Rattle.std.specs.Prelude.{All}
 use Rattle.tl_beats.specs.declared.beat.DBeat.{DBeat}
 use Rattle.tl_beats.specs.Replies.{IsReplyBeatOf, IsCleanReply}
-use Rattle.tl_beats.proofs.reply_pack.pack_reply_into.Given as goal
+use Rattle.tl_beats.proofs.reply_pack.push_whole_beats.Given as goal
 
 -- the beats so far are the first ones
 abbrev pub invariant-loop-b : goal.invariant-loop-b
 invariant-loop-b l = record {
   count : length l.beats.items ≡ l.b;
-  each : (b : ℕ) (beat : DBeat) → slice_get l.beats.items b ≡ Some beat → IsReplyBeatOf l.reply l.address b beat;
-  clean : All (λ beat. IsCleanReply l.reply l.address beat) l.beats.items;
+  each : (address b : ℕ) (beat : DBeat) → slice_get l.beats.items b ≡ Some beat → IsReplyBeatOf l.reply address b beat;
+  clean : (address : ℕ) → All (λ beat. IsCleanReply l.reply address beat) l.beats.items;
 }
