@@ -1,5 +1,5 @@
 #!/usr/bin/env python3
-"""What the bench reads of a tlx script: examples/rtl/stimulus SCRIPT DIRECTORY.
+"""What the bench reads of a tlx script: examples/rtl/stimulus.py SCRIPT DIRECTORY.
 
 It writes there system.vh (the parameters of the system), ram_0.hex and ram_1.hex (what the RAMs hold at reset), and operations_0.hex
 and operations_1.hex (what the masters do). The script has two ports of kind ram and two masters. `trace_of` is the way back: the lines
@@ -13,7 +13,8 @@ import tomllib
 LANES = 8
 TOP = os.path.dirname(os.path.dirname(os.path.dirname(os.path.abspath(__file__))))
 sys.path.insert(0, os.path.join(TOP, "tools"))
-from capture import OPERATIONS, REPLIES, beats_of, bytes_of, widths  # noqa: E402
+sys.dont_write_bytecode = True
+from capture import HEADER, OPERATIONS, REPLIES, beats_of, bytes_of, widths  # noqa: E402, F401
 
 NAMES = {codes: name for name, codes in OPERATIONS.items()}
 ANSWERS = {code: name for name, code in REPLIES.items()}
