@@ -152,15 +152,12 @@ impl Lanes {
         requires inside { start + BUS_BYTES * count ≤ length self.now }
         ensures { result.items ≡ take (BUS_BYTES * count) (drop start self.now) }
     {
-        // in an array each word has its place, where a list that grows has a length to wait for
-        let mut plain = [0; MAX_BYTES];
-        for k in 0..count {
-            let place = BUS_BYTES * k;
+        let mut bytes = Window::new();
+        // said once more, the limit lets the compiler unroll the loop: then each word has a known place
+        for k in 0..count.min(MAX_BYTES / BUS_BYTES) {
             let word = self.word(start / BUS_BYTES + k);
-            plain[place..place + BUS_BYTES].copy_from_slice(&word.to_le_bytes());
+            bytes.try_extend_from_slice(&word.to_le_bytes()).unwrap();
         }
-        let mut bytes = ArrayVec::from_array_in((), plain);
-        bytes.truncate(BUS_BYTES * count);
         bytes
     }
 
@@ -198,6 +195,8 @@ impl Lanes {
 }
 
 /// Appends the bytes of a cell.
+// always inlined: where it is called the window is new, and the bytes go from a register straight into the reply
+#[inline(always)]
 pub fn push_cell(bytes: &mut Window, cell: u64, width: usize)
     requires in_word { width ≤ BUS_BYTES }
     requires room { length bytes.old.items + width ≤ MAX_BYTES }
