@@ -1,6 +1,7 @@
 -- What tlcheck reads, and what it writes for that. This project's own.
 use Rattle.std.specs.Prelude.{◌≡◌, ◌⊎◌, ℕ, Bool, true, false, List, length, Option, Result, Ok, Err, IfOk, IfErr, IfSome}
 use Rattle.std.specs.Io.KnownBytes.{Appends, Keeps}
+use Rattle.tl_check_options.specs.declared.options.Options.{Options}
 use Rattle.tl_judge.specs.Text.{lawful_line, unlawful_line}
 use Rattle.tl_records.specs.Text.{start_of}
 use Rattle.tl_script.specs.System.{System, resets}
@@ -16,6 +17,11 @@ use Rattle.tl_watch.specs.Plan.{Plan, IsPlan}
 use Rattle.tlcheck.specs.declared.fault.CheckFault.{CheckFault}
 use Rattle.tlcheck.specs.declared.fault.CheckFault.TheVariants as check
 use Rattle.tlcheck.specs.declared.terms.Terms.{Terms}
+
+-- ---- what the command line asks for
+
+abbrev pub terms_of : Options → Terms
+terms_of options = record { links = options.links; order = options.order; trace = options.trace }
 
 -- ---- a system as a judge sees it
 

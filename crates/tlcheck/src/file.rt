@@ -1,4 +1,6 @@
 //! Files that are opened when they are read.
+ghost use Rattle.std.specs.Prelude.{◌≡◌, None};
+
 use std::io::Read;
 use std::rt::Files;
 use std::{fs, io};
@@ -13,7 +15,11 @@ pub struct NamedFile<'a, F: Files> {
 }
 
 impl<'a, F: Files> NamedFile<'a, F> {
-    pub fn new(files: &'a F, name: &'a str) -> NamedFile<'a, F> {
+    /// The file of this name, which is not opened.
+    pub fn new(files: &'a F, name: &'a str) -> NamedFile<'a, F>
+        ensures name { result.name.now ≡ name.now }
+        ensures unopened { result.file ≡ None }
+    {
         NamedFile {
             files,
             name,

@@ -23,13 +23,15 @@ ghost use Rattle.std.specs.IoError.{error_kind};
 ghost use Rattle.std.specs.Process.{exit_status};
 ghost use Rattle.clap.specs.Words.{kind_of};
 ghost use Rattle.tl_check_options.specs.Options.{status_of_kind};
+ghost use Rattle.tlcheck.specs.Engine.{IsChecked, terms_of};
 ghost use Rattle.tlcheck.specs.Fault.{status_of, status_of_verdict};
 
 use crate::engine::check;
 use crate::fault::CheckFault;
 use crate::file::NamedFile;
 use crate::terms::Terms;
-use std::io::ErrorKind;
+use std::alloc::Global;
+use std::io::{ErrorKind, Read, Write};
 use std::process::ExitCode;
 use std::{env, io};
 use tl_check_options::{Options, options_status, read_options};
@@ -62,18 +64,32 @@ fn main(rt: HostRuntime) -> ExitCode {
 fn run(rt: &HostRuntime, options: &Options<'_>) -> Result<bool, CheckFault> {
     let mut system = NamedFile::new(rt, options.system);
     let mut writer = rt.stdout();
+    match options.capture {
+        Some(name) => {
+            let capture = NamedFile::new(rt, name);
+            check_as_asked(rt.alloc(), &mut system, capture, &mut writer, options)
+        }
+        None => check_as_asked(rt.alloc(), &mut system, rt.stdin(), &mut writer, options),
+    }
+}
+
+/// Judges a capture by the terms of the command line.
+fn check_as_asked<S: Read, C: Read + Drop, W: Write>(
+    alloc: Global,
+    system: &mut S,
+    capture: C,
+    writer: &mut W,
+    options: &Options<'_>,
+) -> Result<bool, CheckFault>
+    ensures { IsChecked (terms_of options.now) (S.remaining system.old) (S.remaining system.new)
+        (C.remaining capture) (W.contents writer.old) (W.contents writer.new) result }
+{
     let terms = Terms {
         links: options.links,
         order: options.order,
         trace: options.trace,
     };
-    match options.capture {
-        Some(name) => {
-            let capture = NamedFile::new(rt, name);
-            check(rt.alloc(), &mut system, capture, &mut writer, terms)
-        }
-        None => check(rt.alloc(), &mut system, rt.stdin(), &mut writer, terms),
-    }
+    check(alloc, system, capture, writer, terms)
 }
 
 /// The status of a verdict or a fault. The line of a fault is printed, where there is one: the status is the fault's also where
