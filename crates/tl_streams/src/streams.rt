@@ -2,7 +2,7 @@
 ghost use Rattle.std.specs.Prelude.{◌≡◌, ◌≤◌, ◌<◌, ◌+◌, IfOk, OnOk, IfErr, OnErr};
 ghost use Rattle.std.specs.Io.KnownBytes.{Appends};
 ghost use Rattle.tl_streams.specs.declared.streams.ReadFault.TheVariants.{Memory};
-ghost use Rattle.tl_streams.specs.Streams.{AppendsFront, ReadsUpTo, TakesUpTo};
+ghost use Rattle.tl_streams.specs.Streams.{AppendsPart, ReadsUpTo, TakesUpTo};
 
 use crate::limited::{LimitedReader, LimitedWriter};
 use std::alloc::{AllocError, Global};
@@ -78,8 +78,8 @@ pub fn write_all<W: Write>(
     ensures bytes { OnOk result (Appends (W.contents writer.old.writer.now)
         (W.contents writer.new.writer.now) bytes.now) }
 
-    // Whatever fails, what went out is a front of the bytes.
-    ensures front { OnErr result (AppendsFront (W.contents writer.old.writer.now)
+    // Whatever fails, what went out is a front of the bytes, and not all of them.
+    ensures front { OnErr result (AppendsPart (W.contents writer.old.writer.now)
         (W.contents writer.new.writer.now) bytes.now) }
 {
     let mut rest = bytes;

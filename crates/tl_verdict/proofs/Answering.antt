@@ -13,17 +13,17 @@ use Rattle.tl_judge.specs.declared.stop.Refusal.TheVariants as refusal
 use Rattle.tl_judge.proofs.Judging.{part_before, part_of_file, told_earlier}
 use Rattle.tl_records.specs.Source.{Between, Left}
 use Rattle.tl_records.specs.Text.{Place, start_of}
-use Rattle.tl_streams.specs.Streams.{AppendsFront}
+use Rattle.tl_streams.specs.Streams.{AppendsPart}
 use Rattle.tl_watch.specs.Plan.{Plan}
 use Rattle.tl_verdict.specs.Capture.{HasHeader, IsFault, IsVerdict, IsWritten, IsWrittenOf}
-use Rattle.tl_verdict.specs.Out.{Finishes, WritesFront, is_cut}
+use Rattle.tl_verdict.specs.Out.{Finishes, WritesPart, is_cut}
 use Rattle.tl_verdict.specs.Rows.{AllTaken, IsJudged, IsJudgedAt, IsOut, IsToldBy, WroteBy, refused}
 use Rattle.tl_verdict.specs.declared.fault.CaptureFault.{CaptureFault}
 use Rattle.tl_verdict.specs.declared.fault.CaptureFault.TheVariants as fault
 use Rattle.tl_verdict.specs.declared.fault.Verdict.{Verdict}
 use Rattle.tl_verdict.specs.declared.fault.Verdict.TheVariants as verdict
 use Rattle.tl_verdict.specs.declared.rows.Sizes.{Sizes}
-use Rattle.tl_verdict.proofs.OutLemmas.{wrote_all, wrote_front, wrote_more, wrote_so_far}
+use Rattle.tl_verdict.proofs.OutLemmas.{wrote_all, wrote_more, wrote_part, wrote_so_far}
 use Rattle.tl_verdict.proofs.Taking.{at_start, behind_start, between_map}
 
 -- ---- the last rows
@@ -113,19 +113,19 @@ whole_out trace plan (Err fault.Read) rows old mid new text cut wrote written = 
 whole_out trace plan (Err fault.Memory) rows old mid new text cut wrote written = absurd (cc)
 whole_out trace plan (Err fault.Write) rows old mid new text cut wrote written = absurd (cc)
 
-front_out : (trace : Bool) (plan : Plan) (answer : Result Verdict CaptureFault) (rows : List Row) (old mid new : Option (List ℕ)) (text : List ℕ) → is_cut answer ≡ false
-    → WroteBy trace plan answer rows old mid text → AppendsFront mid new text → WritesFront (IsToldPart trace plan rows) old new
-front_out trace plan (Ok v) rows old mid new text cut wrote front =
-    wrote_front (IsToldBy trace plan v rows) old mid text wrote (IsToldPart trace plan rows) new front (part_told trace plan rows wrote.told v wrote.holds)
-front_out trace plan (Err (fault.Header line)) rows old mid new text cut wrote front = absurd wrote
-front_out trace plan (Err (fault.TooLong line)) rows old mid new text cut wrote front =
-    wrote_front (IsToldEarlier trace plan rows) old mid text wrote (IsToldPart trace plan rows) new front wrote.holds.part
-front_out trace plan (Err (fault.Row line why)) rows old mid new text cut wrote front =
-    wrote_front (IsToldEarlier trace plan rows) old mid text wrote (IsToldPart trace plan rows) new front wrote.holds.part
-front_out trace plan (Err fault.Read) rows old mid new text cut wrote front =
-    wrote_front (IsToldEarlier trace plan rows) old mid text wrote (IsToldPart trace plan rows) new front wrote.holds.part
-front_out trace plan (Err fault.Memory) rows old mid new text cut wrote front = absurd (cc)
-front_out trace plan (Err fault.Write) rows old mid new text cut wrote front = absurd (cc)
+part_out : (trace : Bool) (plan : Plan) (answer : Result Verdict CaptureFault) (rows : List Row) (old mid new : Option (List ℕ)) (text : List ℕ) → is_cut answer ≡ false
+    → WroteBy trace plan answer rows old mid text → AppendsPart mid new text → WritesPart (IsToldPart trace plan rows) old new
+part_out trace plan (Ok v) rows old mid new text cut wrote front =
+    wrote_part (IsToldBy trace plan v rows) old mid text wrote (IsToldPart trace plan rows) new front (part_told trace plan rows wrote.told v wrote.holds)
+part_out trace plan (Err (fault.Header line)) rows old mid new text cut wrote front = absurd wrote
+part_out trace plan (Err (fault.TooLong line)) rows old mid new text cut wrote front =
+    wrote_part (IsToldEarlier trace plan rows) old mid text wrote (IsToldPart trace plan rows) new front wrote.holds.part
+part_out trace plan (Err (fault.Row line why)) rows old mid new text cut wrote front =
+    wrote_part (IsToldEarlier trace plan rows) old mid text wrote (IsToldPart trace plan rows) new front wrote.holds.part
+part_out trace plan (Err fault.Read) rows old mid new text cut wrote front =
+    wrote_part (IsToldEarlier trace plan rows) old mid text wrote (IsToldPart trace plan rows) new front wrote.holds.part
+part_out trace plan (Err fault.Memory) rows old mid new text cut wrote front = absurd (cc)
+part_out trace plan (Err fault.Write) rows old mid new text cut wrote front = absurd (cc)
 
 -- ---- the whole
 
@@ -173,7 +173,7 @@ finished trace plan sizes from behind old mid new text answer result first trace
     wrote : WroteBy trace plan answer judged.rows old mid text
     wrote = subst (λ t. WroteBy t plan answer judged.rows old mid text) traced (judged.told plan start)
 
-    go : ((result ≡ answer) × Appends mid new text) ⊎ ((result ≡ Err fault.Write) × AppendsFront mid new text) → IsWrittenOf trace plan sizes from old new result
+    go : ((result ≡ answer) × Appends mid new text) ⊎ ((result ≡ Err fault.Write) × AppendsPart mid new text) → IsWrittenOf trace plan sizes from old new result
     go (inl all) =
         let P : Result Verdict CaptureFault → Type 0 = λ r. IsWrittenOf trace plan sizes from old new r in
         subst P (sym all.0) (record {
@@ -190,7 +190,7 @@ finished trace plan sizes from behind old mid new text answer result first trace
           at = judged.last;
           begins = record { behind = behind; top = top; has = judged.has };
           answers = tt;
-          out = front_out trace plan answer judged.rows old mid new text whole.0 wrote front.1;
+          out = part_out trace plan answer judged.rows old mid new text whole.0 wrote front.1;
         })
 
 pub says_judged : (plan : Plan) (sizes : Sizes) (a b : Left) (old mid new : Option (List ℕ)) (text : List ℕ) (answer result : Result Verdict CaptureFault) (first : Judge)

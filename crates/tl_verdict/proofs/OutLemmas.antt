@@ -2,8 +2,8 @@
 use Rattle.std.proofs.Common.{◌≡◌, ◌∙◌, ℕ, List, [], ◌++◌, Option, append_assoc, refl, sym, ap, subst}
 use Rattle.std.specs.Io.KnownBytes.{Appends}
 use Rattle.std.proofs.KnownBytes.{Appends-nil, Appends-trans}
-use Rattle.tl_streams.specs.Streams.{AppendsFront}
-use Rattle.tl_verdict.specs.Out.{Moves, WritesAll, WritesFront, Wrote}
+use Rattle.tl_streams.specs.Streams.{AppendsPart}
+use Rattle.tl_verdict.specs.Out.{Moves, WritesAll, WritesFront, WritesPart, Wrote}
 
 -- nothing is told, and nothing written
 pub wrote_none : (P : List ℕ → Type 0) (at : Option (List ℕ)) → P [] → Wrote P at at []
@@ -43,14 +43,15 @@ module _ (P : List ℕ → Type 0) (old mid : Option (List ℕ)) (text : List �
   }
 
   -- a write fails
-  pub wrote_front : (Q : List ℕ → Type 0) (new : Option (List ℕ)) → AppendsFront mid new text → Q wrote.told → WritesFront Q old new
-  wrote_front Q new front holds = record {
+  pub wrote_part : (Q : List ℕ → Type 0) (new : Option (List ℕ)) → AppendsPart mid new text → Q wrote.told → WritesPart Q old new
+  wrote_part Q new front holds = record {
     told = wrote.told;
     holds = holds;
     written = record {
       front = wrote.front ++ front.front;
       rest = front.rest;
       is = wrote.is ∙ ap (λ l. wrote.front ++ l) front.is ∙ sym (append_assoc wrote.front front.front front.rest);
+      short = front.short;
       written = Appends-trans old mid new wrote.front front.front wrote.written front.written;
     };
   }

@@ -14,7 +14,7 @@ use Rattle.tl_records.specs.Text.{Gives, IsTooLong, Place, Reads}
 use Rattle.tl_records.specs.Text.{Row as Record}
 use Rattle.tl_records.proofs.Chain.{reads-more}
 use Rattle.tl_records.proofs.KnownLemmas.{between-trans}
-use Rattle.tl_streams.specs.Streams.{AppendsFront}
+use Rattle.tl_streams.specs.Streams.{AppendsPart}
 use Rattle.tl_watch.specs.Plan.{Plan}
 use Rattle.tl_verdict.specs.Out.{Moves, WritesFront}
 use Rattle.tl_verdict.specs.Rows.{AllTaken, GivesRow, HasNoRow, HasRows, IsJudged, IsJudgedAt, IsUnlawfulBefore, SpellAll, Spells, StopsAt, TakesNext, TellsBefore, Took, TookRows, answer_of}
@@ -22,7 +22,7 @@ use Rattle.tl_verdict.specs.declared.fault.CaptureFault.TheVariants as fault
 use Rattle.tl_verdict.specs.declared.rows.Halt.{Halt}
 use Rattle.tl_verdict.specs.declared.rows.Halt.TheVariants as halt
 use Rattle.tl_verdict.specs.declared.rows.Sizes.{Sizes}
-use Rattle.tl_verdict.proofs.OutLemmas.{wrote_as, wrote_front, wrote_more, wrote_moved, wrote_none, wrote_so_far}
+use Rattle.tl_verdict.proofs.OutLemmas.{wrote_as, wrote_more, wrote_moved, wrote_none, wrote_part, wrote_so_far}
 
 spell_more : (sizes : Sizes) (records : List Record) (rows : List Row) (r : Record) (row : Row) → SpellAll sizes records rows → Spells sizes r row
     → SpellAll sizes (records ++ r ∷ []) (rows ++ row ∷ [])
@@ -165,7 +165,7 @@ module _ (sizes : Sizes) (first : Judge) (old : Option (List ℕ)) where
 
   -- a write fails
   pub fails : (now next : Judge) (mid new : Option (List ℕ)) (text grown left : List ℕ) (a b c : Left) → Between a b (TookRows sizes first now old mid text)
-      → Between b c (TakesNext sizes now next text grown true) → AppendsFront mid new grown → IsJudged sizes first old new left a (Err fault.Write)
+      → Between b c (TakesNext sizes now next text grown true) → AppendsPart mid new grown → IsJudged sizes first old new left a (Err fault.Write)
   fails now next mid new text grown left a b c so_far one front =
       at_start a c (IsJudgedAt sizes first old new left (Err fault.Write))
       (between-trans a b c (TookRows sizes first now old mid text) (TakesNext sizes now next text grown true) (λ from to. IsJudgedAt sizes first old new left (Err fault.Write) from) (λ x y z took more. record {
@@ -178,7 +178,7 @@ module _ (sizes : Sizes) (first : Judge) (old : Option (List ℕ)) where
             let rows = took.rows ++ more.0 ∷ [] in
             let on = more.2.tells plan took.rows wrote.told wrote.holds in
             let is = wrote_more (HasTold plan took.rows now) old mid text wrote (HasTold plan rows next) on.more grown on.grown on.told in
-            wrote_front (HasTold plan rows next) old mid grown is (IsToldPart (is_traced first) plan rows) new front
+            wrote_part (HasTold plan rows next) old mid grown is (IsToldPart (is_traced first) plan rows) new front
             (earlier plan rows next is.told (more.2.traced ∙ took.traced) is.holds).part;
       }) so_far one)
 
@@ -261,11 +261,4 @@ module _ (sizes : Sizes) (first : Judge) (old : Option (List ℕ)) where
         answers = λ plan start. tt;
         told = λ plan start. so_far_part now mid text x y took plan start;
       })
-  halts now mid text grown a b c (halt.Fault fault.Write) so_far stop =
-      rest now mid text a b (IsJudgedAt sizes first old mid grown (Err fault.Write)) so_far (λ x y took. record {
-        rows = took.rows;
-        last = y;
-        has = took.has;
-        answers = λ plan start. tt;
-        told = λ plan start. so_far_part now mid text x y took plan start;
-      })
+  halts now mid text grown a b c (halt.Fault fault.Write) so_far stop = absurd stop

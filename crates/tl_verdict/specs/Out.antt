@@ -1,7 +1,7 @@
 -- What is told, on its way to a writer that may tell its bytes. This project's own.
 use Rattle.std.specs.Prelude.{◌≡◌, ◌⊎◌, ℕ, Bool, true, false, List, ◌++◌, Option, Result, Ok, Err}
 use Rattle.std.specs.Io.KnownBytes.{Appends}
-use Rattle.tl_streams.specs.Streams.{AppendsFront}
+use Rattle.tl_streams.specs.Streams.{AppendsPart}
 use Rattle.tl_verdict.specs.declared.fault.CaptureFault.{CaptureFault}
 use Rattle.tl_verdict.specs.declared.fault.CaptureFault.TheVariants as fault
 use Rattle.tl_verdict.specs.declared.fault.Verdict.{Verdict}
@@ -12,11 +12,24 @@ pub record WritesAll (P : List ℕ → Type 0) (old new : Option (List ℕ)) : T
   pub holds : P told
   pub written : Appends old new told
 
+-- a front of these bytes was written, and nothing else
+pub record AppendsFront (old new : Option (List ℕ)) (bytes : List ℕ) : Type 0 where
+  pub front : List ℕ
+  pub rest : List ℕ
+  pub is : bytes ≡ front ++ rest
+  pub written : Appends old new front
+
 -- a front of a text of which this is said was written, and nothing else
 pub record WritesFront (P : List ℕ → Type 0) (old new : Option (List ℕ)) : Type 0 where
   pub told : List ℕ
   pub holds : P told
   pub written : AppendsFront old new told
+
+-- a text of which this is said was to be written; a front of it was, but not all, and nothing else
+pub record WritesPart (P : List ℕ → Type 0) (old new : Option (List ℕ)) : Type 0 where
+  pub told : List ℕ
+  pub holds : P told
+  pub written : AppendsPart old new told
 
 -- ---- for the proofs
 
@@ -49,4 +62,4 @@ abbrev pub Finishes : Option (List ℕ) → Option (List ℕ) → List ℕ → R
 Finishes old new text answer result =
     ((is_cut answer ≡ true) × (result ≡ answer) × (new ≡ old))
     ⊎ ((is_cut answer ≡ false)
-    × (((result ≡ answer) × Appends old new text) ⊎ ((result ≡ Err fault.Write) × AppendsFront old new text)))
+    × (((result ≡ answer) × Appends old new text) ⊎ ((result ≡ Err fault.Write) × AppendsPart old new text)))

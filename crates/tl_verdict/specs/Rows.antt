@@ -17,7 +17,7 @@ use Rattle.tl_records.specs.Reading.{StopsLong}
 use Rattle.tl_watch.specs.Plan.{Plan}
 use Rattle.tl_verdict.specs.declared.fault.CaptureFault.{CaptureFault}
 use Rattle.tl_verdict.specs.declared.fault.CaptureFault.TheVariants as fault
-use Rattle.tl_verdict.specs.Out.{WritesAll, WritesFront, Wrote}
+use Rattle.tl_verdict.specs.Out.{WritesAll, WritesFront, WritesPart, Wrote}
 use Rattle.tl_verdict.specs.declared.fault.Verdict.{Verdict}
 use Rattle.tl_verdict.specs.declared.fault.Verdict.TheVariants.{Lawful, Unlawful as NotLawful}
 use Rattle.tl_verdict.specs.declared.rows.Halt.{Halt}
@@ -83,8 +83,8 @@ IsToldBy trace plan (Lawful counts) rows text = IsToldFile trace plan rows text
 IsToldBy trace plan (NotLawful found) rows text = IsToldBefore trace plan rows text found
 
 -- what is written of the rows that were taken, where this is answered: all that is told with a verdict; before a fault of the text,
--- or a read that failed, all that is told of those of an earlier time than the last; where memory was refused or a write failed, a
--- front of what is told of those that cross first
+-- or a read that failed, all that is told of those of an earlier time than the last; where memory was refused a front of what is told
+-- of those that cross first; where a write failed such a front, and not all of it
 abbrev pub IsOut : Bool → Plan → Result Verdict CaptureFault → List Row → Option (List ℕ) → Option (List ℕ) → Type 0
 IsOut trace plan (Ok verdict) rows old new = WritesAll (IsToldBy trace plan verdict rows) old new
 IsOut trace plan (Err (fault.Header line)) rows old new = ⊥
@@ -92,7 +92,7 @@ IsOut trace plan (Err (fault.TooLong line)) rows old new = WritesAll (IsToldEarl
 IsOut trace plan (Err (fault.Row line why)) rows old new = WritesAll (IsToldEarlier trace plan rows) old new
 IsOut trace plan (Err fault.Read) rows old new = WritesAll (IsToldEarlier trace plan rows) old new
 IsOut trace plan (Err fault.Memory) rows old new = WritesFront (IsToldPart trace plan rows) old new
-IsOut trace plan (Err fault.Write) rows old new = WritesFront (IsToldPart trace plan rows) old new
+IsOut trace plan (Err fault.Write) rows old new = WritesPart (IsToldPart trace plan rows) old new
 
 -- ---- for the proofs: a judge that takes rows
 
@@ -129,7 +129,7 @@ StopsAt sizes judge text grown old new (halt.Fault (fault.TooLong line)) = Stops
 StopsAt sizes judge text grown old new (halt.Fault (fault.Header line)) = ⊥
 StopsAt sizes judge text grown old new (halt.Fault fault.Read) = grown ≡ text
 StopsAt sizes judge text grown old new (halt.Fault fault.Memory) = ⊤
-StopsAt sizes judge text grown old new (halt.Fault fault.Write) = ⊤
+StopsAt sizes judge text grown old new (halt.Fault fault.Write) = ⊥
 
 -- a judge of no rows took these, from one place to another; what it told was written, but for this text
 pub record TookRows (sizes : Sizes) (first now : Judge) (old new : Option (List ℕ)) (text : List ℕ) (from to : Place) : Type 0 where
@@ -150,7 +150,7 @@ WroteBy trace plan (Err (fault.TooLong line)) rows old new text = Wrote (IsToldE
 WroteBy trace plan (Err (fault.Row line why)) rows old new text = Wrote (IsToldEarlier trace plan rows) old new text
 WroteBy trace plan (Err fault.Read) rows old new text = Wrote (IsToldEarlier trace plan rows) old new text
 WroteBy trace plan (Err fault.Memory) rows old new text = WritesFront (IsToldPart trace plan rows) old new
-WroteBy trace plan (Err fault.Write) rows old new text = WritesFront (IsToldPart trace plan rows) old new
+WroteBy trace plan (Err fault.Write) rows old new text = WritesPart (IsToldPart trace plan rows) old new
 
 -- a judge of no rows took some and answers this
 pub record IsJudgedAt (sizes : Sizes) (first : Judge) (old new : Option (List ℕ)) (text : List ℕ) (answer : Result Verdict CaptureFault) (from : Place) : Type 0 where

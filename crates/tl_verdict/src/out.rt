@@ -1,7 +1,7 @@
 //! What is told, on its way out.
 ghost use Rattle.std.specs.Prelude.{◌≡◌, OnOk, OnErr, IfErr};
 ghost use Rattle.std.specs.Io.KnownBytes.{Appends};
-ghost use Rattle.tl_streams.specs.Streams.{AppendsFront};
+ghost use Rattle.tl_streams.specs.Streams.{AppendsPart};
 ghost use Rattle.tl_verdict.specs.Out.{Finishes, Moves, is_cut};
 
 use crate::fault::{CaptureFault, Verdict};
@@ -19,7 +19,7 @@ pub fn write_long<W: Write>(
     ensures same { writer.new.writer.ghost_name ≡ writer.old.writer.ghost_name }
     ensures moves { OnOk result (Moves (W.contents writer.old.writer.now)
         (W.contents writer.new.writer.now) text.old.items text.new.items) }
-    ensures front { OnErr result (AppendsFront (W.contents writer.old.writer.now)
+    ensures front { OnErr result (AppendsPart (W.contents writer.old.writer.now)
         (W.contents writer.new.writer.now) text.old.items) }
     ensures fault { IfErr result (λ fault. fault ≡ CaptureFault.Write) }
 {

@@ -6,7 +6,7 @@ use Rattle.tl_judge.specs.Text.{lawful_line, unlawful_line}
 use Rattle.tl_records.specs.Text.{start_of}
 use Rattle.tl_script.specs.System.{System, resets}
 use Rattle.tl_streams.specs.Input.{GivesSystem, HasScriptFault}
-use Rattle.tl_streams.specs.Streams.{AppendsFront}
+use Rattle.tl_streams.specs.Streams.{AppendsPart}
 use Rattle.tl_verdict.specs.Capture.{IsFault, IsVerdict, IsWritten}
 use Rattle.tl_verdict.specs.declared.fault.CaptureFault.{CaptureFault}
 use Rattle.tl_verdict.specs.declared.fault.CaptureFault.TheVariants as stop
@@ -100,7 +100,8 @@ pub record IsUntold (terms : Terms) (read_old read_new capture written_old writt
   pub line : OfLine told (line_of verdict)
 
 -- why there is no verdict, and what was written. A fault of the script is the first of what was read, one of the capture is one of its
--- text. Before a verdict nothing is written but what is told; where a write failed, a front of that or of the verdict's line
+-- text. Before a verdict nothing is written but what is told; where a write failed, a front of that or of the verdict's line,
+-- and not all of it
 abbrev pub IsFaulty : Terms → Option (List ℕ) → Option (List ℕ) → Option (List ℕ) → Option (List ℕ) → Option (List ℕ) → CheckFault → Type 0
 IsFaulty terms read_old read_new capture written_old written_new (check.Script fault) =
     HasScriptFault read_old read_new fault × Keeps written_old written_new
@@ -114,7 +115,7 @@ IsFaulty terms read_old read_new capture written_old written_new check.Memory =
     ⊎ IsUntold terms read_old read_new capture written_old written_new (λ told line. Keeps told written_new))
 IsFaulty terms read_old read_new capture written_old written_new check.Write =
     IsStopped terms read_old read_new capture written_old written_new stop.Write
-    ⊎ IsUntold terms read_old read_new capture written_old written_new (λ told line. AppendsFront told written_new line)
+    ⊎ IsUntold terms read_old read_new capture written_old written_new (λ told line. AppendsPart told written_new line)
 
 -- what the reader of a system had before and has after, what the reader of a capture had, what the writer held before and holds
 -- after, and the answer: whether the capture is lawful, or why there is no verdict

@@ -13,7 +13,7 @@ use Rattle.tl_script.specs.System.{System}
 use Rattle.tl_script.specs.declared.fault.ScriptFault.{ScriptFault}
 use Rattle.tl_serial.specs.Text.{run_text}
 use Rattle.tl_streams.specs.Input.{GivesSystem, HasScriptFault}
-use Rattle.tl_streams.specs.Streams.{AppendsFront}
+use Rattle.tl_streams.specs.Streams.{AppendsPart}
 use Rattle.tl_threads.specs.Run.{IsThreadedRun}
 use Rattle.tlx.specs.declared.fault.RunFault.{RunFault}
 use Rattle.tlx.specs.declared.fault.RunFault.TheVariants as run
@@ -53,13 +53,13 @@ pub record Answers (IsText : System → List ℕ → Type 0) (read_old read_new 
   pub of_run : IsText system text
   pub written : Appends written_old written_new text
 
--- what was written is a front of such a text
+-- what was written is a front of such a text, and not all of it
 pub record BeginsToAnswer (IsText : System → List ℕ → Type 0) (read_old read_new written_old written_new : Option (List ℕ)) : Type 0 where
   pub system : System
   pub text : List ℕ
   pub given : GivesSystem read_old read_new system
   pub of_run : IsText system text
-  pub written : AppendsFront written_old written_new text
+  pub written : AppendsPart written_old written_new text
 
 -- a run of the system that all of what was read spells has this fault of an audit
 pub record FailsAudit (HasFault : System → AuditFault → Type 0) (read_old read_new : Option (List ℕ)) (fault : AuditFault) : Type 0 where
