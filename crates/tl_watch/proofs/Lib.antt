@@ -4,4 +4,4 @@ pub mod Judging
 pub mod Replying
 pub mod Keeping
 pub mod Beginning
-pub mod Beginning
+pub mod Earlier
