@@ -16,7 +16,7 @@ const FIRST_WITH_HISTORY: &[u8] =
     b"m0 s0 putfull 0x1000 2 11223344 -> AccessAck p0 #0\nm0 s0 get 0x1000 2 -> AccessAckData 11223344 p0 #1\np0 #0 w0 putfull 0x1000 2 11223344 -> AccessAck\np0 #1 w0 get 0x1000 2 -> AccessAckData 11223344\n";
 
 /// A RAM, a ROM and registers, and one master whose operations follow.
-const SYSTEM: &str =
+pub(super) const SYSTEM: &str =
     "slots = 4\nport = [{ kind = 'ram', base = 0x1000, length = 64 }, { kind = 'rom', base = 0x2000, length = 32, reset = '00010203' }, { kind = 'regs', base = 0x3000, length = 16 }]\nmaster = [{ sources = 16, ops = [";
 
 /// What the serial run of a script prints.
@@ -34,7 +34,7 @@ fn first_run(rt: HostRuntime) {
 }
 
 /// Operations, and their trace.
-const OPERATIONS: [(&str, &str); 7] = [
+pub(super) const OPERATIONS: [(&str, &str); 7] = [
     ("", ""),
     (
         "'0 get 0x103f 0', '0 get 0x103f 1', '0 get 0x1001 1'",

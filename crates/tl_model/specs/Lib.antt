@@ -1,0 +1,3 @@
+pub mod Crossbar
+pub mod Ports
+pub mod Calls

@@ -1,0 +1,100 @@
+//! The crossbar that serves one request a call.
+ghost use Rattle.std.specs.Prelude.{◌≡◌, ◌↔◌, ℕ, IfErr, IfOk, IsOk, IsSomeAnd, OnErr, length, slice_get};
+ghost use Rattle.tl_map.specs.Map.{RoutesBytes};
+ghost use Rattle.tl_model.specs.Crossbar.{Accepts, IsFirstServeFault, IsServed, at_reset, byte_in};
+
+use crate::fault::ServeFault;
+use crate::port::{MOST_SERVED, Port, ports_of};
+use std::alloc::Global;
+use std::marker::Model;
+use tl_map::{Map, Sources};
+use tl_script::System;
+use tl_types::{Ask, Memory, Reply};
+
+/// What a request is answered: the reply, the port that served it, and how many requests that port had served before.
+#[derive(Debug, Drop)]
+pub struct Answer {
+    pub reply: Reply,
+    pub port: usize,
+    pub place: usize,
+}
+
+/// A crossbar: its address map, its sources, and its slave ports with the error port behind them.
+#[derive(Drop)]
+pub struct Crossbar {
+    ranges: Map,
+    sources: Sources,
+    ports: Vec<Port>,
+}
+
+impl Model for Crossbar {
+    ghost use Rattle.std.specs.Prelude.{◌≡◌, ◌+◌, length, map};
+    ghost use Rattle.tl_model.specs.Crossbar.{CrossbarState};
+    ghost use Rattle.tl_model.specs.Ports.{state_of};
+
+    ghost Value = { CrossbarState };
+
+    ghost view = { λ c. record { ranges = c.ranges; counts = c.sources; ports = map state_of c.ports.items } };
+
+    ghost invariant = { λ c. length c.ports.items ≡ length c.ranges + 1 };
+}
+
+impl Crossbar {
+    /// A system at reset.
+    pub fn new(alloc: Global, system: System) -> Result<Crossbar, Memory>
+        ensures { IfOk result (λ crossbar. crossbar ≡ at_reset system) }
+    {
+        let crossbar = system.into_crossbar();
+        let ports = ports_of(alloc, &crossbar.devices)?;
+        Ok(Crossbar {
+            ranges: crossbar.map,
+            sources: crossbar.sources,
+            ports,
+        })
+    }
+
+    /// Serves a master's request, whose source is the master's own.
+    pub fn serve(&mut self, master: usize, ask: &Ask) -> Result<Answer, ServeFault>
+        ensures ok { IsOk result ↔ Accepts self.old master ask.now }
+        ensures served { IfOk result (λ answer. IsServed self.old ask.now answer self.new) }
+        ensures fault { IfErr result (IsFirstServeFault self.old master ask.now) }
+        ensures err { OnErr result (self.new ≡ self.old) }
+    {
+        let Some(count) = self.sources.count(master) else {
+            return Err(ServeFault::NoSuchMaster);
+        };
+        if ask.source() >= count {
+            return Err(ServeFault::NoSuchSource);
+        }
+        let port = self.ranges.route(ask);
+        if self.ports[port].served == MOST_SERVED {
+            return Err(ServeFault::Uncountable);
+        }
+        let (place, reply) = self.ports[port].serve(ask);
+        Ok(Answer { reply, port, place })
+    }
+
+    /// The byte that the slave of an address holds there, where it has one.
+    pub fn byte(&self, address: u64) -> Option<u8>
+        ensures { (port : ℕ) → RoutesBytes self.now.ranges address 0 port
+            → IsSomeAnd (slice_get self.now.ports port)
+            (λ state. result ≡ byte_in state.store address) }
+    {
+        let port = self.ranges.route_bytes(address, 0);
+        self.ports[port].bank.byte(address)
+    }
+
+    /// How many masters there are.
+    pub fn masters(&self) -> usize
+        ensures { result ≡ length self.now.counts }
+    {
+        self.sources.masters()
+    }
+
+    /// How many slave ports there are, the error port among them.
+    pub fn ports(&self) -> usize
+        ensures { result ≡ length self.now.ports }
+    {
+        self.ports.len()
+    }
+}

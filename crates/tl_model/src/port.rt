@@ -1,0 +1,58 @@
+//! A slave port, and how many requests it has served.
+ghost use Rattle.std.specs.Prelude.{◌≡◌, ◌+◌, ◌<◌, ◌++◌, ◌∷◌, [], IfOk, map};
+ghost use Rattle.tl_ops.specs.Store.{after, reply};
+ghost use Rattle.tl_script.specs.System.{error_store, store_of};
+ghost use Rattle.tl_model.specs.Crossbar.{fresh};
+ghost use Rattle.tl_model.specs.Ports.{state_of};
+
+use std::alloc::Global;
+use tl_ops::{Bank, Kind};
+use tl_script::Device;
+use tl_types::{Ask, Memory, Reply};
+
+/// The most requests that a port counts.
+pub const MOST_SERVED: usize = usize::MAX;
+
+/// A slave port.
+#[derive(Drop)]
+pub(crate) struct Port {
+    pub(crate) bank: Bank,
+    pub(crate) served: usize,
+}
+
+impl Port {
+    /// Serves a request. The answer is how many were served before it, and the reply.
+    pub(crate) fn serve(&mut self, ask: &Ask) -> (usize, Reply)
+        requires { self.old.served < MOST_SERVED }
+        ensures bank { self.new.bank ≡ after self.old.bank ask.now }
+        ensures counted { self.new.served ≡ self.old.served + 1 }
+        ensures place { result.0 ≡ self.old.served }
+        ensures reply { result.1 ≡ reply self.old.bank ask.now }
+    {
+        let place = self.served;
+        self.served += 1;
+        (place, self.bank.serve(ask))
+    }
+}
+
+/// A slave port at reset.
+fn port_of(alloc: Global, kind: Kind, base: u64, reset: &[u8]) -> Result<Port, Memory>
+    ensures { IfOk result (λ port. state_of port
+        ≡ fresh (record { kind = kind; base = base; bytes = reset.now })) }
+{
+    let bank = Bank::new(alloc, kind, base, reset).map_err(|_| Memory)?;
+    Ok(Port { bank, served: 0 })
+}
+
+/// The slave ports of these devices at reset, and the error port behind them.
+pub(crate) fn ports_of(alloc: Global, devices: &[Device]) -> Result<Vec<Port>, Memory>
+    ensures { IfOk result (λ ports. map state_of ports.items
+        ≡ map fresh (map store_of devices.now ++ error_store ∷ [])) }
+{
+    let mut ports = Vec::with_capacity(alloc, devices.len() + 1)?;
+    for device in devices {
+        ports.push(port_of(alloc, device.kind, device.base, &device.reset)?)?;
+    }
+    ports.push(port_of(alloc, Kind::NoDevice, 0, &[])?)?;
+    Ok(ports)
+}
