@@ -1,0 +1,182 @@
+//! Requests and their replies, kept compactly.
+ghost use Rattle.std.specs.Prelude.{◌≡◌, ◌<◌, ◌≤◌, ◌==◌, ◌++◌, ◌∷◌, [], length, slice_get, IfOk, OnErr, OnOk, Some};
+ghost use Rattle.tl_journal.specs.Headers.{IsEntryIn, ask_in, reply_in};
+
+use crate::pools::Pools;
+use arrayvec::ArrayVec;
+use std::alloc::{AllocError, Global};
+use std::marker::Model;
+use std::mem::size_of;
+use tl_types::{Ask, AskOp, MAX_BYTES, Reply, ReplyOp};
+
+/// The most bytes of an entry that are all given: the request's and the reply's.
+const MOST_WHOLE: usize = 2 * MAX_BYTES;
+
+/// What is kept of a request and its reply beside the bytes that they carry.
+// The fields stand in an order that leaves few gaps.
+#[derive(Drop)]
+struct Header {
+    op: AskOp,
+    size: u8,
+    answer: ReplyOp,
+    answer_size: u8,
+    denied: bool,
+    source: u16,
+    address: u64,
+    /// Where the request's bytes begin in their pool.
+    start: usize,
+    /// Where the reply's begin in theirs.
+    answer_start: usize,
+}
+
+const _: () = prove!(size_of::<Header>() <= 40);
+
+/// Requests with their replies, in the order in which they were appended.
+#[derive(Drop)]
+pub struct Journal {
+    headers: Vec<Header>,
+    pools: Pools,
+    room: usize,
+}
+
+impl Model for Journal {
+    ghost use Rattle.std.specs.Prelude.{map, vec_capacity};
+    ghost use Rattle.tl_journal.specs.Journal.{JournalView};
+    ghost use Rattle.tl_journal.specs.Headers.{IsKeptJournal, entry_in};
+
+    ghost Value = { JournalView };
+
+    ghost view = { λ j. record { items = map (entry_in j.pools) j.headers.items; room = j.room } };
+
+    ghost invariant = { λ j. IsKeptJournal j.pools j.headers.items (vec_capacity j.headers) j.room };
+}
+
+impl Journal {
+    /// An empty journal.
+    pub fn new(alloc: Global) -> Journal
+        ensures { result ≡ record { items = []; room = 0 } }
+    {
+        Journal {
+            headers: Vec::new(alloc),
+            pools: Pools::new(alloc),
+            room: 0,
+        }
+    }
+
+    /// An empty journal with room for so many entries, whatever they carry. Memory that no entry takes is never touched.
+    pub fn with_room(alloc: Global, entries: usize) -> Result<Journal, AllocError>
+        ensures { IfOk result (λ journal. journal ≡ record { items = []; room = entries }) }
+    {
+        let headers = Vec::with_capacity(alloc, entries)?;
+        let whole = entries.checked_mul(MOST_WHOLE).ok_or(AllocError)?;
+        let mut pools = Pools::new(alloc);
+        pools.reserve(whole, entries * MAX_BYTES)?;
+        Ok(Journal {
+            headers,
+            pools,
+            room: entries,
+        })
+    }
+
+    /// How many entries there are: no more than there is room for.
+    pub fn len(&self) -> usize
+        ensures value { result ≡ length self.now.items }
+        ensures room { result ≤ self.now.room }
+    {
+        self.headers.len()
+    }
+
+    /// Whether there is no entry.
+    pub fn is_empty(&self) -> bool
+        ensures { result ≡ (length self.now.items == 0) }
+    {
+        self.headers.is_empty()
+    }
+
+    /// Makes room for one more entry, where there is none.
+    fn reserve_one(&mut self) -> Result<(), AllocError>
+        ensures items { self.new.items ≡ self.old.items }
+        ensures room { OnOk result (length self.old.items < self.new.room) }
+    {
+        if self.headers.len() < self.room {
+            return Ok(());
+        }
+        self.headers.reserve(1)?;
+        self.pools.reserve(MOST_WHOLE, MAX_BYTES)?;
+        self.room = self.headers.len() + 1;
+        Ok(())
+    }
+
+    /// Appends a request and its reply, each with this source, and makes room for them first.
+    pub fn push(&mut self, source: u16, ask: &Ask, reply: &Reply) -> Result<(), AllocError>
+        ensures ok { OnOk result (self.new.items ≡ self.old.items
+            ++ (record ask.now { source = source }, record reply.now { source = source }) ∷ []) }
+        ensures err { OnErr result (self.new.items ≡ self.old.items) }
+    {
+        self.reserve_one()?;
+        self.push_reserved(source, ask, reply);
+        Ok(())
+    }
+
+    /// Appends a request and its reply, each with this source, where there is room for one more.
+    pub fn push_reserved(&mut self, source: u16, ask: &Ask, reply: &Reply)
+        requires { length self.old.items < self.old.room }
+        ensures items { self.new.items ≡ self.old.items
+            ++ (record ask.now { source = source }, record reply.now { source = source }) ∷ [] }
+        ensures room { self.new.room ≡ self.old.room }
+    {
+        let start = self.pools.keep_reserved(ask.op(), ask.bytes());
+        let answer_start = self.pools.keep_plain_reserved(reply.bytes());
+        self.headers.push_reserved(Header {
+            op: ask.op(),
+            size: ask.size(),
+            answer: reply.op(),
+            answer_size: reply.size(),
+            denied: reply.denied(),
+            source,
+            address: ask.address(),
+            start,
+            answer_start,
+        });
+    }
+
+    /// The request at a place, and its reply.
+    pub fn get(&self, place: usize) -> (Ask, Reply)
+        requires { place < length self.now.items }
+        ensures { slice_get self.now.items place ≡ Some result }
+    {
+        let header = &self.headers[place];
+        (request(&self.pools, header), reply(&self.pools, header))
+    }
+}
+
+/// The request of a header.
+fn request(pools: &Pools, header: &Header) -> Ask
+    requires { IsEntryIn pools.now header.now }
+    ensures { result ≡ ask_in pools.now header.now }
+{
+    let bytes = pools.bytes(header.op, header.size, header.start);
+    Ask::from_parts(
+        header.op,
+        header.size,
+        header.source,
+        header.address,
+        bytes,
+    )
+}
+
+/// The reply of a header.
+fn reply(pools: &Pools, header: &Header) -> Reply
+    requires { IsEntryIn pools.now header.now }
+    ensures { result ≡ reply_in pools.now header.now }
+{
+    let count = header.answer.byte_count(header.answer_size);
+    let bytes = ArrayVec::try_from(pools.plain(header.answer_start, count)).unwrap();
+    Reply::from_parts(
+        header.answer,
+        header.answer_size,
+        header.source,
+        header.denied,
+        bytes,
+    )
+}
