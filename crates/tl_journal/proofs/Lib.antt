@@ -1,2 +1,3 @@
 pub mod Pooled
 pub mod Room
+pub mod Placed

@@ -1,9 +1,9 @@
 -- The room for the bytes of the entries that are still to come.
-use Rattle.std.proofs.Common.{◌≡◌, ◌∙◌, ℕ, suc, ◌+◌, ◌-◌, ◌^◌, ◌<◌, ◌≤◌, Bool, true, false, List, ◌++◌, ◌∷◌, [], length, Option, if◌then◌else◌, refl, ap, sym, arith, lit≤, length-append, unwrap_or}
+use Rattle.std.proofs.Common.{◌≡◌, ◌∙◌, ℕ, suc, ◌+◌, ◌-◌, ◌^◌, ◌<◌, ◌≤◌, Bool, true, false, List, ◌++◌, ◌∷◌, [], length, Option, if◌then◌else◌, ap, arith, lit≤, length-append, unwrap_or}
 use Rattle.std.proofs.Math.Nat.{pow-le-pow_right}
 use Rattle.std.proofs.lemmas.List.{length-map}
 use Rattle.tl_types.specs.Bytes.{plain_of}
-use Rattle.tl_types.specs.Operation.{byte_count, carries_bytes, may_leave_unset, reply_byte_count, reply_carries_bytes}
+use Rattle.tl_types.specs.Operation.{carries_bytes, reply_carries_bytes}
 use Rattle.tl_types.specs.Request.{Request, IsLawfulRequest}
 use Rattle.tl_types.specs.Response.{Response, IsLawfulResponse}
 use Rattle.tl_types.specs.declared.limits.TheConstants.{LARGEST_SIZE, MAX_BYTES}

@@ -1,3 +1,4 @@
 pub mod Pools
 pub mod Headers
 pub mod Journal
+pub mod Trace

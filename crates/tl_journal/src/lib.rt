@@ -12,6 +12,8 @@
 
 mod journal;
 mod pools;
+mod trace;
 
 pub use journal::Journal;
 pub use pools::Pools;
+pub use trace::{Place, Trace};

@@ -1,13 +1,10 @@
 -- The entries before are read from the larger pools as they were, the new one stands behind them, and what is left of the room
 -- is for the others.
-use Rattle.std.proofs.Common.{◌≡◌, ◌∙◌, ◌++◌, ◌∷◌, [], ◌-◌, ◌<◌, ◌≤◌, ◌+◌, suc, List, length, ap, map, arith}
+use Rattle.std.proofs.Common.{◌≡◌, ◌∙◌, ◌++◌, ◌∷◌, [], ◌-◌, ◌<◌, suc, length, ap, map, arith}
 use Rattle.std.proofs.lemmas.List.{length-map}
 use Rattle.tl_types.specs.Operation.{may_leave_unset}
-use Rattle.tl_types.specs.Request.{Request}
-use Rattle.tl_types.specs.Response.{Response}
-use Rattle.tl_journal.specs.Pools.{IsKept, IsPlainKept}
-use Rattle.tl_journal.specs.Headers.{HasRoom, entry_in}
-use Rattle.tl_journal.proofs.Pooled.{Takes, takes_entry, pushed_entries, pushed_in}
+use Rattle.tl_journal.specs.Headers.{entry_in}
+use Rattle.tl_journal.proofs.Pooled.{takes_entry, pushed_entries, pushed_in}
 use Rattle.tl_journal.proofs.Room.{ask_fits, few_asked, few_told, left_fits, length_push, one_more, reply_fits}
 use Rattle.tl_journal.proofs.journal.Journal.push_reserved.Goals as goal
 

@@ -1,0 +1,87 @@
+//! The entries of a trace, kept compactly.
+ghost use Rattle.std.specs.Prelude.{◌≡◌, ◌<◌, ◌≤◌, ◌==◌, ◌++◌, ◌∷◌, [], length, slice_get, IfOk, Some};
+ghost use Rattle.tl_journal.specs.Trace.{entry_of};
+
+use crate::journal::Journal;
+use std::alloc::{AllocError, Global};
+use std::marker::Model;
+use tl_types::{Ask, Entry, Reply};
+
+/// Where a request was served.
+#[derive(Debug, Clone, Copy, PartialEq, Eq)]
+pub struct Place {
+    /// The port that served it.
+    pub port: usize,
+    /// Its place in that port's history.
+    pub index: usize,
+}
+
+/// What one master sent and was answered, in the order collected, each with the place where it was served.
+#[derive(Drop)]
+pub struct Trace {
+    journal: Journal,
+    places: Vec<Place>,
+}
+
+impl Model for Trace {
+    ghost use Rattle.std.specs.Prelude.{vec_capacity};
+    ghost use Rattle.tl_journal.specs.Trace.{IsKeptTrace, TraceView, entries_of};
+
+    ghost Value = { TraceView };
+
+    ghost view = { λ t. record { items = entries_of t.journal.items t.places.items; room = t.journal.room } };
+
+    ghost invariant = { λ t. IsKeptTrace t.journal t.places.items (vec_capacity t.places) };
+}
+
+impl Trace {
+    /// An empty trace with room for so many entries, whatever they carry.
+    pub fn with_room(alloc: Global, entries: usize) -> Result<Trace, AllocError>
+        ensures { IfOk result (λ trace. trace ≡ record { items = []; room = entries }) }
+    {
+        let journal = Journal::with_room(alloc, entries)?;
+        let places = Vec::with_capacity(alloc, entries)?;
+        Ok(Trace { journal, places })
+    }
+
+    /// How many entries there are: no more than there is room for.
+    pub fn len(&self) -> usize
+        ensures value { result ≡ length self.now.items }
+        ensures room { result ≤ self.now.room }
+    {
+        self.journal.len()
+    }
+
+    /// Whether there is no entry.
+    pub fn is_empty(&self) -> bool
+        ensures { result ≡ (length self.now.items == 0) }
+    {
+        self.len() == 0
+    }
+
+    /// Appends the entry of a request and its reply, each with this source, where there is room for one more.
+    pub fn push_reserved(&mut self, source: u16, ask: &Ask, reply: &Reply, place: Place)
+        requires { length self.old.items < self.old.room }
+        ensures items { self.new.items ≡ self.old.items
+            ++ entry_of (record ask.now { source = source }) (record reply.now { source = source }) place ∷ [] }
+        ensures room { self.new.room ≡ self.old.room }
+    {
+        self.journal.push_reserved(source, ask, reply);
+        self.places.push_reserved(place);
+    }
+
+    /// The entry at a place.
+    pub fn get(&self, place: usize) -> Entry
+        requires { place < length self.now.items }
+        ensures { slice_get self.now.items place ≡ Some result }
+    {
+        let (ask, reply) = self.journal.get(place);
+        let Place { port, index } = self.places[place];
+        Entry {
+            ask,
+            reply,
+            port,
+            index,
+        }
+    }
+}
