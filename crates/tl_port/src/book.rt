@@ -1,5 +1,5 @@
 //! What a port has served, and what it is serving.
-ghost use Rattle.std.specs.Prelude.{◌≡◌, ◌+◌, ◌-◌, ◌<◌, ◌≤◌, ◌↔◌, ◌++◌, ◌∷◌, [], length, vec_len, vec_capacity, IsTrue, IfOk, IfErr, IfSome, IfNone, slice_get, option_map};
+ghost use Rattle.std.specs.Prelude.{◌≡◌, ◌+◌, ◌-◌, ◌<◌, ◌≤◌, ◌↔◌, ◌++◌, ◌∷◌, [], length, IsTrue, IfOk, IfErr, IfSome, IfNone, slice_get, option_map};
 ghost use Rattle.std.specs.Prelude as std;
 ghost use Rattle.std.specs.VecDeque.{deque_capacity};
 ghost use Rattle.tl_ops.specs.Store.{after, reply};
@@ -15,6 +15,7 @@ use std::alloc::Global;
 use std::collections::VecDeque;
 use std::marker::Model;
 use tl_arena::{Accepted, Arena, PortSeat};
+use tl_journal::Journal;
 use tl_ops::Bank;
 use tl_types::{Ask, Reply};
 
@@ -57,12 +58,12 @@ pub struct Book {
     bank: Bank,
     seat: PortSeat,
     journal: usize,
-    history: Vec<(Ask, Reply)>,
+    history: Journal,
     flights: VecDeque<Accepted>,
 }
 
 impl Model for Book {
-    ghost use Rattle.std.specs.Prelude.{◌≡◌, ◌≤◌, length, vec_capacity};
+    ghost use Rattle.std.specs.Prelude.{◌≡◌, ◌≤◌, length};
     ghost use Rattle.std.specs.VecDeque.{deque_capacity};
     ghost use Rattle.tl_port.specs.Book.{BookView};
     ghost use Rattle.tl_port.specs.Kept.{IsKeptBook};
@@ -71,7 +72,7 @@ impl Model for Book {
 
     ghost view = { λ b. record { seat = b.seat; store = b.bank; history = b.history.items; flights = b.flights.items; journal = b.journal } };
 
-    ghost invariant = { λ b. IsKeptBook (record { seat = b.seat; store = b.bank; history = b.history.items; flights = b.flights.items; journal = b.journal }) (vec_capacity b.history) (deque_capacity b.flights) };
+    ghost invariant = { λ b. IsKeptBook (record { seat = b.seat; store = b.bank; history = b.history.items; flights = b.flights.items; journal = b.journal }) b.history.room (deque_capacity b.flights) };
 }
 
 impl Book {
@@ -91,7 +92,7 @@ impl Book {
         ensures ok { IfOk result (λ book. book ≡ new_book seat bank journal) }
         ensures err { IfErr result (λ e. (e.bank ≡ bank) × (e.seat ≡ seat)) }
     {
-        let Ok(history) = Vec::with_capacity(alloc, journal) else {
+        let Ok(history) = Journal::with_room(alloc, journal) else {
             return Err(NoBook { bank, seat });
         };
         let Ok(flights) = VecDeque::with_capacity(alloc, slots) else {
@@ -192,22 +193,24 @@ impl Book {
     }
 
     /// All that was served, in order: requests with wide sources, and their replies.
-    pub fn history(&self) -> &[(Ask, Reply)]
-        ensures value { result.now ≡ self.now.history }
+    pub fn history(&self) -> &Journal
+        ensures value { result.now.items ≡ self.now.history }
         ensures lawful { IsLawfulBook self.now }
     {
         &self.history
     }
 
     /// The request that was served at a place, with its wide source, and its reply.
-    pub fn entry(&self, place: usize) -> Option<(&Ask, &Reply)>
+    pub fn entry(&self, place: usize) -> Option<(Ask, Reply)>
         ensures some { IfSome result
-            (λ e. slice_get self.now.history place ≡ std.Some (e.0.now, e.1.now)) }
+            (λ e. slice_get self.now.history place ≡ std.Some e) }
         ensures none { IfNone result (length self.now.history ≤ place) }
         ensures lawful { IsLawfulBook self.now }
     {
-        let (ask, reply) = self.history.get(place)?;
-        Some((ask, reply))
+        if place >= self.history.len() {
+            return None;
+        }
+        Some(self.history.get(place))
     }
 
     /// The port's number.
@@ -252,23 +255,23 @@ fn answer_by(
     arena: &Arena,
     seat: &mut PortSeat,
     bank: &mut Bank,
-    history: &mut Vec<(Ask, Reply)>,
+    history: &mut Journal,
     accepted: Accepted,
 )
     requires arena { seat.old.arena ≡ arena.now }
     requires accepted { ask_at seat.old.serving accepted.0 ≡ std.Some accepted.1 }
     requires list { length seat.old.list < usize.MAX }
     requires memory { bank.old ≡ memory_of seat.old }
-    requires room { vec_len history.old < vec_capacity history.old }
+    requires room { length history.old.items < history.old.room }
     ensures seat { seat.new ≡ with_answered seat.old accepted (reply bank.old accepted.1) }
     ensures law { IsLawfulPort seat.new }
     ensures bank { bank.new ≡ after bank.old accepted.1 }
     ensures history { history.new.items
         ≡ history.old.items ++ (accepted.1, reply bank.old accepted.1) ∷ [] }
-    ensures capacity { vec_capacity history.new ≡ vec_capacity history.old }
+    ensures capacity { history.new.room ≡ history.old.room }
 {
-    let ask = accepted.ask().copy();
-    let reply = bank.serve(&ask);
+    let ask = accepted.ask();
+    let reply = bank.serve(ask);
+    history.push_reserved(ask.source(), ask, &reply);
     arena.answer(seat, accepted, &reply);
-    history.push_reserved((ask, reply));
 }
