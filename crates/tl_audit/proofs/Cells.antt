@@ -1,7 +1,7 @@
 -- What is read in rows after one cell was written, and in rows of one thing.
-use Rattle.std.proofs.Common.{◌≡◌, ◌≢◌, ℕ, ◌<◌, ◌&&◌, ◌==◌, ◌⊎◌, ⊎_elim, if◌then◌else◌, true, false, List, length, map, set, Some, None, Option, slice_get, refl, sym, arith}
+use Rattle.std.proofs.Common.{◌≡◌, ℕ, ◌<◌, ⊎_elim, List, length, map, set, Some, None, Option, slice_get, refl, arith}
 use Rattle.std.proofs.lemmas.Bool.Decides.{eqb_tells}
-use Rattle.std.proofs.Common.{[], ◌∷◌, ◌++◌, ◌≤◌, suc, zero, take, drop, replicate, option_map, get_or, Vec, IsSome}
+use Rattle.std.proofs.Common.{[], ◌∷◌, ◌++◌, suc, zero, take, drop, replicate, option_map, get_or, Vec, IsSome}
 use Rattle.std.proofs.lemmas.List.{append-nil, drop_all, take_all}
 use Rattle.std.proofs.lemmas.Bool.{false≢true}
 use Rattle.std.proofs.lemmas.List.{map-set}

@@ -1,5 +1,5 @@
 -- How often a place is named, as entries are counted one by one.
-use Rattle.std.proofs.Common.{◌≡◌, ℕ, suc, zero, ◌+◌, ◌<◌, ◌&&◌, ◌==◌, Bool, true, false, List, [], ◌∷◌, ◌++◌, length, filter, take, get_or, Option, Some, None, option_map, slice_get, refl, sym, ap, arith}
+use Rattle.std.proofs.Common.{◌≡◌, ℕ, suc, zero, ◌+◌, ◌<◌, ◌==◌, Bool, true, false, List, [], ◌∷◌, ◌++◌, filter, take, Option, Some, None, option_map, slice_get, refl, arith}
 use Rattle.std.proofs.Common.{IsSome}
 use Rattle.std.proofs.lemmas.Bool.{and_parts, eqb-true, false≢true}
 use Rattle.std.proofs.lemmas.List.{length-append}
@@ -10,7 +10,7 @@ use Rattle.tl_types.specs.declared.trace.Entry.{Entry}
 use Rattle.tl_audit.specs.Agrees.{names, times_in, times_named}
 use Rattle.tl_audit.specs.Marks.{AreMarkedBy, IsSetAt, NamePlaces, cell, next_of, next_times}
 use Rattle.tl_audit.specs.declared.marks.Mark.{Mark}
-use Rattle.tl_audit.specs.declared.marks.Mark.TheVariants.{Unnamed, Named, NamedAgain}
+use Rattle.tl_audit.specs.declared.marks.Mark.TheVariants.{Unnamed, NamedAgain}
 
 -- the entry at place k is counted after those before it
 counted_last : (p i k : ℕ) (trace : List Entry) (e : Entry) → slice_get trace k ≡ Some e

@@ -1,11 +1,11 @@
 -- The order of a trace, entry by entry.
-use Rattle.std.proofs.Common.{◌≡◌, ℕ, suc, ◌+◌, ◌<◌, ◌≤◌, ◌&&◌, ◌==◌, Bool, true, false, List, Option, Some, None, IsSome, option_map, slice_get, refl, sym, ⊎_elim, arith}
+use Rattle.std.proofs.Common.{◌≡◌, ℕ, ◌+◌, ◌<◌, ◌≤◌, ◌&&◌, ◌==◌, Bool, true, false, List, Option, Some, None, IsSome, slice_get, refl, ⊎_elim, arith}
 use Rattle.std.proofs.lemmas.Bool.{and_parts, cases_lt, eqb-true, eq-eqb, false≢true}
 use Rattle.std.specs.Cmp.Derive.{both_true}
 use Rattle.tl_types.specs.declared.trace.Entry.{Entry}
-use Rattle.tl_audit.specs.Agrees.{IsInOrder, IsOutOfOrder}
+use Rattle.tl_audit.specs.Agrees.{IsOutOfOrder}
 use Rattle.tl_audit.specs.Marks.{IsSetAt, cell}
-use Rattle.tl_audit.specs.Order.{AreBlank, HaveCells, IsAtLeast, IsOrderedTo, IsSeen}
+use Rattle.tl_audit.specs.Order.{HaveCells, IsAtLeast, IsOrderedTo, IsSeen}
 
 -- an index that is no greater than the last one is out of order
 pub out_of_order : (trace : List Entry) (k : ℕ) (e : Entry) (last : Option ℕ) (lasts : List (List (Option ℕ))) → slice_get trace k ≡ Some e → IsOrderedTo trace k lasts

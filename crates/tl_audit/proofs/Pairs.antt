@@ -1,5 +1,5 @@
 -- When an entry is the pair at its port and index, by its wide source and what is there.
-use Rattle.std.proofs.Common.{◌≡◌, ℕ, ◌↔◌, List, Bool, Some, IsTrue, refl, sym}
+use Rattle.std.proofs.Common.{◌≡◌, ℕ, ◌↔◌, List, Bool, Some, IsTrue, refl}
 use Rattle.tl_types.specs.Request.{Request}
 use Rattle.tl_types.specs.Response.{Response}
 use Rattle.tl_types.specs.declared.trace.Entry.{Entry}

@@ -1,6 +1,5 @@
 -- Traces that agree with the histories of lawful books are those of one thread.
-use Rattle.std.proofs.Common.{◌≡◌, ◌∙◌, ℕ, zero, suc, ◌+◌, ◌<◌, ◌≤◌, ◌&&◌, ◌==◌, Bool, true, false, List, [], ◌∷◌, length, map, take, filter, Option, Some, None, option_map, slice_get, refl, sym, ap, arith, ⊎_elim}
-use Rattle.std.proofs.Common.{IsSome}
+use Rattle.std.proofs.Common.{◌≡◌, ◌∙◌, ℕ, zero, suc, ◌<◌, ◌≤◌, ◌==◌, Bool, true, false, List, [], ◌∷◌, take, Option, Some, None, option_map, slice_get, refl, sym, ap, arith, ⊎_elim}
 use Rattle.std.proofs.lemmas.Bool.{and_parts, cases_lt, eqb-true, eq-eqb}
 use Rattle.std.proofs.lemmas.Option.{slice_get-map}
 use Rattle.std.specs.Cmp.Derive.{both_true}
@@ -9,8 +8,8 @@ use Rattle.tl_types.specs.Response.{Response}
 use Rattle.tl_types.specs.declared.trace.Entry.{Entry}
 use Rattle.tl_ops.specs.Store.{Store, after, reply}
 use Rattle.tl_ops.specs.History.{IsLawfulHistory, asks_of, replay}
-use Rattle.tl_port.specs.Book.{BookView, IsLawfulBook, reset}
-use Rattle.tl_audit.specs.Agrees.{Agrees, HasEntry, HasPlace, IsInOrder, IsRecorded, names, pair_at, times_in, times_named}
+use Rattle.tl_port.specs.Book.{BookView, reset}
+use Rattle.tl_audit.specs.Agrees.{Agrees, HasEntry, IsInOrder, IsRecorded, names, pair_at, times_in, times_named}
 use Rattle.tl_audit.specs.Reader.{AreLawful, AreOneThreads, CarriesReply, IsServedInOrder, IsTracedOnce, histories_of, replies_of}
 
 -- ---- one thread's replies

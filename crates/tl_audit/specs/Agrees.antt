@@ -6,12 +6,13 @@ use Rattle.tl_types.specs.Request.{Request}
 use Rattle.tl_types.specs.Response.{Response}
 use Rattle.tl_types.specs.declared.trace.Entry.{Entry}
 use Rattle.tl_map.specs.Block.{IsWide}
+use Rattle.tl_journal.specs.Journal.{JournalView}
 use Rattle.tl_audit.specs.declared.fault.AuditFault.{AuditFault}
 use Rattle.tl_audit.specs.declared.fault.AuditFault.TheVariants.{Missing, Twice, Order, Untraced, Memory}
 
--- the lists behind references
-abbrev pub lists_in : {A : Type 0} → List (Bor (List A)) → List (List A)
-lists_in slices = map (λ slice. slice.now) slices
+-- the requests and replies of the journals behind references
+abbrev pub journals_in : List (Bor JournalView) → List (List (Request × Response))
+journals_in journals = map (λ (journal : Bor JournalView). journal.now.items) journals
 
 -- the trace of master m has this entry at place k
 abbrev pub HasEntry : List (List Entry) → ℕ → ℕ → Entry → Type 0

@@ -1,5 +1,5 @@
 -- A mark for each place of each history: how often the entries so far name it. For the proofs of the audit.
-use Rattle.std.specs.Prelude.{◌≡◌, ℕ, zero, suc, Bool, ◌&&◌, ◌==◌, if◌then◌else◌, List, map, Option, Some, slice_get, option_and_then, option_map, Vec, IsSome}
+use Rattle.std.specs.Prelude.{◌≡◌, ℕ, zero, suc, ◌&&◌, ◌==◌, if◌then◌else◌, List, map, Option, Some, slice_get, option_and_then, option_map, Vec, IsSome}
 use Rattle.std.specs.Global.{Global}
 use Rattle.tl_types.specs.Request.{Request}
 use Rattle.tl_types.specs.Response.{Response}

@@ -1,20 +1,20 @@
 //! The audit of traces and books.
 ghost use Rattle.std.specs.Prelude.{◌≡◌, IfErr, IfOk, OnOk};
-ghost use Rattle.tl_audit.specs.Agrees.{Agrees, HasAuditFault, lists_in};
-ghost use Rattle.tl_audit.specs.Marks.{rows_in};
+ghost use Rattle.tl_journal.specs.Trace.{entries_in};
+ghost use Rattle.tl_audit.specs.Agrees.{Agrees, HasAuditFault, journals_in};
 ghost use Rattle.tl_audit.specs.Reader.{histories_of};
 ghost use Rattle.tl_audit.specs.declared.fault.AuditFault.TheVariants.{Memory};
 
 use crate::fault::AuditFault;
 use crate::lists::audit_lists;
 use std::alloc::{AllocError, Global};
+use tl_journal::{Journal, Trace};
 use tl_map::Sources;
 use tl_port::Book;
-use tl_types::{Ask, Reply, Trace};
 
 /// The histories of books.
-fn histories_in<'a>(alloc: Global, books: &'a [Book]) -> Result<Vec<&'a [(Ask, Reply)]>, AllocError>
-    ensures { IfOk result (λ histories. lists_in histories.items ≡ histories_of books.now) }
+fn histories_in<'a>(alloc: Global, books: &'a [Book]) -> Result<Vec<&'a Journal>, AllocError>
+    ensures { IfOk result (λ histories. journals_in histories.items ≡ histories_of books.now) }
 {
     let mut histories = Vec::with_capacity(alloc, books.len())?;
     for book in books {
@@ -31,12 +31,12 @@ pub fn audit(
     traces: &[Trace],
     books: &[Book],
 ) -> Result<(), AuditFault>
-    ensures ok { OnOk result (Agrees sources.now (rows_in traces.now) (histories_of books.now)) }
+    ensures ok { OnOk result (Agrees sources.now (entries_in traces.now) (histories_of books.now)) }
     ensures fault { IfErr result
-        (HasAuditFault sources.now (rows_in traces.now) (histories_of books.now)) }
+        (HasAuditFault sources.now (entries_in traces.now) (histories_of books.now)) }
 
     // Where they agree nothing but want of memory is answered beside Ok.
-    ensures agreed { Agrees sources.now (rows_in traces.now) (histories_of books.now)
+    ensures agreed { Agrees sources.now (entries_in traces.now) (histories_of books.now)
         → IfErr result (λ fault. fault ≡ Memory) }
 {
     let histories = histories_in(alloc, books)?;

@@ -2,7 +2,8 @@
 ghost use Rattle.std.specs.Prelude.{◌≡◌, ℕ, List, All, IfErr, IfNone, IfOk, IfSome, IsSomeAnd, OnOk, Some, replicate, slice_get};
 ghost use Rattle.std.specs.Prelude as std;
 ghost use Rattle.tl_types.specs.declared.trace.Entry.{Entry};
-ghost use Rattle.tl_audit.specs.Agrees.{Agrees, AreRecorded, HasAuditFault, IsInOrder, IsOutOfOrder, IsRecorded, lists_in};
+ghost use Rattle.tl_journal.specs.Trace.{entries_in};
+ghost use Rattle.tl_audit.specs.Agrees.{Agrees, AreRecorded, HasAuditFault, IsInOrder, IsOutOfOrder, IsRecorded, journals_in};
 ghost use Rattle.tl_audit.specs.Marks.{AreCounted, rows_in};
 ghost use Rattle.tl_audit.specs.Order.{HavePlaces};
 ghost use Rattle.tl_audit.specs.declared.fault.AuditFault.TheVariants.{Memory};
@@ -12,36 +13,39 @@ use crate::marks::{Mark, first_marked, mark_traces, unnamed};
 use crate::order::first_out_of_order;
 use crate::recorded::is_recorded;
 use std::alloc::{AllocError, Global};
+use tl_journal::{Journal, Trace};
 use tl_map::Sources;
-use tl_types::{Ask, Entry, Reply, Trace};
 
 /// The first entry of a master's trace that is not the one at its port and index.
 fn first_unrecorded(
     sources: &Sources,
-    histories: &[&[(Ask, Reply)]],
+    histories: &[&Journal],
     master: usize,
-    trace: &[Entry],
+    trace: &Trace,
 ) -> Option<usize>
-    ensures found { IfSome result (λ place. IsSomeAnd (slice_get trace.now place)
-        (λ entry. IsRecorded sources.now (lists_in histories.now) master entry → ⊥)) }
+    ensures found { IfSome result (λ place. IsSomeAnd (slice_get trace.now.items place)
+        (λ entry. IsRecorded sources.now (journals_in histories.now) master entry → ⊥)) }
     ensures none { IfNone result
-        (All (IsRecorded sources.now (lists_in histories.now) master) trace.now) }
+        (All (IsRecorded sources.now (journals_in histories.now) master) trace.now.items) }
 {
-    trace
-        .iter()
-        .position(|entry| !is_recorded(sources, histories, master, entry))
+    for place in 0..trace.len() {
+        if !is_recorded(sources, histories, master, &trace.get(place)) {
+            return Some(place);
+        }
+    }
+    None
 }
 
 /// Checks that each entry is the one at its port and index.
 fn check_recorded(
     sources: &Sources,
     traces: &[Trace],
-    histories: &[&[(Ask, Reply)]],
+    histories: &[&Journal],
 ) -> Result<(), AuditFault>
     ensures ok { OnOk result
-        (AreRecorded sources.now (rows_in traces.now) (lists_in histories.now)) }
+        (AreRecorded sources.now (entries_in traces.now) (journals_in histories.now)) }
     ensures fault { IfErr result
-        (HasAuditFault sources.now (rows_in traces.now) (lists_in histories.now)) }
+        (HasAuditFault sources.now (entries_in traces.now) (journals_in histories.now)) }
 {
     for (master, trace) in traces.iter().enumerate() {
         if let Some(place) = first_unrecorded(sources, histories, master, trace) {
@@ -55,12 +59,12 @@ fn check_recorded(
 fn marks_of(
     alloc: Global,
     traces: &[Trace],
-    histories: &[&[(Ask, Reply)]],
+    histories: &[&Journal],
 ) -> Result<Vec<Vec<Mark>>, AllocError>
     requires { (counts : List ℕ)
-        × AreRecorded counts (rows_in traces.now) (lists_in histories.now) }
+        × AreRecorded counts (entries_in traces.now) (journals_in histories.now) }
     ensures { IfOk result
-        (λ rows. AreCounted (rows_in traces.now) (lists_in histories.now) (rows_in rows.items)) }
+        (λ rows. AreCounted (entries_in traces.now) (journals_in histories.now) (rows_in rows.items)) }
 {
     let mut rows = unnamed(alloc, histories)?;
     mark_traces(&mut rows, traces);
@@ -85,11 +89,11 @@ fn first_disordered(
     sources: &Sources,
     ports: usize,
     master: usize,
-    trace: &[Entry],
+    trace: &Trace,
 ) -> Result<Option<usize>, AllocError>
-    requires { HavePlaces sources.now ports master trace.now }
-    ensures found { IfOk result (λ first. IfSome first (IsOutOfOrder trace.now)) }
-    ensures none { IfOk result (λ first. IfNone first (IsInOrder trace.now)) }
+    requires { HavePlaces sources.now ports master trace.now.items }
+    ensures found { IfOk result (λ first. IfSome first (IsOutOfOrder trace.now.items)) }
+    ensures none { IfOk result (λ first. IfNone first (IsInOrder trace.now.items)) }
 {
     let count = sources.count(master).unwrap_or(0);
     let mut lasts = blank(alloc, ports, count)?;
@@ -101,13 +105,13 @@ fn check_order(
     alloc: Global,
     sources: &Sources,
     traces: &[Trace],
-    histories: &[&[(Ask, Reply)]],
+    histories: &[&Journal],
 ) -> Result<(), AuditFault>
-    requires { AreRecorded sources.now (rows_in traces.now) (lists_in histories.now) }
+    requires { AreRecorded sources.now (entries_in traces.now) (journals_in histories.now) }
     ensures ok { OnOk result ((master : ℕ) (trace : List Entry)
-        → slice_get (rows_in traces.now) master ≡ Some trace → IsInOrder trace) }
+        → slice_get (entries_in traces.now) master ≡ Some trace → IsInOrder trace) }
     ensures fault { IfErr result
-        (HasAuditFault sources.now (rows_in traces.now) (lists_in histories.now)) }
+        (HasAuditFault sources.now (entries_in traces.now) (journals_in histories.now)) }
 {
     for (master, trace) in traces.iter().enumerate() {
         let first = first_disordered(alloc, sources, histories.len(), master, trace)?;
@@ -127,14 +131,14 @@ pub fn audit_lists(
     alloc: Global,
     sources: &Sources,
     traces: &[Trace],
-    histories: &[&[(Ask, Reply)]],
+    histories: &[&Journal],
 ) -> Result<(), AuditFault>
-    ensures ok { OnOk result (Agrees sources.now (rows_in traces.now) (lists_in histories.now)) }
+    ensures ok { OnOk result (Agrees sources.now (entries_in traces.now) (journals_in histories.now)) }
     ensures fault { IfErr result
-        (HasAuditFault sources.now (rows_in traces.now) (lists_in histories.now)) }
+        (HasAuditFault sources.now (entries_in traces.now) (journals_in histories.now)) }
 
     // Where they agree nothing but want of memory is answered beside Ok.
-    ensures agreed { Agrees sources.now (rows_in traces.now) (lists_in histories.now)
+    ensures agreed { Agrees sources.now (entries_in traces.now) (journals_in histories.now)
         → IfErr result (λ fault. fault ≡ Memory) }
 {
     check_recorded(sources, traces, histories)?;

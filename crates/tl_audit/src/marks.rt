@@ -1,10 +1,11 @@
 //! Marks: how often the entries of traces name each place of each history.
 ghost use Rattle.std.specs.Prelude.{◌≡◌, ℕ, IfNone, IfOk, IfSome, IsSome, Some, map, length, replicate, slice_get};
-ghost use Rattle.tl_audit.specs.Agrees.{lists_in, times_in, times_named};
+ghost use Rattle.tl_journal.specs.Trace.{entries_in};
+ghost use Rattle.tl_audit.specs.Agrees.{journals_in, times_in, times_named};
 ghost use Rattle.tl_audit.specs.Marks.{AllNamePlaces, AreMarkedBy, IsSetAt, NamePlaces, cell, next_of, rows_in};
 
 use std::alloc::{AllocError, Global};
-use tl_types::{Ask, Entry, Reply, Trace};
+use tl_journal::{Journal, Trace};
 
 /// How often a place is named, as far as it matters.
 #[derive(Debug, Clone, Copy, PartialEq, Eq)]
@@ -25,12 +26,9 @@ fn next(mark: Mark) -> Mark
 }
 
 /// A mark for each place of each history, none of them named.
-pub(crate) fn unnamed(
-    alloc: Global,
-    histories: &[&[(Ask, Reply)]],
-) -> Result<Vec<Vec<Mark>>, AllocError>
+pub(crate) fn unnamed(alloc: Global, histories: &[&Journal]) -> Result<Vec<Vec<Mark>>, AllocError>
     ensures { IfOk result (λ rows. rows_in rows.items
-        ≡ map (λ history. replicate (length history) Mark.Unnamed) (lists_in histories.now)) }
+        ≡ map (λ history. replicate (length history) Mark.Unnamed) (journals_in histories.now)) }
 {
     let mut rows = Vec::with_capacity(alloc, histories.len())?;
     for history in histories {
@@ -58,11 +56,12 @@ fn get(rows: &[Vec<Mark>], port: usize, index: usize) -> Mark
 }
 
 /// Marks the places that the entries of a trace name.
-fn mark_trace(rows: &mut [Vec<Mark>], trace: &[Entry])
-    requires { NamePlaces (rows_in rows.old) trace.now }
-    ensures { AreMarkedBy (λ p i. times_in p i trace.now) (rows_in rows.old) (rows_in rows.new) }
+fn mark_trace(rows: &mut [Vec<Mark>], trace: &Trace)
+    requires { NamePlaces (rows_in rows.old) trace.now.items }
+    ensures { AreMarkedBy (λ p i. times_in p i trace.now.items) (rows_in rows.old) (rows_in rows.new) }
 {
-    for entry in trace {
+    for place in 0..trace.len() {
+        let entry = trace.get(place);
         let mark = next(get(rows, entry.port, entry.index));
         put(rows, entry.port, entry.index, mark);
     }
@@ -70,8 +69,8 @@ fn mark_trace(rows: &mut [Vec<Mark>], trace: &[Entry])
 
 /// Marks the places that the entries of traces name.
 pub(crate) fn mark_traces(rows: &mut [Vec<Mark>], traces: &[Trace])
-    requires { AllNamePlaces (rows_in rows.old) (rows_in traces.now) }
-    ensures { AreMarkedBy (times_named (rows_in traces.now)) (rows_in rows.old) (rows_in rows.new) }
+    requires { AllNamePlaces (rows_in rows.old) (entries_in traces.now) }
+    ensures { AreMarkedBy (times_named (entries_in traces.now)) (rows_in rows.old) (rows_in rows.new) }
 {
     for trace in traces {
         mark_trace(rows, trace);

@@ -4,7 +4,7 @@ ghost use Rattle.tl_audit.specs.Agrees.{IsInOrder, IsOutOfOrder};
 ghost use Rattle.tl_audit.specs.Marks.{IsSetAt, cell, rows_in};
 ghost use Rattle.tl_audit.specs.Order.{AreBlank, HaveCells, IsAtLeast};
 
-use tl_types::Entry;
+use tl_journal::Trace;
 
 /// The last index of a source at a port, where there is one.
 fn last(lasts: &[Vec<Option<usize>>], port: usize, source: u16) -> Option<usize>
@@ -35,13 +35,14 @@ fn keep(lasts: &mut [Vec<Option<usize>>], port: usize, source: u16, index: usize
 }
 
 /// The first entry of a trace behind one of the same source and port whose index is no smaller.
-pub(crate) fn first_out_of_order(lasts: &mut [Vec<Option<usize>>], trace: &[Entry]) -> Option<usize>
+pub(crate) fn first_out_of_order(lasts: &mut [Vec<Option<usize>>], trace: &Trace) -> Option<usize>
     requires blank { AreBlank (rows_in lasts.old) }
-    requires cells { HaveCells (rows_in lasts.old) trace.now }
-    ensures found { IfSome result (IsOutOfOrder trace.now) }
-    ensures none { IfNone result (IsInOrder trace.now) }
+    requires cells { HaveCells (rows_in lasts.old) trace.now.items }
+    ensures found { IfSome result (IsOutOfOrder trace.now.items) }
+    ensures none { IfNone result (IsInOrder trace.now.items) }
 {
-    for (place, entry) in trace.iter().enumerate() {
+    for place in 0..trace.len() {
+        let entry = trace.get(place);
         let source = entry.ask.source();
         if is_at_least(last(lasts, entry.port, source), entry.index) {
             return Some(place);

@@ -1,7 +1,8 @@
 //! Whether an entry of a trace is the one at its port and index.
-ghost use Rattle.std.specs.Prelude.{◌≡◌, ◌↔◌, IsTrue, option_map};
-ghost use Rattle.tl_audit.specs.Agrees.{IsRecorded, lists_in, pair_at};
+ghost use Rattle.std.specs.Prelude.{◌≡◌, ◌↔◌, IsTrue};
+ghost use Rattle.tl_audit.specs.Agrees.{IsRecorded, journals_in, pair_at};
 
+use tl_journal::Journal;
 use tl_map::Sources;
 use tl_types::{Ask, Entry, Reply};
 
@@ -36,30 +37,31 @@ fn is_pair(pair: &(Ask, Reply), wide: u16, entry: &Entry) -> bool
 }
 
 /// The request and the reply at a place of a port's history.
-fn pair_of<'a>(
-    histories: &[&'a [(Ask, Reply)]],
-    port: usize,
-    index: usize,
-) -> Option<&'a (Ask, Reply)>
-    ensures { option_map (λ pair. pair.now) result ≡ pair_at (lists_in histories.now) port index }
+fn pair_of(histories: &[&Journal], port: usize, index: usize) -> Option<(Ask, Reply)>
+    ensures { result ≡ pair_at (journals_in histories.now) port index }
 {
-    histories.get(port)?.get(index)
+    let history = histories.get(port)?;
+    if index < history.len() {
+        Some(history.get(index))
+    } else {
+        None
+    }
 }
 
 /// Whether an entry of a master, with its source widened, is the pair at its port and index.
 pub(crate) fn is_recorded(
     sources: &Sources,
-    histories: &[&[(Ask, Reply)]],
+    histories: &[&Journal],
     master: usize,
     entry: &Entry,
 ) -> bool
-    ensures { IsTrue result ↔ IsRecorded sources.now (lists_in histories.now) master entry.now }
+    ensures { IsTrue result ↔ IsRecorded sources.now (journals_in histories.now) master entry.now }
 {
     let Some(wide) = sources.widen(master, entry.ask.source()) else {
         return false;
     };
     match pair_of(histories, entry.port, entry.index) {
-        Some(pair) => is_pair(pair, wide, entry),
+        Some(pair) => is_pair(&pair, wide, entry),
         None => false,
     }
 }

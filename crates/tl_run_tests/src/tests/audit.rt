@@ -2,8 +2,9 @@
 use std::alloc::Global;
 use std::process::Abort;
 use tl_audit::{AuditFault, audit_lists};
+use tl_journal::{Journal, Place, Trace};
 use tl_map::Sources;
-use tl_types::{Ask, AskOp, Entry, Reply, ReplyOp, Trace};
+use tl_types::{Ask, AskOp, Reply, ReplyOp};
 
 /// One of two messages with their replies: four bytes are put at an address, and got again.
 #[derive(Clone, Copy, Debug, PartialEq, Eq)]
@@ -31,25 +32,24 @@ fn pair(rt: &impl Abort, message: Message, source: u16) -> (Ask, Reply) {
 
 /// The trace of a master whose source this is: messages at port 0 with their indexes.
 fn trace_of(rt: &impl Abort, alloc: Global, source: u16, entries: &[(Message, usize)]) -> Trace {
-    let mut trace = Trace::new(alloc);
+    let mut trace = Trace::with_room(alloc, entries.len()).expect(rt, "memory");
     for (message, index) in entries {
         let (ask, reply) = pair(rt, *message, source);
-        let entry = Entry {
-            ask,
-            reply,
+        let place = Place {
             port: 0,
             index: *index,
         };
-        trace.push(entry).expect(rt, "memory");
+        trace.push_reserved(source, &ask, &reply, place);
     }
     trace
 }
 
 /// The history of a port: messages with the wide sources of those who sent them.
-fn history_of(rt: &impl Abort, alloc: Global, messages: &[(Message, u16)]) -> Vec<(Ask, Reply)> {
-    let mut history = Vec::new(alloc);
+fn history_of(rt: &impl Abort, alloc: Global, messages: &[(Message, u16)]) -> Journal {
+    let mut history = Journal::new(alloc);
     for (message, wide) in messages {
-        history.push(pair(rt, *message, *wide)).expect(rt, "memory");
+        let (ask, reply) = pair(rt, *message, *wide);
+        history.push(*wide, &ask, &reply).expect(rt, "memory");
     }
     history
 }
@@ -122,7 +122,7 @@ fn audit_case(rt: &impl Abort, alloc: Global, sources: &Sources, case: &Case) {
         .push(trace_of(rt, alloc, 0, case.entries))
         .expect(rt, "memory");
     let history = history_of(rt, alloc, case.history);
-    let answer = audit_lists(alloc, sources, &traces, &[history.as_slice()]);
+    let answer = audit_lists(alloc, sources, &traces, &[&history]);
     assert_eq!(rt; answer, case.answer);
 }
 
@@ -147,14 +147,15 @@ fn masters_are_told_apart_by_wide_sources(rt: HostRuntime) {
     traces
         .push(trace_of(&rt, alloc, 1, &[(Put, 0)]))
         .expect(&rt, "memory");
+    let none = Journal::new(alloc);
     let right = history_of(&rt, alloc, &[(Put, 17), (Put, 1)]);
     let wrong = history_of(&rt, alloc, &[(Put, 1), (Put, 17)]);
     assert_eq!(rt;
-        audit_lists(alloc, &sources, &traces, &[right.as_slice(), &[]]),
+        audit_lists(alloc, &sources, &traces, &[&right, &none]),
         Ok(())
     );
     assert_eq!(rt;
-        audit_lists(alloc, &sources, &traces, &[wrong.as_slice(), &[]]),
+        audit_lists(alloc, &sources, &traces, &[&wrong, &none]),
         Err(AuditFault::Missing(0, 0))
     );
 }

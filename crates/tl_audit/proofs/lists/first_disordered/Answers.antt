@@ -1,4 +1,4 @@
-use Rattle.std.proofs.Common.{◌≡◌, ◌<◌, ℕ, Option, Some, None, IsSomeAnd, unwrap_or, refl}
+use Rattle.std.proofs.Common.{◌<◌, ℕ, Option, Some, None, IsSomeAnd, unwrap_or, refl}
 use Rattle.tl_audit.proofs.Cells.{square_cell}
 use Rattle.tl_audit.proofs.lists.first_disordered.Goals as goal
 

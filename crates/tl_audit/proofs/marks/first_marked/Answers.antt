@@ -2,7 +2,7 @@ use Rattle.std.proofs.Common.{rules, ◌≡◌, ◌<◌, ◌≤◌, Some, length
 use Rattle.std.proofs.lemmas.List.{length-map}
 use Rattle.std.proofs.lemmas.Bool.{cases_lt}
 use Rattle.std.proofs.lemmas.Option.{slice_get_read}
-use Rattle.tl_audit.specs.Marks.{cell, rows_in}
+use Rattle.tl_audit.specs.Marks.{rows_in}
 use Rattle.tl_audit.proofs.Cells.{cell_within, row_at}
 use Rattle.tl_audit.proofs.marks.first_marked.Goals as goal
 

@@ -1,27 +1,25 @@
-use Rattle.std.proofs.Common.{rules, ◌≡◌, Some, slice_get, refl, arith}
+use Rattle.std.proofs.Common.{Some, refl, arith}
 use Rattle.std.proofs.lemmas.Bool.{false≢true}
-use Rattle.std.proofs.lemmas.Option.{slice_get_read, slice_get_within}
+use Rattle.std.proofs.lemmas.Option.{slice_get_within}
 use Rattle.tl_audit.specs.Marks.{rows_in}
 use Rattle.tl_audit.proofs.Ordering.{cells_more, ordered_more, out_of_order}
 use Rattle.tl_audit.proofs.order.first_out_of_order.Goals as goal
 
 pub returns-then-is_at_least-clause-found : goal.returns-then-is_at_least-clause-found
 returns-then-is_at_least-clause-found c =
-    let here : slice_get c.args.trace.now c.loop-place.place ≡ Some c.index-trace-place.result = search (rules, slice_get_read) in
-    out_of_order c.args.trace.now c.loop-place.place c.index-trace-place.result c.last.result (rows_in c.loop-place.lasts) here c.loop-place.invariant.0
+    out_of_order c.args.trace.now.items c.loop-place.place c.get-entry.result c.last.result (rows_in c.loop-place.lasts) c.get-entry.ensures c.loop-place.invariant.0
     (rw c.source-source.ensures at c.last.ensures) (c.if-is_at_least.ensures.0 refl)
 
 pub loop-place-preserved : goal.loop-place-preserved
 loop-place-preserved c =
-    let here : slice_get c.args.trace.now c.loop-place.place ≡ Some c.index-trace-place.result = search (rules, slice_get_read) in
     let put = rw c.source-source.ensures at c.keep.ensures in (
-      ordered_more c.args.trace.now c.loop-place.place c.index-trace-place.result (rows_in c.loop-place.lasts) (rows_in c.keep.new.lasts) c.last.result here
+      ordered_more c.args.trace.now.items c.loop-place.place c.get-entry.result (rows_in c.loop-place.lasts) (rows_in c.keep.new.lasts) c.last.result c.get-entry.ensures
           c.loop-place.invariant.0 (rw c.source-source.ensures at c.last.ensures) (λ large. false≢true (c.if-is_at_least.ensures.1 large)) put,
-      cells_more c.args.trace.now c.index-trace-place.result.port c.index-trace-place.result.ask.source (Some c.index-trace-place.result.index)
+      cells_more c.args.trace.now.items c.get-entry.result.port c.get-entry.result.ask.source (Some c.get-entry.result.index)
           (rows_in c.loop-place.lasts) (rows_in c.keep.new.lasts) put c.loop-place.invariant.1,
     )
 
 pub returns-clause-none : goal.returns-clause-none
 returns-clause-none c k wrong =
-    let within = slice_get_within c.args.trace.now k wrong.later wrong.at in
+    let within = slice_get_within c.args.trace.now.items k wrong.later wrong.at in
     c.loop-place.invariant.0.ordered k (omega arith) wrong
