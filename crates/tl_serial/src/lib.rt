@@ -11,5 +11,5 @@ pub mod laws;
 mod run;
 mod text;
 
-pub use run::{History, SerialRun, run_serial};
+pub use run::{SerialRun, run_serial};
 pub use text::write_serial;

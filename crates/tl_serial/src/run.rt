@@ -1,24 +1,25 @@
 //! The run of a system by one thread.
 ghost use Rattle.std.specs.Prelude.{◌≡◌, ◌++◌, ◌∷◌, [], ◌+◌, ◌<◌, ℕ, Bool, List, length, map, option_map, replicate, IfOk, OnOk, Some, slice_get, IsSomeAnd, All, false};
 ghost use Rattle.tl_types.specs.declared.trace.Entry.{Entry};
+ghost use Rattle.tl_journal.specs.Journal.{pairs_in};
+ghost use Rattle.tl_journal.specs.Trace.{entries_in};
 ghost use Rattle.tl_ops.specs.Store.{after, reply};
-ghost use Rattle.tl_script.specs.System.{System, sends, lists_of, store_of, error_store};
+ghost use Rattle.tl_script.specs.System.{System, sends, store_of, error_store};
 ghost use Rattle.tl_serial.specs.Serial.{IsSerialRun, numbered, asks_in, log_of};
 ghost use Rattle.tl_serial.specs.Slave.{Stand, IsFresh, bank_of, entry_of, history_of, kept_by};
 
 use std::alloc::Global;
+use tl_journal::{Journal, Place, Trace};
 use tl_ops::{Bank, Kind};
 use tl_script::{Device, Job, Operations, System};
-use tl_types::{Ask, Entry, Memory, Reply, Trace};
-
-/// The requests that one port served and their replies, in order, with wide sources.
-pub type History = Vec<(Ask, Reply)>;
+use tl_types::{Ask, Memory, Reply};
 
 /// What one thread makes of a system: a trace for each master, and a history for each port.
 #[derive(Drop)]
 pub struct SerialRun {
     pub traces: Vec<Trace>,
-    pub histories: Vec<History>,
+    /// The requests that each port served and their replies, in order, with wide sources.
+    pub histories: Vec<Journal>,
 }
 
 /// A slave port as one thread serves it.
@@ -28,7 +29,7 @@ pub(crate) struct Slave {
     /// How many requests it has served.
     served: usize,
     /// These, where histories are kept.
-    history: Option<History>,
+    history: Option<Journal>,
 }
 
 impl Slave {
@@ -47,7 +48,7 @@ impl Slave {
         let index = self.served;
         let reply = self.bank.serve(ask);
         if let Some(history) = &mut self.history {
-            history.push((ask.with_source(wide), reply.with_source(wide)))?;
+            history.push(wide, ask, &reply)?;
         }
         self.served = index.checked_add(1).ok_or(Memory)?;
         Ok((index, reply))
@@ -62,6 +63,18 @@ pub(crate) struct Served {
     pub(crate) reply: Reply,
 }
 
+impl Served {
+    /// Where it was served.
+    fn place(&self) -> Place
+        ensures { result ≡ record { port = self.now.port; index = self.now.index } }
+    {
+        Place {
+            port: self.port,
+            index: self.index,
+        }
+    }
+}
+
 /// Serves a master's next request.
 pub(crate) fn send(
     slaves: &mut [Slave],
@@ -72,7 +85,8 @@ pub(crate) fn send(
     requires ready { length slaves.old ≡ length system.now.ranges + 1 }
     requires source { IsSomeAnd (slice_get system.now.counts master)
         (λ count. ask.now.source < count) }
-    ensures { IfOk result (λ served. (keeps : Bool) (log : List (ℕ × Entry))
+    ensures source { IfOk result (λ served. served.reply.source ≡ ask.now.source) }
+    ensures stands { IfOk result (λ served. (keeps : Bool) (log : List (ℕ × Entry))
         → Stand system.now keeps log slaves.old
         → Stand system.now keeps (log ++ (master, entry_of ask.now served) ∷ []) slaves.new) }
 {
@@ -80,18 +94,6 @@ pub(crate) fn send(
     let wide = system.sources().widen(master, ask.source()).unwrap();
     let (index, reply) = slaves[port].serve(ask, wide)?;
     Ok(Served { port, index, reply })
-}
-
-/// The entry of a request that was served so.
-fn entry(ask: &Ask, served: Served) -> Entry
-    ensures { result ≡ entry_of ask.now served }
-{
-    Entry {
-        ask: ask.copy(),
-        reply: served.reply,
-        port: served.port,
-        index: served.index,
-    }
 }
 
 /// Serves a master's operations in order, and gives its trace.
@@ -110,13 +112,13 @@ fn run_master(
         → Stand system.now keeps log slaves.old
         → Stand system.now keeps (log ++ numbered master trace.items) slaves.new) }
 {
-    let mut trace = Trace::with_capacity(alloc, jobs.len())?;
+    let mut trace = Trace::with_room(alloc, jobs.len())?;
     for number in 0..jobs.len() {
         match jobs.job(number) {
             Job::Wait => {}
             Job::Send(ask) => {
                 let served = send(slaves, system, master, &ask)?;
-                trace.push(entry(&ask, served))?;
+                trace.push_reserved(ask.source(), &ask, &served.reply, served.place());
             }
         }
     }
@@ -139,7 +141,7 @@ fn slave_of(
     Ok(Slave {
         bank,
         served: 0,
-        history: keeps.then(|| History::new(alloc)),
+        history: keeps.then(|| Journal::new(alloc)),
     })
 }
 
@@ -164,12 +166,12 @@ pub(crate) fn slaves_of(
 }
 
 /// The histories that slave ports keep, and an empty one of each that keeps none.
-fn histories_of(alloc: Global, slaves: Vec<Slave>) -> Result<Vec<History>, Memory>
-    ensures { IfOk result (λ histories. lists_of histories.items ≡ map history_of slaves.items) }
+fn histories_of(alloc: Global, slaves: Vec<Slave>) -> Result<Vec<Journal>, Memory>
+    ensures { IfOk result (λ histories. pairs_in histories.items ≡ map history_of slaves.items) }
 {
     let mut histories = Vec::with_capacity(alloc, slaves.len())?;
     for slave in slaves {
-        histories.push(slave.history.unwrap_or(History::new(alloc)))?;
+        histories.push(slave.history.unwrap_or(Journal::new(alloc)))?;
     }
     Ok(histories)
 }
@@ -177,10 +179,10 @@ fn histories_of(alloc: Global, slaves: Vec<Slave>) -> Result<Vec<History>, Memor
 /// Serves the masters of a system, one after the other, and gives their traces.
 fn run_masters(alloc: Global, slaves: &mut [Slave], system: &System) -> Result<Vec<Trace>, Memory>
     requires { length slaves.old ≡ length system.now.ranges + 1 }
-    ensures asked { IfOk result (λ traces. map asks_in (lists_of traces.items)
+    ensures asked { IfOk result (λ traces. map asks_in (entries_in traces.items)
         ≡ map sends system.now.jobs) }
     ensures stands { IfOk result (λ traces. (keeps : Bool) → Stand system.now keeps [] slaves.old
-        → Stand system.now keeps (log_of (lists_of traces.items)) slaves.new) }
+        → Stand system.now keeps (log_of (entries_in traces.items)) slaves.new) }
 {
     let jobs = system.jobs();
     let mut traces = Vec::with_capacity(alloc, jobs.len())?;
@@ -193,8 +195,8 @@ fn run_masters(alloc: Global, slaves: &mut [Slave], system: &System) -> Result<V
 
 /// Runs a system on one thread: the masters one after the other, each request answered before the next is sent.
 pub fn run_serial(alloc: Global, system: &System) -> Result<SerialRun, Memory>
-    ensures { IfOk result (λ run. IsSerialRun system.now (lists_of run.traces.items)
-        (lists_of run.histories.items)) }
+    ensures { IfOk result (λ run. IsSerialRun system.now (entries_in run.traces.items)
+        (pairs_in run.histories.items)) }
 {
     let mut slaves = slaves_of(alloc, system.devices(), true)?;
     let traces = run_masters(alloc, &mut slaves, system)?;

@@ -1,11 +1,13 @@
 //! The text of the run of a system by one thread.
 ghost use Rattle.std.specs.Prelude.{◌≡◌, ◌+◌, ◌++◌, ◌<◌, All, length, IfOk, IsSomeAnd, OnOk, false, slice_get};
-ghost use Rattle.tl_script.specs.System.{lists_of, sends};
+ghost use Rattle.tl_journal.specs.Journal.{pairs_in};
+ghost use Rattle.tl_script.specs.System.{sends};
 ghost use Rattle.tl_serial.specs.Text.{histories_text, IsSerialText};
 ghost use Rattle.tl_serial.specs.Slave.{AreWritten, IsAppended};
 
-use crate::run::{History, Slave, run_serial, send, slaves_of};
+use crate::run::{Slave, run_serial, send, slaves_of};
 use std::alloc::{AllocError, Global};
+use tl_journal::Journal;
 use tl_script::{Job, Operations, System, push_entry, push_history, push_traces};
 use tl_types::Memory;
 
@@ -60,10 +62,10 @@ fn traces_text(alloc: Global, system: &System) -> Result<Vec<u8>, Memory>
 }
 
 /// Appends the lines of the histories, port 0 first.
-fn push_histories(text: &mut Vec<u8>, histories: &[History]) -> Result<(), AllocError>
+fn push_histories(text: &mut Vec<u8>, histories: &[Journal]) -> Result<(), AllocError>
     ensures { OnOk result
         (text.new.items
-        ≡ text.old.items ++ histories_text (lists_of histories.now)) }
+        ≡ text.old.items ++ histories_text (pairs_in histories.now)) }
 {
     for (port, history) in histories.iter().enumerate() {
         push_history(text, port, history)?;

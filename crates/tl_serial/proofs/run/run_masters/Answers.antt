@@ -1,9 +1,8 @@
-use Rattle.std.proofs.Common.{rules, ◌≡◌, ◌∙◌, ◌++◌, ◌∷◌, [], ◌+◌, ℕ, List, length, map, Some, slice_get, sym, ap, length-append, Vec}
-use Rattle.std.specs.Global.{Global}
+use Rattle.std.proofs.Common.{rules, ◌≡◌, ◌∙◌, ◌++◌, ◌∷◌, [], ◌+◌, ℕ, List, length, map, Some, slice_get, sym, ap, length-append}
 use Rattle.std.proofs.lemmas.List.{map-append, length-map}
 use Rattle.std.proofs.lemmas.Option.{slice_get-get_or}
-use Rattle.tl_types.specs.declared.trace.Entry.{Entry}
-use Rattle.tl_script.specs.System.{lists_of, sends}
+use Rattle.tl_journal.specs.Trace.{TraceView, entries_in}
+use Rattle.tl_script.specs.System.{sends}
 use Rattle.tl_script.specs.declared.operation.Job.{Job}
 use Rattle.tl_serial.specs.Serial.{asks_in, log_of}
 use Rattle.tl_serial.proofs.Sending.{asked_more, sources_are, log_of-push}
@@ -25,15 +24,15 @@ loop-master-preserved c =
     let m = c.loop-master.master in
     let jobs = c.index-jobs-master.result in
     let pushed : c.push.new.self.items ≡ traces ++ trace ∷ [] = search rules in
-    let lists : lists_of c.push.new.self.items ≡ lists_of traces ++ trace.items ∷ [] =
-    ap lists_of pushed ∙ map-append (λ (v : Vec Entry Global). v.items) traces (trace ∷ []) in
+    let lists : entries_in c.push.new.self.items ≡ entries_in traces ++ trace.items ∷ [] =
+    ap entries_in pushed ∙ map-append (λ (t : TraceView). t.items) traces (trace ∷ []) in
     let at : slice_get c.args.system.now.jobs m ≡ Some jobs =
     ap (λ (js : List (List Job)). slice_get js m) (sym c.jobs-jobs.ensures.value) ∙ slice_get-get_or c.jobs-jobs.result.now m jobs c.loop-master-test.true
     ∙ ap (λ (j : List Job). Some j) (sym c.index-jobs-master.is) in
     let last : asks_in trace.items ≡ sends jobs = c.in_ok-trace.ensures.asked in
-    let counted : length (lists_of traces) ≡ m = length-map traces (λ (v : Vec Entry Global). v.items) ∙ c.loop-master.invariant.counted in
+    let counted : length (entries_in traces) ≡ m = length-map traces (λ (t : TraceView). t.items) ∙ c.loop-master.invariant.counted in
     record {
-      asked = ap (map asks_in) lists ∙ asked_more (lists_of traces) trace.items c.args.system.now.jobs m jobs at c.loop-master.invariant.asked last;
+      asked = ap (map asks_in) lists ∙ asked_more (entries_in traces) trace.items c.args.system.now.jobs m jobs at c.loop-master.invariant.asked last;
       counted = ap length pushed ∙ length-append traces (trace ∷ []) ∙ ap (λ (n : ℕ). n + 1) c.loop-master.invariant.counted;
-      stands = λ keeps fresh. rw (lists, log_of-push (lists_of traces) trace.items, counted) (c.in_ok-trace.ensures.stands keeps (log_of (lists_of traces)) (c.loop-master.invariant.stands keeps fresh));
+      stands = λ keeps fresh. rw (lists, log_of-push (entries_in traces) trace.items, counted) (c.in_ok-trace.ensures.stands keeps (log_of (entries_in traces)) (c.loop-master.invariant.stands keeps fresh));
     }

@@ -1,7 +1,8 @@
 use Rattle.std.proofs.Common.{rules, ◌≡◌, ◌∙◌, ◌++◌, ◌∷◌, [], true, List, length, map, ap, take, drop}
 use Rattle.std.proofs.lemmas.List.{length-map, take_at}
 use Rattle.tl_ops.specs.Store.{Store}
-use Rattle.tl_script.specs.System.{lists_of}
+use Rattle.tl_journal.specs.Journal.{pairs_in}
+use Rattle.tl_journal.specs.Trace.{entries_in}
 use Rattle.tl_serial.specs.Serial.{log_of}
 use Rattle.tl_script.specs.System.{resets, error_store}
 use Rattle.tl_serial.specs.Slave.{Stand, bank_of, history_of}
@@ -18,10 +19,10 @@ returns c =
     let whole : take c.in_ok-slaves.slaves.len (c.run_masters.new.slaves ++ drop (length c.run_masters.new.slaves) fresh) ≡ c.run_masters.new.slaves =
     let long : length c.run_masters.new.slaves ≡ c.in_ok-slaves.slaves.len = search rules in
     take_at c.run_masters.new.slaves (drop (length c.run_masters.new.slaves) fresh) c.in_ok-slaves.slaves.len long in
-    let are : lists_of c.in_ok-histories.histories.items ≡ map history_of c.run_masters.new.slaves = rw (← whole) c.in_ok-histories.ensures in
+    let are : pairs_in c.in_ok-histories.histories.items ≡ map history_of c.run_masters.new.slaves = rw (← whole) c.in_ok-histories.ensures in
     record {
       asked = c.in_ok-traces.ensures.asked;
       served = stand.served;
       ports = ap length are ∙ length-map c.run_masters.new.slaves history_of ∙ stand.ports;
-      recorded = histories_are system (log_of (lists_of c.in_ok-traces.traces.items)) c.run_masters.new.slaves (lists_of c.in_ok-histories.histories.items) stand are;
+      recorded = histories_are system (log_of (entries_in c.in_ok-traces.traces.items)) c.run_masters.new.slaves (pairs_in c.in_ok-histories.histories.items) stand are;
     }

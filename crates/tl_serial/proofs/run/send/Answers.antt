@@ -17,8 +17,8 @@ offset_bounds-slaves-port c =
     let within : c.route-port.result < length c.args.slaves.now = bounds-slaves-port c in
     search rules
 
-pub returns : goal.returns
-returns c = λ keeps log stand.
+pub returns-clause-stands : goal.returns-clause-stands
+returns-clause-stands c = λ keeps log stand.
     let routed : Routes c.args.system.now.ranges c.args.ask.now c.route-port.result = rw c.map.ensures at ((c.route-port.ensures.port c.route-port.result).0 refl) in
     let below = routed_in_range c.args.system.now.ranges c.args.ask.now c.route-port.result routed in
     let within : c.route-port.result < length c.args.slaves.now = omega (arith, below, c.requires.ready) in
