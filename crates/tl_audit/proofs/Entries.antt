@@ -5,7 +5,8 @@ use Rattle.std.proofs.lemmas.List.Elements.{All-push}
 use Rattle.std.proofs.lemmas.Option.{get_or_from_slice_get, slice_get-map, slice_get_within}
 use Rattle.tl_types.specs.declared.trace.Entry.{Entry}
 use Rattle.tl_journal.specs.Trace.{TraceView}
-use Rattle.tl_audit.specs.Agrees.{HasEntry, entries_in}
+use Rattle.tl_journal.specs.Trace.{entries_in}
+use Rattle.tl_audit.specs.Agrees.{HasEntry}
 
 -- what holds of all holds of the one at a place
 pub of_all : {A : Type 0} (P : A → Type 0) (xs : List A) (k : ℕ) (x : A) → slice_get xs k ≡ Some x → All P xs → P x

@@ -7,13 +7,8 @@ use Rattle.tl_types.specs.Response.{Response}
 use Rattle.tl_types.specs.declared.trace.Entry.{Entry}
 use Rattle.tl_map.specs.Block.{IsWide}
 use Rattle.tl_journal.specs.Journal.{JournalView}
-use Rattle.tl_journal.specs.Trace.{TraceView}
 use Rattle.tl_audit.specs.declared.fault.AuditFault.{AuditFault}
 use Rattle.tl_audit.specs.declared.fault.AuditFault.TheVariants.{Missing, Twice, Order, Untraced, Memory}
-
--- the entries of traces
-abbrev pub entries_in : List TraceView → List (List Entry)
-entries_in traces = map (λ (trace : TraceView). trace.items) traces
 
 -- the requests and replies of the journals behind references
 abbrev pub journals_in : List (Bor JournalView) → List (List (Request × Response))

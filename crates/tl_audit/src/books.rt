@@ -1,6 +1,7 @@
 //! The audit of traces and books.
 ghost use Rattle.std.specs.Prelude.{◌≡◌, IfErr, IfOk, OnOk};
-ghost use Rattle.tl_audit.specs.Agrees.{Agrees, HasAuditFault, entries_in, journals_in};
+ghost use Rattle.tl_journal.specs.Trace.{entries_in};
+ghost use Rattle.tl_audit.specs.Agrees.{Agrees, HasAuditFault, journals_in};
 ghost use Rattle.tl_audit.specs.Reader.{histories_of};
 ghost use Rattle.tl_audit.specs.declared.fault.AuditFault.TheVariants.{Memory};
 

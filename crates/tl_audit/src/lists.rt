@@ -2,7 +2,8 @@
 ghost use Rattle.std.specs.Prelude.{◌≡◌, ℕ, List, All, IfErr, IfNone, IfOk, IfSome, IsSomeAnd, OnOk, Some, replicate, slice_get};
 ghost use Rattle.std.specs.Prelude as std;
 ghost use Rattle.tl_types.specs.declared.trace.Entry.{Entry};
-ghost use Rattle.tl_audit.specs.Agrees.{Agrees, AreRecorded, HasAuditFault, IsInOrder, IsOutOfOrder, IsRecorded, entries_in, journals_in};
+ghost use Rattle.tl_journal.specs.Trace.{entries_in};
+ghost use Rattle.tl_audit.specs.Agrees.{Agrees, AreRecorded, HasAuditFault, IsInOrder, IsOutOfOrder, IsRecorded, journals_in};
 ghost use Rattle.tl_audit.specs.Marks.{AreCounted, rows_in};
 ghost use Rattle.tl_audit.specs.Order.{HavePlaces};
 ghost use Rattle.tl_audit.specs.declared.fault.AuditFault.TheVariants.{Memory};

@@ -1,6 +1,7 @@
 //! Marks: how often the entries of traces name each place of each history.
 ghost use Rattle.std.specs.Prelude.{◌≡◌, ℕ, IfNone, IfOk, IfSome, IsSome, Some, map, length, replicate, slice_get};
-ghost use Rattle.tl_audit.specs.Agrees.{entries_in, journals_in, times_in, times_named};
+ghost use Rattle.tl_journal.specs.Trace.{entries_in};
+ghost use Rattle.tl_audit.specs.Agrees.{journals_in, times_in, times_named};
 ghost use Rattle.tl_audit.specs.Marks.{AllNamePlaces, AreMarkedBy, IsSetAt, NamePlaces, cell, next_of, rows_in};
 
 use std::alloc::{AllocError, Global};

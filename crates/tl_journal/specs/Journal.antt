@@ -1,5 +1,5 @@
 -- What a journal is to its callers. This project's own.
-use Rattle.std.specs.Prelude.{ℕ, List}
+use Rattle.std.specs.Prelude.{ℕ, List, map}
 use Rattle.tl_types.specs.Request.{Request}
 use Rattle.tl_types.specs.Response.{Response}
 
@@ -7,3 +7,7 @@ use Rattle.tl_types.specs.Response.{Response}
 pub record JournalView : Type 0 where
   pub items : List (Request × Response)
   pub room : ℕ
+
+-- the requests and replies of journals
+abbrev pub pairs_in : List JournalView → List (List (Request × Response))
+pairs_in journals = map (λ (journal : JournalView). journal.items) journals

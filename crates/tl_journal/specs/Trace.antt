@@ -1,6 +1,6 @@
 -- What a trace is to its callers, and how it keeps its entries: their requests and replies in a journal, and beside it the places
 -- where they were served. This project's own.
-use Rattle.std.specs.Prelude.{◌≡◌, ℕ, ◌≤◌, List, [], ◌∷◌, length}
+use Rattle.std.specs.Prelude.{◌≡◌, ℕ, ◌≤◌, List, [], ◌∷◌, length, map}
 use Rattle.tl_types.specs.Request.{Request}
 use Rattle.tl_types.specs.Response.{Response}
 use Rattle.tl_types.specs.declared.trace.Entry.{Entry}
@@ -11,6 +11,10 @@ use Rattle.tl_journal.specs.declared.trace.Place.{Place}
 pub record TraceView : Type 0 where
   pub items : List Entry
   pub room : ℕ
+
+-- the entries of traces
+abbrev pub entries_in : List TraceView → List (List Entry)
+entries_in traces = map (λ (trace : TraceView). trace.items) traces
 
 -- the entry of a request and its reply that were served there
 abbrev pub entry_of : Request → Response → Place → Entry

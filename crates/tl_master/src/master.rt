@@ -1,5 +1,5 @@
 //! One master.
-ghost use Rattle.std.specs.Prelude.{◌≡◌, ℕ, ◌+◌, ◌<◌, ◌≤◌, [], ◌∷◌, ◌++◌, length, vec_len, vec_capacity, IfOk, IfErr, replicate, IfSome, IfNone, slice_get};
+ghost use Rattle.std.specs.Prelude.{◌≡◌, ℕ, ◌+◌, ◌<◌, ◌≤◌, [], ◌∷◌, ◌++◌, length, IfOk, IfErr, replicate, IfSome, IfNone, slice_get};
 ghost use Rattle.std.specs.Prelude as std;
 ghost use Rattle.tl_types.specs.Operation.{reply_op_of};
 ghost use Rattle.tl_rule.specs.declared.view.Held.TheVariants.{Filled, Sent};
@@ -15,8 +15,9 @@ use std::alloc::{AllocError, Global};
 use std::marker::Model;
 use thiserror::Error;
 use tl_arena::{Arena, Claim, MasterSeat, Served, Ticket};
+use tl_journal::{Place, Trace};
 use tl_map::{Map, Sources};
-use tl_types::{Ask, Entry, Reply, Trace};
+use tl_types::{Ask, Entry, Reply};
 
 /// Where a request was posted: its slot, and the port that the map gives it.
 #[derive(Debug, Clone, Copy, PartialEq, Eq)]
@@ -63,7 +64,7 @@ pub struct Master {
 }
 
 impl Model for Master {
-    ghost use Rattle.std.specs.Prelude.{◌≡◌, ◌≤◌, vec_capacity};
+    ghost use Rattle.std.specs.Prelude.{◌≡◌, ◌≤◌};
     ghost use Rattle.tl_master.specs.Master.{MasterState};
     ghost use Rattle.tl_master.specs.Kept.{IsKeptMaster};
     ghost use Rattle.tl_master.specs.SourceSet.{IsSetOfOut};
@@ -72,7 +73,7 @@ impl Model for Master {
 
     ghost view = { λ m. record { seat = m.seat; out = m.out.items; trace = m.trace.items; limit = m.limit } };
 
-    ghost invariant = { λ m. IsKeptMaster (record { seat = m.seat; out = m.out.items; trace = m.trace.items; limit = m.limit }) m.start m.count × (m.limit ≤ vec_capacity m.trace) × IsSetOfOut m.busy.words m.out.items };
+    ghost invariant = { λ m. IsKeptMaster (record { seat = m.seat; out = m.out.items; trace = m.trace.items; limit = m.limit }) m.start m.count × (m.limit ≤ m.trace.room) × IsSetOfOut m.busy.words m.out.items };
 }
 
 impl Master {
@@ -96,7 +97,7 @@ impl Master {
         let Ok(out) = nothing_out(alloc, sources_own as usize) else {
             return Err(seat);
         };
-        let Ok(trace) = Vec::with_capacity(alloc, limit) else {
+        let Ok(trace) = Trace::with_room(alloc, limit) else {
             return Err(seat);
         };
         Ok(Master {
@@ -160,7 +161,7 @@ impl Master {
             Ok(entry) => {
                 self.busy.remove(at);
                 self.count -= 1;
-                Polled::Done(append(&mut self.trace, entry))
+                Polled::Done(append(&mut self.trace, &entry))
             }
         }
     }
@@ -199,12 +200,15 @@ impl Master {
     }
 
     /// The entry at a place of the trace, with the master's own source.
-    pub fn entry(&self, place: usize) -> Option<&Entry>
+    pub fn entry(&self, place: usize) -> Option<Entry>
         ensures some { IfSome result
-            (λ entry. slice_get self.now.trace place ≡ std.Some entry.now) }
+            (λ entry. slice_get self.now.trace place ≡ std.Some entry) }
         ensures none { IfNone result (length self.now.trace ≤ place) }
     {
-        self.trace.get(place)
+        if place >= self.trace.len() {
+            return None;
+        }
+        Some(self.trace.get(place))
     }
 
     /// The master's number.
@@ -303,14 +307,25 @@ fn reply_for(served: &Served, source: u16) -> Reply
 }
 
 /// Puts an entry at the end of a trace that has room for it, and answers its place.
-fn append(trace: &mut Trace, entry: Entry) -> usize
-    requires { vec_len trace.old < vec_capacity trace.old }
+fn append(trace: &mut Trace, entry: &Entry) -> usize
+    requires room { length trace.old.items < trace.old.room }
+    requires source { entry.now.reply.source ≡ entry.now.ask.source }
     ensures place { result ≡ length trace.old.items }
-    ensures entry { trace.new.items ≡ trace.old.items ++ entry ∷ [] }
-    ensures capacity { vec_capacity trace.new ≡ vec_capacity trace.old }
+    ensures entry { trace.new.items ≡ trace.old.items ++ entry.now ∷ [] }
+    ensures capacity { trace.new.room ≡ trace.old.room }
 {
     let place = trace.len();
-    trace.push_reserved(entry);
+    let Entry {
+        ask,
+        reply,
+        port,
+        index,
+    } = entry;
+    let served = Place {
+        port: *port,
+        index: *index,
+    };
+    trace.push_reserved(ask.source(), ask, reply, served);
     place
 }
 

@@ -8,3 +8,4 @@ pub mod Systems
 pub mod Names
 pub mod Printed
 pub mod Pooled
+pub mod Lines

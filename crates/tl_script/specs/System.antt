@@ -26,10 +26,6 @@ pub record System : Type 0 where
 abbrev pub store_of : Device → Store
 store_of device = record { kind = device.kind; base = device.base; bytes = device.reset.items }
 
--- the lists in vectors
-abbrev pub lists_of : {A : Type 0} → List (Vec A Global) → List (List A)
-lists_of vectors = map (λ vector. vector.items) vectors
-
 -- the system of these parts
 abbrev pub described : ℕ → List Device → List ℕ → List Range → List (List Job) → System
 described slots devices counts ranges jobs =

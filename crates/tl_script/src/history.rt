@@ -5,6 +5,7 @@ ghost use Rattle.tl_script.specs.History.{account_text, history_line, history_te
 use crate::digits::push_field;
 use crate::print::push_message;
 use std::alloc::{AllocError, Global};
+use tl_journal::Journal;
 use tl_types::{Ask, Memory, Reply};
 
 #[tactic(auto, unfolding(crate::specs::History::history_line))]
@@ -32,13 +33,14 @@ fn push_line(
 pub fn push_history(
     text: &mut Vec<u8>,
     port: usize,
-    history: &[(Ask, Reply)],
+    history: &Journal,
 ) -> Result<(), AllocError>
     ensures { OnOk result
-        (text.new.items ≡ text.old.items ++ history_text port history.now) }
+        (text.new.items ≡ text.old.items ++ history_text port history.now.items) }
 {
-    for (index, (ask, reply)) in history.iter().enumerate() {
-        push_line(text, port, index, ask, reply)?;
+    for index in 0..history.len() {
+        let (ask, reply) = history.get(index);
+        push_line(text, port, index, &ask, &reply)?;
     }
     Ok(())
 }
@@ -47,9 +49,9 @@ pub fn push_history(
 pub fn write_history(
     alloc: Global,
     port: usize,
-    history: &[(Ask, Reply)],
+    history: &Journal,
 ) -> Result<Vec<u8>, Memory>
-    ensures { IfOk result (λ text. text.items ≡ history_text port history.now) }
+    ensures { IfOk result (λ text. text.items ≡ history_text port history.now.items) }
 {
     let mut text = Vec::new(alloc);
     push_history(&mut text, port, history)?;

@@ -7,7 +7,8 @@ ghost use Rattle.tl_script.specs.Trace.{ask_text, bytes_part, denied_text, lines
 use crate::digits::{hex_digit, push_decimal, push_field, push_hex};
 use crate::name::{reply_word, word};
 use std::alloc::{AllocError, Global};
-use tl_types::{Ask, Bytes, Entry, Memory, Reply, Trace};
+use tl_journal::Trace;
+use tl_types::{Ask, Bytes, Memory, Reply};
 
 /// Appends a byte as two hexadecimal digits, or an unset one as dashes.
 fn push_byte(text: &mut Vec<u8>, byte: Option<u8>) -> Result<(), AllocError>
@@ -114,11 +115,12 @@ pub fn push_entry(
 }
 
 /// Appends the lines of a master's trace.
-pub fn push_trace(text: &mut Vec<u8>, master: usize, entries: &[Entry]) -> Result<(), AllocError>
+pub fn push_trace(text: &mut Vec<u8>, master: usize, trace: &Trace) -> Result<(), AllocError>
     ensures { OnOk result
-        (text.new.items ≡ text.old.items ++ lines_of master entries.now) }
+        (text.new.items ≡ text.old.items ++ lines_of master trace.now.items) }
 {
-    for entry in entries {
+    for place in 0..trace.len() {
+        let entry = trace.get(place);
         push_entry(
             text,
             master,
@@ -137,8 +139,8 @@ pub fn push_traces(text: &mut Vec<u8>, traces: &[Trace]) -> Result<(), AllocErro
         (text.new.items
         ≡ text.old.items ++ trace_text (map (λ trace. trace.items) traces.now)) }
 {
-    for (master, entries) in traces.iter().enumerate() {
-        push_trace(text, master, entries)?;
+    for (master, trace) in traces.iter().enumerate() {
+        push_trace(text, master, trace)?;
     }
     Ok(())
 }

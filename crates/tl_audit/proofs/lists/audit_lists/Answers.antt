@@ -1,4 +1,5 @@
-use Rattle.tl_audit.specs.Agrees.{entries_in, journals_in}
+use Rattle.tl_journal.specs.Trace.{entries_in}
+use Rattle.tl_audit.specs.Agrees.{journals_in}
 use Rattle.tl_audit.specs.Marks.{rows_in}
 use Rattle.tl_audit.proofs.Judging.{again, never, once}
 use Rattle.tl_audit.proofs.lists.audit_lists.Goals as goal

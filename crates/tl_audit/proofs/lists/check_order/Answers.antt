@@ -2,7 +2,8 @@ use Rattle.std.proofs.Common.{rules, ◌≡◌, ◌<◌, ◌≤◌, Some, length
 use Rattle.std.proofs.lemmas.Bool.{cases_lt}
 use Rattle.std.proofs.lemmas.List.{length-map}
 use Rattle.std.proofs.lemmas.Option.{slice_get_read, slice_get_within}
-use Rattle.tl_audit.specs.Agrees.{HasEntry, entries_in, journals_in}
+use Rattle.tl_journal.specs.Trace.{entries_in}
+use Rattle.tl_audit.specs.Agrees.{HasEntry, journals_in}
 use Rattle.tl_audit.proofs.Cells.{cell_within}
 use Rattle.tl_audit.proofs.Entries.{trace_at}
 use Rattle.tl_audit.proofs.lists.check_order.Goals as goal

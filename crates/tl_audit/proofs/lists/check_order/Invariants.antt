@@ -1,6 +1,7 @@
 use Rattle.std.proofs.Common.{◌≡◌, ◌<◌, ℕ, List, Some, slice_get}
 use Rattle.tl_types.specs.declared.trace.Entry.{Entry}
-use Rattle.tl_audit.specs.Agrees.{IsInOrder, entries_in}
+use Rattle.tl_journal.specs.Trace.{entries_in}
+use Rattle.tl_audit.specs.Agrees.{IsInOrder}
 use Rattle.tl_audit.proofs.lists.check_order.Given as goal
 
 -- the traces of the masters so far are in order

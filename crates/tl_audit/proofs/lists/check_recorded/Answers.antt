@@ -2,7 +2,8 @@ use Rattle.std.proofs.Common.{rules, ◌≡◌, ◌<◌, ◌≤◌, Some, length
 use Rattle.std.proofs.lemmas.Bool.{cases_lt}
 use Rattle.std.proofs.lemmas.List.{length-map}
 use Rattle.std.proofs.lemmas.Option.{slice_get_read}
-use Rattle.tl_audit.specs.Agrees.{IsRecorded, entries_in, journals_in}
+use Rattle.tl_journal.specs.Trace.{entries_in}
+use Rattle.tl_audit.specs.Agrees.{IsRecorded, journals_in}
 use Rattle.tl_audit.proofs.Entries.{entry_in, has_master, of_all, trace_at}
 use Rattle.tl_audit.proofs.lists.check_recorded.Goals as goal
 

@@ -1,6 +1,7 @@
 use Rattle.std.proofs.Common.{◌<◌, ℕ}
 use Rattle.tl_types.specs.declared.trace.Entry.{Entry}
-use Rattle.tl_audit.specs.Agrees.{HasEntry, IsRecorded, entries_in, journals_in}
+use Rattle.tl_journal.specs.Trace.{entries_in}
+use Rattle.tl_audit.specs.Agrees.{HasEntry, IsRecorded, journals_in}
 use Rattle.tl_audit.proofs.lists.check_recorded.Given as goal
 
 -- each entry of the masters so far is the one at its port and index

@@ -1,5 +1,6 @@
 use Rattle.std.proofs.Common.{rules, ◌≡◌, length, refl}
-use Rattle.tl_audit.specs.Agrees.{HasEntry, entries_in, journals_in, times_named}
+use Rattle.tl_journal.specs.Trace.{entries_in}
+use Rattle.tl_audit.specs.Agrees.{HasEntry, journals_in, times_named}
 use Rattle.tl_audit.specs.Marks.{cell}
 use Rattle.tl_audit.specs.declared.marks.Mark.TheVariants.{Unnamed}
 use Rattle.tl_audit.proofs.Cells.{all_written, blank_cell}

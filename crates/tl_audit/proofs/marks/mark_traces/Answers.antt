@@ -1,6 +1,7 @@
 use Rattle.std.proofs.Common.{rules, ◌≡◌, Some, slice_get, take}
 use Rattle.std.proofs.lemmas.Option.{slice_get_read}
-use Rattle.tl_audit.specs.Agrees.{entries_in, times_named}
+use Rattle.tl_journal.specs.Trace.{entries_in}
+use Rattle.tl_audit.specs.Agrees.{times_named}
 use Rattle.tl_audit.specs.Marks.{rows_in}
 use Rattle.tl_audit.proofs.Entries.{trace_at}
 use Rattle.tl_audit.proofs.Counting.{marked_with, still_there}

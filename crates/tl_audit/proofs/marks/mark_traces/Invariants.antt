@@ -1,5 +1,6 @@
 use Rattle.std.proofs.Common.{take}
-use Rattle.tl_audit.specs.Agrees.{entries_in, times_named}
+use Rattle.tl_journal.specs.Trace.{entries_in}
+use Rattle.tl_audit.specs.Agrees.{times_named}
 use Rattle.tl_audit.specs.Marks.{AreMarkedBy, rows_in}
 use Rattle.tl_audit.proofs.marks.mark_traces.Given as goal
 
