@@ -63,8 +63,8 @@ fn marks_of(
 ) -> Result<Vec<Vec<Mark>>, AllocError>
     requires { (counts : List ℕ)
         × AreRecorded counts (entries_in traces.now) (journals_in histories.now) }
-    ensures { IfOk result
-        (λ rows. AreCounted (entries_in traces.now) (journals_in histories.now) (rows_in rows.items)) }
+    ensures { IfOk result (λ rows.
+        AreCounted (entries_in traces.now) (journals_in histories.now) (rows_in rows.items)) }
 {
     let mut rows = unnamed(alloc, histories)?;
     mark_traces(&mut rows, traces);
@@ -133,7 +133,8 @@ pub fn audit_lists(
     traces: &[Trace],
     histories: &[&Journal],
 ) -> Result<(), AuditFault>
-    ensures ok { OnOk result (Agrees sources.now (entries_in traces.now) (journals_in histories.now)) }
+    ensures ok { OnOk result
+        (Agrees sources.now (entries_in traces.now) (journals_in histories.now)) }
     ensures fault { IfErr result
         (HasAuditFault sources.now (entries_in traces.now) (journals_in histories.now)) }
 

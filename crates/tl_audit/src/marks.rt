@@ -58,7 +58,8 @@ fn get(rows: &[Vec<Mark>], port: usize, index: usize) -> Mark
 /// Marks the places that the entries of a trace name.
 fn mark_trace(rows: &mut [Vec<Mark>], trace: &Trace)
     requires { NamePlaces (rows_in rows.old) trace.now.items }
-    ensures { AreMarkedBy (λ p i. times_in p i trace.now.items) (rows_in rows.old) (rows_in rows.new) }
+    ensures { AreMarkedBy (λ p i. times_in p i trace.now.items)
+        (rows_in rows.old) (rows_in rows.new) }
 {
     for place in 0..trace.len() {
         let entry = trace.get(place);
@@ -70,7 +71,8 @@ fn mark_trace(rows: &mut [Vec<Mark>], trace: &Trace)
 /// Marks the places that the entries of traces name.
 pub(crate) fn mark_traces(rows: &mut [Vec<Mark>], traces: &[Trace])
     requires { AllNamePlaces (rows_in rows.old) (entries_in traces.now) }
-    ensures { AreMarkedBy (times_named (entries_in traces.now)) (rows_in rows.old) (rows_in rows.new) }
+    ensures { AreMarkedBy (times_named (entries_in traces.now))
+        (rows_in rows.old) (rows_in rows.new) }
 {
     for trace in traces {
         mark_trace(rows, trace);
