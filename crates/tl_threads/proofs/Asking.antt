@@ -1,5 +1,5 @@
 -- What a master was asked, from call to call.
-use Rattle.std.proofs.Common.{◌≡◌, ℕ, zero, suc, replicate, ◌+◌, ◌<◌, ◌≤◌, ◌∙◌, List, [], ◌∷◌, ◌++◌, length, take, get_or, slice_get, set, cond, is_some, unwrap_or, count_by, eqb, Option, Some, None, Vec, ⊎_elim, refl, sym, ap, subst, arith}
+use Rattle.std.proofs.Common.{◌≡◌, ℕ, zero, suc, replicate, ◌+◌, ◌<◌, ◌≤◌, ◌∙◌, List, [], ◌∷◌, ◌++◌, length, take, get_or, slice_get, set, cond, is_some, unwrap_or, count_by, eqb, Option, Some, None, ⊎_elim, refl, sym, ap, subst, arith}
 use Rattle.std.proofs.lemmas.Bool.{cases_lt}
 use Rattle.std.proofs.lemmas.List.{append-nil, append_assoc, take_more, take_all, get_or-set_same, get_or-set_other}
 use Rattle.std.proofs.lemmas.List.Sums.{sum_by-set}
@@ -9,6 +9,7 @@ use mathlib.Core.Logic.{dite}
 use native.Mathlib.Decide.{ℕ_discrete}
 use Rattle.tl_types.specs.Request.{Request}
 use Rattle.tl_types.specs.declared.trace.Entry.{Entry}
+use Rattle.tl_journal.specs.Trace.{TraceView}
 use Rattle.tl_types.proofs.Lists.{slice_get-push}
 use Rattle.tl_map.specs.declared.map.Range.{Range}
 use Rattle.tl_map.specs.Map.{Routes}
@@ -24,7 +25,6 @@ use Rattle.tl_master.specs.declared.master.Polled.TheVariants.{Idle, NotYet, Don
 use Rattle.tl_master.specs.Master.{MasterState, IsInOrder, AreWidened, asks_of, of_source, asked, out_of, out_ask, ticket_at, new_state, count_of}
 use Rattle.tl_master.specs.Steps.{Sends, CollectsOne, AsksMore, AsksSame, Polls, ask_of}
 use Rattle.tl_master.proofs.Hands.{source_known}
-use Rattle.std.specs.Global.{Global}
 use Rattle.tl_threads.specs.Trace.{StandFirst, AreWaitedFor, AreRouted, IsTrace, IsRouted, IsLonger, IsSame, HasAsked, HasDone, IsDriven, IsIdle}
 use Rattle.tl_threads.proofs.Rows.{one_some}
 use Rattle.tl_threads.specs.Start.{Handle, IsPromised, IsTraceOf}
@@ -215,7 +215,7 @@ module _ (a : ArenaId) (ranges : List Range) (number : ℕ) (js : List Job) wher
   }
 
 -- what a promise that was kept says
-pub kept_promise : (a : ArenaId) (ranges : List Range) (jobs : List (List Job)) (k : ℕ) (h : Handle) (t : Vec Entry Global) → IsPromised a ranges jobs k h
+pub kept_promise : (a : ArenaId) (ranges : List Range) (jobs : List (List Job)) (k : ℕ) (h : Handle) (t : TraceView) → IsPromised a ranges jobs k h
     → IsTrace h.promise.arena.value h.promise.map.value h.promise.number h.promise.jobs.value t.items → IsTraceOf a ranges jobs k t
 kept_promise a ranges jobs k h t is kept =
     let numbered = subst (λ (n : ℕ). IsTrace h.promise.arena.value h.promise.map.value n h.promise.jobs.value t.items) is.number_is kept in

@@ -1,12 +1,12 @@
 -- The parts of a run, put together.
-use Rattle.std.proofs.Common.{◌≡◌, ℕ, ◌+◌, List, [], ◌∷◌, length, slice_get, Option, Some, None, option_map, Vec, refl, sym, ap, subst, ◌∙◌, arith, length-append}
+use Rattle.std.proofs.Common.{◌≡◌, ℕ, ◌+◌, List, [], ◌∷◌, length, slice_get, Option, Some, None, option_map, refl, sym, ap, subst, ◌∙◌, arith, length-append}
 use Rattle.std.proofs.lemmas.List.{length-map}
-use Rattle.std.specs.Global.{Global}
 use Rattle.std.proofs.lemmas.Option.{slice_get-map}
 use Rattle.tl_types.specs.declared.trace.Entry.{Entry}
+use Rattle.tl_journal.specs.Trace.{TraceView, entries_in}
 use Rattle.tl_map.specs.declared.map.Range.{Range}
 use Rattle.tl_script.specs.declared.operation.Job.{Job}
-use Rattle.tl_script.specs.System.{System, IsLawfulSystem, lists_of, resets, error_store, range_of}
+use Rattle.tl_script.specs.System.{System, IsLawfulSystem, resets, error_store, range_of}
 use Rattle.tl_arena.specs.Views.{ArenaId, about_of}
 use Rattle.tl_arena.specs.Account.{IsClosing}
 use Rattle.tl_arena.specs.declared.account.Held.{Held}
@@ -23,27 +23,27 @@ resets_length s lawful =
     length-append s.stores (error_store ∷ []) ∙ ap (λ (n : ℕ). n + 1) each
 
 -- whose trace a list is
-traced_at : (a : ArenaId) (ranges : List Range) (jobs : List (List Job)) (m : ℕ) (its_jobs : List Job) (entries : List Entry) (o : Option (Vec Entry Global)) → slice_get jobs m ≡ Some its_jobs
-    → option_map (λ (t : Vec Entry Global). t.items) o ≡ Some entries → ((t : Vec Entry Global) → o ≡ Some t → IsTraceOf a ranges jobs m t) → IsTrace a ranges m its_jobs entries
+traced_at : (a : ArenaId) (ranges : List Range) (jobs : List (List Job)) (m : ℕ) (its_jobs : List Job) (entries : List Entry) (o : Option TraceView) → slice_get jobs m ≡ Some its_jobs
+    → option_map (λ (t : TraceView). t.items) o ≡ Some entries → ((t : TraceView) → o ≡ Some t → IsTraceOf a ranges jobs m t) → IsTrace a ranges m its_jobs entries
 traced_at a ranges jobs m its_jobs entries None at is of = absurd cc
 traced_at a ranges jobs m its_jobs entries (Some t) at is of =
     let own = of t refl in
     let items : t.items ≡ entries = cc in
     subst (λ (es : List Entry). IsTrace a ranges m its_jobs es) items (subst (λ (js : List Job). IsTrace a ranges m js t.items) (one_some (slice_get jobs m) own.its_jobs its_jobs own.at at) own.trace)
 
-pub traces_of : (a : ArenaId) (ranges : List Range) (jobs : List (List Job)) (ts : List (Vec Entry Global)) → length ts ≡ length jobs → AreFrom (IsTraceOf a ranges jobs) 0 ts → AreTraces a ranges jobs (lists_of ts)
+pub traces_of : (a : ArenaId) (ranges : List Range) (jobs : List (List Job)) (ts : List TraceView) → length ts ≡ length jobs → AreFrom (IsTraceOf a ranges jobs) 0 ts → AreTraces a ranges jobs (entries_in ts)
 traces_of a ranges jobs ts many all = record {
-  many = length-map ts (λ (t : Vec Entry Global). t.items) ∙ many;
-  each = λ m its_jobs entries at is. traced_at a ranges jobs m its_jobs entries (slice_get ts m) at (sym (slice_get-map (λ (t : Vec Entry Global). t.items) ts m) ∙ is)
+  many = length-map ts (λ (t : TraceView). t.items) ∙ many;
+  each = λ m its_jobs entries at is. traced_at a ranges jobs m its_jobs entries (slice_get ts m) at (sym (slice_get-map (λ (t : TraceView). t.items) ts m) ∙ is)
       (λ t here. let e : 0 + m ≡ m = omega arith in subst (λ (n : ℕ). IsTraceOf a ranges jobs n t) e (all m t here));
 }
 
 pub books_are : (a : ArenaId) (ports : ℕ) (bs : List BookView) → length bs ≡ ports → AreFrom (IsBookOf a) 0 bs → AreBooks a ports bs
 books_are a ports bs many all = record { many = many; each = λ p b is. let e : 0 + p ≡ p = omega arith in subst (λ (n : ℕ). IsBookOf a n b) e (all p b is) }
 
-pub threaded : (s : System) (a : ArenaId) (ts : List (Vec Entry Global)) (bs : List BookView) (free : List ℕ) (held : List Held) (left : List ℕ) → a.about ≡ about_of s.slots s.counts (resets s)
+pub threaded : (s : System) (a : ArenaId) (ts : List TraceView) (bs : List BookView) (free : List ℕ) (held : List Held) (left : List ℕ) → a.about ≡ about_of s.slots s.counts (resets s)
     → length ts ≡ length s.jobs → AreFrom (IsTraceOf a s.ranges s.jobs) 0 ts → length bs ≡ length s.ranges + 1 → AreFrom (IsBookOf a) 0 bs → IsClosing a.about free held left
-    → IsThreadedRun s (lists_of ts) bs free held left
+    → IsThreadedRun s (entries_in ts) bs free held left
 threaded s a ts bs free held left about many traces ports books account = record {
   arena = a;
   about = about;

@@ -1,10 +1,9 @@
 -- The threads of a run, from their start to their end. All of it is this project's own.
-use Rattle.std.specs.Prelude.{◌≡◌, ℕ, ◌+◌, ◌<◌, List, [], ◌∷◌, Vec, vec_len, length, All, count_by, eqb, slice_get, Some}
+use Rattle.std.specs.Prelude.{◌≡◌, ℕ, ◌+◌, ◌<◌, List, [], ◌∷◌, vec_len, length, All, count_by, eqb, slice_get, Some}
 use Rattle.std.specs.List.{flat_map}
-use Rattle.std.specs.Global.{Global}
 use Rattle.std.specs.declared.thread.PromisedHandle.{PromisedHandle}
 use Rattle.tl_types.specs.Request.{Request}
-use Rattle.tl_types.specs.declared.trace.Entry.{Entry}
+use Rattle.tl_journal.specs.Trace.{TraceView}
 use Rattle.tl_map.specs.declared.map.Range.{Range}
 use Rattle.tl_map.specs.Map.{Routes}
 use Rattle.tl_script.specs.System.{System, sends}
@@ -88,7 +87,7 @@ pub record AreJournals (s : System) (journals : List ℕ) : Type 0 where
   pub each : (p n : ℕ) → slice_get journals p ≡ Some n → GoTo s.ranges (all_sends s.jobs) p n
 
 abbrev pub Handle : Type 0
-Handle = PromisedHandle (Vec Entry Global) TraceOf
+Handle = PromisedHandle TraceView TraceOf
 
 -- the thread promised the trace of this master's operations
 pub record IsPromised (arena : ArenaId) (ranges : List Range) (jobs : List (List Job)) (number : ℕ) (h : Handle) : Type 0 where
@@ -98,13 +97,13 @@ pub record IsPromised (arena : ArenaId) (ranges : List Range) (jobs : List (List
   pub jobs_are : slice_get jobs number ≡ Some h.promise.jobs.value
 
 -- the trace is that of this master's operations
-pub record IsTraceOf (arena : ArenaId) (ranges : List Range) (jobs : List (List Job)) (number : ℕ) (t : Vec Entry Global) : Type 0 where
+pub record IsTraceOf (arena : ArenaId) (ranges : List Range) (jobs : List (List Job)) (number : ℕ) (t : TraceView) : Type 0 where
   pub its_jobs : List Job
   pub at : slice_get jobs number ≡ Some its_jobs
   pub trace : IsTrace arena ranges number its_jobs t.items
 
 -- a trace of each master
-pub record AreTracesOf (arena : ArenaId) (s : System) (traces : List (Vec Entry Global)) : Type 0 where
+pub record AreTracesOf (arena : ArenaId) (s : System) (traces : List TraceView) : Type 0 where
   pub all : length traces ≡ length s.jobs
   pub each : AreFrom (IsTraceOf arena s.ranges s.jobs) 0 traces
 

@@ -10,9 +10,10 @@ use crate::gate::Gate;
 use std::sync::Wait;
 use std::thread::yield_now;
 use tl_arena::ArenaName;
+use tl_journal::Trace;
 use tl_master::{Issued, Master, Polled};
 use tl_script::{Job, Operations};
-use tl_types::{Ask, Trace};
+use tl_types::Ask;
 
 /// Looks once at each source that a request is out for, the lowest first.
 fn look_at_all<N: ArenaName, G: Gate>(shared: &Shared<'_, N, G>, master: &mut Master)

@@ -14,9 +14,10 @@ use std::sync::Wait;
 use std::thread;
 use std::thread::Threads;
 use tl_arena::{Account, Arena, ArenaName};
+use tl_journal::Trace;
 use tl_port::{Book, Port};
 use tl_script::System;
-use tl_types::{Memory, Trace};
+use tl_types::Memory;
 
 /// What the threads of a run leave: a trace for each master, the book of each port, and the account of the arena.
 #[derive(Drop)]

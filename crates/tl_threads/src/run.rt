@@ -11,9 +11,9 @@ use std::alloc::Global;
 use std::sync::Wait;
 use std::thread::{JoinHandle, PromisedHandle, Scope, Threads};
 use tl_arena::{Arena, ArenaName};
+use tl_journal::Trace;
 use tl_master::Master;
 use tl_script::System;
-use tl_types::Trace;
 
 /// What a master's thread is handed: the master and its bells.
 #[derive(Drop)]

@@ -164,7 +164,7 @@ fn master_thread_of(
 }
 
 /// A new master with room for so many entries.
-#[tactic(auto, using(crate::proofs::Asking::new_idle, crate::proofs::Asking::new_owned))]
+#[tactic(auto, using(crate::proofs::Asking::new_owned))]
 fn master_of(
     alloc: Global,
     arena: &Arena,

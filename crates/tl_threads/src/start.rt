@@ -13,10 +13,10 @@ use std::snapshot::Snapshot;
 use std::sync::Wait;
 use std::thread::{JoinHandle, Promise, PromisedHandle, Scope, Threads};
 use tl_arena::{Arena, ArenaName};
+use tl_journal::Trace;
 use tl_map::Map;
 use tl_master::Master;
 use tl_script::Operations;
-use tl_types::Trace;
 
 /// The promise of a master's thread: what it gives is the trace of these operations.
 #[derive(Drop)]

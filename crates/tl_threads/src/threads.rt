@@ -1,6 +1,7 @@
 //! The run of a system by threads.
 ghost use Rattle.std.specs.Prelude.{◌≡◌, ◌≤◌, length, IfOk};
-ghost use Rattle.tl_script.specs.System.{lists_of, resets};
+ghost use Rattle.tl_journal.specs.Trace.{entries_in};
+ghost use Rattle.tl_script.specs.System.{resets};
 ghost use Rattle.tl_arena.specs.Views.{about_of, AreNewMasters, AreNewPorts};
 ghost use Rattle.tl_threads.specs.Run.{IsThreadedRun};
 
@@ -55,7 +56,7 @@ pub fn run_threads<R: Threads + Wait + Sync, G: Gate + Sync>(
 ) -> Result<ThreadedRun, ThreadFault>
     requires some { 1 ≤ workers }
     requires few { workers ≤ MAX_WORKERS }
-    ensures { IfOk result (λ run. IsThreadedRun system.now (lists_of run.traces.items)
+    ensures { IfOk result (λ run. IsThreadedRun system.now (entries_in run.traces.items)
         run.books.items run.account.free.items run.account.held.items run.account.left.items) }
 {
     let banks = banks_of(alloc, system.devices())?;
