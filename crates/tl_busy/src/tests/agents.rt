@@ -7,10 +7,11 @@ use std::alloc::Global;
 use std::collections::VecDeque;
 use std::process::Abort;
 use tl_arena::{Accepted, Arena, MasterSeat, PortSeat};
+use tl_journal::Trace;
 use tl_map::{Map, Sources};
 use tl_master::{IssueFault, Issued, Master, Polled};
 use tl_ops::Bank;
-use tl_types::{Ask, Trace};
+use tl_types::Ask;
 
 /// A master.
 #[derive(Drop)]

@@ -2,7 +2,8 @@
 use std::alloc::Global;
 use std::process::Abort;
 use tl_script::{write_account, write_history, write_trace};
-use tl_types::{Arith, Ask, AskOp, Entry, Hint, Reply, ReplyOp};
+use tl_journal::{Journal, Place, Trace};
+use tl_types::{Arith, Ask, AskOp, Hint, Reply, ReplyOp};
 
 /// An operation, its size, source, address and bytes; its reply, whether that is denied, and the bytes that it shows.
 struct Row {
@@ -87,25 +88,27 @@ fn message(rt: &impl Abort, row: &Row) -> (Ask, Reply) {
     (ask, reply)
 }
 
-fn entries(rt: &impl Abort, alloc: Global, rows: &[Row]) -> Vec<Entry> {
-    let mut entries = Vec::new(alloc);
+fn entries(rt: &impl Abort, alloc: Global, rows: &[Row]) -> Trace {
+    let mut trace = Trace::with_room(alloc, rows.len()).expect(rt, "memory");
     for row in rows {
         let (ask, reply) = message(rt, row);
-        let entry = Entry {
-            ask,
-            reply,
+        let place = Place {
             port: row.port,
             index: row.index,
         };
-        entries.push(entry).expect(rt, "memory");
+        assert!(rt; trace.len() < rows.len());
+        trace.push_reserved(ask.source(), &ask, &reply, place);
     }
-    entries
+    trace
 }
 
-fn messages(rt: &impl Abort, alloc: Global, rows: &[Row]) -> Vec<(Ask, Reply)> {
-    let mut messages = Vec::new(alloc);
+fn messages(rt: &impl Abort, alloc: Global, rows: &[Row]) -> Journal {
+    let mut messages = Journal::new(alloc);
     for row in rows {
-        messages.push(message(rt, row)).expect(rt, "memory");
+        let (ask, reply) = message(rt, row);
+        messages
+            .push(ask.source(), &ask, &reply)
+            .expect(rt, "memory");
     }
     messages
 }
@@ -131,7 +134,7 @@ fn histories_number_their_lines(rt: HostRuntime) {
     let served = messages(&rt, rt.alloc(), &SERVED);
     let text = write_history(rt.alloc(), 0, &served).expect(&rt, "memory");
     assert_eq!(rt; text.as_slice(), HISTORY.as_bytes());
-    let none = write_history(rt.alloc(), 1, &[]).expect(&rt, "memory");
+    let none = write_history(rt.alloc(), 1, &Journal::new(rt.alloc())).expect(&rt, "memory");
     assert!(rt; none.is_empty());
 }
 

@@ -6,8 +6,8 @@ use std::alloc::Global;
 use std::process::Abort;
 use std::sync::Wait;
 use std::thread::Threads;
+use tl_journal::Trace;
 use tl_threads::{OpenGate, ThreadedRun};
-use tl_types::Trace;
 
 /// The start of a script: a RAM of 64 bytes at 0x1000.
 fn head(rt: &impl Abort, alloc: Global, slots: usize) -> String {
@@ -36,10 +36,13 @@ fn puts_and_gets(rt: &impl Abort, alloc: Global, address: u64) -> String {
 
 /// The first byte of each reply that has bytes, in the order of a trace.
 fn read_in(rt: &impl Abort, alloc: Global, trace: &Trace) -> Vec<u8> {
-    let bytes = trace
-        .iter()
-        .filter_map(|entry| entry.reply.bytes().first().copied());
-    bytes.collect::<Vec<u8>>(alloc).expect(rt, "memory")
+    let mut bytes = Vec::new(alloc);
+    for place in 0..trace.len() {
+        if let Some(byte) = trace.get(place).reply.bytes().first() {
+            bytes.push(*byte).expect(rt, "memory");
+        }
+    }
+    bytes
 }
 
 /// Each of two masters gets the numbers that it puts.

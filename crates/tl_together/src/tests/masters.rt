@@ -71,7 +71,8 @@ fn finish(rt: &impl Abort, arena: &Arena, master: Master, index: usize)
 {
     assert!(rt; master.out() == 0);
     let trace = master.finish(arena);
-    let entry = trace.first().expect(rt, "no entry");
+    assert!(rt; !trace.is_empty(), "no entry");
+    let entry = trace.get(0);
     assert!(rt; (entry.ask.source(), entry.reply.source()) == (0, 0));
     assert!(rt; (entry.port, entry.index) == (0, index));
 }

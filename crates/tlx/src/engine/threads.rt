@@ -1,8 +1,8 @@
 //! The threaded engine: from the bytes of a script to the text of a run by threads.
 ghost use Rattle.std.specs.Prelude.{◌≡◌, ◌≤◌, ◌++◌, IfOk, OnOk, length};
 ghost use Rattle.tl_audit.specs.Reader.{histories_of};
+ghost use Rattle.tl_journal.specs.Trace.{entries_in};
 ghost use Rattle.tl_script.specs.History.{account_text};
-ghost use Rattle.tl_script.specs.System.{lists_of};
 ghost use Rattle.tl_serial.specs.Text.{histories_text, run_text};
 ghost use Rattle.tlx.specs.Engine.{HasThreadedFault, IsAnswered, IsThreadedText};
 
@@ -33,7 +33,7 @@ fn push_histories(text: &mut Vec<u8>, books: &[Book]) -> Result<(), AllocError>
 /// The text of a run: its traces, its histories where they are asked for, and how many slots are free and how many held.
 fn text_of(alloc: Global, run: &ThreadedRun, history: bool) -> Result<Vec<u8>, Memory>
     ensures { IfOk result (λ text. text.items
-        ≡ run_text history (lists_of run.now.traces.items) (histories_of run.now.books.items)
+        ≡ run_text history (entries_in run.now.traces.items) (histories_of run.now.books.items)
         ++ account_text (length run.now.account.free.items) (length run.now.account.held.items)) }
 {
     let mut text = Vec::new(alloc);

@@ -1,9 +1,8 @@
 -- What went out before the failed write is a front of the text of the run; and the fault of an audit is one of the run.
 use Rattle.std.proofs.Common.{rules}
 use Rattle.tl_audit.specs.Agrees.{Agrees}
-use Rattle.tl_audit.specs.Marks.{rows_in}
 use Rattle.tl_audit.specs.Reader.{histories_of}
-use Rattle.tl_script.specs.System.{lists_of}
+use Rattle.tl_journal.specs.Trace.{entries_in}
 use Rattle.tlx.proofs.Failing.{at_err, told_by}
 use Rattle.tlx.proofs.engine.threads.run_script.Goals as goal
 
@@ -11,7 +10,7 @@ pub returns-in_err-write_all-clause-answered : goal.returns-in_err-write_all-cla
 returns-in_err-write_all-clause-answered g c =
     let front = c.in_err-write_all.ensures.front in
     let run = c.in_ok-run.run' in
-    let agrees : Agrees c.sources.result.now (rows_in c.deref.result.now) (histories_of c.deref-2.result.now) = c.in_ok-audit.ensures.ok in
+    let agrees : Agrees c.sources.result.now (entries_in c.deref.result.now) (histories_of c.deref-2.result.now) = c.in_ok-audit.ensures.ok in
     record {
       ok = search rules;
       script = search rules;
@@ -22,7 +21,7 @@ returns-in_err-write_all-clause-answered g c =
         text = c.in_ok-text.text.items;
         given = c.in_ok-system.ensures.ok;
         of_run = record {
-          traces = lists_of run.traces.items;
+          traces = entries_in run.traces.items;
           books = run.books.items;
           free = run.account.free.items;
           held = run.account.held.items;
@@ -48,7 +47,7 @@ returns-in_err-audit-clause-answered g c =
             system = c.in_ok-system.system;
             given = c.in_ok-system.ensures.ok;
             has = record {
-              traces = lists_of run.traces.items;
+              traces = entries_in run.traces.items;
               books = run.books.items;
               free = run.account.free.items;
               held = run.account.held.items;
