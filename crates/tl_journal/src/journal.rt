@@ -156,13 +156,7 @@ fn request(pools: &Pools, header: &Header) -> Ask
     ensures { result ≡ ask_in pools.now header.now }
 {
     let bytes = pools.bytes(header.op, header.size, header.start);
-    Ask::from_parts(
-        header.op,
-        header.size,
-        header.source,
-        header.address,
-        bytes,
-    )
+    Ask::from_parts(header.op, header.size, header.source, header.address, bytes)
 }
 
 /// The reply of a header.

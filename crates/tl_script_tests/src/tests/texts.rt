@@ -96,7 +96,6 @@ fn entries(rt: &impl Abort, alloc: Global, rows: &[Row]) -> Trace {
             port: row.port,
             index: row.index,
         };
-        assert!(rt; trace.len() < rows.len());
         trace.push_reserved(ask.source(), &ask, &reply, place);
     }
     trace
