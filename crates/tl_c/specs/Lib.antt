@@ -1,0 +1,3 @@
+pub mod Handle
+pub mod Numbers
+pub mod Wire
