@@ -163,7 +163,7 @@ static inline size_t tlx_fault_text(uint32_t fault, char *text, size_t room) {
 static inline uint32_t tlx_system_read(struct tlx_system *system, const void *script, size_t length, char *text, size_t room) {
   char none;
   size_t written;
-  if (!system || !script) return TLX_NULL;
+  if (!system || !script) return (uint32_t)TLX_NULL;
   if (!text || !room) { text = &none; room = 1; }
   return tlx_system_read_at(system, (const uint8_t *)script, length, text, room, &written);
 }
@@ -175,7 +175,7 @@ static inline void tlx_system_free(struct tlx_system *system) { if (system) tlx_
  * after TLX_MEMORY: read the script again for another one.
  * Faults: TLX_NULL, TLX_FULL (the model's handle), TLX_EMPTY (the system's), TLX_MEMORY. */
 static inline uint32_t tlx_model_make(struct tlx_model *model, struct tlx_system *system) {
-  return model && system ? tlx_model_make_at(model, system) : TLX_NULL;
+  return model && system ? tlx_model_make_at(model, system) : (uint32_t)TLX_NULL;
 }
 
 static inline void tlx_model_free(struct tlx_model *model) { if (model) tlx_model_free_at(model); }
@@ -184,13 +184,13 @@ static inline void tlx_model_free(struct tlx_model *model) { if (model) tlx_mode
  * `denied`. After a fault the answer is as it was.
  * Faults: TLX_NULL, TLX_EMPTY, TLX_NO_OPERATION, TLX_SIZE, TLX_NO_MASTER, TLX_NO_SOURCE, TLX_UNCOUNTABLE. */
 static inline uint32_t tlx_model_serve(struct tlx_model *model, uint64_t master, const struct tlx_request *request, struct tlx_answer *answer) {
-  return model && request && answer ? tlx_model_serve_at(model, master, request, answer) : TLX_NULL;
+  return model && request && answer ? tlx_model_serve_at(model, master, request, answer) : (uint32_t)TLX_NULL;
 }
 
 /* The byte that the slave of an address holds there. After a fault `byte` is as it was.
  * Faults: TLX_NULL, TLX_EMPTY, TLX_NO_BYTE. */
 static inline uint32_t tlx_model_byte(struct tlx_model *model, uint64_t address, uint8_t *byte) {
-  return model && byte ? tlx_model_byte_at(model, address, byte) : TLX_NULL;
+  return model && byte ? tlx_model_byte_at(model, address, byte) : (uint32_t)TLX_NULL;
 }
 
 /* How many masters there are, and how many ports, the error port among them as the last; 0 of an empty handle. */
@@ -202,7 +202,7 @@ static inline uint64_t tlx_model_ports(struct tlx_model *model) { return model ?
  * tlx_model_make does.
  * Faults: TLX_NULL, TLX_BAD_ARGUMENT, TLX_FULL, TLX_EMPTY, TLX_MEMORY. */
 static inline uint32_t tlx_judge_make(struct tlx_judge *judge, struct tlx_system *system, uint8_t links, uint8_t order) {
-  return judge && system ? tlx_judge_make_at(judge, system, links, order) : TLX_NULL;
+  return judge && system ? tlx_judge_make_at(judge, system, links, order) : (uint32_t)TLX_NULL;
 }
 
 static inline void tlx_judge_free(struct tlx_judge *judge) { if (judge) tlx_judge_free_at(judge); }
@@ -211,7 +211,7 @@ static inline void tlx_judge_free(struct tlx_judge *judge) { if (judge) tlx_judg
  * text. Of one clock cycle give channel A of the masters' links first, then A of the ports', D of the ports', and D of the masters'.
  * Faults: TLX_NULL, TLX_EMPTY, TLX_BAD_ARGUMENT, TLX_NO_LINK, and those of a beat. */
 static inline uint32_t tlx_judge_step(struct tlx_judge *judge, const struct tlx_beat *beat) {
-  return judge && beat ? tlx_judge_step_at(judge, beat) : TLX_NULL;
+  return judge && beat ? tlx_judge_step_at(judge, beat) : (uint32_t)TLX_NULL;
 }
 
 /* The line of the last fault of a beat (TLX_FIELD_CHANGED to TLX_WRONG_REPLY), as tlcheck says it of a capture, with its line end:

@@ -1,9 +1,8 @@
 //! The structs of the header, and what they stand for.
-ghost use Rattle.std.specs.Prelude.{◌≡◌, ◌≤◌, Bool, IfOk, IfSome, Some};
+ghost use Rattle.std.specs.Prelude.{◌≡◌, ◌≤◌, ◌<◌, Bool, IfErr, IfOk, IfSome, Some};
 ghost use Rattle.tl_c.specs.Wire.{IsAnswerOf, IsAskOf, Shows, ask_beat, flag_of, link_of, reply_beat};
 
-use crate::fault::{BAD_ARGUMENT, NO_OPERATION, SIZE};
-use arrayvec::ArrayVec;
+use crate::fault::{BAD_ARGUMENT, NO_OPERATION, OK, SIZE};
 use tl_beats::{ABeat, DBeat};
 use tl_link::{Beat, Link, Sighting};
 use tl_model::Answer;
@@ -61,19 +60,22 @@ pub struct WireBeat {
 }
 
 /// The bytes that a request carries: of a partial put those that are set.
-fn bytes_of(wire: &WireAsk, count: usize, partial: bool) -> ArrayVec<Option<u8>, MAX_BYTES>
+fn bytes_of(wire: &WireAsk, count: usize, partial: bool) -> [Option<u8>; MAX_BYTES]
     requires { count ≤ MAX_BYTES }
 {
-    let mut bytes = ArrayVec::new();
-    for (byte, set) in wire.bytes[..count].iter().zip(wire.set[..count].iter()) {
-        bytes.push(if partial && *set == 0 { None } else { Some(*byte) });
+    let mut bytes = [None; MAX_BYTES];
+    for k in 0..count {
+        if !partial || wire.set[k] != 0 {
+            bytes[k] = Some(wire.bytes[k]);
+        }
     }
     bytes
 }
 
 /// The request of a struct, or the number of its fault.
 pub(crate) fn ask_of(wire: &WireAsk) -> Result<Ask, u32>
-    ensures { IfOk result (IsAskOf wire.now) }
+    ensures ask { IfOk result (IsAskOf wire.now) }
+    ensures fault { IfErr result (λ number. (OK < number) × (number ≤ SIZE)) }
 {
     let Ok(op) = read_op(wire.opcode, wire.param) else {
         return Err(NO_OPERATION);
@@ -81,8 +83,9 @@ pub(crate) fn ask_of(wire: &WireAsk) -> Result<Ask, u32>
     if wire.size > LARGEST_SIZE {
         return Err(SIZE);
     }
-    let bytes = bytes_of(wire, op.byte_count(wire.size), op.may_leave_unset());
-    match Ask::new(op, wire.size, wire.source, wire.address, &bytes) {
+    let count = op.byte_count(wire.size);
+    let bytes = bytes_of(wire, count, op.may_leave_unset());
+    match Ask::new(op, wire.size, wire.source, wire.address, &bytes[..count]) {
         Ok(ask) => Ok(ask),
         Err(_) => Err(BAD_ARGUMENT),
     }
