@@ -1,5 +1,5 @@
 -- What each call makes of what a handle holds. This project's own.
-use Rattle.std.specs.Prelude.{◌≡◌, ◌↔◌, ◌⊎◌, ◌&&◌, ◌<◌, ℕ, List, [], ◌∷◌, Option, Some, None, IsSomeAnd, suc}
+use Rattle.std.specs.Prelude.{◌≡◌, ◌↔◌, ◌&&◌, ◌<◌, ◌==◌, if◌then◌else◌, ℕ, List, [], ◌∷◌, Option, Some, None, IsSomeAnd}
 use Rattle.tl_capture.specs.declared.row.Row.{Row}
 use Rattle.tl_judge.specs.Count.{is_counted, is_whole_ask, is_whole_reply, one_more}
 use Rattle.tl_judge.specs.Text.{unlawful_line}
