@@ -304,7 +304,7 @@ static void check_steps(struct tlx_judge *judge) {
   tell("a request", tlx_judge_step(judge, &beat) == TLX_OK && tlx_judge_requests(judge) == 1 && tlx_judge_in_flight(judge) == 1);
   beat.line = 3;
   beat.time = 12;
-  tell("a source in flight", tlx_judge_step(judge, &beat) == TLX_SOURCE_IN_FLIGHT && tlx_judge_text(judge, text, sizeof text) == 49 &&
+  tell("a source in flight", tlx_judge_step(judge, &beat) == TLX_SOURCE_IN_FLIGHT && tlx_judge_text(judge, text, sizeof text) == 50 &&
        !strcmp(text, "unlawful: line 3, time 12, m0 A: source in flight\n") && tlx_judge_in_flight(judge) == 1);
   beat.channel = TLX_D;
   beat.opcode = 1;

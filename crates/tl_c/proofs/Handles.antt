@@ -1,9 +1,8 @@
 -- The machine values of a handle. Assumes `Logic`.
 use Rattle.std.proofs.Common.{◌≡◌, ℕ, List, [], ◌∷◌, ◌++◌, refl, subst}
-use mathlib.Core.Bool.{Bool, true, false, ◌&&◌}
-use lib.Dec.{T}
+use mathlib.Core.Bool.{Bool, true, false}
 use seplogic.Ra.Ura.{Ura}
-use mir.Val.{Val, vbool, vstruct, vcons, vnil, of_list, has_ty, WT}
+use mir.Val.{Val, vbool, vstruct, vcons, vnil, of_list, has_ty}
 use types.Logic.{Logic, sem}
 use base.Logic.{never, fst∗}
 use mir.Raw.{raw as bare}

@@ -1,20 +1,16 @@
 -- What each call makes of what a handle holds. This project's own.
 use Rattle.std.specs.Prelude.{◌≡◌, ◌↔◌, ◌&&◌, ◌<◌, ◌==◌, if◌then◌else◌, ℕ, List, [], ◌∷◌, Option, Some, None, IsSomeAnd}
-use Rattle.tl_capture.specs.declared.row.Row.{Row}
 use Rattle.tl_judge.specs.Count.{is_counted, is_whole_ask, is_whole_reply, one_more}
-use Rattle.tl_judge.specs.Text.{unlawful_line}
-use Rattle.tl_judge.specs.declared.stop.Unlawful.{Unlawful}
 use Rattle.tl_link.specs.declared.beat.Sighting.{Sighting}
-use Rattle.tl_map.specs.Map.{RoutesBytes}
-use Rattle.tl_model.specs.Crossbar.{CrossbarState, Accepts, IsFirstServeFault, IsServed, at_reset, byte_in}
+use Rattle.tl_model.specs.Crossbar.{CrossbarState, Accepts, IsFirstServeFault, IsServed}
 use Rattle.tl_model.specs.declared.crossbar.Answer.{Answer}
 use Rattle.tl_model.specs.declared.fault.ServeFault.{ServeFault}
-use Rattle.tl_script.specs.Script.{IsFirstScriptFault, Spells}
+use Rattle.tl_script.specs.Script.{IsFirstScriptFault}
 use Rattle.tl_script.specs.System.{System, resets}
 use Rattle.tl_script.specs.declared.fault.ScriptFault.{ScriptFault}
 use Rattle.tl_types.specs.Request.{Request}
 use Rattle.tl_watch.specs.Lawful.{IsFirstFault, IsLawful, what_is_seen}
-use Rattle.tl_watch.specs.Plan.{HasLink, IsPlan, IsWatched, Plan}
+use Rattle.tl_watch.specs.Plan.{IsPlan, Plan}
 use Rattle.tl_watch.specs.View.{Keeps}
 use Rattle.tl_watch.specs.declared.fault.Fault.{Fault}
 use Rattle.tl_watch.specs.declared.links.Links.{Links}
@@ -22,13 +18,12 @@ use Rattle.tl_watch.specs.declared.links.Links.TheVariants.{Both, Masters, Ports
 use Rattle.tl_watch.specs.declared.order.Order.{Order}
 use Rattle.tl_watch.specs.declared.order.Order.TheVariants.{Accept, Reply}
 use Rattle.tl_c.specs.Numbers.{beat_number, script_number, serve_number}
-use Rattle.tl_c.specs.Wire.{IsAnswerOf, IsAskOf, Shows}
+use Rattle.tl_c.specs.Wire.{IsAnswerOf, IsAskOf}
 use Rattle.tl_c.specs.declared.held.Held.{Held}
 use Rattle.tl_c.specs.declared.held.Held.TheVariants as held
 use Rattle.tl_c.specs.declared.held.Judge.{Judge}
 use Rattle.tl_c.specs.declared.wire.WireAnswer.{WireAnswer}
 use Rattle.tl_c.specs.declared.wire.WireAsk.{WireAsk}
-use Rattle.tl_c.specs.declared.wire.WireBeat.{WireBeat}
 
 -- ---- what a handle holds, of each kind
 

@@ -1,5 +1,5 @@
 -- What a handle of C owns.
-use Rattle.std.specs.Prelude.{◌≡◌, Bool, true, false, Option, None, Some, Box}
+use Rattle.std.specs.Prelude.{Bool, true, false, Option, None, Some, Box}
 use Rattle.tl_c.specs.declared.loose.Loose.{Loose}
 use base.Fml.{Fml, fsep, feq}
 use denote.RattleType.{RattleType}

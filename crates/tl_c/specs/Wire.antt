@@ -1,7 +1,5 @@
 -- What the structs of the header stand for. This project's own.
-use Rattle.std.specs.Prelude.{◌≡◌, ℕ, Bool, true, false, List, length, Option, Some, None, ◌==◌, if◌then◌else◌, take}
-use Rattle.tl_beats.specs.declared.beat.ABeat.{ABeat}
-use Rattle.tl_beats.specs.declared.beat.DBeat.{DBeat}
+use Rattle.std.specs.Prelude.{◌≡◌, ℕ, Bool, true, false, length, Option, Some, None, ◌==◌, if◌then◌else◌, take}
 use Rattle.tl_link.specs.declared.beat.Beat.{Beat}
 use Rattle.tl_link.specs.declared.beat.Beat.TheVariants.{A, D}
 use Rattle.tl_link.specs.declared.beat.Link.{Link}
@@ -47,12 +45,23 @@ link_of side number = if side == 0 then Some (Master number) else if side == 1 t
 
 abbrev pub ask_beat : WireBeat → Beat
 ask_beat w = A (record {
-  opcode = w.opcode; param = w.param; size = w.size; source = w.source; address = w.address; mask = w.mask; lanes = w.lanes;
+  opcode = w.opcode;
+  param = w.param;
+  size = w.size;
+  source = w.source;
+  address = w.address;
+  mask = w.mask;
+  lanes = w.lanes;
 })
 
 abbrev pub reply_beat : WireBeat → Bool → Bool → Beat
 reply_beat w denied corrupt = D (record {
-  opcode = w.opcode; size = w.size; source = w.source; denied = denied; corrupt = corrupt; lanes = w.lanes;
+  opcode = w.opcode;
+  size = w.size;
+  source = w.source;
+  denied = denied;
+  corrupt = corrupt;
+  lanes = w.lanes;
 })
 
 -- the beat that was seen is that of a struct

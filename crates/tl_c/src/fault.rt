@@ -8,13 +8,21 @@ use tl_script::ScriptFault;
 use tl_watch::Fault;
 
 pub(crate) const OK: u32 = 0;
+
 pub(crate) const EMPTY: u32 = 2;
+
 pub(crate) const FULL: u32 = 3;
+
 pub(crate) const MEMORY: u32 = 4;
+
 pub(crate) const BAD_ARGUMENT: u32 = 5;
+
 pub(crate) const NO_OPERATION: u32 = 20;
+
 pub(crate) const SIZE: u32 = 21;
+
 pub(crate) const NO_BYTE: u32 = 25;
+
 pub(crate) const NO_LINK: u32 = 30;
 
 /// The number of a fault of a script.

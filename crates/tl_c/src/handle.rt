@@ -29,14 +29,22 @@ impl Handle {
     pub(crate) fn empty(alloc: Global) -> Handle
         ensures { result.value ≡ None }
     {
-        Handle { at: std::ptr::null_mut(), live: false, alloc }
+        Handle {
+            at: std::ptr::null_mut(),
+            live: false,
+            alloc,
+        }
     }
 
     fn keep(loose: Loose<Held, Global>) -> Handle
         ensures { result.value ≡ Some loose.value }
     {
         let Loose { at, alloc } = loose;
-        Handle { at: at as *mut u8, live: true, alloc }
+        Handle {
+            at: at as *mut u8,
+            live: true,
+            alloc,
+        }
     }
 
     fn loose(self) -> Option<Loose<Held, Global>>
@@ -44,7 +52,10 @@ impl Handle {
     {
         let Handle { at, live, alloc } = self;
         if live {
-            Some(Loose { at: at as *mut Held, alloc })
+            Some(Loose {
+                at: at as *mut Held,
+                alloc,
+            })
         } else {
             None
         }

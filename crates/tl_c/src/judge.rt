@@ -175,7 +175,11 @@ fn step(judge: &mut Judge, line: u64, time: u64, sighting: Sighting) -> u32
         }
         Err(fault) => {
             let number = beat_number(&fault);
-            let row = Row { line, time, sighting };
+            let row = Row {
+                line,
+                time,
+                sighting,
+            };
             keep_line(&mut judge.text, &Unlawful { row, fault });
             number
         }

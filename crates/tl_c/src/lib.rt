@@ -3,6 +3,7 @@
 //! `include/tlx.h` is the interface, call by call; `docs/EMBEDDING.md` has a first use. Each export takes what a handle holds, makes one public
 //! call of the crates below, and puts it back; its clauses are those of that call, said of what the handle holds.
 #![tactic(auto)]
+
 ghost use Rattle.std.specs.Prelude.{◌≡◌};
 
 use tl_types::LARGEST_SIZE;

@@ -83,7 +83,12 @@ pub extern "C" fn tlx_model_serve_at(
 
 /// `tlx_model_byte_at` of the header: the byte that the slave of an address holds there.
 #[unsafe(no_mangle)]
-pub extern "C" fn tlx_model_byte_at(alloc: Global, model: &mut Handle, address: u64, byte: &mut u8) -> u32
+pub extern "C" fn tlx_model_byte_at(
+    alloc: Global,
+    model: &mut Handle,
+    address: u64,
+    byte: &mut u8,
+) -> u32
     ensures ok { result ≡ OK → HoldsModel (λ state. (port : ℕ) → RoutesBytes state.ranges address 0 port
         → IsSomeAnd (slice_get state.ports port) (λ at. byte_in at.store address ≡ Some byte.new)) model.old.value }
     ensures same { model.new.value ≡ model.old.value }

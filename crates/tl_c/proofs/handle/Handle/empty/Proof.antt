@@ -1,39 +1,28 @@
 -- `empty`, walked.
-use Rattle.std.proofs.Common.{◌≡◌, List, [], ◌∷◌, ◌++◌, refl, sym, subst, lit<}
-use mathlib.Core.Bool.{Bool, true, false}
-use lib.Dec.{T}
-use mir.Val.{Val, vptr, vbool, vcons, vnil}
-use base.Logic.{SProp, ent, id⊢, emp, never, fst∗}
-use base.Fml.{ftrue, feq, fsep}
+use Rattle.std.proofs.Common.{◌≡◌, List, [], ◌∷◌, ◌++◌, refl, sym, subst}
+use mathlib.Core.Bool.{Bool, false}
+use mir.Val.{Val, vbool}
+use base.Logic.{SProp, ent, id⊢, emp}
+use base.Fml.{ftrue}
 use prog.Wp.{WpFn}
-use types.Kit.{‵, raw, ◌⊛◌, some, at_ret, Sq, prop, runs, ◌$◌, ◌∵◌, !, qed, by, move, keep, drop, split, join, fsplit, fjoin, feq_i, feq_l, suffices, use0, use1, rewrite}
-use types.Run.{stop, fld, lit, true_lit, false_lit, of_opd, no_more, and_then, first, branches, exec, returns, enter}
-use types.ByLocal.{alloc_all, pass_all, free_all, look_at, get, get_in, sets, sets_last, env}
-use types.Part.{agg, sub, whole}
-use types.Match.{live}
+use types.Kit.{‵, raw, ◌⊛◌, ◌$◌, ◌∵◌, !, qed, by, move, keep, split, fsplit, fjoin, feq_i, suffices, use0, use1, rewrite}
+use types.Run.{lit, false_lit, no_more, and_then, returns, enter}
+use types.ByLocal.{alloc_all, pass_all, free_all, look_at, get, sets}
+use types.Part.{agg}
 use contract.Monad.{fact, fact_i}
 use contract.Running.{tables}
-use denote.Exit.{no, yes}
-use denote.RattleType.{RattleType, owns}
-use denote.Laws.{Typed}
-use denote.Signature.{types_at, type_at, plain}
-use denote.RawPtr.{Ptr, block_ptr, null_ptr, ptr_val, in_a_block}
-use denote.Steps.{nothing, heard}
+use denote.Exit.{yes}
+use denote.RattleType.{owns}
+use denote.Signature.{types_at, plain}
+use denote.RawPtr.{null_ptr, ptr_val}
+use denote.Steps.{nothing}
 use denote.Param.{layout}
 use denote.Triple.Walked.{Stays, stay_dropped, walk_of, Goes-dropped}
-use Rattle.core.proofs.alloc.Shapes.{after}
-use Rattle.core.proofs.atomic.Steps.{Ptr-Good}
-use Rattle.core.proofs.cell.Inside.{Good, one}
-use Rattle.core.proofs.option.Made.{Some-of, none_of}
-use Rattle.core.specs.declared.option.Option.TheVariants.{None, Some}
-use Rattle.std.specs.Box.Ownership.{box_owns}
+use Rattle.core.proofs.cell.Inside.{one}
+use Rattle.core.specs.declared.option.Option.TheVariants.{None}
 use Rattle.std.proofs.raw_atomic.Walks.{proved_at, leaves}
-use Rattle.std.specs.contracts.impls.GlobalAllocator.TheImpl.{ghosts}
 use Rattle.std.proofs.alloc.Global.TheLaws as heap_laws
-use Rattle.std_alloc.proofs.ResultValues.{and_tt}
-use Rattle.libc.specs.Heap.{chunk}
-use Rattle.tl_c.proofs.Values.{both, loose_good, loose_out, loose_in}
-use Rattle.tl_c.proofs.Handles.{three, R, Z, Open, Shut, shut_good, shut_out, shut_in, opened}
+use Rattle.tl_c.proofs.Handles.{three, R, Z, shut_good, shut_in}
 use Rattle.tl_c.specs.Handle.{holds}
 use Rattle.tl_c.specs.contracts.handle.Handle.empty.{ended, clauses}
 use Rattle.tl_c.specs.contracts.handle.Handle.empty.Key.{name as #self}
