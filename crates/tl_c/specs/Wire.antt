@@ -1,10 +1,12 @@
 -- What the structs of the header stand for. This project's own.
-use Rattle.std.specs.Prelude.{◌≡◌, ℕ, Bool, true, false, length, Option, Some, None, ◌==◌, if◌then◌else◌, take}
+use Rattle.std.specs.Prelude.{◌≡◌, ℕ, Bool, true, false, length, Option, Some, None, ◌==◌, ◌&&◌, if◌then◌else◌, map, get_or, take}
+use Rattle.std.specs.List.{range_with_len}
 use Rattle.tl_link.specs.declared.beat.Beat.{Beat}
 use Rattle.tl_link.specs.declared.beat.Beat.TheVariants.{A, D}
 use Rattle.tl_link.specs.declared.beat.Link.{Link}
 use Rattle.tl_link.specs.declared.beat.Link.TheVariants.{Master, Port}
 use Rattle.tl_link.specs.declared.beat.Sighting.{Sighting}
+use Rattle.tl_types.specs.Operation.{byte_count, may_leave_unset}
 use Rattle.tl_types.specs.Request.{Request}
 use Rattle.tl_types.specs.Response.{Response}
 use Rattle.tl_types.specs.Wire.{IsCodeOf, reply_opcode_of}
@@ -12,12 +14,17 @@ use Rattle.tl_c.specs.declared.wire.WireAsk.{WireAsk}
 use Rattle.tl_c.specs.declared.wire.WireAnswer.{WireAnswer}
 use Rattle.tl_c.specs.declared.wire.WireBeat.{WireBeat}
 
+-- the byte of a request at a place: none where a partial put leaves it unset
+abbrev pub byte_at : WireAsk → Bool → ℕ → Option ℕ
+byte_at wire partial place = if partial && (get_or wire.set place 0 == 0) then None else Some (get_or wire.bytes place 0)
+
 -- the struct is one of this request
 pub record IsAskOf (wire : WireAsk) (ask : Request) : Type 0 where
   pub code : IsCodeOf ask.op wire.opcode wire.param
   pub size : ask.size ≡ wire.size
   pub source : ask.source ≡ wire.source
   pub address : ask.address ≡ wire.address
+  pub bytes : ask.bytes ≡ map (byte_at wire (may_leave_unset ask.op)) (range_with_len 0 (byte_count ask.op ask.size))
 
 -- a flag as a number
 abbrev pub number_of : Bool → ℕ

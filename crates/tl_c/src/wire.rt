@@ -1,8 +1,10 @@
 //! The structs of the header, and what they stand for.
-ghost use Rattle.std.specs.Prelude.{◌≡◌, ◌≤◌, ◌<◌, Bool, IfErr, IfOk, IfSome, Some};
-ghost use Rattle.tl_c.specs.Wire.{IsAnswerOf, IsAskOf, Shows, ask_beat, flag_of, link_of, reply_beat};
+ghost use Rattle.std.specs.Prelude.{◌≡◌, ◌≤◌, ◌<◌, Bool, IfErr, IfOk, IfSome, Some, map};
+ghost use Rattle.std.specs.List.{range_with_len};
+ghost use Rattle.tl_c.specs.Wire.{IsAnswerOf, IsAskOf, Shows, ask_beat, byte_at, flag_of, link_of, reply_beat};
 
 use crate::fault::{BAD_ARGUMENT, NO_OPERATION, OK, SIZE};
+use arrayvec::ArrayVec;
 use tl_beats::{ABeat, DBeat};
 use tl_link::{Beat, Link, Sighting};
 use tl_model::Answer;
@@ -59,15 +61,25 @@ pub struct WireBeat {
     pub lanes: [u8; BUS_BYTES],
 }
 
-/// The bytes that a request carries: of a partial put those that are set.
-fn bytes_of(wire: &WireAsk, count: usize, partial: bool) -> [Option<u8>; MAX_BYTES]
-    requires { count ≤ MAX_BYTES }
+/// The byte of a request at a place: none where a partial put leaves it unset.
+fn byte_at(wire: &WireAsk, partial: bool, place: usize) -> Option<u8>
+    requires { place < ROOM }
+    ensures { result ≡ byte_at wire.now partial place }
 {
-    let mut bytes = [None; MAX_BYTES];
-    for k in 0..count {
-        if !partial || wire.set[k] != 0 {
-            bytes[k] = Some(wire.bytes[k]);
-        }
+    if partial && wire.set[place] == 0 {
+        return None;
+    }
+    Some(wire.bytes[place])
+}
+
+/// The bytes that a request carries.
+fn bytes_of(wire: &WireAsk, count: usize, partial: bool) -> ArrayVec<Option<u8>, MAX_BYTES>
+    requires { count ≤ MAX_BYTES }
+    ensures { result.items ≡ map (byte_at wire.now partial) (range_with_len 0 count) }
+{
+    let mut bytes = ArrayVec::new();
+    for place in 0..count {
+        bytes.push(byte_at(wire, partial, place));
     }
     bytes
 }
@@ -85,7 +97,7 @@ pub(crate) fn ask_of(wire: &WireAsk) -> Result<Ask, u32>
     }
     let count = op.byte_count(wire.size);
     let bytes = bytes_of(wire, count, op.may_leave_unset());
-    match Ask::new(op, wire.size, wire.source, wire.address, &bytes[..count]) {
+    match Ask::new(op, wire.size, wire.source, wire.address, &bytes) {
         Ok(ask) => Ok(ask),
         Err(_) => Err(BAD_ARGUMENT),
     }
