@@ -4,13 +4,14 @@ use Rattle.tl_c.specs.declared.loose.Loose.{Loose}
 use base.Fml.{Fml, fsep, feq}
 use denote.RattleType.{RattleType}
 use denote.RawPtr.{Ptr}
-use Rattle.libc.specs.Heap.{chunk}
+use Rattle.std.specs.contracts.impls.GlobalAllocator.TheImpl.{ghosts}
+use Rattle.std.specs.declared.alloc.Global.{Global}
 use Rattle.std.specs.Box.Ownership.{box_owns}
 
 -- nothing if it is empty; else the value at its pointer, and the right to free its block
-abbrev pub holds : (R : RattleType) → Ptr → Bool → Option R.Denot → Fml
-holds R p live None = feq Bool live false
-holds R p live (Some x) = fsep (feq Bool live true) (box_owns chunk R p x)
+abbrev pub holds : (R : RattleType) → Global → Ptr → Bool → Option R.Denot → Fml
+holds R alloc p live None = feq Bool live false
+holds R alloc p live (Some x) = fsep (feq Bool live true) (box_owns (ghosts.dealloc_token alloc) R p x)
 
 -- the value of a box, if there is one
 abbrev pub unboxed : {A R : Type 0} → Option (Box R A) → Option R

@@ -21,7 +21,7 @@ impl Model for Handle {
     ghost use Rattle.tl_c.specs.Handle.{holds};
     ghost use Rattle.tl_c.specs.contracts.held.Held.{the_row};
 
-    ghost also_owns = { λ h. holds the_row h.at h.live h.value };
+    ghost also_owns = { λ h. holds the_row h.alloc h.at h.live h.value };
 }
 
 impl Handle {

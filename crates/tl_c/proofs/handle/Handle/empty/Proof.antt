@@ -41,6 +41,6 @@ empty_spec 𝓤 𝓛 𝓜 𝓡 wired =
     suffices ! (Run (h.0 ∷ [])) (subst (λ (us : List Val). ent 𝓤 (Run (h.0 ∷ [])) (Run us)) (sym (λ i. h.1 i ++ [])) (id⊢ 𝓤 (Run (h.0 ∷ [])))) $
     enter ! 𝓣.C 𝓣.Λ fn (h.0 ∷ []) Post $ alloc_all ! (λ l. pass_all ! refl (h.2, tt) $
     sets ! (agg ! (and_then ! (lit ! tt) (and_then ! (false_lit !) (and_then ! (get ! refl) (no_more !))))) refl made $
-    feq_i ! Bool false false refl $ use1 𝓛 (‵ (holds R null_ptr false None)) (id⊢ 𝓤 _) $ shut_in ! null_ptr false h.0 a None $
+    feq_i ! Bool false false refl $ use1 𝓛 (‵ (holds R a null_ptr false None)) (id⊢ 𝓤 _) $ shut_in ! null_ptr false h.0 a None $
     use0 𝓛 (raw (fact 𝓤 (None ≡ None))) (fact_i 𝓤 (None ≡ None) (emp 𝓤) refl) $ nothing ! $ nothing ! $ fjoin ! $
     returns ! (look_at ! 0 refl) $ free_all ! refl $ keep ! (3 ∷ 0 ∷ 2 ∷ 1 ∷ []) $ by ! (leaves 𝓛 ended hs c z (three (ptr_val null_ptr) (vbool false) h.0) (record { at = null_ptr; live = false; alloc = a; value = None }) (tt, tt) (tt, tt))))

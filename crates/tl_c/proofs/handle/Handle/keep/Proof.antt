@@ -41,6 +41,6 @@ keep_spec 𝓤 𝓛 𝓜 𝓡 wired =
     enter ! 𝓣.C 𝓣.Λ fn (w ∷ []) Post $ alloc_all ! (λ l. pass_all ! refl (loose_good R Z heap_laws.the_row_laws ghosts b o h fits, tt) $
     sets ! (of_opd ! (get_in ! (fld ! refl (stop !)) (sub ! 0 refl (whole !)))) refl (tt, tt) $ sets ! (of_opd ! (get_in ! (fld ! refl (stop !)) (sub ! 1 refl (whole !)))) refl fits $ sets ! (of_opd ! (get ! refl)) refl (tt, tt) $
     sets ! (agg ! (and_then ! (get ! refl) (and_then ! (true_lit !) (and_then ! (get ! refl) (no_more !))))) refl made $
-    feq_i ! Bool true true refl $ fjoin ! $ use1 𝓛 (‵ (holds R (block_ptr b o) true (Some v.value))) (id⊢ 𝓤 _) $ shut_in ! (block_ptr b o) true h v.alloc (Some v.value) $
+    feq_i ! Bool true true refl $ fjoin ! $ use1 𝓛 (‵ (holds R v.alloc (block_ptr b o) true (Some v.value))) (id⊢ 𝓤 _) $ shut_in ! (block_ptr b o) true h v.alloc (Some v.value) $
     use0 𝓛 (raw (fact 𝓤 (Some v.value ≡ Some v.value))) (fact_i 𝓤 (Some v.value ≡ Some v.value) (emp 𝓤) refl) $ nothing ! $ nothing ! $ fjoin ! $
     returns ! (look_at ! 0 refl) $ free_all ! refl $ keep ! (3 ∷ 0 ∷ 2 ∷ 1 ∷ []) $ by ! (leaves 𝓛 ended hs c z (three (vptr b o) (vbool true) h) (record { at = block_ptr b o; live = true; alloc = v.alloc; value = Some v.value }) (tt, tt) (tt, tt)))))
