@@ -1,0 +1,4 @@
+pub mod Handle
+pub mod Numbers
+pub mod Wire
+pub mod Calls

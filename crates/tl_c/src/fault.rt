@@ -1,0 +1,140 @@
+//! The numbers of faults, as the header has them, and their words.
+ghost use Rattle.std.specs.Prelude.{◌≡◌};
+ghost use Rattle.tl_c.specs.Numbers.{beat_number, form_number, script_number, serve_number};
+
+use tl_link::FormFault;
+use tl_model::ServeFault;
+use tl_script::ScriptFault;
+use tl_watch::Fault;
+
+pub(crate) const OK: u32 = 0;
+
+pub(crate) const EMPTY: u32 = 2;
+
+pub(crate) const FULL: u32 = 3;
+
+pub(crate) const MEMORY: u32 = 4;
+
+pub(crate) const BAD_ARGUMENT: u32 = 5;
+
+pub(crate) const NO_OPERATION: u32 = 20;
+
+pub(crate) const SIZE: u32 = 21;
+
+pub(crate) const NO_BYTE: u32 = 25;
+
+pub(crate) const NO_LINK: u32 = 30;
+
+/// The number of a fault of a script.
+pub(crate) fn script_number(fault: ScriptFault) -> u32
+    ensures { result ≡ script_number fault }
+{
+    match fault {
+        ScriptFault::Memory => 4,
+        ScriptFault::NotToml => 10,
+        ScriptFault::Missing(_) => 11,
+        ScriptFault::WrongType(_) => 12,
+        ScriptFault::OutOfRange(_) => 13,
+        ScriptFault::BadOp(_, _) => 14,
+        ScriptFault::Map(_) => 15,
+        ScriptFault::Sources(_) => 16,
+        ScriptFault::TooLong => 17,
+    }
+}
+
+/// The number of the fault of a request that is not served.
+pub(crate) fn serve_number(fault: ServeFault) -> u32
+    ensures { result ≡ serve_number fault }
+{
+    match fault {
+        ServeFault::NoSuchMaster => 22,
+        ServeFault::NoSuchSource => 23,
+        ServeFault::Uncountable => 24,
+    }
+}
+
+/// The number of a fault of a beat alone.
+fn form_number(fault: FormFault) -> u32
+    ensures { result ≡ form_number fault }
+{
+    match fault {
+        FormFault::Changed => 31,
+        FormFault::Opcode => 32,
+        FormFault::Size => 33,
+        FormFault::Mask => 34,
+        FormFault::CorruptFlag => 35,
+        FormFault::UnknownData => 36,
+    }
+}
+
+/// The number of a fault of a beat.
+pub(crate) fn beat_number(fault: &Fault) -> u32
+    ensures { result ≡ beat_number fault.now }
+{
+    match fault {
+        Fault::Form(fault) => form_number(*fault),
+        Fault::NoSuchSource => 37,
+        Fault::SourceBusy => 38,
+        Fault::WrongPort => 39,
+        Fault::NoRequest => 40,
+        Fault::EarlyReply => 41,
+        Fault::WrongSize => 42,
+        Fault::WrongOpcode => 43,
+        Fault::UnknownData => 44,
+        Fault::NotSent => 45,
+        Fault::NotGiven => 46,
+        Fault::WrongReply(_, _) => 47,
+    }
+}
+
+/// The words of a call's own fault, or of a script's or request's.
+fn call_words(number: u32) -> &'static str {
+    match number {
+        0 => "no fault",
+        1 => "null pointer",
+        2 => "empty handle",
+        3 => "full handle",
+        4 => "memory refused",
+        5 => "bad argument",
+        10 => "script: not TOML",
+        11 => "script: missing key",
+        12 => "script: wrong type",
+        13 => "script: out of range",
+        14 => "script: bad operation",
+        15 => "script: bad ports",
+        16 => "script: bad sources",
+        17 => "script: longer than 1048576 bytes",
+        20 => "no such operation",
+        21 => "size over the limit",
+        22 => "no such master",
+        23 => "no such source",
+        24 => "the port has served as many requests as can be counted",
+        25 => "no byte at this address",
+        _ => "unknown fault",
+    }
+}
+
+/// The words of a fault by its number.
+pub(crate) fn words(number: u32) -> &'static str {
+    match number {
+        30 => "no such link",
+        31 => "field changed",
+        32 => "unknown opcode",
+        33 => "size out of range",
+        34 => "wrong mask",
+        35 => "wrong corrupt flag",
+        36 => "unknown data",
+        37 => "no such source",
+        38 => "source in flight",
+        39 => "not this port's address",
+        40 => "reply without request",
+        41 => "reply before its request ended",
+        42 => "size of another request",
+        43 => "opcode of another operation",
+        44 => "unknown data",
+        45 => "no master sent this request",
+        46 => "the port gave no such reply",
+        47 => "wrong reply",
+        other => call_words(other),
+    }
+}

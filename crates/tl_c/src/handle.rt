@@ -1,0 +1,86 @@
+//! What a caller in C holds.
+ghost use Rattle.std.specs.Prelude.{◌≡◌, Option, None, Some};
+ghost use Rattle.tl_c.specs.declared.held.Held.{Held};
+ghost use Rattle.tl_c.specs.Handle.{unboxed, loosened};
+
+use crate::held::Held;
+use crate::loose::Loose;
+use std::alloc::Global;
+use std::marker::Model;
+
+/// A handle: `struct tlx_system`, `tlx_model` and `tlx_judge` of the header. All zero, it holds nothing.
+#[repr(C)]
+pub struct Handle {
+    pub(crate) at: *mut u8,
+    pub(crate) live: bool,
+    pub(crate) alloc: Global,
+    pub(crate) ghost value: { Option Held },
+}
+
+impl Model for Handle {
+    ghost use Rattle.tl_c.specs.Handle.{holds};
+    ghost use Rattle.tl_c.specs.contracts.held.Held.{the_row};
+
+    ghost also_owns = { λ h. holds the_row h.alloc h.at h.live h.value };
+}
+
+impl Handle {
+    /// A handle that holds nothing.
+    pub(crate) fn empty(alloc: Global) -> Handle
+        ensures { result.value ≡ None }
+    {
+        Handle {
+            at: std::ptr::null_mut(),
+            live: false,
+            alloc,
+        }
+    }
+
+    fn keep(loose: Loose<Held, Global>) -> Handle
+        ensures { result.value ≡ Some loose.value }
+    {
+        let Loose { at, alloc } = loose;
+        Handle {
+            at: at as *mut u8,
+            live: true,
+            alloc,
+        }
+    }
+
+    fn loose(self) -> Option<Loose<Held, Global>>
+        ensures { self.value ≡ loosened result }
+    {
+        let Handle { at, live, alloc } = self;
+        if live {
+            Some(Loose {
+                at: at as *mut Held,
+                alloc,
+            })
+        } else {
+            None
+        }
+    }
+
+    /// A handle that holds this.
+    pub(crate) fn of(held: Box<Held>) -> Handle
+        ensures { result.value ≡ Some held.value }
+    {
+        Handle::keep(Loose::of(held))
+    }
+
+    /// What a handle holds.
+    pub(crate) fn take(self) -> Option<Box<Held>>
+        ensures { self.value ≡ unboxed result }
+    {
+        match self.loose() {
+            Some(loose) => Some(loose.into_box()),
+            None => None,
+        }
+    }
+}
+
+impl Drop for Handle {
+    fn drop(self) {
+        let _held = self.take();
+    }
+}

@@ -1,0 +1,268 @@
+//! Judges of beats.
+ghost use Rattle.std.specs.Prelude.{◌≡◌, ◌≢◌, ◌<◌, ◌≤◌, ◌↔◌, ◌++◌, ◌∷◌, ◌&&◌, ◌⊎◌, ℕ, List, [], IfOk, IfSome, None, Some, length, map};
+ghost use Rattle.tl_c.specs.Calls.{BeginsAs, BeginsBy, HoldsJudge, HoldsSystem, IsFaultOfBeat, IsStep, links_of, order_of};
+ghost use Rattle.tl_c.specs.Wire.{Shows};
+ghost use Rattle.tl_c.specs.declared.held.Judge.{Judge};
+ghost use Rattle.tl_c.specs.declared.held.Held.TheVariants as held;
+ghost use Rattle.tl_judge.specs.Count.{is_counted, is_whole_ask, is_whole_reply, one_more};
+ghost use Rattle.tl_link.specs.declared.beat.Sighting.{Sighting};
+ghost use Rattle.tl_ops.specs.Store.{Store};
+ghost use Rattle.tl_script.specs.System.{error_store, store_of};
+ghost use Rattle.tl_watch.specs.Plan.{HasLink, IsWatched, Plan};
+ghost use Rattle.tl_watch.specs.View.{Keeps};
+
+use crate::fault::{BAD_ARGUMENT, EMPTY, FULL, MEMORY, NO_LINK, OK, beat_number};
+use crate::handle::Handle;
+use crate::held::{Held, Judge};
+use crate::system::{hold, take};
+use crate::text::put_text;
+use crate::wire::{WireBeat, sighting_of};
+use std::alloc::Global;
+use tl_capture::Row;
+use tl_judge::{Unlawful, push_unlawful};
+use tl_link::{Link, Sighting};
+use tl_ops::{Bank, Kind};
+use tl_script::{Device, System};
+use tl_types::Memory;
+use tl_watch::{Links, Order, Seen, Watch};
+
+/// The room that a judge reserves for the line of a fault.
+const LINE_ROOM: usize = 2048;
+
+/// What the slaves of these devices hold at reset, and the error port's behind them.
+fn banks_of(alloc: Global, devices: &[Device]) -> Result<Vec<Bank>, Memory>
+    ensures { IfOk result (λ banks. banks.items ≡ map store_of devices.now ++ error_store ∷ []) }
+{
+    let mut banks = Vec::with_capacity(alloc, devices.len() + 1)?;
+    for device in devices {
+        let bank = Bank::new(alloc, device.kind, device.base, &device.reset).map_err(|_| Memory)?;
+        banks.push(bank)?;
+    }
+    let error_port = Bank::new(alloc, Kind::NoDevice, 0, &[]).map_err(|_| Memory)?;
+    banks.push(error_port)?;
+    Ok(banks)
+}
+
+/// The judge of a system, before any beat.
+fn judge_of(alloc: Global, system: System, links: Links, order: Order) -> Result<Judge, Memory>
+    ensures { IfOk result (BeginsBy links order system) }
+{
+    let crossbar = system.into_crossbar();
+    let banks = banks_of(alloc, &crossbar.devices)?;
+    let watch = Watch::new(alloc, links, order, crossbar.map, crossbar.sources, banks)?;
+    let text = Vec::with_capacity(alloc, LINE_ROOM)?;
+    Ok(Judge {
+        watch,
+        requests: 0,
+        answered: 0,
+        text,
+    })
+}
+
+/// The links of a number.
+fn links_of(number: u8) -> Option<Links>
+    ensures { result ≡ links_of number }
+{
+    if number == 0 {
+        Some(Links::Both)
+    } else if number == 1 {
+        Some(Links::Masters)
+    } else if number == 2 {
+        Some(Links::Ports)
+    } else {
+        None
+    }
+}
+
+/// The order of a number.
+fn order_of(number: u8) -> Option<Order>
+    ensures { result ≡ order_of number }
+{
+    if number == 0 {
+        Some(Order::Accept)
+    } else if number == 1 {
+        Some(Order::Reply)
+    } else {
+        None
+    }
+}
+
+/// `tlx_judge_make_at` of the header: the judge of a system, before any beat.
+#[unsafe(no_mangle)]
+pub extern "C" fn tlx_judge_make_at(
+    alloc: Global,
+    judge: &mut Handle,
+    system: &mut Handle,
+    links: u8,
+    order: u8,
+) -> u32
+    ensures ok { result ≡ OK → HoldsSystem (λ s. HoldsJudge (BeginsAs links order s) judge.new.value) system.old.value }
+    ensures taken { result ≡ OK → system.new.value ≡ None }
+    ensures err { result ≢ OK → judge.new.value ≡ judge.old.value }
+{
+    let (Some(links), Some(order)) = (links_of(links), order_of(order)) else {
+        return BAD_ARGUMENT;
+    };
+    if let Some(held) = take(alloc, judge) {
+        *judge = Handle::of(held);
+        return FULL;
+    }
+    let Some(held) = take(alloc, system) else {
+        return EMPTY;
+    };
+    let Held::System(made) = Box::into_inner(held) else {
+        return EMPTY;
+    };
+    match judge_of(alloc, made, links, order) {
+        Ok(made) => hold(alloc, judge, Held::Judge(made)),
+        Err(_) => MEMORY,
+    }
+}
+
+/// Whether messages are counted at a link: at the masters' where these are watched, else at the ports'.
+fn is_counted(links: Links, link: Link) -> bool
+    ensures { result ≡ is_counted links link }
+{
+    match link {
+        Link::Master(_) => matches!(links, Links::Both | Links::Masters),
+        Link::Port(_) => matches!(links, Links::Ports),
+    }
+}
+
+/// Counts what a beat ends at a link.
+fn count(judge: &mut Judge, link: Link, seen: &Seen)
+    ensures watch { judge.new.watch ≡ judge.old.watch }
+    ensures requests { judge.new.requests
+        ≡ one_more (is_counted judge.old.watch.layout.links link && is_whole_ask seen.now) judge.old.requests }
+    ensures answered { judge.new.answered
+        ≡ one_more (is_counted judge.old.watch.layout.links link && is_whole_reply seen.now) judge.old.answered }
+{
+    if !is_counted(judge.watch.links(), link) {
+        return;
+    }
+    match seen {
+        Seen::Part => {}
+        Seen::WholeAsk => judge.requests = judge.requests.wrapping_add(1),
+        Seen::WholeReply(_) => judge.answered = judge.answered.wrapping_add(1),
+    }
+}
+
+/// Keeps the line of a fault. It has room, so no memory is asked for.
+fn keep_line(text: &mut Vec<u8>, found: &Unlawful) {
+    text.clear();
+    if push_unlawful(text, found).is_err() {
+        text.clear();
+    }
+}
+
+/// Judges one beat more.
+fn step(judge: &mut Judge, line: u64, time: u64, sighting: Sighting) -> u32
+    ensures step { (plan : Plan) (past : List Sighting) → Keeps plan past judge.old.watch → result ≢ NO_LINK
+        → IsStep plan past sighting judge.old result judge.new }
+    ensures fault { (plan : Plan) (past : List Sighting) → Keeps plan past judge.old.watch → NO_LINK < result
+        → IsFaultOfBeat plan past sighting result }
+    ensures link { result ≡ NO_LINK ↔ ((HasLink judge.old.watch.layout sighting.link
+        × IsWatched judge.old.watch.layout.links sighting.link) → ⊥) }
+    ensures err { result ≢ OK → judge.new.watch ≡ judge.old.watch }
+{
+    if !judge.watch.watches(sighting.link) {
+        return NO_LINK;
+    }
+    match judge.watch.step(&sighting) {
+        Ok(seen) => {
+            count(judge, sighting.link, &seen);
+            OK
+        }
+        Err(fault) => {
+            let number = beat_number(&fault);
+            let row = Row {
+                line,
+                time,
+                sighting,
+            };
+            keep_line(&mut judge.text, &Unlawful { row, fault });
+            number
+        }
+    }
+}
+
+/// `tlx_judge_step_at` of the header: judges one beat more.
+#[unsafe(no_mangle)]
+pub extern "C" fn tlx_judge_step_at(alloc: Global, judge: &mut Handle, beat: &WireBeat) -> u32
+    ensures step { (plan : Plan) (past : List Sighting) → result ≡ OK → HoldsJudge (λ old. Keeps plan past old.watch
+        → HoldsJudge (λ new. (shown : Sighting) × Shows beat.now shown × IsStep plan past shown old result new) judge.new.value) judge.old.value }
+    ensures fault { (plan : Plan) (past : List Sighting) → NO_LINK < result → HoldsJudge (λ old. Keeps plan past old.watch
+        → (shown : Sighting) × Shows beat.now shown × IsFaultOfBeat plan past shown result) judge.old.value }
+    ensures err { result ≢ OK → HoldsJudge (λ old. HoldsJudge (λ new. new.watch ≡ old.watch) judge.new.value) judge.old.value ⊎ (judge.new.value ≡ judge.old.value) }
+{
+    let Some(sighting) = sighting_of(beat) else {
+        return BAD_ARGUMENT;
+    };
+    let Some(mut held) = take(alloc, judge) else {
+        return EMPTY;
+    };
+    let number = match &mut *held {
+        Held::Judge(held) => step(held, beat.line, beat.time, sighting),
+        Held::System(_) | Held::Model(_) => EMPTY,
+    };
+    *judge = Handle::of(held);
+    number
+}
+
+/// `tlx_judge_text_at` of the header: the line of the last fault.
+#[unsafe(no_mangle)]
+pub extern "C" fn tlx_judge_text_at(alloc: Global, judge: &mut Handle, room: &mut [u8]) -> usize
+    ensures same { judge.new.value ≡ judge.old.value }
+{
+    let Some(held) = take(alloc, judge) else {
+        return put_text(room, b"");
+    };
+    let count = match &*held {
+        Held::Judge(held) => put_text(room, &held.text),
+        Held::System(_) | Held::Model(_) => put_text(room, b""),
+    };
+    *judge = Handle::of(held);
+    count
+}
+
+/// `tlx_judge_requests_at` of the header: how many whole requests were seen.
+#[unsafe(no_mangle)]
+pub extern "C" fn tlx_judge_requests_at(alloc: Global, judge: &mut Handle) -> u64
+    ensures count { (j : Judge) → judge.old.value ≡ Some (held.Judge j) → result ≡ j.requests }
+    ensures same { judge.new.value ≡ judge.old.value }
+{
+    let Some(held) = take(alloc, judge) else {
+        return 0;
+    };
+    let count = match &*held {
+        Held::Judge(held) => held.requests,
+        Held::System(_) | Held::Model(_) => 0,
+    };
+    *judge = Handle::of(held);
+    count
+}
+
+/// `tlx_judge_answered_at` of the header: how many whole replies were seen.
+#[unsafe(no_mangle)]
+pub extern "C" fn tlx_judge_answered_at(alloc: Global, judge: &mut Handle) -> u64
+    ensures count { (j : Judge) → judge.old.value ≡ Some (held.Judge j) → result ≡ j.answered }
+    ensures same { judge.new.value ≡ judge.old.value }
+{
+    let Some(held) = take(alloc, judge) else {
+        return 0;
+    };
+    let count = match &*held {
+        Held::Judge(held) => held.answered,
+        Held::System(_) | Held::Model(_) => 0,
+    };
+    *judge = Handle::of(held);
+    count
+}
+
+/// `tlx_judge_free_at` of the header.
+#[unsafe(no_mangle)]
+pub extern "C" fn tlx_judge_free_at(alloc: Global, judge: &mut Handle)
+    ensures { judge.new.value ≡ None }
+{
+    let _held = take(alloc, judge);
+}

@@ -1,0 +1,154 @@
+//! Models of crossbars.
+ghost use Rattle.std.specs.Prelude.{◌≡◌, ◌≢◌, ◌<◌, ◌≤◌, ℕ, IfSome, IsSomeAnd, None, Some, length, slice_get};
+ghost use Rattle.tl_c.specs.Calls.{HoldsModel, HoldsSystem, IsRefusedBy, IsServedBy};
+ghost use Rattle.tl_c.specs.declared.held.Held.TheVariants.{Model};
+ghost use Rattle.tl_map.specs.Map.{RoutesBytes};
+ghost use Rattle.tl_model.specs.Crossbar.{CrossbarState, at_reset, byte_in};
+
+use crate::fault::{EMPTY, FULL, MEMORY, NO_BYTE, OK, SIZE, serve_number};
+use crate::handle::Handle;
+use crate::held::Held;
+use crate::system::{hold, take};
+use crate::wire::{WireAnswer, WireAsk, ask_of, put_answer};
+use std::alloc::Global;
+use tl_model::Crossbar;
+
+/// `tlx_model_make_at` of the header: the model of a system at reset.
+#[unsafe(no_mangle)]
+pub extern "C" fn tlx_model_make_at(alloc: Global, model: &mut Handle, system: &mut Handle) -> u32
+    ensures ok { result ≡ OK → HoldsSystem (λ s. model.new.value ≡ Some (Model (at_reset s))) system.old.value }
+    ensures taken { result ≡ OK → system.new.value ≡ None }
+    ensures err { result ≢ OK → model.new.value ≡ model.old.value }
+{
+    if let Some(held) = take(alloc, model) {
+        *model = Handle::of(held);
+        return FULL;
+    }
+    let Some(held) = take(alloc, system) else {
+        return EMPTY;
+    };
+    let Held::System(made) = Box::into_inner(held) else {
+        return EMPTY;
+    };
+    match Crossbar::new(alloc, made) {
+        Ok(crossbar) => hold(alloc, model, Held::Model(crossbar)),
+        Err(_) => MEMORY,
+    }
+}
+
+/// Serves a request of a master.
+fn serve(model: &mut Crossbar, master: usize, ask: &WireAsk, answer: &mut WireAnswer) -> u32
+    ensures ok { result ≡ OK → IsServedBy model.old master ask.now answer.new model.new }
+    ensures fault { SIZE < result → IsRefusedBy model.old master ask.now result }
+    ensures err { result ≢ OK → model.new ≡ model.old }
+    ensures quiet { result ≢ OK → answer.new ≡ answer.old }
+{
+    let ask = match ask_of(ask) {
+        Ok(ask) => ask,
+        Err(number) => return number,
+    };
+    match model.serve(master, &ask) {
+        Ok(given) => {
+            put_answer(answer, &given);
+            OK
+        }
+        Err(fault) => serve_number(fault),
+    }
+}
+
+/// `tlx_model_serve_at` of the header: what a request of a master is answered.
+#[unsafe(no_mangle)]
+pub extern "C" fn tlx_model_serve_at(
+    alloc: Global,
+    model: &mut Handle,
+    master: usize,
+    ask: &WireAsk,
+    answer: &mut WireAnswer,
+) -> u32
+    ensures ok { result ≡ OK → HoldsModel (λ old. HoldsModel (IsServedBy old master ask.now answer.new) model.new.value) model.old.value }
+    ensures fault { SIZE < result → HoldsModel (λ old. IsRefusedBy old master ask.now result) model.old.value }
+    ensures err { result ≢ OK → model.new.value ≡ model.old.value }
+    ensures quiet { result ≢ OK → answer.new ≡ answer.old }
+{
+    let Some(mut held) = take(alloc, model) else {
+        return EMPTY;
+    };
+    let number = match &mut *held {
+        Held::Model(crossbar) => serve(crossbar, master, ask, answer),
+        Held::System(_) | Held::Judge(_) => EMPTY,
+    };
+    *model = Handle::of(held);
+    number
+}
+
+/// `tlx_model_byte_at` of the header: the byte that the slave of an address holds there.
+#[unsafe(no_mangle)]
+pub extern "C" fn tlx_model_byte_at(
+    alloc: Global,
+    model: &mut Handle,
+    address: u64,
+    byte: &mut u8,
+) -> u32
+    ensures ok { result ≡ OK → HoldsModel (λ state. (port : ℕ) → RoutesBytes state.ranges address 0 port
+        → IsSomeAnd (slice_get state.ports port) (λ at. byte_in at.store address ≡ Some byte.new)) model.old.value }
+    ensures same { model.new.value ≡ model.old.value }
+    ensures quiet { result ≢ OK → byte.new ≡ byte.old }
+{
+    let Some(held) = take(alloc, model) else {
+        return EMPTY;
+    };
+    let number = match &*held {
+        Held::Model(crossbar) => match crossbar.byte(address) {
+            Some(found) => {
+                *byte = found;
+                OK
+            }
+            None => NO_BYTE,
+        },
+        Held::System(_) | Held::Judge(_) => EMPTY,
+    };
+    *model = Handle::of(held);
+    number
+}
+
+/// `tlx_model_masters_at` of the header: how many masters there are.
+#[unsafe(no_mangle)]
+pub extern "C" fn tlx_model_masters_at(alloc: Global, model: &mut Handle) -> usize
+    ensures count { (state : CrossbarState) → model.old.value ≡ Some (Model state) → result ≡ length state.counts }
+    ensures same { model.new.value ≡ model.old.value }
+{
+    let Some(held) = take(alloc, model) else {
+        return 0;
+    };
+    let count = match &*held {
+        Held::Model(crossbar) => crossbar.masters(),
+        Held::System(_) | Held::Judge(_) => 0,
+    };
+    *model = Handle::of(held);
+    count
+}
+
+/// `tlx_model_ports_at` of the header: how many ports there are, the error port among them.
+#[unsafe(no_mangle)]
+pub extern "C" fn tlx_model_ports_at(alloc: Global, model: &mut Handle) -> usize
+    ensures count { (state : CrossbarState) → model.old.value ≡ Some (Model state) → result ≡ length state.ports }
+    ensures same { model.new.value ≡ model.old.value }
+{
+    let Some(held) = take(alloc, model) else {
+        return 0;
+    };
+    let count = match &*held {
+        Held::Model(crossbar) => crossbar.ports(),
+        Held::System(_) | Held::Judge(_) => 0,
+    };
+    *model = Handle::of(held);
+    count
+}
+
+/// `tlx_model_free_at` of the header.
+#[unsafe(no_mangle)]
+pub extern "C" fn tlx_model_free_at(alloc: Global, model: &mut Handle)
+    ensures { model.new.value ≡ None }
+{
+    let _held = take(alloc, model);
+}

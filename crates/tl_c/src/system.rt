@@ -1,0 +1,78 @@
+//! Systems of scripts.
+ghost use Rattle.std.specs.Prelude.{◌≡◌, ◌≢◌, None, Some};
+ghost use Rattle.tl_c.specs.Calls.{HoldsSystem, IsScriptAnswer};
+ghost use Rattle.tl_c.specs.Handle.{unboxed};
+ghost use Rattle.tl_script.specs.Script.{Spells};
+
+use crate::fault::{FULL, MEMORY, OK, script_number};
+use crate::handle::Handle;
+use crate::held::Held;
+use crate::text::put_text;
+use std::alloc::Global;
+use tl_script::{ScriptFault, read_system};
+
+/// What a handle holds, which is empty from then on.
+pub(crate) fn take(alloc: Global, handle: &mut Handle) -> Option<Box<Held>>
+    ensures empty { handle.new.value ≡ None }
+    ensures taken { handle.old.value ≡ unboxed result }
+{
+    std::mem::replace(handle, Handle::empty(alloc)).take()
+}
+
+/// Has an empty handle hold this, if memory allows.
+pub(crate) fn hold(alloc: Global, handle: &mut Handle, held: Held) -> u32
+    ensures ok { result ≡ OK → handle.new.value ≡ Some held }
+    ensures err { result ≢ OK → handle.new.value ≡ handle.old.value }
+    ensures number { result ≢ OK → result ≡ MEMORY }
+{
+    match Box::new(alloc, held) {
+        Ok(held) => {
+            *handle = Handle::of(held);
+            OK
+        }
+        Err(_) => MEMORY,
+    }
+}
+
+/// Writes the line of a script's fault, or nothing if there is no memory for it.
+fn put_fault(alloc: Global, room: &mut [u8], fault: ScriptFault) -> usize {
+    match format!(in alloc; "{fault}") {
+        Ok(line) => put_text(room, line.as_bytes()),
+        Err(_) => put_text(room, b""),
+    }
+}
+
+/// `tlx_system_read_at` of the header: the system that a script describes.
+#[unsafe(no_mangle)]
+pub extern "C" fn tlx_system_read_at(
+    alloc: Global,
+    system: &mut Handle,
+    script: &[u8],
+    room: &mut [u8],
+    written: &mut usize,
+) -> u32
+    ensures spelled { result ≡ OK → HoldsSystem (Spells script.now) system.new.value }
+    ensures fault { IsScriptAnswer script.now result }
+    ensures err { result ≢ OK → system.new.value ≡ system.old.value }
+{
+    *written = put_text(room, b"");
+    if let Some(held) = take(alloc, system) {
+        *system = Handle::of(held);
+        return FULL;
+    }
+    match read_system(alloc, script) {
+        Ok(made) => hold(alloc, system, Held::System(made)),
+        Err(fault) => {
+            *written = put_fault(alloc, room, fault);
+            script_number(fault)
+        }
+    }
+}
+
+/// `tlx_system_free_at` of the header.
+#[unsafe(no_mangle)]
+pub extern "C" fn tlx_system_free_at(alloc: Global, system: &mut Handle)
+    ensures { system.new.value ≡ None }
+{
+    let _held = take(alloc, system);
+}

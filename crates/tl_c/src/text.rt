@@ -1,0 +1,26 @@
+//! Texts in a caller's buffer.
+ghost use Rattle.std.specs.Prelude.{◌≡◌, ◌≤◌, ◌<◌, length};
+
+use crate::fault::words;
+
+/// Writes as much of a text as fits, and a zero byte behind it: how many bytes of the text were written.
+pub(crate) fn put_text(room: &mut [u8], text: &[u8]) -> usize
+    ensures same { length room.new ≡ length room.old }
+    ensures all { result ≤ length text.now }
+{
+    if room.is_empty() {
+        return 0;
+    }
+    let count = text.len().min(room.len() - 1);
+    room[..count].copy_from_slice(&text[..count]);
+    room[count] = 0;
+    count
+}
+
+/// `tlx_fault_text_at` of the header: the words of a fault's number.
+#[unsafe(no_mangle)]
+pub extern "C" fn tlx_fault_text_at(fault: u32, room: &mut [u8]) -> usize
+    ensures { length room.new ≡ length room.old }
+{
+    put_text(room, words(fault).as_bytes())
+}

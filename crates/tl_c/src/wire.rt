@@ -1,0 +1,197 @@
+//! The structs of the header, and what they stand for.
+ghost use Rattle.std.specs.Prelude.{◌≡◌, ◌≤◌, ◌<◌, Bool, IfErr, IfOk, IfSome, Some, map};
+ghost use Rattle.std.specs.List.{range_with_len};
+ghost use Rattle.tl_c.specs.Wire.{IsAnswerOf, IsAskOf, Shows, ask_beat, byte_at, flag_of, link_of, reply_beat};
+
+use crate::fault::{BAD_ARGUMENT, NO_OPERATION, OK, SIZE};
+use arrayvec::ArrayVec;
+use tl_beats::{ABeat, DBeat};
+use tl_link::{Beat, Link, Sighting};
+use tl_model::Answer;
+use tl_types::{Ask, BUS_BYTES, LARGEST_SIZE, MAX_BYTES, read_op, reply_opcode};
+
+/// The room of a message's bytes in the header's structs.
+pub const ROOM: usize = 256;
+
+/// A request: `struct tlx_request`.
+#[repr(C)]
+#[derive(Clone, Copy)]
+pub struct WireAsk {
+    pub address: u64,
+    pub source: u16,
+    pub opcode: u8,
+    pub param: u8,
+    pub size: u8,
+    pub bytes: [u8; ROOM],
+    pub set: [u8; ROOM],
+}
+
+/// What a request is answered: `struct tlx_answer`.
+#[repr(C)]
+#[derive(Clone, Copy)]
+pub struct WireAnswer {
+    pub port: usize,
+    pub place: usize,
+    pub count: usize,
+    pub source: u16,
+    pub opcode: u8,
+    pub size: u8,
+    pub denied: u8,
+    pub bytes: [u8; ROOM],
+}
+
+/// A beat: `struct tlx_beat`.
+#[repr(C)]
+#[derive(Clone, Copy)]
+pub struct WireBeat {
+    pub line: u64,
+    pub time: u64,
+    pub number: usize,
+    pub address: u64,
+    pub source: u16,
+    pub side: u8,
+    pub channel: u8,
+    pub opcode: u8,
+    pub param: u8,
+    pub size: u8,
+    pub mask: u8,
+    pub denied: u8,
+    pub corrupt: u8,
+    pub known: u8,
+    pub lanes: [u8; BUS_BYTES],
+}
+
+/// The byte of a request at a place: none where a partial put leaves it unset.
+fn byte_at(wire: &WireAsk, partial: bool, place: usize) -> Option<u8>
+    requires { place < ROOM }
+    ensures { result ≡ byte_at wire.now partial place }
+{
+    if partial && wire.set[place] == 0 {
+        return None;
+    }
+    Some(wire.bytes[place])
+}
+
+/// The bytes that a request carries.
+fn bytes_of(wire: &WireAsk, count: usize, partial: bool) -> ArrayVec<Option<u8>, MAX_BYTES>
+    requires { count ≤ MAX_BYTES }
+    ensures { result.items ≡ map (byte_at wire.now partial) (range_with_len 0 count) }
+{
+    let mut bytes = ArrayVec::new();
+    for place in 0..count {
+        bytes.push(byte_at(wire, partial, place));
+    }
+    bytes
+}
+
+/// The request of a struct, or the number of its fault.
+pub(crate) fn ask_of(wire: &WireAsk) -> Result<Ask, u32>
+    ensures ask { IfOk result (IsAskOf wire.now) }
+    ensures fault { IfErr result (λ number. (OK < number) × (number ≤ SIZE)) }
+{
+    let Ok(op) = read_op(wire.opcode, wire.param) else {
+        return Err(NO_OPERATION);
+    };
+    if wire.size > LARGEST_SIZE {
+        return Err(SIZE);
+    }
+    let count = op.byte_count(wire.size);
+    let bytes = bytes_of(wire, count, op.may_leave_unset());
+    match Ask::new(op, wire.size, wire.source, wire.address, &bytes) {
+        Ok(ask) => Ok(ask),
+        Err(_) => Err(BAD_ARGUMENT),
+    }
+}
+
+/// Puts an answer into a struct.
+pub(crate) fn put_answer(wire: &mut WireAnswer, answer: &Answer)
+    ensures { IsAnswerOf wire.new answer.now.port answer.now.place answer.now.reply }
+{
+    let reply = &answer.reply;
+    let bytes = reply.bytes();
+    let count = bytes.len();
+    *wire = WireAnswer {
+        port: answer.port,
+        place: answer.place,
+        count,
+        source: reply.source(),
+        opcode: reply_opcode(reply.op()),
+        size: reply.size(),
+        denied: reply.denied() as u8,
+        bytes: [0; ROOM],
+    };
+    wire.bytes[..count].copy_from_slice(bytes);
+}
+
+/// The flag that a number stands for.
+fn flag_of(number: u8) -> Option<bool>
+    ensures { result ≡ flag_of number }
+{
+    if number == 0 {
+        Some(false)
+    } else if number == 1 {
+        Some(true)
+    } else {
+        None
+    }
+}
+
+/// The link of a side's number.
+fn link_of(side: u8, number: usize) -> Option<Link>
+    ensures { result ≡ link_of side number }
+{
+    if side == 0 {
+        Some(Link::Master(number))
+    } else if side == 1 {
+        Some(Link::Port(number))
+    } else {
+        None
+    }
+}
+
+/// The beat of a struct, if its numbers have a meaning.
+fn beat_of(wire: &WireBeat) -> Option<Beat>
+    ensures ask { IfSome result (λ beat. wire.now.channel ≡ 0 → beat ≡ ask_beat wire.now) }
+    ensures reply { IfSome result (λ beat. wire.now.channel ≡ 1 → (denied corrupt : Bool)
+        → flag_of wire.now.denied ≡ Some denied → flag_of wire.now.corrupt ≡ Some corrupt
+        → beat ≡ reply_beat wire.now denied corrupt) }
+{
+    if wire.channel == 0 {
+        return Some(Beat::A(ABeat {
+            opcode: wire.opcode,
+            param: wire.param,
+            size: wire.size,
+            source: wire.source,
+            address: wire.address,
+            mask: wire.mask,
+            lanes: wire.lanes,
+        }));
+    }
+    let (Some(denied), Some(corrupt)) = (flag_of(wire.denied), flag_of(wire.corrupt)) else {
+        return None;
+    };
+    if wire.channel != 1 {
+        return None;
+    }
+    Some(Beat::D(DBeat {
+        opcode: wire.opcode,
+        size: wire.size,
+        source: wire.source,
+        denied,
+        corrupt,
+        lanes: wire.lanes,
+    }))
+}
+
+/// What was seen by a struct, if its numbers have a meaning.
+pub(crate) fn sighting_of(wire: &WireBeat) -> Option<Sighting>
+    ensures { IfSome result (Shows wire.now) }
+{
+    let link = link_of(wire.side, wire.number)?;
+    let beat = beat_of(wire)?;
+    Some(Sighting {
+        link,
+        beat,
+        known: wire.known,
+    })
+}

@@ -1,0 +1,354 @@
+/* Walks every call of the library with right and wrong arguments, and judges the captures beside by calls. Its argument is the folder of the
+ * examples; it ends in 'N passed, M failed'. What it expects was worked out by hand, or is the captures' own verdict. */
+#include "tlx.h"
+
+#include <dirent.h>
+#include <inttypes.h>
+#include <stdio.h>
+#include <stdlib.h>
+#include <string.h>
+
+#define MOST_ROWS 256
+#define MOST_TEXT 65536
+
+static int passed, failed;
+
+static void tell(const char *name, int is_so) {
+  if (is_so) {
+    passed++;
+  } else {
+    failed++;
+    fprintf(stderr, "examples/c: %s is not as it was worked out\n", name);
+  }
+}
+
+/* The bytes of a file, with a zero behind them. */
+static size_t read_file(const char *folder, const char *name, char *text) {
+  char path[1024];
+  snprintf(path, sizeof path, "%s/%s", folder, name);
+  FILE *file = fopen(path, "rb");
+  if (!file) return 0;
+  size_t length = fread(text, 1, MOST_TEXT - 1, file);
+  fclose(file);
+  text[length] = 0;
+  return length;
+}
+
+/* ---- the captures */
+
+struct row {
+  struct tlx_beat beat;
+  int place;
+};
+
+/* Where a row stands among those of its time: A of the masters' links, A of the ports', D of the ports', D of the masters'. */
+static int place_of(const struct tlx_beat *beat) {
+  int turn = beat->channel == TLX_A ? (beat->side == TLX_MASTER ? 0 : 1) : (beat->side == TLX_PORT ? 2 : 3);
+  return 16 * turn + (int)beat->number;
+}
+
+static int digit_of(char c) {
+  if (c >= '0' && c <= '9') return c - '0';
+  if (c >= 'a' && c <= 'f') return c - 'a' + 10;
+  if (c >= 'A' && c <= 'F') return c - 'A' + 10;
+  return -1;
+}
+
+/* The lanes of sixteen digits, lane 0 last; a lane with an x is not known. No digits are eight known zeros. */
+static void read_lanes(const char *word, struct tlx_beat *beat) {
+  beat->known = 0xff;
+  if (strlen(word) != 2 * TLX_LANES) return;
+  for (int lane = 0; lane < TLX_LANES; lane++) {
+    int high = digit_of(word[2 * (TLX_LANES - 1 - lane)]), low = digit_of(word[2 * (TLX_LANES - 1 - lane) + 1]);
+    if (high < 0 || low < 0)
+      beat->known &= (uint8_t) ~(1u << lane);
+    else
+      beat->lanes[lane] = (uint8_t)(16 * high + low);
+  }
+}
+
+/* The fields of a line, without their quotes; the line is cut up. */
+static int split(char *line, char *fields[12]) {
+  int count = 0;
+  char *to = line;
+  fields[count++] = to;
+  for (char *from = line; *from; from++) {
+    if (*from == '"') continue;
+    if (*from == ',' && count < 12) {
+      *to++ = 0;
+      fields[count++] = to;
+    } else {
+      *to++ = *from;
+    }
+  }
+  *to = 0;
+  return count;
+}
+
+static void read_row(char *fields[12], uint64_t line, struct row *row) {
+  struct tlx_beat *beat = &row->beat;
+  memset(row, 0, sizeof *row);
+  beat->line = line;
+  beat->time = strtoull(fields[0], 0, 10);
+  beat->side = fields[1][0] == 'm' ? TLX_MASTER : TLX_PORT;
+  beat->number = strtoull(fields[1] + 1, 0, 10);
+  beat->channel = fields[2][0] == 'A' ? TLX_A : TLX_D;
+  beat->opcode = (uint8_t)strtoul(fields[3], 0, 10);
+  beat->param = (uint8_t)strtoul(fields[4], 0, 10);
+  beat->size = (uint8_t)strtoul(fields[5], 0, 10);
+  beat->source = (uint16_t)strtoul(fields[6], 0, 10);
+  beat->address = strtoull(fields[7], 0, 16);
+  beat->mask = (uint8_t)strtoul(fields[8], 0, 16);
+  read_lanes(fields[9], beat);
+  beat->denied = (uint8_t)strtoul(fields[10], 0, 10);
+  beat->corrupt = (uint8_t)strtoul(fields[11], 0, 10);
+  row->place = place_of(beat);
+}
+
+static int compare(const void *one, const void *other) {
+  const struct row *a = one, *b = other;
+  if (a->beat.time != b->beat.time) return a->beat.time < b->beat.time ? -1 : 1;
+  return a->place - b->place;
+}
+
+static size_t read_rows(char *text, struct row *rows) {
+  size_t count = 0;
+  uint64_t line = 0;
+  for (char *at = text; at && *at;) {
+    char *next = strchr(at, '\n'), *fields[12];
+    if (next) *next++ = 0;
+    line++;
+    if (line > 1 && *at && split(at, fields) == 12) read_row(fields, line, &rows[count++]);
+    at = next;
+  }
+  qsort(rows, count, sizeof *rows, compare);
+  return count;
+}
+
+/* The verdict over rows that cross in this order, as tlcheck tells it. */
+static void judge_rows(struct tlx_judge *judge, const struct row *rows, size_t count, uint8_t links, char *verdict, size_t room) {
+  for (size_t k = 0; k < count; k++) {
+    const struct tlx_beat *beat = &rows[k].beat;
+    int watched = links == TLX_BOTH_LINKS || (links == TLX_MASTER_LINKS) == (beat->side == TLX_MASTER);
+    if (watched && tlx_judge_step(judge, beat) != TLX_OK) {
+      tlx_judge_text(judge, verdict, room);
+      return;
+    }
+  }
+  snprintf(verdict, room, "lawful: %zu rows, %" PRIu64 " requests, %" PRIu64 " answered\n", count, tlx_judge_requests(judge),
+           tlx_judge_answered(judge));
+}
+
+static void check_capture(const char *folder, const char *script, size_t length, const char *name) {
+  static char text[MOST_TEXT], args[MOST_TEXT], expected[MOST_TEXT];
+  static struct row rows[MOST_ROWS];
+  char path[512], verdict[2048], *last = expected;
+  struct tlx_system system = {0};
+  struct tlx_judge judge = {0};
+  snprintf(path, sizeof path, "%s.verdict", name);
+  read_file(folder, path, expected);
+  for (char *at = expected; (at = strchr(at, '\n')) && at[1];) last = ++at;
+  if (!strncmp(last, "capture:", 8)) return; /* of the text of a capture, which is no beat */
+  snprintf(path, sizeof path, "%s.args", name);
+  if (!read_file(folder, path, args)) args[0] = 0;
+  uint8_t links = strstr(args, "masters") ? TLX_MASTER_LINKS : strstr(args, "ports") ? TLX_PORT_LINKS : TLX_BOTH_LINKS;
+  uint8_t order = strstr(args, "reply") ? TLX_REPLY_ORDER : TLX_ACCEPT_ORDER;
+  snprintf(path, sizeof path, "%s.csv", name);
+  read_file(folder, path, text);
+  size_t count = read_rows(text, rows);
+  tlx_system_read(&system, script, length, 0, 0);
+  int made = tlx_judge_make(&judge, &system, links, order) == TLX_OK;
+  judge_rows(&judge, rows, count, links, verdict, sizeof verdict);
+  tell(name, made && !strcmp(verdict, last));
+  if (strcmp(verdict, last)) fprintf(stderr, "  %s  %s", verdict, last);
+  tlx_judge_free(&judge);
+}
+
+static void check_captures(const char *folder, const char *script, size_t length) {
+  struct dirent **names;
+  int count = scandir(folder, &names, 0, alphasort);
+  for (int k = 0; k < count; k++) {
+    char *end = strstr(names[k]->d_name, ".verdict");
+    if (end) {
+      *end = 0;
+      check_capture(folder, script, length, names[k]->d_name);
+    }
+    free(names[k]);
+  }
+  if (count >= 0) free(names);
+}
+
+/* ---- the calls */
+
+static const char SYSTEM[] =
+    "slots = 1\n"
+    "[[port]]\nkind = \"ram\"\nbase = 0x1000\nlength = 64\nreset = \"0011223344\"\n"
+    "[[port]]\nkind = \"ram\"\nbase = 0x2000\nlength = 64\n"
+    "[[master]]\nsources = 2\nops = []\n";
+
+static void check_faults(void) {
+  char text[64];
+  tell("the words of a fault", tlx_fault_text(TLX_EMPTY, text, sizeof text) == 12 && !strcmp(text, "empty handle"));
+  tell("the words of no fault's number", tlx_fault_text(99, text, sizeof text) == 13 && !strcmp(text, "unknown fault"));
+  tell("words that are cut off", tlx_fault_text(TLX_EMPTY, text, 4) == 3 && !strcmp(text, "emp"));
+  tell("words into one byte", tlx_fault_text(TLX_EMPTY, text, 1) == 0 && !text[0]);
+  tell("words into nothing", tlx_fault_text(TLX_EMPTY, 0, 9) == 0 && tlx_fault_text(TLX_EMPTY, text, 0) == 0);
+  tell("the largest size", tlx_largest_size() == 6);
+}
+
+static void check_systems(void) {
+  struct tlx_system system = {0};
+  char text[128];
+  tell("a null system", tlx_system_read(0, SYSTEM, strlen(SYSTEM), 0, 0) == TLX_NULL);
+  tell("a null script", tlx_system_read(&system, 0, 0, 0, 0) == TLX_NULL);
+  tell("a script that is not TOML", tlx_system_read(&system, "=", 1, text, sizeof text) == TLX_NOT_TOML && !strcmp(text, "script: not TOML"));
+  tell("a script with no key", tlx_system_read(&system, "", 0, text, sizeof text) == TLX_MISSING && !strcmp(text, "script: missing slots"));
+  tell("a value of a wrong type", tlx_system_read(&system, "slots = \"a\"", 11, text, sizeof text) == TLX_WRONG_TYPE && !strcmp(text, "script: wrong type of slots"));
+  tell("a value out of range", tlx_system_read(&system, "slots = 257", 11, text, 8) == TLX_OUT_OF_RANGE && !strcmp(text, "script:"));
+  tell("a system", tlx_system_read(&system, SYSTEM, strlen(SYSTEM), text, sizeof text) == TLX_OK && !text[0]);
+  tell("a second system in one handle", tlx_system_read(&system, SYSTEM, strlen(SYSTEM), 0, 0) == TLX_FULL);
+  tlx_system_free(&system);
+  tlx_system_free(&system);
+  tlx_system_free(0);
+  tell("a handle that was freed", tlx_system_read(&system, SYSTEM, strlen(SYSTEM), 0, 0) == TLX_OK);
+  tlx_system_free(&system);
+}
+
+static struct tlx_request request(uint8_t opcode, uint8_t param, uint8_t size, uint16_t source, uint64_t address) {
+  struct tlx_request made = {0};
+  made.opcode = opcode;
+  made.param = param;
+  made.size = size;
+  made.source = source;
+  made.address = address;
+  return made;
+}
+
+static void check_serving(struct tlx_model *model) {
+  struct tlx_answer answer, before;
+  struct tlx_request ask = request(4, 0, 2, 1, 0x1000);
+  memset(&answer, 0xa5, sizeof answer);
+  tell("a get", tlx_model_serve(model, 0, &ask, &answer) == TLX_OK && answer.port == 0 && answer.place == 0 && answer.count == 4 &&
+       answer.opcode == 1 && answer.size == 2 && answer.source == 1 && !answer.denied && !memcmp(answer.bytes, "\x00\x11\x22\x33\x00", 5));
+  ask = request(1, 0, 2, 0, 0x1000);
+  memcpy(ask.bytes, "\xaa\xbb\xcc\xdd", 4);
+  ask.set[1] = ask.set[3] = 1;
+  tell("a partial put", tlx_model_serve(model, 0, &ask, &answer) == TLX_OK && answer.place == 1 && answer.opcode == 0 && answer.count == 0);
+  uint8_t byte = 7;
+  tell("a byte that was left unset", tlx_model_byte(model, 0x1002, &byte) == TLX_OK && byte == 0x22);
+  tell("a byte that was put", tlx_model_byte(model, 0x1003, &byte) == TLX_OK && byte == 0xdd);
+  ask = request(0, 0, 0, 0, 0x2000);
+  ask.bytes[0] = 0x5a;
+  tell("a put to the other port", tlx_model_serve(model, 0, &ask, &answer) == TLX_OK && answer.port == 1 && answer.place == 0 &&
+       tlx_model_byte(model, 0x2000, &byte) == TLX_OK && byte == 0x5a && tlx_model_byte(model, 0x1000, &byte) == TLX_OK && byte == 0);
+  ask = request(4, 0, 0, 0, 0x9000);
+  tell("an address that no port has", tlx_model_serve(model, 0, &ask, &answer) == TLX_OK && answer.port == 2 && answer.denied && !answer.bytes[0]);
+  byte = 7;
+  tell("a byte that no slave has", tlx_model_byte(model, 0x9000, &byte) == TLX_NO_BYTE && byte == 7);
+  before = answer;
+  tell("no such master", tlx_model_serve(model, 1, &ask, &answer) == TLX_NO_MASTER && !memcmp(&before, &answer, sizeof answer));
+  ask.source = 2;
+  tell("no such source", tlx_model_serve(model, 0, &ask, &answer) == TLX_NO_SOURCE && !memcmp(&before, &answer, sizeof answer));
+  ask = request(6, 0, 0, 0, 0x1000);
+  tell("a cached operation", tlx_model_serve(model, 0, &ask, &answer) == TLX_NO_OPERATION);
+  ask = request(2, 5, 0, 0, 0x1000);
+  tell("no such parameter", tlx_model_serve(model, 0, &ask, &answer) == TLX_NO_OPERATION);
+  ask = request(4, 0, (uint8_t)(tlx_largest_size() + 1), 0, 0x1000);
+  tell("a size too large", tlx_model_serve(model, 0, &ask, &answer) == TLX_SIZE);
+  tell("null arguments", tlx_model_serve(model, 0, 0, &answer) == TLX_NULL && tlx_model_serve(model, 0, &ask, 0) == TLX_NULL &&
+       tlx_model_serve(0, 0, &ask, &answer) == TLX_NULL && tlx_model_byte(model, 0, 0) == TLX_NULL && tlx_model_byte(0, 0, &byte) == TLX_NULL);
+}
+
+static void check_models(void) {
+  struct tlx_system system = {0};
+  struct tlx_model model = {0}, second = {0};
+  struct tlx_request ask = request(4, 0, 0, 0, 0x1000);
+  struct tlx_answer answer;
+  uint8_t byte;
+  tell("a model of no system", tlx_model_make(&model, &system) == TLX_EMPTY && tlx_model_make(0, &system) == TLX_NULL && tlx_model_make(&model, 0) == TLX_NULL);
+  tell("an empty model", tlx_model_serve(&model, 0, &ask, &answer) == TLX_EMPTY && tlx_model_byte(&model, 0, &byte) == TLX_EMPTY &&
+       tlx_model_masters(&model) == 0 && tlx_model_ports(&model) == 0 && tlx_model_masters(0) == 0 && tlx_model_ports(0) == 0);
+  tlx_system_read(&system, SYSTEM, strlen(SYSTEM), 0, 0);
+  tell("a model", tlx_model_make(&model, &system) == TLX_OK && tlx_model_masters(&model) == 1 && tlx_model_ports(&model) == 3);
+  tell("a system that was taken", tlx_model_make(&second, &system) == TLX_EMPTY);
+  tlx_system_read(&system, SYSTEM, strlen(SYSTEM), 0, 0);
+  tell("a second model in one handle", tlx_model_make(&model, &system) == TLX_FULL && tlx_model_make(&second, &system) == TLX_OK);
+  check_serving(&model);
+  tell("a model beside it", tlx_model_byte(&second, 0x2000, &byte) == TLX_OK && byte == 0);
+  tlx_model_free(&model);
+  tlx_model_free(&model);
+  tlx_model_free(&second);
+  tlx_model_free(0);
+  tlx_system_free(&system);
+}
+
+static void check_steps(struct tlx_judge *judge) {
+  struct tlx_beat beat = {0};
+  char text[2048];
+  beat.opcode = 4;
+  beat.size = 2;
+  beat.source = 1;
+  beat.address = 0x1000;
+  beat.mask = 0x0f;
+  beat.number = 1;
+  tell("a link that there is not", tlx_judge_step(judge, &beat) == TLX_NO_LINK && tlx_judge_text(judge, text, sizeof text) == 0);
+  beat.number = 0;
+  beat.side = 2;
+  tell("a side that there is not", tlx_judge_step(judge, &beat) == TLX_BAD_ARGUMENT);
+  beat.side = TLX_PORT;
+  tell("a side that is not watched", tlx_judge_step(judge, &beat) == TLX_NO_LINK);
+  beat.side = TLX_MASTER;
+  beat.channel = 2;
+  tell("a channel that there is not", tlx_judge_step(judge, &beat) == TLX_BAD_ARGUMENT);
+  beat.channel = TLX_A;
+  tell("a request", tlx_judge_step(judge, &beat) == TLX_OK && tlx_judge_requests(judge) == 1 && tlx_judge_in_flight(judge) == 1);
+  beat.line = 3;
+  beat.time = 12;
+  tell("a source in flight", tlx_judge_step(judge, &beat) == TLX_SOURCE_IN_FLIGHT && tlx_judge_text(judge, text, sizeof text) == 50 &&
+       !strcmp(text, "unlawful: line 3, time 12, m0 A: source in flight\n") && tlx_judge_in_flight(judge) == 1);
+  beat.channel = TLX_D;
+  beat.opcode = 1;
+  beat.known = 0xff;
+  beat.denied = 2;
+  tell("a flag that is none", tlx_judge_step(judge, &beat) == TLX_BAD_ARGUMENT);
+  beat.denied = 0;
+  tell("a wrong reply", tlx_judge_step(judge, &beat) == TLX_WRONG_REPLY && tlx_judge_text(judge, text, sizeof text) > 0 &&
+       !strcmp(text, "unlawful: line 3, time 12, m0 D: wrong reply: expected AccessAckData 00112233, captured AccessAckData 00000000\n"));
+  memcpy(beat.lanes, "\x00\x11\x22\x33", 4);
+  tell("the right reply after it", tlx_judge_step(judge, &beat) == TLX_OK && tlx_judge_answered(judge) == 1 && tlx_judge_in_flight(judge) == 0);
+  tell("a reply more", tlx_judge_step(judge, &beat) == TLX_NO_REQUEST);
+  tell("null beats", tlx_judge_step(judge, 0) == TLX_NULL && tlx_judge_step(0, &beat) == TLX_NULL && tlx_judge_text(judge, 0, 1) == 0);
+}
+
+static void check_judges(void) {
+  struct tlx_system system = {0};
+  struct tlx_judge judge = {0};
+  struct tlx_beat beat = {0};
+  tell("a judge of no system", tlx_judge_make(&judge, &system, 0, 0) == TLX_EMPTY && tlx_judge_make(0, &system, 0, 0) == TLX_NULL);
+  tell("an empty judge", tlx_judge_step(&judge, &beat) == TLX_EMPTY && tlx_judge_requests(&judge) == 0 && tlx_judge_answered(&judge) == 0);
+  tlx_system_read(&system, SYSTEM, strlen(SYSTEM), 0, 0);
+  tell("links that there are not", tlx_judge_make(&judge, &system, 3, 0) == TLX_BAD_ARGUMENT);
+  tell("an order that there is not", tlx_judge_make(&judge, &system, 0, 2) == TLX_BAD_ARGUMENT);
+  tell("a judge", tlx_judge_make(&judge, &system, TLX_MASTER_LINKS, TLX_ACCEPT_ORDER) == TLX_OK);
+  tlx_system_read(&system, SYSTEM, strlen(SYSTEM), 0, 0);
+  tell("a second judge in one handle", tlx_judge_make(&judge, &system, 0, 0) == TLX_FULL);
+  check_steps(&judge);
+  tlx_judge_free(&judge);
+  tlx_judge_free(&judge);
+  tlx_judge_free(0);
+  tlx_system_free(&system);
+}
+
+int main(int count, char **words) {
+  static char script[MOST_TEXT];
+  char folder[1024];
+  check_faults();
+  check_systems();
+  check_models();
+  check_judges();
+  snprintf(folder, sizeof folder, "%s/captures", count > 1 ? words[1] : "..");
+  size_t length = read_file(folder, "system.toml", script);
+  check_captures(folder, script, length);
+  printf("%d passed, %d failed\n", passed, failed);
+  return failed != 0;
+}

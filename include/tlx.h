@@ -1,0 +1,235 @@
+/* tlx as a library: a system read from a script, the model of its crossbar, and the judge of what crosses a crossbar's links.
+ *
+ * A handle is a struct that the caller owns and the library fills: `struct tlx_judge judge = {0};` holds nothing. What a `_make` or
+ * `_read` call has put into a handle is given back by the `_free` call, once. The fields of a handle are the library's: never read,
+ * write or copy them. A handle is used by one thread at a time; several handles may be used by several threads at once. The library
+ * starts no thread, takes no lock, writes nothing and keeps no pointer that it is given. Only the calls that make what a handle holds
+ * (tlx_system_read, tlx_model_make, tlx_judge_make) take memory, by malloc and free; no call may be made from a signal handler.
+ *
+ * Each call but those that count answers a fault, TLX_OK (0) where there is none. A call that answers another fault has changed
+ * nothing of what a handle holds, unless it says so. A null pointer is TLX_NULL, found by the inline functions below.
+ *
+ * What the caller must not do: hand over a pointer that is neither null nor at its type's value (a handle before its first use is
+ * all zero), two pointers to memory that overlaps, or a length that is more than the memory there.
+ *
+ * Link with -ltlx. */
+#ifndef TLX_H
+#define TLX_H
+
+#include <stddef.h>
+#include <stdint.h>
+
+#ifdef __cplusplus
+extern "C" {
+#endif
+
+/* The room of a message's bytes in the structs below. The largest size that a call takes is the library's own: tlx_largest_size. */
+#define TLX_ROOM 256
+
+/* The lanes of the bus, each of one byte. */
+#define TLX_LANES 8
+
+enum tlx_fault {
+  TLX_OK = 0,
+  /* of any call */
+  TLX_NULL = 1,           /* a pointer is null */
+  TLX_EMPTY = 2,          /* the handle holds nothing */
+  TLX_FULL = 3,           /* the handle holds something already: free it first */
+  TLX_MEMORY = 4,         /* memory was refused */
+  TLX_BAD_ARGUMENT = 5,   /* a number that has no meaning where it stands: side, channel, links, order, a flag that is neither 0 nor 1 */
+  /* of a script (tlx_system_read) */
+  TLX_NOT_TOML = 10,
+  TLX_MISSING = 11,       /* a key is missing */
+  TLX_WRONG_TYPE = 12,    /* a value has another type than its key wants */
+  TLX_OUT_OF_RANGE = 13,  /* a value is out of its key's range */
+  TLX_BAD_OPERATION = 14, /* a line of a master's operations spells none */
+  TLX_BAD_PORTS = 15,     /* too many ports, or address ranges that are empty, too long or overlap */
+  TLX_BAD_SOURCES = 16,   /* too many masters or sources, or a master without one */
+  TLX_TOO_LONG = 17,      /* longer than 1048576 bytes */
+  /* of a request (tlx_model_serve, tlx_model_byte) */
+  TLX_NO_OPERATION = 20,  /* opcode and param name no operation of TL-UL or TL-UH */
+  TLX_SIZE = 21,          /* the size is above tlx_largest_size() */
+  TLX_NO_MASTER = 22,     /* there is no such master */
+  TLX_NO_SOURCE = 23,     /* the master has no such source */
+  TLX_UNCOUNTABLE = 24,   /* the port has served as many requests as can be counted */
+  TLX_NO_BYTE = 25,       /* no slave holds a byte at this address */
+  /* of a beat (tlx_judge_step), in the order in which they are tried; the first that applies is answered */
+  TLX_NO_LINK = 30,       /* there is no such link, or it is not watched */
+  TLX_FIELD_CHANGED = 31,
+  TLX_UNKNOWN_OPCODE = 32,
+  TLX_SIZE_OUT_OF_RANGE = 33,
+  TLX_WRONG_MASK = 34,
+  TLX_WRONG_CORRUPT_FLAG = 35,
+  TLX_UNKNOWN_LANES = 36, /* a byte of a request is unknown: `unknown data` */
+  TLX_NO_SUCH_SOURCE = 37,
+  TLX_SOURCE_IN_FLIGHT = 38,
+  TLX_WRONG_PORT = 39,
+  TLX_NO_REQUEST = 40,
+  TLX_EARLY_REPLY = 41,
+  TLX_WRONG_SIZE = 42,
+  TLX_WRONG_OPCODE = 43,
+  TLX_UNKNOWN_DATA = 44,
+  TLX_NOT_SENT = 45,
+  TLX_NOT_GIVEN = 46,
+  TLX_WRONG_REPLY = 47
+};
+
+enum tlx_side { TLX_MASTER = 0, TLX_PORT = 1 };
+enum tlx_channel { TLX_A = 0, TLX_D = 1 };
+enum tlx_links { TLX_BOTH_LINKS = 0, TLX_MASTER_LINKS = 1, TLX_PORT_LINKS = 2 };
+enum tlx_order { TLX_ACCEPT_ORDER = 0, TLX_REPLY_ORDER = 1 };
+
+/* The handles. */
+struct tlx_system { void *at; uint8_t live; };
+struct tlx_model { void *at; uint8_t live; };
+struct tlx_judge { void *at; uint8_t live; };
+
+/* A request on channel A. `bytes[k]` goes to `address + k`, for k below 2^size; none is read of a get or a prefetch. `set[k]` is 1
+ * where the byte is set and 0 where it is left unset, and is read of a partial put (opcode 1) alone. */
+struct tlx_request {
+  uint64_t address;
+  uint16_t source; /* the master's own */
+  uint8_t opcode;  /* the numbers of channel A: 0 to 5 */
+  uint8_t param;
+  uint8_t size;    /* log2 of the number of bytes */
+  uint8_t bytes[TLX_ROOM];
+  uint8_t set[TLX_ROOM];
+};
+
+/* What a request is answered. `bytes` holds `count` bytes, zero in those of a denied reply; the rest is zero. */
+struct tlx_answer {
+  uint64_t port;   /* the port that served it */
+  uint64_t place;  /* how many requests that port had served before */
+  uint64_t count;  /* 2^size of opcode 1, else 0 */
+  uint16_t source; /* the request's */
+  uint8_t opcode;  /* the numbers of channel D: 0 to 2 */
+  uint8_t size;
+  uint8_t denied;  /* 0 or 1 */
+  uint8_t bytes[TLX_ROOM];
+};
+
+/* A beat that crossed a link, valid and ready. `param`, `address` and `mask` are read of channel A alone, `denied` and `corrupt` of D.
+ * Bit k of `known` says that lane k was seen; what is not known of a get or of a reply without bytes does not matter.
+ * `line` and `time` are the caller's own and stand in the text of a fault. */
+struct tlx_beat {
+  uint64_t line;
+  uint64_t time;
+  uint64_t number;  /* of the master or port, from 0 */
+  uint64_t address;
+  uint16_t source;  /* at a master's link the master's own, at a port's the wide one */
+  uint8_t side;     /* enum tlx_side */
+  uint8_t channel;  /* enum tlx_channel */
+  uint8_t opcode;
+  uint8_t param;
+  uint8_t size;
+  uint8_t mask;
+  uint8_t denied;   /* 0 or 1 */
+  uint8_t corrupt;  /* 0 or 1 */
+  uint8_t known;
+  uint8_t lanes[TLX_LANES];
+};
+
+/* The exports, which take no null pointer. Call the inline functions below, which do. */
+uint32_t tlx_system_read_at(struct tlx_system *system, const uint8_t *script, size_t length, char *text, size_t room, size_t *written);
+void tlx_system_free_at(struct tlx_system *system);
+uint32_t tlx_model_make_at(struct tlx_model *model, struct tlx_system *system);
+void tlx_model_free_at(struct tlx_model *model);
+uint32_t tlx_model_serve_at(struct tlx_model *model, uint64_t master, const struct tlx_request *request, struct tlx_answer *answer);
+uint32_t tlx_model_byte_at(struct tlx_model *model, uint64_t address, uint8_t *byte);
+uint64_t tlx_model_masters_at(struct tlx_model *model);
+uint64_t tlx_model_ports_at(struct tlx_model *model);
+uint32_t tlx_judge_make_at(struct tlx_judge *judge, struct tlx_system *system, uint8_t links, uint8_t order);
+void tlx_judge_free_at(struct tlx_judge *judge);
+uint32_t tlx_judge_step_at(struct tlx_judge *judge, const struct tlx_beat *beat);
+size_t tlx_judge_text_at(struct tlx_judge *judge, char *text, size_t room);
+uint64_t tlx_judge_requests_at(struct tlx_judge *judge);
+uint64_t tlx_judge_answered_at(struct tlx_judge *judge);
+size_t tlx_fault_text_at(uint32_t fault, char *text, size_t room);
+
+/* The largest size of a message, as log2 of its bytes. */
+uint8_t tlx_largest_size(void);
+
+/* Texts. A text call writes as much of the text as fits with a zero byte behind it, and answers the length of what it wrote without
+ * that byte; with no room (or no buffer) it writes nothing and answers 0. The longest text has under 1,600 bytes. */
+
+/* The words of a fault's number, as `tlx` and `tlcheck` say them; `unknown fault` of a number that is none. */
+static inline size_t tlx_fault_text(uint32_t fault, char *text, size_t room) {
+  return text && room ? tlx_fault_text_at(fault, text, room) : 0;
+}
+
+/* Reads the system that the bytes of a script describe into an empty handle, and writes the text of a fault of the script (which also
+ * names the key, master or port) into `text`, an empty one if there is none. `text` may be null.
+ * Faults: TLX_NULL, TLX_FULL, TLX_MEMORY, and those of a script. */
+static inline uint32_t tlx_system_read(struct tlx_system *system, const void *script, size_t length, char *text, size_t room) {
+  char none;
+  size_t written;
+  if (!system || !script) return (uint32_t)TLX_NULL;
+  if (!text || !room) { text = &none; room = 1; }
+  return tlx_system_read_at(system, (const uint8_t *)script, length, text, room, &written);
+}
+
+/* Gives back what a system's handle holds, if anything. */
+static inline void tlx_system_free(struct tlx_system *system) { if (system) tlx_system_free_at(system); }
+
+/* Makes the model of a system at reset in an empty handle. It takes what the system's handle holds, which is empty from then on, also
+ * after TLX_MEMORY: read the script again for another one.
+ * Faults: TLX_NULL, TLX_FULL (the model's handle), TLX_EMPTY (the system's), TLX_MEMORY. */
+static inline uint32_t tlx_model_make(struct tlx_model *model, struct tlx_system *system) {
+  return model && system ? tlx_model_make_at(model, system) : (uint32_t)TLX_NULL;
+}
+
+static inline void tlx_model_free(struct tlx_model *model) { if (model) tlx_model_free_at(model); }
+
+/* Serves a request of a master at once, and says what it is answered. A request that the crossbar denies is served too: its answer says
+ * `denied`. After a fault the answer is as it was.
+ * Faults: TLX_NULL, TLX_EMPTY, TLX_NO_OPERATION, TLX_SIZE, TLX_NO_MASTER, TLX_NO_SOURCE, TLX_UNCOUNTABLE. */
+static inline uint32_t tlx_model_serve(struct tlx_model *model, uint64_t master, const struct tlx_request *request, struct tlx_answer *answer) {
+  return model && request && answer ? tlx_model_serve_at(model, master, request, answer) : (uint32_t)TLX_NULL;
+}
+
+/* The byte that the slave of an address holds there. After a fault `byte` is as it was.
+ * Faults: TLX_NULL, TLX_EMPTY, TLX_NO_BYTE. */
+static inline uint32_t tlx_model_byte(struct tlx_model *model, uint64_t address, uint8_t *byte) {
+  return model && byte ? tlx_model_byte_at(model, address, byte) : (uint32_t)TLX_NULL;
+}
+
+/* How many masters there are, and how many ports, the error port among them as the last; 0 of an empty handle. */
+static inline uint64_t tlx_model_masters(struct tlx_model *model) { return model ? tlx_model_masters_at(model) : 0; }
+static inline uint64_t tlx_model_ports(struct tlx_model *model) { return model ? tlx_model_ports_at(model) : 0; }
+
+/* Makes the judge of a crossbar that is this system, before any beat, in an empty handle: `links` are the links that are watched (enum
+ * tlx_links), `order` when a request takes effect at its port (enum tlx_order). It takes what the system's handle holds, as
+ * tlx_model_make does.
+ * Faults: TLX_NULL, TLX_BAD_ARGUMENT, TLX_FULL, TLX_EMPTY, TLX_MEMORY. */
+static inline uint32_t tlx_judge_make(struct tlx_judge *judge, struct tlx_system *system, uint8_t links, uint8_t order) {
+  return judge && system ? tlx_judge_make_at(judge, system, links, order) : (uint32_t)TLX_NULL;
+}
+
+static inline void tlx_judge_free(struct tlx_judge *judge) { if (judge) tlx_judge_free_at(judge); }
+
+/* Judges one beat more: TLX_OK if what crossed so far is lawful with it, else the first fault that it has, which changes nothing but the
+ * text. Of one clock cycle give channel A of the masters' links first, then A of the ports', D of the ports', and D of the masters'.
+ * Faults: TLX_NULL, TLX_EMPTY, TLX_BAD_ARGUMENT, TLX_NO_LINK, and those of a beat. */
+static inline uint32_t tlx_judge_step(struct tlx_judge *judge, const struct tlx_beat *beat) {
+  return judge && beat ? tlx_judge_step_at(judge, beat) : (uint32_t)TLX_NULL;
+}
+
+/* The line of the last fault of a beat (TLX_FIELD_CHANGED to TLX_WRONG_REPLY), as tlcheck says it of a capture, with its line end:
+ * `unlawful: line 4, time 12, p0 D: wrong reply: expected .., captured ..`. Empty before the first. */
+static inline size_t tlx_judge_text(struct tlx_judge *judge, char *text, size_t room) {
+  return judge && text && room ? tlx_judge_text_at(judge, text, room) : 0;
+}
+
+/* How many whole requests and whole replies were seen, at the masters' links if these are watched and else at the ports', and how many
+ * of the requests have no whole reply yet; 0 of an empty handle. */
+static inline uint64_t tlx_judge_requests(struct tlx_judge *judge) { return judge ? tlx_judge_requests_at(judge) : 0; }
+static inline uint64_t tlx_judge_answered(struct tlx_judge *judge) { return judge ? tlx_judge_answered_at(judge) : 0; }
+static inline uint64_t tlx_judge_in_flight(struct tlx_judge *judge) {
+  return judge ? tlx_judge_requests_at(judge) - tlx_judge_answered_at(judge) : 0;
+}
+
+#ifdef __cplusplus
+}
+#endif
+
+#endif
