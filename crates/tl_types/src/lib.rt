@@ -29,5 +29,5 @@ pub use limits::{
 pub use operation::{Arith, AskOp, Hint, Logic, ReplyOp, width};
 pub use reply::{Reply, ReplyFault};
 pub use request::{Ask, AskFault};
-pub use trace::{Entry, Trace};
+pub use trace::Entry;
 pub use wire::{OpFault, opcode, param, read_op, read_reply_op, reply_opcode};

@@ -12,6 +12,3 @@ pub struct Entry {
     pub port: usize,
     pub index: usize,
 }
-
-/// What one master sent and was answered, in the order collected.
-pub type Trace = Vec<Entry>;
