@@ -30,11 +30,7 @@ fn push_line(
 }
 
 /// Appends the lines of a port's history: one for each request that it served, from index 0 on. The sources are wide ones.
-pub fn push_history(
-    text: &mut Vec<u8>,
-    port: usize,
-    history: &Journal,
-) -> Result<(), AllocError>
+pub fn push_history(text: &mut Vec<u8>, port: usize, history: &Journal) -> Result<(), AllocError>
     ensures { OnOk result
         (text.new.items ≡ text.old.items ++ history_text port history.now.items) }
 {
@@ -46,11 +42,7 @@ pub fn push_history(
 }
 
 /// The text of a port's history.
-pub fn write_history(
-    alloc: Global,
-    port: usize,
-    history: &Journal,
-) -> Result<Vec<u8>, Memory>
+pub fn write_history(alloc: Global, port: usize, history: &Journal) -> Result<Vec<u8>, Memory>
     ensures { IfOk result (λ text. text.items ≡ history_text port history.now.items) }
 {
     let mut text = Vec::new(alloc);

@@ -1,8 +1,8 @@
 //! The lines of traces, histories and accounts.
 use std::alloc::Global;
 use std::process::Abort;
-use tl_script::{write_account, write_history, write_trace};
 use tl_journal::{Journal, Place, Trace};
+use tl_script::{write_account, write_history, write_trace};
 use tl_types::{Arith, Ask, AskOp, Hint, Reply, ReplyOp};
 
 /// An operation, its size, source, address and bytes; its reply, whether that is denied, and the bytes that it shows.

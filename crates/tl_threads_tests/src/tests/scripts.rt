@@ -38,7 +38,8 @@ fn puts_and_gets(rt: &impl Abort, alloc: Global, address: u64) -> String {
 fn read_in(rt: &impl Abort, alloc: Global, trace: &Trace) -> Vec<u8> {
     let mut bytes = Vec::new(alloc);
     for place in 0..trace.len() {
-        if let Some(byte) = trace.get(place).reply.bytes().first() {
+        let entry = trace.get(place);
+        if let Some(byte) = entry.reply.bytes().first() {
             bytes.push(*byte).expect(rt, "memory");
         }
     }
