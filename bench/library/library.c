@@ -1,0 +1,84 @@
+/* Prints how many nanoseconds the library takes to judge a beat, and to serve a request: `library SYSTEM BEATS ROUNDS`, where BEATS has
+ * structs of tlx.h behind one another. The requests are those of bench/serve. */
+#include <stdio.h>
+#include <stdlib.h>
+#include <string.h>
+#include <time.h>
+#include <tlx.h>
+
+#define TURNS 1000000
+
+static double now(void) {
+  struct timespec t;
+  clock_gettime(CLOCK_MONOTONIC, &t);
+  return 1e9 * t.tv_sec + t.tv_nsec;
+}
+
+static void *whole(const char *path, size_t *length) {
+  FILE *file = fopen(path, "rb");
+  if (!file || fseek(file, 0, SEEK_END)) exit(1);
+  *length = ftell(file);
+  rewind(file);
+  void *bytes = malloc(*length + 1);
+  if (fread(bytes, 1, *length, file) != *length) exit(1);
+  fclose(file);
+  return bytes;
+}
+
+static void judge(const char *script, size_t length, const struct tlx_beat *beats, size_t count) {
+  struct tlx_system system = {0};
+  struct tlx_judge judge = {0};
+  if (tlx_system_read(&system, script, length, NULL, 0) || tlx_judge_make(&judge, &system, TLX_BOTH_LINKS, TLX_ACCEPT_ORDER)) exit(1);
+  double start = now();
+  for (size_t k = 0; k < count; k++)
+    if (tlx_judge_step(&judge, &beats[k])) exit(1);
+  double took = (now() - start) / count;
+  printf("judge library - %.1f %llu\n", took, (unsigned long long)tlx_judge_answered(&judge));
+  tlx_judge_free(&judge);
+}
+
+static void serve(const char *name, int opcode, int param, int size, int holes) {
+  static const char script[] = "slots = 1\n[[port]]\nkind = \"ram\"\nbase = 0x1000\nlength = 256\n[[master]]\nsources = 4\nops = []\n";
+  struct tlx_system system = {0};
+  struct tlx_model model = {0};
+  struct tlx_request asks[2] = {{.address = 0x1000, .source = 1}, {.address = 0x1040, .source = 2}};
+  struct tlx_answer answer;
+  unsigned long long seen = 0;
+  for (int which = 0; which < 2; which++) {
+    asks[which].opcode = opcode, asks[which].param = param, asks[which].size = size;
+    memset(asks[which].bytes, 7, 64);
+    for (int k = 0; k < 64; k++) asks[which].set[k] = !holes || k % 2 == 0;
+  }
+  if (tlx_system_read(&system, script, sizeof script - 1, NULL, 0) || tlx_model_make(&model, &system)) exit(1);
+  double start = now();
+  for (int turn = 0; turn < TURNS; turn++)
+    for (int which = 0; which < 2; which++) {
+      if (tlx_model_serve(&model, 0, &asks[which], &answer)) exit(1);
+      seen += answer.count;
+    }
+  printf("%s library %d %.1f %llu\n", name, size, (now() - start) / TURNS / 2, seen);
+  tlx_model_free(&model);
+}
+
+int main(int argc, char **argv) {
+  if (argc != 4) return 2;
+  size_t length, bytes;
+  char *script = whole(argv[1], &length);
+  struct tlx_beat *beats = whole(argv[2], &bytes);
+  static const int sizes[] = {0, 2, 3, 6};
+  for (int round = 0; round < atoi(argv[3]); round++) {
+    judge(script, length, beats, bytes / sizeof *beats);
+    for (int k = 0; k < 4; k++) {
+      serve("get", 4, 0, sizes[k], 0);
+      serve("put", 0, 0, sizes[k], 0);
+      serve("holes", 1, 0, sizes[k], 1);
+    }
+    for (int size = 2; size <= 3; size++) {
+      serve("add", 2, 4, size, 0);
+      serve("min", 2, 0, size, 0);
+      serve("xor", 3, 0, size, 0);
+    }
+  }
+  free(script);
+  free(beats);
+}
