@@ -17,8 +17,8 @@ use Rattle.tl_beats.proofs.ReplySpelling.{plain_at_place-first, plain_at_place-b
 use Rattle.tl_beats.proofs.Words.{first_or_only, starts_within}
 
 -- a beat of a message is one of its words
-pub word_within : (size b : ℕ) → size ≤ 6 → b < max 1 (2 ^ size / 8) → 8 * b < 64
-word_within size b in_limit beat = let most : 2 ^ size ≤ 2 ^ 6 = pow-le-pow_right (lit≤ tt) in_limit in omega (arith, most, beat)
+pub word_within : (size b : ℕ) → size ≤ 8 → b < max 1 (2 ^ size / 8) → 8 * b < 256
+word_within size b in_limit beat = let most : 2 ^ size ≤ 2 ^ 8 = pow-le-pow_right (lit≤ tt) in_limit in omega (arith, most, beat)
 
 -- the plain byte at a place is the byte there, or zero
 plain_byte : (bytes : List (Option ℕ)) (i : ℕ) → slice_index (plain_of bytes) i ≡ unwrap_or (unwrap_or (slice_get bytes i) None) 0

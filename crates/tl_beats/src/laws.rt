@@ -7,7 +7,7 @@ ghost use Rattle.tl_beats.specs.declared.beat.TheConstants.{MAX_BEATS};
 /// The bus in numbers: contracts name the constants, so a wrong one would change what they promise.
 pub fn bus_in_numbers()
     ensures lanes { BUS_BYTES ≡ 8 }
-    ensures beats { MAX_BEATS ≡ 8 }
+    ensures beats { MAX_BEATS ≡ 32 }
 {}
 
 /// Which lanes are active is said by numbers for beats of replies, and by a mask for beats of requests: both are the same

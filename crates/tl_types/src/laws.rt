@@ -6,8 +6,8 @@ ghost use Rattle.tl_types.specs.declared.limits.TheConstants.{MAX_MASTERS, MAX_P
 /// The limits in numbers. Contracts name the constants, so without this law a wrong constant would change what they
 /// promise.
 pub fn limits_in_numbers()
-    ensures size { LARGEST_SIZE ≡ 6 }
-    ensures bytes { MAX_BYTES ≡ 64 }
+    ensures size { LARGEST_SIZE ≡ 8 }
+    ensures bytes { MAX_BYTES ≡ 256 }
     ensures lanes { BUS_BYTES ≡ 8 }
     ensures masters { MAX_MASTERS ≡ 16 }
     ensures ports { MAX_PORTS ≡ 16 }

@@ -1,7 +1,7 @@
 //! The limits of the crossbar that several crates share. Code and contracts name them; `laws` says them in numbers.
 
 /// The largest size of a message, as the base-2 logarithm of its bytes.
-pub const LARGEST_SIZE: u8 = 6;
+pub const LARGEST_SIZE: u8 = 8;
 
 /// The most bytes that a message carries.
 pub const MAX_BYTES: usize = 1 << LARGEST_SIZE;

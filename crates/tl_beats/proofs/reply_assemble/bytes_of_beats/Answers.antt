@@ -10,7 +10,7 @@ pub returns-then-first : goal.returns-then-first
 returns-then-first c =
     let first = c.args.first.now in
     let count : c.byte_count-count.result ≡ reply_byte_count c.args.op first.size = search rules in
-    rw (c.leading.ensures, count) (denied_bytes c.args.beats.now first c.args.op c.args.address 64 c.if-first.true (omega (arith, count, c.byte_count-count.ensures.in_limit)))
+    rw (c.leading.ensures, count) (denied_bytes c.args.beats.now first c.args.op c.args.address 256 c.if-first.true (omega (arith, count, c.byte_count-count.ensures.in_limit)))
 
 pub part_of_lanes-requires : goal.part_of_lanes-requires
 part_of_lanes-requires c =
@@ -37,6 +37,6 @@ returns c =
     let first = c.args.first.now in
     let count : c.byte_count-count.result ≡ reply_byte_count c.args.op first.size = search rules in
     let wide : 8 ≤ reply_byte_count c.args.op first.size = omega (arith, count, c.if-count-lt-BUS_BYTES.false) in
-    let long : length c.lanes_of.result ≡ 64 = search rules in
+    let long : length c.lanes_of.result ≡ 256 = search rules in
     let not_denied : first.denied ≡ false = search rules in
     rw (c.leading-2.ensures, count) (wide_bytes c.args.beats.now first c.args.op c.args.address c.lanes_of.result not_denied wide (omega (arith, count, long, c.byte_count-count.ensures.in_limit)) c.lanes_of.ensures)

@@ -13,7 +13,7 @@ pub unwrap-requires : goal.unwrap-requires
 unwrap-requires c =
     let long = length-given_in (bit_in c.self.inside.masks) c.self.inside.plain.items in
     let seen = ap length c.self.view_is in
-    let fits : length c.self.inside.plain.items + length c.args.bytes.now ≤ 64 = omega (arith, long, seen) in
+    let fits : length c.self.inside.plain.items + length c.args.bytes.now ≤ 256 = omega (arith, long, seen) in
     c.try_extend_from_slice.ensures.variant.1 fits
 
 pub invariant_of-self : goal.invariant_of-self
