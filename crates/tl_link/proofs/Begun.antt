@@ -13,8 +13,8 @@ use Rattle.tl_link.specs.Begun.{IsBegun, IsReplyBegun, IsWhole, IsWholeReply, Is
 
 -- ---- how many beats
 
--- a message of a lawful size has eight beats at most
-few : (carries : Bool) (size : ℕ) → size ≤ 6 → beat_count carries size ≤ 8
+-- a message of a lawful size has 32 beats at most
+few : (carries : Bool) (size : ℕ) → size ≤ 8 → beat_count carries size ≤ 32
 few false size h = omega arith
 few true zero h = omega arith
 few true (suc zero) h = omega arith
@@ -23,20 +23,22 @@ few true (suc (suc (suc zero))) h = omega arith
 few true (suc (suc (suc (suc zero)))) h = omega arith
 few true (suc (suc (suc (suc (suc zero))))) h = omega arith
 few true (suc (suc (suc (suc (suc (suc zero)))))) h = omega arith
-few true (suc (suc (suc (suc (suc (suc (suc n))))))) h = absurd (omega (arith, h))
+few true (suc (suc (suc (suc (suc (suc (suc zero))))))) h = omega arith
+few true (suc (suc (suc (suc (suc (suc (suc (suc zero)))))))) h = omega arith
+few true (suc (suc (suc (suc (suc (suc (suc (suc (suc n))))))))) h = absurd (omega (arith, h))
 
 some : (carries : Bool) (size : ℕ) → 0 < beat_count carries size
 some true size = omega arith
 some false size = omega arith
 
-room_asks : (asking : List ABeat) → ((first : ABeat) → slice_get asking 0 ≡ Some first → IsBegun asking first) → length asking < 8
+room_asks : (asking : List ABeat) → ((first : ABeat) → slice_get asking 0 ≡ Some first → IsBegun asking first) → length asking < 32
 room_asks [] kept = omega arith
 room_asks (first ∷ rest) kept =
     let begun = kept first refl in
     let formed = (begun.each 0 first refl).0 in
     omega (arith, begun.unfinished, few (nat_lt first.opcode 4) first.size formed.in_limit)
 
-room_replies : (replying : List DBeat) → ((first : DBeat) → slice_get replying 0 ≡ Some first → IsReplyBegun replying first) → length replying < 8
+room_replies : (replying : List DBeat) → ((first : DBeat) → slice_get replying 0 ≡ Some first → IsReplyBegun replying first) → length replying < 32
 room_replies [] kept = omega arith
 room_replies (first ∷ rest) kept =
     let begun = kept first refl in
@@ -44,10 +46,10 @@ room_replies (first ∷ rest) kept =
     omega (arith, begun.unfinished, few (first.opcode == 1) first.size formed.in_limit)
 
 -- there is room for one beat more
-pub room_for_ask : (asking : List ABeat) (replying : List DBeat) → IsKept asking replying → length asking < 8
+pub room_for_ask : (asking : List ABeat) (replying : List DBeat) → IsKept asking replying → length asking < 32
 room_for_ask asking replying kept = room_asks asking kept.asks
 
-pub room_for_reply : (asking : List ABeat) (replying : List DBeat) → IsKept asking replying → length replying < 8
+pub room_for_reply : (asking : List ABeat) (replying : List DBeat) → IsKept asking replying → length replying < 32
 room_for_reply asking replying kept = room_replies replying kept.replies
 
 -- ---- one beat more of a request

@@ -35,7 +35,7 @@ pub StandsIn-from_legal : (store : Store) (ask : Request) → legal store ask �
 StandsIn-from_legal store ask is = record { aligned = search rules; from = search rules; inside = search rules }
 
 -- what a kind supports is of a lawful size
-ram_small : (op : AskOp) (size : ℕ) → ram_supports op size ≡ true → size ≤ 6
+ram_small : (op : AskOp) (size : ℕ) → ram_supports op size ≡ true → size ≤ 8
 ram_small PutFull size is = search rules
 ram_small PutPartial size is = search rules
 ram_small (Arithmetic _) size is = search rules
@@ -43,7 +43,7 @@ ram_small (Logical _) size is = search rules
 ram_small Get size is = search rules
 ram_small (Intent _) size is = search rules
 
-rom_small : (op : AskOp) (size : ℕ) → rom_supports op size ≡ true → size ≤ 6
+rom_small : (op : AskOp) (size : ℕ) → rom_supports op size ≡ true → size ≤ 8
 rom_small PutFull size is = cc
 rom_small PutPartial size is = cc
 rom_small (Arithmetic _) size is = cc
@@ -51,7 +51,7 @@ rom_small (Logical _) size is = cc
 rom_small Get size is = search rules
 rom_small (Intent _) size is = search rules
 
-regs_small : (op : AskOp) (size : ℕ) → regs_supports op size ≡ true → size ≤ 6
+regs_small : (op : AskOp) (size : ℕ) → regs_supports op size ≡ true → size ≤ 8
 regs_small PutFull size is = search rules
 regs_small PutPartial size is = cc
 regs_small (Arithmetic _) size is = cc
@@ -59,14 +59,14 @@ regs_small (Logical _) size is = cc
 regs_small Get size is = search rules
 regs_small (Intent _) size is = cc
 
-small_from_supports : (kind : Kind) (op : AskOp) (size : ℕ) → supports kind op size ≡ true → size ≤ 6
+small_from_supports : (kind : Kind) (op : AskOp) (size : ℕ) → supports kind op size ≡ true → size ≤ 8
 small_from_supports Ram op size is = ram_small op size is
 small_from_supports Rom op size is = rom_small op size is
 small_from_supports Regs op size is = regs_small op size is
 small_from_supports ClearRegs op size is = regs_small op size is
 small_from_supports NoDevice op size is = cc
 
-pub small_from_legal : (store : Store) (ask : Request) → legal store ask ≡ true → ask.size ≤ 6
+pub small_from_legal : (store : Store) (ask : Request) → legal store ask ≡ true → ask.size ≤ 8
 small_from_legal store ask is =
     let supported : supports store.kind ask.op ask.size ≡ true = search rules in
     small_from_supports store.kind ask.op ask.size supported
@@ -110,7 +110,7 @@ shown_of_atomic op bytes (inl is) = rw is.1 refl
 shown_of_atomic op bytes (inr is) = rw is.1 refl
 
 -- the words begin at a multiple of a word, so a window is aligned among the lanes as it is among the addresses
-pub FitsWords-from_aligned : (base address size : ℕ) → size ≤ 6 → base ≤ address → address % 2 ^ size ≡ 0 → FitsWords (base % 8 + (address - base)) (2 ^ size)
+pub FitsWords-from_aligned : (base address size : ℕ) → size ≤ 8 → base ≤ address → address % 2 ^ size ≡ 0 → FitsWords (base % 8 + (address - base)) (2 ^ size)
 FitsWords-from_aligned base address zero small from aligned = record { some = omega arith; cell = λ h. omega (arith, aligned, from); whole_start = λ h. absurd (omega (arith, h)); whole_width = λ h. absurd (omega (arith, h)) }
 FitsWords-from_aligned base address (suc zero) small from aligned = record { some = omega arith; cell = λ h. omega (arith, aligned, from); whole_start = λ h. absurd (omega (arith, h)); whole_width = λ h. absurd (omega (arith, h)) }
 FitsWords-from_aligned base address (suc (suc zero)) small from aligned = record { some = omega arith; cell = λ h. omega (arith, aligned, from); whole_start = λ h. absurd (omega (arith, h)); whole_width = λ h. absurd (omega (arith, h)) }
@@ -118,7 +118,9 @@ FitsWords-from_aligned base address (suc (suc (suc zero))) small from aligned = 
 FitsWords-from_aligned base address (suc (suc (suc (suc zero)))) small from aligned = record { some = omega arith; cell = λ h. absurd (omega (arith, h)); whole_start = λ h. omega (arith, aligned, from); whole_width = λ h. omega arith }
 FitsWords-from_aligned base address (suc (suc (suc (suc (suc zero))))) small from aligned = record { some = omega arith; cell = λ h. absurd (omega (arith, h)); whole_start = λ h. omega (arith, aligned, from); whole_width = λ h. omega arith }
 FitsWords-from_aligned base address (suc (suc (suc (suc (suc (suc zero)))))) small from aligned = record { some = omega arith; cell = λ h. absurd (omega (arith, h)); whole_start = λ h. omega (arith, aligned, from); whole_width = λ h. omega arith }
-FitsWords-from_aligned base address (suc (suc (suc (suc (suc (suc (suc size))))))) small from aligned = absurd (omega (arith, small))
+FitsWords-from_aligned base address (suc (suc (suc (suc (suc (suc (suc zero))))))) small from aligned = record { some = omega arith; cell = λ h. absurd (omega (arith, h)); whole_start = λ h. omega (arith, aligned, from); whole_width = λ h. omega arith }
+FitsWords-from_aligned base address (suc (suc (suc (suc (suc (suc (suc (suc zero)))))))) small from aligned = record { some = omega arith; cell = λ h. absurd (omega (arith, h)); whole_start = λ h. omega (arith, aligned, from); whole_width = λ h. omega arith }
+FitsWords-from_aligned base address (suc (suc (suc (suc (suc (suc (suc (suc (suc size))))))))) small from aligned = absurd (omega (arith, small))
 
 -- ---- a bank's bytes among its lanes
 
