@@ -96,7 +96,7 @@ struct tlx_request {
   uint8_t set[TLX_ROOM];
 };
 
-/* What a request is answered. `bytes` holds `count` bytes, zero in those of a denied reply; the rest is zero. */
+/* What a request is answered. `bytes` holds `count` bytes, zero in those of a denied reply; behind them it is as it was. */
 struct tlx_answer {
   uint64_t port;   /* the port that served it */
   uint64_t place;  /* how many requests that port had served before */

@@ -103,23 +103,20 @@ pub(crate) fn ask_of(wire: &WireAsk) -> Result<Ask, u32>
     }
 }
 
-/// Puts an answer into a struct.
+/// Puts an answer into a struct. Behind its bytes the struct stays as it was: a short reply pays for no long one.
 pub(crate) fn put_answer(wire: &mut WireAnswer, answer: &Answer)
     ensures { IsAnswerOf wire.new answer.now.port answer.now.place answer.now.reply }
 {
     let reply = &answer.reply;
     let bytes = reply.bytes();
     let count = bytes.len();
-    *wire = WireAnswer {
-        port: answer.port,
-        place: answer.place,
-        count,
-        source: reply.source(),
-        opcode: reply_opcode(reply.op()),
-        size: reply.size(),
-        denied: reply.denied() as u8,
-        bytes: [0; ROOM],
-    };
+    wire.port = answer.port;
+    wire.place = answer.place;
+    wire.count = count;
+    wire.source = reply.source();
+    wire.opcode = reply_opcode(reply.op());
+    wire.size = reply.size();
+    wire.denied = reply.denied() as u8;
     wire.bytes[..count].copy_from_slice(bytes);
 }
 

@@ -1,5 +1,5 @@
 -- Beats that are under way, and one beat more.
-use Rattle.std.proofs.Common.{◌≡◌, ◌∙◌, ℕ, zero, suc, ◌<◌, ◌≤◌, ◌⊎◌, inl, inr, Bool, true, false, List, [], ◌∷◌, ◌++◌, length, Some, slice_get, refl, sym, subst, arith, length-append, eqb-true, eq-eqb}
+use Rattle.std.proofs.Common.{rules, ◌≡◌, ◌∙◌, ℕ, zero, suc, ◌<◌, ◌≤◌, ◌⊎◌, inl, inr, Bool, true, false, List, [], ◌∷◌, ◌++◌, length, Some, slice_get, refl, sym, subst, arith, length-append, eqb-true, eq-eqb}
 use Rattle.std.specs.Prelude.{nat_lt, ◌==◌}
 use Rattle.tl_types.proofs.Lists.{slice_get-push}
 use Rattle.tl_beats.specs.Beats.{beat_count}
@@ -44,6 +44,10 @@ room_replies (first ∷ rest) kept =
     let begun = kept first refl in
     let formed = (begun.each 0 first refl).0 in
     omega (arith, begun.unfinished, few (first.opcode == 1) first.size formed.in_limit)
+
+-- nothing is under way
+pub nothing_kept : IsKept [] []
+nothing_kept = search rules
 
 -- there is room for one beat more
 pub room_for_ask : (asking : List ABeat) (replying : List DBeat) → IsKept asking replying → length asking < 32

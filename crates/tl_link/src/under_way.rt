@@ -97,6 +97,10 @@ impl UnderWay {
         requires ends { IsTrue (ends_ask self.now.asking beat.now) }
         ensures { result ≡ ask_of beat.now (self.now.asking ++ beat.now ∷ []) }
     {
+        // most requests are one beat: it alone is read, no longer message is copied
+        if self.begins_ask() {
+            return whole_ask(&[*beat], beat);
+        }
         whole_ask(&with_ask(&self.asking, beat), beat)
     }
 
@@ -109,6 +113,9 @@ impl UnderWay {
         ensures alone { (other : Response) → IsLawfulResponse other.op other.size other.denied other.bytes
             → SpellsReply other address (self.now.replying ++ beat.now ∷ []) → other ≡ result }
     {
+        if self.begins_reply() {
+            return whole_reply(&[*beat], beat, address);
+        }
         whole_reply(&with_reply(&self.replying, beat), beat, address)
     }
 
