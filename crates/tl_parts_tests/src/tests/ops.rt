@@ -3,7 +3,7 @@ use arrayvec::ArrayVec;
 use std::alloc::Global;
 use std::process::Abort;
 use tl_ops::{Bank, BankFault, Kind, MAX_LENGTH};
-use tl_types::{Arith, Ask, AskOp, Hint, Logic, MAX_BYTES, ReplyOp};
+use tl_types::{Arith, Ask, AskOp, Hint, LARGEST_SIZE, Logic, MAX_BYTES, ReplyOp};
 
 /// A request from source 0 whose bytes are all given.
 fn whole(rt: &impl Abort, op: AskOp, size: u8, address: u64, bytes: &[u8]) -> Ask {
@@ -149,14 +149,22 @@ fn a_partial_put_leaves_unset_bytes(rt: HostRuntime) {
 
 #[test]
 fn a_full_line_is_put_and_got(rt: HostRuntime) {
-    let mut bank = bank_of(&rt, rt.alloc(), Kind::Ram, 0x1000, &[0; 64]);
-    let mut line = [0; MAX_BYTES];
-    for (value, byte) in (0..).zip(&mut line) {
-        *byte = value;
+    let mut bank = bank_of(&rt, rt.alloc(), Kind::Ram, 0x1000, &[0; 256]);
+    let mut line = [0; 256];
+    for k in 0..256 {
+        line[k] = k as u8;
     }
-    bank.serve(&whole(&rt, AskOp::PutFull, 6, 0x1000, &line));
-    let got = bank.serve(&whole(&rt, AskOp::Get, 6, 0x1000, &[]));
+    let put = bank.serve(&whole(&rt, AskOp::PutFull, 8, 0x1000, &line));
+    assert_eq!(rt; (put.op(), put.denied()), (ACK, false));
+    let got = bank.serve(&whole(&rt, AskOp::Get, 8, 0x1000, &[]));
     assert_eq!(rt; got.bytes(), line.as_slice());
+    // an atomic of a whole line is denied, and changes nothing
+    let swap = AskOp::Logical(Logic::Swap);
+    let denial = bank.serve(&whole(&rt, swap, 8, 0x1000, &[0x11; 256]));
+    assert_eq!(rt; (denial.op(), denial.denied()), (DATA, true));
+    assert_eq!(rt; denial.bytes(), [0; 256].as_slice());
+    let again = bank.serve(&whole(&rt, AskOp::Get, 8, 0x1000, &[]));
+    assert_eq!(rt; again.bytes(), line.as_slice());
 }
 
 const AT_ROM: [Turn; 3] = [
@@ -244,7 +252,7 @@ fn a_put_clears_the_bits_that_it_gives_as_ones(rt: HostRuntime) {
     serve_all(&rt, &mut bank, &CLEARING);
 }
 
-const ILLEGAL: [Turn; 8] = [
+const ILLEGAL: [Turn; 9] = [
     // atomics of another size than a word's
     (
         AskOp::Logical(Logic::Swap),
@@ -269,6 +277,7 @@ const ILLEGAL: [Turn; 8] = [
     // past the last byte, before the first, and across the end of the address space
     (AskOp::Get, 1, 0x103f, &[], DATA, true, &[0; 2]),
     (AskOp::Get, 0, 0x1040, &[], DATA, true, &[0]),
+    (AskOp::Get, 7, 0x1000, &[], DATA, true, &[0; 128]),
     (AskOp::Get, 0, 0x0fff, &[], DATA, true, &[0]),
     (AskOp::Get, 3, u64::MAX, &[], DATA, true, &[0; 8]),
     // and nothing has changed
@@ -423,7 +432,7 @@ fn stands(plain: &Plain, ask: &Ask) -> bool {
 fn put_beside(rt: &impl Abort, bank: &mut Bank, plain: &mut Plain, size: u8, address: u64) {
     let mut byte = size;
     let mut given = ArrayVec::<Option<u8>, MAX_BYTES>::new();
-    for _ in 0..AskOp::PutPartial.byte_count(size.min(6)) {
+    for _ in 0..AskOp::PutPartial.byte_count(size.min(LARGEST_SIZE)) {
         byte = byte.wrapping_mul(37).wrapping_add(11);
         let set = if byte % 3 == 0 { None } else { Some(byte) };
         given.try_push(set).ok().expect(rt, "too many bytes");
@@ -447,7 +456,7 @@ fn put_all(plain: &mut Plain, address: u64, given: &[Option<u8>]) {
 
 /// An exclusive or with ones, on the bank and byte by byte.
 fn xor_beside(rt: &impl Abort, bank: &mut Bank, plain: &mut Plain, size: u8, address: u64) {
-    let ones = &[0xff; MAX_BYTES][..AskOp::PutFull.byte_count(size.min(6))];
+    let ones = &[0xff; MAX_BYTES][..AskOp::PutFull.byte_count(size.min(LARGEST_SIZE))];
     let ask = whole(rt, AskOp::Logical(Logic::Xor), size, address, ones);
     let legal = stands(plain, &ask) && matches!(size, 2 | 3);
     if legal {

@@ -1,6 +1,6 @@
 //! Messages, and the numbers that stand for operations on the wire.
 use tl_types::{
-    Arith, Ask, AskFault, AskOp, Hint, LARGEST_SIZE, Logic, OpFault, Reply, ReplyFault, ReplyOp,
+    Arith, Ask, AskFault, AskOp, Hint, Logic, OpFault, Reply, ReplyFault, ReplyOp,
     opcode, param, read_op, read_reply_op, reply_opcode,
 };
 
@@ -9,7 +9,7 @@ fn requests_are_refused_by_their_first_fault(rt: HostRuntime) {
     let hole = [None; 2];
     let rows = [
         (
-            LARGEST_SIZE + 1,
+            9,
             hole.as_slice(),
             AskFault::TooLarge,
             "the size is over the limit",
@@ -38,6 +38,7 @@ fn requests_are_refused_by_their_first_fault(rt: HostRuntime) {
         );
     }
     assert!(rt; Ask::new(AskOp::PutPartial, 1, 0, 0, &hole).is_ok());
+    assert!(rt; Ask::new(AskOp::PutPartial, 8, 0, 0, &[None; 256]).is_ok());
 }
 
 #[test]
@@ -45,7 +46,7 @@ fn replies_are_refused_by_their_first_fault(rt: HostRuntime) {
     let dirty = [0, 1];
     let rows = [
         (
-            LARGEST_SIZE + 1,
+            9,
             ReplyFault::TooLarge,
             "the size is over the limit",
         ),
@@ -71,6 +72,7 @@ fn replies_are_refused_by_their_first_fault(rt: HostRuntime) {
         );
     }
     assert!(rt; Reply::new(ReplyOp::AccessAckData, 1, 0, false, &dirty).is_ok());
+    assert!(rt; Reply::new(ReplyOp::AccessAckData, 8, 0, true, &[0; 256]).is_ok());
 }
 
 #[test]

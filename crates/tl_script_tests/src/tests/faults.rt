@@ -136,7 +136,7 @@ const MASTERS: [Row; 13] = [
         "script: master 0 operation 1: bad operation",
     ),
     (
-        "sources = 16\nops = ['wait', 'wait', '0 get 0x1000 7']",
+        "sources = 16\nops = ['wait', 'wait', '0 get 0x1000 9']",
         "script: master 0 operation 2: bad operation",
     ),
     (

@@ -94,10 +94,10 @@ const FORMS: [Form; 8] = [
         bytes: &[None],
     },
     Form {
-        line: "007 get 0xAbC 6",
+        line: "007 get 0xAbC 8",
         source: 7,
         address: 0xabc,
-        size: 6,
+        size: 8,
         bytes: &[],
     },
     Form {
@@ -171,7 +171,7 @@ const OTHERS: [&str; 35] = [
     "0 get 000000000000000000001 0",
     "0 get 1000h 2",
     // The size.
-    "0 get 0x1000 7",
+    "0 get 0x1000 9",
     "0 get 0x1000 06",
     "0 get 0x1000 b",
     "0 get 0x1000",
