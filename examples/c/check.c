@@ -193,7 +193,7 @@ static void check_faults(void) {
   tell("words that are cut off", tlx_fault_text(TLX_EMPTY, text, 4) == 3 && !strcmp(text, "emp"));
   tell("words into one byte", tlx_fault_text(TLX_EMPTY, text, 1) == 0 && !text[0]);
   tell("words into nothing", tlx_fault_text(TLX_EMPTY, 0, 9) == 0 && tlx_fault_text(TLX_EMPTY, text, 0) == 0);
-  tell("the largest size", tlx_largest_size() == 6);
+  tell("the largest size", tlx_largest_size() == 8);
 }
 
 static void check_systems(void) {
