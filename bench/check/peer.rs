@@ -7,15 +7,16 @@ use std::fs::File;
 use std::io::{self, Read, Write};
 use std::process::ExitCode;
 
+#[path = "../given.rs"]
+mod given;
 #[path = "../serial/peer.rs"]
 #[allow(dead_code)]
 mod plain;
 mod rows;
 
-use plain::{Bank, Kind, NAMES, Op, Script};
+use given::{Given, MAX_BYTES};
+use plain::{Bank, Kind, LARGEST_SIZE, NAMES, Op, Script};
 use rows::{Fields, LANES, Records, Row, Side, Stop};
-
-const MAX_BYTES: usize = 64;
 
 // ---- the judge
 
@@ -26,14 +27,14 @@ enum Links {
     Ports,
 }
 
-/// A request; bit k of `given` is set where byte k is given.
+/// A request, with the bytes that are given.
 #[derive(Clone)]
 struct Ask {
     fields: Fields,
     op: Op,
     beats: usize,
     bytes: [u8; MAX_BYTES],
-    given: u64,
+    given: Given,
 }
 
 #[derive(Clone, PartialEq)]
@@ -229,7 +230,7 @@ impl Judge {
                 let bytes = if shows { window.to_vec() } else { Vec::new() };
                 let given = flight.ask.given;
                 let operand = &flight.ask.bytes[..if carries(flight.ask.op) { width } else { 0 }];
-                plain::change(bank.kind, flight.ask.op, window, operand, |k| given >> k & 1 == 1);
+                plain::change(bank.kind, flight.ask.op, window, operand, |k| given.has(k));
                 Reply { denied: false, bytes }
             }
         });
@@ -249,7 +250,7 @@ impl Judge {
                 let Some(op) = op_of(f.opcode, f.param) else {
                     return fault("unknown opcode");
                 };
-                if f.size > 6 {
+                if u32::from(f.size) > LARGEST_SIZE {
                     return fault("size out of range");
                 }
                 op
@@ -281,7 +282,7 @@ impl Judge {
             if f.mask >> (first + k) & 1 == 1 {
                 let place = LANES * flight.ask.beats + k;
                 flight.ask.bytes[place] = row.lanes[first + k];
-                flight.ask.given |= 1 << place;
+                flight.ask.given.add(place);
             }
         }
         flight.ask.beats += 1;
@@ -304,7 +305,7 @@ impl Judge {
         if row.side == Side::Port && port != row.number {
             return fault("not this port's address");
         }
-        let ask = Ask { fields: row.fields, op, beats: 0, bytes: [0; MAX_BYTES], given: 0 };
+        let ask = Ask { fields: row.fields, op, beats: 0, bytes: [0; MAX_BYTES], given: Given::NONE };
         let flight = Flight { ask, port, ended: false, crossed: false, expected: None, given: None, place: 0 };
         self.flights(row.side)[wide as usize] = Some(flight);
         Ok(wide)
@@ -340,7 +341,7 @@ impl Judge {
         let begun = self.under_way(row).reply.take();
         match &begun {
             None if f.opcode > 2 => return fault("unknown opcode"),
-            None if f.size > 6 => return fault("size out of range"),
+            None if u32::from(f.size) > LARGEST_SIZE => return fault("size out of range"),
             Some((g, ..)) if (f.opcode, f.size, f.source, f.denied) != (g.opcode, g.size, g.source, g.denied) => {
                 return fault("field changed");
             }
@@ -423,7 +424,7 @@ impl Judge {
         write!(text, "m{master} s{source} {name} 0x{address:x} {size}").unwrap();
         let count = if carries(op) { 1usize << size } else { 0 };
         let (bytes, given) = (&flight.ask.bytes, flight.ask.given);
-        plain::push_data(text, (0..count).map(|k| (given >> k & 1 == 1).then_some(bytes[k])));
+        plain::push_data(text, (0..count).map(|k| given.has(k).then_some(bytes[k])));
         let reply = reply_text(op, flight.given.as_ref().unwrap());
         writeln!(text, " -> {reply} p{} #{}", flight.port, flight.place).unwrap();
     }

@@ -12,10 +12,13 @@ use std::sync::atomic::Ordering::{Acquire, Relaxed, Release};
 use std::sync::mpsc::{Receiver, SyncSender, TryRecvError, sync_channel};
 use std::thread;
 
+#[path = "../given.rs"]
+mod given;
 #[path = "../serial/peer.rs"]
 #[allow(dead_code)]
 mod plain;
 
+use given::{Given, MAX_BYTES};
 use plain::{Bank, Kind, Op, Script};
 
 /// How often a thread looks at its bell before it sleeps.
@@ -24,9 +27,7 @@ const LOOKS: u32 = 32;
 /// The most rings that a port owes masters before it gives them.
 const MOST_OWED: usize = 16;
 
-const MAX_BYTES: usize = 64;
-
-/// A request; bit k of `given` is set where byte k is given.
+/// A request, with the bytes that are given.
 #[derive(Clone, Copy)]
 struct Ask {
     op: Op,
@@ -36,7 +37,7 @@ struct Ask {
     address: u64,
     length: usize,
     bytes: [u8; MAX_BYTES],
-    given: u64,
+    given: Given,
 }
 
 #[derive(Clone, Copy)]
@@ -105,7 +106,7 @@ impl Slot {
 }
 
 const NO_ASK: Ask =
-    Ask { op: Op::Get, name: "get", size: 0, source: 0, address: 0, length: 0, bytes: [0; MAX_BYTES], given: 0 };
+    Ask { op: Op::Get, name: "get", size: 0, source: 0, address: 0, length: 0, bytes: [0; MAX_BYTES], given: Given::NONE };
 
 // ---- the bells
 
@@ -152,7 +153,7 @@ fn serve(bank: &mut Bank, ask: &Ask) -> Reply {
     };
     let window = &mut bank.bytes[start..start + width];
     bytes[..length].copy_from_slice(&window[..length]);
-    plain::change(bank.kind, ask.op, window, &ask.bytes[..ask.length], |k| ask.given >> k & 1 == 1);
+    plain::change(bank.kind, ask.op, window, &ask.bytes[..ask.length], |k| ask.given.has(k));
     Reply { denied: false, length, bytes }
 }
 
@@ -318,7 +319,7 @@ fn job_of(line: &str, sources: u16) -> Job {
     for (k, byte) in written.into_iter().enumerate() {
         if let Some(byte) = byte {
             ask.bytes[k] = byte;
-            ask.given |= 1 << k;
+            ask.given.add(k);
         }
     }
     Job::Send(ask)
@@ -337,7 +338,7 @@ fn push_traces(text: &mut String, traces: &[Vec<Entry>]) {
     for (master, trace) in traces.iter().enumerate() {
         for Entry { ask, reply, port, index } in trace {
             write!(text, "m{master} s{} {} 0x{:x} {}", ask.source, ask.name, ask.address, ask.size).unwrap();
-            let given = |k: usize| (ask.given >> k & 1 == 1).then_some(ask.bytes[k]);
+            let given = |k: usize| ask.given.has(k).then_some(ask.bytes[k]);
             plain::push_data(text, (0..ask.length).map(given));
             text.push_str(plain::reply_name(ask.op));
             if reply.denied {
