@@ -225,6 +225,7 @@ static struct tlx_request request(uint8_t opcode, uint8_t param, uint8_t size, u
 }
 
 static void check_serving(struct tlx_model *model) {
+  static const uint8_t zeros[TLX_ROOM];
   struct tlx_answer answer, before;
   struct tlx_request ask = request(4, 0, 2, 1, 0x1000);
   memset(&answer, 0xa5, sizeof answer);
@@ -243,6 +244,11 @@ static void check_serving(struct tlx_model *model) {
        tlx_model_byte(model, 0x2000, &byte) == TLX_OK && byte == 0x5a && tlx_model_byte(model, 0x1000, &byte) == TLX_OK && byte == 0);
   ask = request(4, 0, 0, 0, 0x9000);
   tell("an address that no port has", tlx_model_serve(model, 0, &ask, &answer) == TLX_OK && answer.port == 2 && answer.denied && !answer.bytes[0]);
+  ask = request(4, 0, 8, 0, 0x1000);
+  memset(&answer, 0xa5, sizeof answer);
+  tell("a get of 256 bytes", tlx_model_serve(model, 0, &ask, &answer) == TLX_OK && answer.port == 2 && answer.place == 1 && answer.denied &&
+       answer.count == TLX_ROOM && !memcmp(answer.bytes, zeros, TLX_ROOM));
+  ask = request(4, 0, 0, 0, 0x9000);
   byte = 7;
   tell("a byte that no slave has", tlx_model_byte(model, 0x9000, &byte) == TLX_NO_BYTE && byte == 7);
   before = answer;
@@ -253,7 +259,7 @@ static void check_serving(struct tlx_model *model) {
   tell("a cached operation", tlx_model_serve(model, 0, &ask, &answer) == TLX_NO_OPERATION);
   ask = request(2, 5, 0, 0, 0x1000);
   tell("no such parameter", tlx_model_serve(model, 0, &ask, &answer) == TLX_NO_OPERATION);
-  ask = request(4, 0, (uint8_t)(tlx_largest_size() + 1), 0, 0x1000);
+  ask = request(4, 0, 9, 0, 0x1000);
   tell("a size too large", tlx_model_serve(model, 0, &ask, &answer) == TLX_SIZE);
   tell("null arguments", tlx_model_serve(model, 0, 0, &answer) == TLX_NULL && tlx_model_serve(model, 0, &ask, 0) == TLX_NULL &&
        tlx_model_serve(0, 0, &ask, &answer) == TLX_NULL && tlx_model_byte(model, 0, 0) == TLX_NULL && tlx_model_byte(0, 0, &byte) == TLX_NULL);
