@@ -1,6 +1,6 @@
 //! Captures with their verdicts, worked out by hand from the rule.
 //!
-//! Port 0 has 64 bytes of memory at 0x1000, all zero at reset, port 1 as many at 0x2000. Master 0 has the sources 0 and 1, which
+//! Port 0 has 256 bytes of memory at 0x1000, all zero at reset, port 1 as many at 0x2000. Master 0 has the sources 0 and 1, which
 //! are the wide sources 0 and 1, master 1 the sources 0 to 2, which are 4 to 6.
 use std::alloc::Global;
 use std::process::Abort;
@@ -21,11 +21,11 @@ const P1: Link = Link::Port(1);
 const RANGES: [Range; 2] = [
     Range {
         base: 0x1000,
-        length: 64,
+        length: 256,
     },
     Range {
         base: 0x2000,
-        length: 64,
+        length: 256,
     },
 ];
 
@@ -35,8 +35,8 @@ fn bank_of(rt: &impl Abort, alloc: Global, kind: Kind, base: u64, reset: &[u8]) 
 
 /// The judge of a capture at these links.
 fn watch_of(rt: &impl Abort, alloc: Global, links: Links, order: Order) -> Watch {
-    let first = bank_of(rt, alloc, Kind::Ram, 0x1000, &[0; 64]);
-    let second = bank_of(rt, alloc, Kind::Ram, 0x2000, &[0; 64]);
+    let first = bank_of(rt, alloc, Kind::Ram, 0x1000, &[0; 256]);
+    let second = bank_of(rt, alloc, Kind::Ram, 0x2000, &[0; 256]);
     let none = bank_of(rt, alloc, Kind::NoDevice, 0, &[]);
     let banks = Vec::from_array(alloc, [first, second, none]).expect(rt, "memory");
     let map = Map::new(alloc, &RANGES).expect(rt, "a map");
@@ -138,7 +138,7 @@ const OLD: Row = (P0, What::Data, 3, 1, 0, 0);
 
 const LONG: Row = (P0, What::Put, 4, 0, 0x1000, 7);
 
-const AT_PORTS: [Capture; 12] = [
+const AT_PORTS: [Capture; 14] = [
     // a get beside a long put reads what the put has written by then
     (
         &[
@@ -153,6 +153,8 @@ const AT_PORTS: [Capture; 12] = [
         "",
     ),
     (&[PUT, SECOND_GET, OLD], "wrong reply"),
+    (&[(P0, What::Get, 9, 0, 0x1000, 0)], "size out of range"),
+    (&[GET, (P0, What::Data, 9, 0, 0, 0)], "size out of range"),
     (&[(P0, What::Get, 3, 2, 0x1000, 0)], "no such source"),
     (
         &[(P0, What::Get, 3, 0, 0x2000, 0)],
@@ -179,6 +181,32 @@ const AT_PORTS: [Capture; 12] = [
     (&[GET, (P0, What::DimData, 3, 0, 0, 0)], "unknown data"),
     (&[LONG, (P0, What::Put, 4, 1, 0x1000, 8)], "field changed"),
 ];
+
+/// The beats of a message of 256 bytes but for the last, each with its number on all lanes.
+fn see_31_beats(rt: &impl Abort, alloc: Global, watch: &mut Watch, what: What) {
+    for number in 0..31 {
+        see(rt, alloc, watch, &(P0, what, 8, 0, 0x1000, number), "");
+    }
+}
+
+/// A put of 256 bytes is read back, where the get's last beat has this number and this fault.
+fn read_back(rt: &impl Abort, alloc: Global, number: u8, fault: &str) {
+    let mut watch = watch_of(rt, alloc, Links::Ports, Order::Accept);
+    see_31_beats(rt, alloc, &mut watch, What::Put);
+    see(rt, alloc, &mut watch, &(P0, What::Ack, 8, 0, 0, 0), "reply before its request ended");
+    see(rt, alloc, &mut watch, &(P0, What::Put, 8, 1, 0x1000, 31), "field changed");
+    see(rt, alloc, &mut watch, &(P0, What::Put, 8, 0, 0x1000, 31), "");
+    see(rt, alloc, &mut watch, &(P0, What::Ack, 8, 0, 0, 0), "");
+    see(rt, alloc, &mut watch, &(P0, What::Get, 8, 0, 0x1000, 0), "");
+    see_31_beats(rt, alloc, &mut watch, What::Data);
+    see(rt, alloc, &mut watch, &(P0, What::Data, 8, 0, 0, number), fault);
+}
+
+#[test]
+fn a_put_of_32_beats_is_read_back(rt: HostRuntime) {
+    read_back(&rt, rt.alloc(), 31, "");
+    read_back(&rt, rt.alloc(), 30, "wrong reply");
+}
 
 #[test]
 fn ports_links_alone(rt: HostRuntime) {
