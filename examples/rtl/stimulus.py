@@ -31,14 +31,14 @@ def beat_count(size):
 def operation_of(line):
     """A line of a script as a line of operations_N.hex."""
     if line.strip() == "wait":
-        return f"{WAIT:02x}{0:0170x}"
+        return f"{WAIT:02x}{0:0602x}"
     source, name, address, size, *data = line.split()
     address, size = int(address, 0), int(size)
     opcode, param = OPERATIONS[name]
     beats = list(beats_of(address, size, bytes_of(data[0]) if data else [0] * (1 << size)))
     mask = "".join(f"{mask:02x}" for mask, _ in reversed(beats))
     lanes = "".join(lanes for _, lanes in reversed(beats))
-    return f"00{opcode:02x}{param:02x}{size:02x}{int(source):04x}{address:016x}{mask:0>16}{lanes:0>128}"
+    return f"00{opcode:02x}{param:02x}{size:02x}{int(source):04x}{address:016x}{mask:0>64}{lanes:0>512}"
 
 
 def words_of(port):
@@ -59,7 +59,7 @@ def write_stimulus(script, directory):
         defines[f"BASE_{n}"], defines[f"LENGTH_{n}"] = f"64'h{port['base']:x}", f"64'h{port['length']:x}"
         files[f"ram_{n}.hex"] = words_of(port)
     for n, master in enumerate(system["master"]):
-        files[f"operations_{n}.hex"] = [operation_of(line) for line in master["ops"]] + [f"{END:02x}{0:0170x}"]
+        files[f"operations_{n}.hex"] = [operation_of(line) for line in master["ops"]] + [f"{END:02x}{0:0602x}"]
         defines[f"OPERATIONS_{n}"] = len(master["ops"])
     files["system.vh"] = [f"`define {name} {value}" for name, value in defines.items()]
     for name, lines in files.items():
