@@ -28,9 +28,9 @@ enum { RAM, ROM, REGS, W1C, SHORT_RAM, NOBODY, PORTS, UNSERVED = -1 };
 const tlm::tlm_command READ = tlm::TLM_READ_COMMAND, WRITE = tlm::TLM_WRITE_COMMAND, IGNORE = tlm::TLM_IGNORE_COMMAND;
 const tlm::tlm_command UNKNOWN = static_cast<tlm::tlm_command>(3);
 
-const tlm::tlm_response_status OK = tlm::TLM_OK_RESPONSE, ADDRESS = tlm::TLM_ADDRESS_ERROR_RESPONSE, COMMAND = tlm::TLM_COMMAND_ERROR_RESPONSE,
-                               BURST = tlm::TLM_BURST_ERROR_RESPONSE, ENABLE = tlm::TLM_BYTE_ENABLE_ERROR_RESPONSE,
-                               GENERIC = tlm::TLM_GENERIC_ERROR_RESPONSE;
+const tlm::tlm_response_status OK = tlm::TLM_OK_RESPONSE, GENERIC = tlm::TLM_GENERIC_ERROR_RESPONSE,
+                               ADDRESS = tlm::TLM_ADDRESS_ERROR_RESPONSE, COMMAND = tlm::TLM_COMMAND_ERROR_RESPONSE,
+                               BURST = tlm::TLM_BURST_ERROR_RESPONSE, ENABLE = tlm::TLM_BYTE_ENABLE_ERROR_RESPONSE;
 
 // A payload of master 0, as many bytes as `sent` has digits for, and what it comes to: the status, the port that served it, and what the
 // data array holds then. Digits are two a byte.
@@ -116,6 +116,7 @@ const row ROWS[] = {
     {"a prefetch of a register", IGNORE, 0x3000, "77777777", nullptr, operation::prefetch_read, "", GENERIC, REGS, "77777777"},
     {"a prefetch at no port", IGNORE, 0x9000, "77", nullptr, operation::prefetch_read, "", ADDRESS, NOBODY, "77"},
     {"a prefetch that reads", READ, 0x1000, "77", nullptr, operation::prefetch_read, "", COMMAND, UNSERVED, "77"},
+    {"an operation that is none", IGNORE, 0x1000, "77", nullptr, static_cast<operation>(12), "", COMMAND, UNSERVED, "77"},
 };
 
 bytes bytes_of(const char *digits) {
@@ -267,6 +268,15 @@ class bench : public sc_core::sc_module {
     tell("a read into nothing", send(payload) == GENERIC);
     payload.set_command(WRITE);
     tell("a write of nothing", send(payload) == GENERIC);
+    payload.set_command(READ);
+    tell("debugging into nothing", first->transport_dbg(payload) == 0);
+    tlm::tlm_generic_payload prefetch;
+    auto *rest = new tlx::extension;
+    rest->asked = operation::prefetch_read;
+    prefetch.set_extension(rest);
+    fill(prefetch, IGNORE, 0x1000, data);
+    prefetch.set_data_ptr(nullptr);
+    tell("a prefetch wants no data", send(prefetch) == OK && is_served_by(*rest, RAM));
   }
 
   unsigned debug(tlm::tlm_command command, std::uint64_t address, bytes &data) {

@@ -20,7 +20,7 @@
 namespace tlx {
 
 // What TileLink has and a generic payload has no command for. `plain` is what the payload's own command says.
-enum class operation { plain, min, max, minu, maxu, add, xor_bits, or_bits, and_bits, swap, prefetch_read, prefetch_write };
+enum class operation : std::uint8_t { plain, min, max, minu, maxu, add, xor_bits, or_bits, and_bits, swap, prefetch_read, prefetch_write };
 
 // The rest of a request, and who served it. A payload may go without one: a plain request of the master's source 0.
 struct extension : tlm::tlm_extension<extension> {
@@ -101,10 +101,8 @@ class target : public sc_core::sc_module {
   unsigned transport_dbg(int, payload &trans) {
     const std::uint64_t address = trans.get_address();
     unsigned count = 0;
-    if (!trans.is_read()) return 0;
-    while (count < trans.get_data_length() && address + count >= address &&
-           model_.byte(address + count, trans.get_data_ptr()[count]) == TLX_OK)
-      count++;
+    if (!trans.is_read() || !trans.get_data_ptr()) return 0;
+    while (count < trans.get_data_length() && model_.byte(address + count, trans.get_data_ptr()[count]) == TLX_OK) count++;
     return count;
   }
 
@@ -126,7 +124,7 @@ class target : public sc_core::sc_module {
 
   // The error of a payload that no request of TileLink can say, found before anything is asked.
   static status refusal(const payload &trans, const extension &rest) {
-    if (trans.get_command() != command_of(trans, rest)) return tlm::TLM_COMMAND_ERROR_RESPONSE;
+    if (rest.asked > operation::prefetch_write || trans.get_command() != command_of(trans, rest)) return tlm::TLM_COMMAND_ERROR_RESPONSE;
     if (is_idle(trans, rest)) return tlm::TLM_OK_RESPONSE;
     const std::uint64_t length = trans.get_data_length();
     if (length == 0 || (length & (length - 1)) != 0 || length > 1u << tlx_largest_size()) return tlm::TLM_BURST_ERROR_RESPONSE;
