@@ -61,6 +61,7 @@ void choose_place(request &made, chance &pick, const std::vector<range> &ranges)
   made.payload.set_address(address >> made.size << made.size);
 }
 
+// Of nine three are reads, two whole writes, two writes of some bytes, and two atomics or prefetches.
 void choose_operation(request &made, chance &pick) {
   const std::size_t length = std::size_t{1} << made.size;
   made.data = pick.data(length);
@@ -145,6 +146,8 @@ std::string reply_of(const request &answered) {
 }
 
 class initiator : public sc_core::sc_module {
+  SC_HAS_PROCESS(initiator);
+
  public:
   tlm_utils::simple_initiator_socket<initiator> socket{"socket"};
   std::vector<std::string> operations, trace;
@@ -153,7 +156,6 @@ class initiator : public sc_core::sc_module {
   initiator(const sc_core::sc_module_name &name, unsigned number, unsigned count, unsigned sources, const std::vector<range> &ranges,
             chance &pick, initiator *before)
       : sc_core::sc_module(name), number_(number), count_(count), sources_(sources), ranges_(ranges), pick_(pick), before_(before) {
-    SC_HAS_PROCESS(initiator);
     SC_THREAD(run);
   }
 

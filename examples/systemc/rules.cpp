@@ -126,12 +126,13 @@ bytes bytes_of(const char *digits) {
 }
 
 class bench : public sc_core::sc_module {
+  SC_HAS_PROCESS(bench);
+
  public:
   tlm_utils::simple_initiator_socket<bench> first{"first"}, second{"second"};
   unsigned passed = 0, failed = 0;
 
   explicit bench(const sc_core::sc_module_name &name) : sc_core::sc_module(name) {
-    SC_HAS_PROCESS(bench);
     SC_THREAD(run);
     first.register_nb_transport_bw(this, &bench::nb_transport_bw);
   }
