@@ -51,7 +51,8 @@ const operation PLAIN = operation::plain;
 const row ROWS[] = {
     {"a read", READ, 0x1000, "eeeeeeee", nullptr, PLAIN, "", OK, RAM, "00112233"},
     {"a read of one byte", READ, 0x1003, "ee", nullptr, PLAIN, "", OK, RAM, "33"},
-    {"a read of two beats", READ, 0x1000, "eeeeeeeeeeeeeeeeeeeeeeeeeeeeeeee", nullptr, PLAIN, "", OK, RAM, "00112233445566778899aabbccddeeff"},
+    {"a read of two beats", READ, 0x1000, "eeeeeeeeeeeeeeeeeeeeeeeeeeeeeeee", nullptr, PLAIN, "", OK, RAM,
+     "00112233445566778899aabbccddeeff"},
     {"a write", WRITE, 0x1004, "deadbeef", nullptr, PLAIN, "", OK, RAM, "deadbeef"},
     {"what it left", READ, 0x1000, "eeeeeeeeeeeeeeee", nullptr, PLAIN, "", OK, RAM, "00112233deadbeef"},
     // byte enables
@@ -72,7 +73,8 @@ const row ROWS[] = {
     {"an address that is not aligned", WRITE, 0x1002, "00000000", nullptr, PLAIN, "", ADDRESS, UNSERVED, "00000000"},
     {"an address that no port has", READ, 0x9000, "ee", nullptr, PLAIN, "", ADDRESS, NOBODY, "ee"},
     {"the last address", READ, 0xffffffffffffffff, "ee", nullptr, PLAIN, "", ADDRESS, NOBODY, "ee"},
-    {"more bytes than the port has left", READ, 0x5010, "eeeeeeeeeeeeeeeeeeeeeeeeeeeeeeee", nullptr, PLAIN, "", ADDRESS, NOBODY, "eeeeeeeeeeeeeeeeeeeeeeeeeeeeeeee"},
+    {"more bytes than the port has left", READ, 0x5010, "eeeeeeeeeeeeeeeeeeeeeeeeeeeeeeee", nullptr, PLAIN, "", ADDRESS, NOBODY,
+     "eeeeeeeeeeeeeeeeeeeeeeeeeeeeeeee"},
     {"the last bytes", READ, 0x5010, "eeeeeeeeeeeeeeee", nullptr, PLAIN, "", OK, SHORT_RAM, "0000000000000000"},
     // what a slave denies
     {"a read of the ROM", READ, 0x2000, "eeeeeeeeeeeeeeee", nullptr, PLAIN, "", OK, ROM, "a0a1a2a3a4a5a6a7"},
@@ -121,7 +123,8 @@ const row ROWS[] = {
 
 bytes bytes_of(const char *digits) {
   bytes made;
-  for (const char *at = digits; at[0] && at[1]; at += 2) made.push_back(static_cast<unsigned char>(std::stoul(std::string(at, 2), nullptr, 16)));
+  for (const char *at = digits; at[0] && at[1]; at += 2)
+    made.push_back(static_cast<unsigned char>(std::stoul(std::string(at, 2), nullptr, 16)));
   return made;
 }
 
