@@ -1,0 +1,188 @@
+/* What tl_judge.sv imports: a judge for each crossbar of the simulation, with the beats of the clock cycle that is under way.
+ *
+ * The monitors of an edge run in any order, and the judge wants beats in the order in which they cross (docs/CAPTURE.md): so they are kept
+ * until the cycle ends. This file is C and C++, since Verilator compiles it as C++; a compiler that is given the header that the simulator
+ * makes of the imports (-include Vtop__Dpi.h) compares them. */
+#include "tlx.h"
+
+#include <inttypes.h>
+#include <stdio.h>
+#include <stdlib.h>
+#include <string.h>
+
+#ifdef __cplusplus
+extern "C" {
+#endif
+
+#define MOST_JUDGES 16
+#define MOST_BEATS 1024 /* of one cycle */
+#define MOST_TEXT 2048
+#define MOST_SCRIPT (1 << 20)
+
+struct watch {
+  struct tlx_judge judge;
+  int links;           /* enum tlx_links */
+  uint64_t count;      /* the beats that were handed over, watched or not */
+  char text[MOST_TEXT]; /* what is wrong, or the counts at the end; empty until then */
+  size_t held;
+  struct tlx_beat beats[MOST_BEATS];
+};
+
+static struct watch watches[MOST_JUDGES];
+static int opened;
+
+static struct watch *watch_of(int judge) { return judge >= 0 && judge < opened ? &watches[judge] : NULL; }
+
+/* The place of a word in a list, or that of the list's end. */
+static uint8_t place_of(const char *word, const char *const *words, uint8_t count) {
+  uint8_t place = 0;
+  while (place < count && strcmp(word, words[place])) place++;
+  return place;
+}
+
+/* A file's bytes, one more than a script may have at most, which the library then refuses; null if there are none to read. */
+static char *read_script(const char *path, size_t *length) {
+  FILE *file = fopen(path, "rb");
+  char *script = file ? (char *)malloc(MOST_SCRIPT + 1) : NULL;
+  if (script) *length = fread(script, 1, MOST_SCRIPT + 1, file);
+  if (file && ferror(file)) {
+    free(script);
+    script = NULL;
+  }
+  if (file) fclose(file);
+  return script;
+}
+
+/* Makes the judge of a watch; what is wrong stands in its text. */
+static void make(struct watch *watch, const char *path, const char *links, const char *order) {
+  static const char *const views[] = {"both", "masters", "ports"}, *const orders[] = {"accept", "reply"};
+  struct tlx_system system;
+  size_t length = 0;
+  char why[MOST_TEXT / 2] = "";
+  uint8_t view = place_of(links, views, 3), when = place_of(order, orders, 2);
+  char *script = read_script(path, &length);
+  memset(&system, 0, sizeof system);
+  if (!script) {
+    snprintf(watch->text, MOST_TEXT, "judge: %s: could not be read\n", path);
+    return;
+  }
+  uint32_t fault = tlx_system_read(&system, script, length, why, sizeof why);
+  free(script);
+  if (fault == TLX_OK) {
+    fault = tlx_judge_make(&watch->judge, &system, view, when);
+    tlx_system_free(&system);
+  }
+  if (fault == TLX_OK) {
+    watch->links = view;
+    return;
+  }
+  if (!why[0]) tlx_fault_text(fault, why, sizeof why);
+  snprintf(watch->text, MOST_TEXT, "judge: %s, links %s, order %s: %s\n", path, links, order, why);
+}
+
+/* A judge for the crossbar that a script describes: its number, which the other calls take. */
+int tl_judge_open(const char *path, const char *links, const char *order) {
+  if (opened == MOST_JUDGES) return -1;
+  make(&watches[opened], path, links, order);
+  return opened++;
+}
+
+/* Room for the beat that crosses a link, with what beats of both channels have; null where something is wrong already. */
+static struct tlx_beat *next_beat(int judge, const char *link, uint64_t time, uint8_t channel, uint64_t data, uint8_t known) {
+  struct watch *watch = watch_of(judge);
+  char *end;
+  if (!watch || watch->text[0]) return NULL;
+  if (watch->held == MOST_BEATS || (link[0] != 'm' && link[0] != 'p')) {
+    snprintf(watch->text, MOST_TEXT, "judge: link %s: %s\n", link, watch->held == MOST_BEATS ? "too many beats in a cycle" : "its name is none");
+    return NULL;
+  }
+  struct tlx_beat *beat = &watch->beats[watch->held++];
+  memset(beat, 0, sizeof *beat);
+  beat->time = time;
+  beat->side = link[0] == 'm' ? TLX_MASTER : TLX_PORT;
+  beat->number = strtoull(link + 1, &end, 10);
+  if (*end || end == link + 1) beat->number = UINT64_MAX;
+  beat->channel = channel;
+  beat->known = known;
+  for (int lane = 0; lane < TLX_LANES; lane++) beat->lanes[lane] = (uint8_t)(data >> 8 * lane);
+  return beat;
+}
+
+void tl_judge_request(int judge, const char *link, unsigned long long time, unsigned char opcode, unsigned char param, unsigned char size,
+                      unsigned short source, unsigned long long address, unsigned char mask, unsigned long long data, unsigned char known) {
+  struct tlx_beat *beat = next_beat(judge, link, time, TLX_A, data, known);
+  if (!beat) return;
+  beat->opcode = opcode;
+  beat->param = param;
+  beat->size = size;
+  beat->source = source;
+  beat->address = address;
+  beat->mask = mask;
+}
+
+void tl_judge_reply(int judge, const char *link, unsigned long long time, unsigned char opcode, unsigned char size, unsigned short source,
+                    unsigned char denied, unsigned char corrupt, unsigned long long data, unsigned char known) {
+  struct tlx_beat *beat = next_beat(judge, link, time, TLX_D, data, known);
+  if (!beat) return;
+  beat->opcode = opcode;
+  beat->size = size;
+  beat->source = source;
+  beat->denied = denied;
+  beat->corrupt = corrupt;
+}
+
+/* A beat's turn within its cycle: A of the masters' links, A of the ports', D of the ports', D of the masters'. */
+static int turn_of(const struct tlx_beat *beat) {
+  if (beat->channel == TLX_A) return beat->side == TLX_MASTER ? 0 : 1;
+  return beat->side == TLX_PORT ? 2 : 3;
+}
+
+static int compare(const void *one, const void *other) {
+  const struct tlx_beat *a = (const struct tlx_beat *)one, *b = (const struct tlx_beat *)other;
+  if (turn_of(a) != turn_of(b)) return turn_of(a) - turn_of(b);
+  return a->number < b->number ? -1 : a->number > b->number;
+}
+
+/* Judges a beat. Its line is the one that it has in a capture whose rows stand in the order of turns, behind the header. */
+static void step(struct watch *watch, struct tlx_beat *beat) {
+  char why[MOST_TEXT / 2];
+  beat->line = ++watch->count + 1;
+  if (watch->links == (beat->side == TLX_MASTER ? TLX_PORT_LINKS : TLX_MASTER_LINKS)) return;
+  uint32_t fault = tlx_judge_step(&watch->judge, beat);
+  if (fault >= TLX_FIELD_CHANGED) {
+    tlx_judge_text(&watch->judge, watch->text, MOST_TEXT);
+  } else if (fault != TLX_OK) {
+    tlx_fault_text(fault, why, sizeof why);
+    snprintf(watch->text, MOST_TEXT, "judge: link %c%" PRIu64 ": %s\n", beat->side == TLX_MASTER ? 'm' : 'p', beat->number, why);
+  }
+}
+
+/* Judges the beats of the cycle that ends; 1 if something is wrong, now or before. */
+int tl_judge_cycle(int judge) {
+  struct watch *watch = watch_of(judge);
+  if (!watch) return 1;
+  qsort(watch->beats, watch->held, sizeof *watch->beats, compare);
+  for (size_t k = 0; k < watch->held && !watch->text[0]; k++) step(watch, &watch->beats[k]);
+  watch->held = 0;
+  return watch->text[0] != 0;
+}
+
+/* The line of what is wrong; once the judge is closed, of the counts where nothing is. */
+const char *tl_judge_text(int judge) {
+  struct watch *watch = watch_of(judge);
+  return watch ? watch->text : "judge: there is no such judge\n";
+}
+
+/* Judges what is left, and gives back what the judge holds. */
+void tl_judge_close(int judge) {
+  struct watch *watch = watch_of(judge);
+  if (!watch) return;
+  if (!tl_judge_cycle(judge))
+    snprintf(watch->text, MOST_TEXT, "lawful: %" PRIu64 " beats, %" PRIu64 " requests, %" PRIu64 " answered\n", watch->count,
+             tlx_judge_requests(&watch->judge), tlx_judge_answered(&watch->judge));
+  tlx_judge_free(&watch->judge);
+}
+
+#ifdef __cplusplus
+}
+#endif
