@@ -189,17 +189,28 @@ fn see_31_beats(rt: &impl Abort, alloc: Global, watch: &mut Watch, what: What) {
     }
 }
 
-/// A put of 256 bytes is read back, where the get's last beat has this number and this fault.
+/// From the put's last beat to the get: beats, each with its fault.
+const LAST_BEATS: [(Row, &str); 5] = [
+    (
+        (P0, What::Ack, 8, 0, 0, 0),
+        "reply before its request ended",
+    ),
+    ((P0, What::Put, 8, 1, 0x1000, 31), "field changed"),
+    ((P0, What::Put, 8, 0, 0x1000, 31), ""),
+    ((P0, What::Ack, 8, 0, 0, 0), ""),
+    ((P0, What::Get, 8, 0, 0x1000, 0), ""),
+];
+
+/// A put of 256 bytes is read back, where the last beat of the get's reply has this number and this fault.
 fn read_back(rt: &impl Abort, alloc: Global, number: u8, fault: &str) {
     let mut watch = watch_of(rt, alloc, Links::Ports, Order::Accept);
     see_31_beats(rt, alloc, &mut watch, What::Put);
-    see(rt, alloc, &mut watch, &(P0, What::Ack, 8, 0, 0, 0), "reply before its request ended");
-    see(rt, alloc, &mut watch, &(P0, What::Put, 8, 1, 0x1000, 31), "field changed");
-    see(rt, alloc, &mut watch, &(P0, What::Put, 8, 0, 0x1000, 31), "");
-    see(rt, alloc, &mut watch, &(P0, What::Ack, 8, 0, 0, 0), "");
-    see(rt, alloc, &mut watch, &(P0, What::Get, 8, 0, 0x1000, 0), "");
+    for (row, wanted) in &LAST_BEATS {
+        see(rt, alloc, &mut watch, row, wanted);
+    }
     see_31_beats(rt, alloc, &mut watch, What::Data);
-    see(rt, alloc, &mut watch, &(P0, What::Data, 8, 0, 0, number), fault);
+    let last = (P0, What::Data, 8, 0, 0, number);
+    see(rt, alloc, &mut watch, &last, fault);
 }
 
 #[test]

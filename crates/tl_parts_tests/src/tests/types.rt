@@ -1,7 +1,7 @@
 //! Messages, and the numbers that stand for operations on the wire.
 use tl_types::{
-    Arith, Ask, AskFault, AskOp, Hint, Logic, OpFault, Reply, ReplyFault, ReplyOp,
-    opcode, param, read_op, read_reply_op, reply_opcode,
+    Arith, Ask, AskFault, AskOp, Hint, Logic, OpFault, Reply, ReplyFault, ReplyOp, opcode, param,
+    read_op, read_reply_op, reply_opcode,
 };
 
 #[test]
@@ -45,11 +45,7 @@ fn requests_are_refused_by_their_first_fault(rt: HostRuntime) {
 fn replies_are_refused_by_their_first_fault(rt: HostRuntime) {
     let dirty = [0, 1];
     let rows = [
-        (
-            9,
-            ReplyFault::TooLarge,
-            "the size is over the limit",
-        ),
+        (9, ReplyFault::TooLarge, "the size is over the limit"),
         (
             0,
             ReplyFault::WrongCount,
