@@ -7,7 +7,7 @@ use std::time::Instant;
 
 const TURNS: u64 = 1_000_000;
 /// Room for the most beats; the script writes what the limit on sizes makes of it.
-const MAX_BEATS: usize = 8;
+const MAX_BEATS: usize = 32;
 
 #[derive(Clone, Copy, Default)]
 #[repr(C)]
@@ -48,7 +48,7 @@ fn copied<B: Copy + Default>(beats: &[B]) -> Beats<B> {
 }
 
 fn time<B: Copy + Default>(name: &str) {
-    for (size, count) in [(2, 1), (6, 8)] {
+    for (size, count) in [(2, 1), (6, 8), (8, 32)] {
         let beats = [B::default(); MAX_BEATS];
         let (first, second) = (beats, beats);
         let mut seen = 0usize;
