@@ -230,7 +230,7 @@ static void check_serving(struct tlx_model *model) {
   struct tlx_request ask = request(4, 0, 2, 1, 0x1000);
   memset(&answer, 0xa5, sizeof answer);
   tell("a get", tlx_model_serve(model, 0, &ask, &answer) == TLX_OK && answer.port == 0 && answer.place == 0 && answer.count == 4 &&
-       answer.opcode == 1 && answer.size == 2 && answer.source == 1 && !answer.denied && !memcmp(answer.bytes, "\x00\x11\x22\x33\x00", 5));
+       answer.opcode == 1 && answer.size == 2 && answer.source == 1 && !answer.denied && !memcmp(answer.bytes, "\x00\x11\x22\x33\xa5", 5));
   ask = request(1, 0, 2, 0, 0x1000);
   memcpy(ask.bytes, "\xaa\xbb\xcc\xdd", 4);
   ask.set[1] = ask.set[3] = 1;
