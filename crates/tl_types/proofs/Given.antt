@@ -1,12 +1,13 @@
 -- Bytes of which those are given whose bits are set.
-use Rattle.std.proofs.Common.{◌≡◌, ℕ, zero, suc, ◌+◌, ◌-◌, ◌*◌, ◌/◌, ◌%◌, ◌^◌, ◌<◌, ◌≤◌, ◌⊎◌, inl, inr, List, [], ◌∷◌, ◌++◌, length, set, slice_index, slice_get, Some, None, unwrap_or, bit_or, bit_and, replicate, refl, ap, sym, ◌∙◌, arith, lit≤, w8, map, length-append, get_or-set_same, get_or-set_other}
+use Rattle.std.proofs.Common.{◌≡◌, ℕ, zero, suc, ◌+◌, ◌-◌, ◌*◌, ◌/◌, ◌%◌, ◌^◌, ◌<◌, ◌≤◌, ◌⊎◌, inl, inr, List, [], ◌∷◌, ◌++◌, length, set, slice_index, slice_get, take, Option, Some, None, unwrap_or, bit_or, bit_and, replicate, refl, ap, sym, ◌∙◌, arith, lit≤, w8, map, length-append, get_or-set_same, get_or-set_other}
 use Rattle.std.proofs.Math.ListN.{length-set}
 use Rattle.std.proofs.Math.Nat.{pow-le-pow_right}
 use Rattle.std.proofs.lemmas.Nat.{or_of_8}
 use Rattle.std.proofs.lemmas.Bool.{cases_lt}
 use Rattle.std.proofs.lemmas.Grind.{same_number_lists}
 use Rattle.std.specs.Prelude.{option_map}
-use Rattle.std.proofs.lemmas.Option.{slice_get-get_or, slice_get_past}
+use Rattle.std.proofs.Math.Seq.{take-suc}
+use Rattle.std.proofs.lemmas.Option.{get_or_from_slice_get, slice_get-get_or, slice_get_past, slice_get_within}
 use Rattle.std.specs.Int.{bit_at}
 use Rattle.std.proofs.lemmas.Nat.Bits.{bit_at-lt, bit_at-zero, bit_at_set_same, bit_at_set_other, bit_at_ones, bit_at_ones_above, ones_shr, shr_and_one, same_from_bits_below}
 use Rattle.tl_types.specs.Bytes.{mask_bit, given_byte, given_in, plain_of, bit_in, AreKept, IsMaskOf}
@@ -259,6 +260,20 @@ given_at plain masks place within set = read_at plain masks place within ∙ ap 
 
 pub unset_at : (plain masks : List ℕ) (place : ℕ) → place < length plain → bit_in masks place ≡ 0 → slice_get (given_in (bit_in masks) plain) place ≡ Some None
 unset_at plain masks place within unset = read_at plain masks place within ∙ ap (λ bit. Some (given_byte bit (slice_index plain place))) unset
+
+-- a byte whose flag is not zero is given
+pub given_flag : (flag byte : ℕ) → (flag ≡ 0 → ⊥) → given_byte flag byte ≡ Some byte
+given_flag zero byte isnt = absurd (isnt refl)
+given_flag (suc flag) byte isnt = refl
+
+-- the bytes before a place, and the one there
+pub next_given : (bits : ℕ → ℕ) (plain : List ℕ) (place : ℕ) (byte : Option ℕ) → place < length plain → given_byte (bits place) (slice_index plain place) ≡ byte
+    → take (place + 1) (given_in bits plain) ≡ take place (given_in bits plain) ++ byte ∷ []
+next_given bits plain place byte within is =
+    let next : place + 1 ≡ suc place = omega arith in
+    let given = given_in bits plain in
+    let there : slice_get given place ≡ Some byte = slice_get-given_in bits plain place ∙ ap (option_map (given_byte (bits place))) (slice_get-get_or plain place 0 within) ∙ ap (λ b. Some b) is in
+    ap (λ n. take n given) next ∙ take-suc given place byte (slice_get_within given place byte there) ∙ ap (λ b. take place given ++ b ∷ []) (get_or_from_slice_get given place byte byte there)
 
 -- the test of a bit
 pub tested_bit : (masks : List ℕ) (place : ℕ) → bit_and (slice_index masks (place / 8) / 2 ^ (place % 8)) 1 ≡ 1 → bit_in masks place ≡ 1

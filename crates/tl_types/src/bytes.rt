@@ -1,5 +1,5 @@
 //! The bytes of a request, some of which may be left unset.
-ghost use Rattle.std.specs.Prelude.{◌≡◌, ◌↔◌, ◌+◌, ◌*◌, ◌%◌, ◌<◌, ◌≤◌, ◌==◌, ◌++◌, ◌∷◌, [], length, slice_get, Some, IsTrue, map};
+ghost use Rattle.std.specs.Prelude.{◌≡◌, ◌↔◌, ◌+◌, ◌*◌, ◌%◌, ◌<◌, ◌≤◌, ◌==◌, ◌++◌, ◌∷◌, [], length, slice_get, slice_index, Some, IsTrue, map};
 ghost use Rattle.std.specs.Int.{bit_at};
 ghost use Rattle.tl_types.specs.Bytes.{IsMaskOf, given_in, plain_of};
 
@@ -75,10 +75,77 @@ impl Bytes {
         ensures { result ≡ given.now }
     {
         let mut bytes = Bytes::new();
-        for byte in given {
-            bytes.push(*byte);
-        }
+        bytes.refill(given);
         bytes
+    }
+
+    /// These bytes, all given.
+    pub fn given(plain: &[u8]) -> Bytes
+        requires { length plain.now ≤ MAX_BYTES }
+        ensures { result ≡ map (λ byte. Some byte) plain.now }
+    {
+        let mut bytes = Bytes::new();
+        bytes.append_given(plain);
+        bytes
+    }
+
+    /// Takes all bytes away.
+    pub fn clear(&mut self)
+        ensures { self.new ≡ [] }
+    {
+        self.plain.clear();
+        self.masks = [0; MAX_WORDS];
+    }
+
+    /// Puts these bytes in the place of those that there were.
+    // as many bytes are moved as there are, where a value built anew is moved with room for the longest message
+    pub fn refill(&mut self, given: &[Option<u8>])
+        requires { length given.now ≤ MAX_BYTES }
+        ensures { self.new ≡ given.now }
+    {
+        self.clear();
+        for byte in given {
+            self.push(*byte);
+        }
+    }
+
+    /// Puts these bytes, all given, in the place of those that there were.
+    pub fn refill_given(&mut self, plain: &[u8])
+        requires { length plain.now ≤ MAX_BYTES }
+        ensures { self.new ≡ map (λ byte. Some byte) plain.now }
+    {
+        self.clear();
+        self.append_given(plain);
+    }
+
+    /// Puts these bytes in the place of those that there were: one is left unset where its flag is zero.
+    pub fn refill_flagged(&mut self, plain: &[u8], flags: &[u8])
+        requires limit { length plain.now ≤ MAX_BYTES }
+        requires flags { length plain.now ≤ length flags.now }
+        ensures { self.new ≡ given_in (slice_index flags.now) plain.now }
+    {
+        self.clear();
+        for place in 0..plain.len() {
+            if flags[place] == 0 {
+                self.push(None);
+            } else {
+                self.push(Some(plain[place]));
+            }
+        }
+    }
+
+    /// Appends bytes that are all given where there are none yet, a word at a time.
+    fn append_given(&mut self, plain: &[u8])
+        requires empty { self.old ≡ [] }
+        requires limit { length plain.now ≤ MAX_BYTES }
+        ensures { self.new ≡ map (λ byte. Some byte) plain.now }
+    {
+        let mut rest = plain;
+        while !rest.is_empty() {
+            let (word, more) = rest.split_at(rest.len().min(BUS_BYTES));
+            self.push_given(word);
+            rest = more;
+        }
     }
 
     /// How many bytes there are, those that are left unset among them.

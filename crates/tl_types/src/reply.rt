@@ -1,5 +1,6 @@
 //! Replies on channel D.
-ghost use Rattle.std.specs.Prelude.{◌≡◌, ◌↔◌, ◌≤◌, length, IsOk, IfOk, IfErr};
+ghost use Rattle.std.specs.Prelude.{◌≡◌, ◌↔◌, ◌≤◌, [], false, length, IsOk, IfOk, IfErr};
+ghost use Rattle.tl_types.specs.declared.operation.ReplyOp.TheVariants.{AccessAck};
 ghost use Rattle.tl_types.specs.Response.{IsLawfulResponse, IsFirstReplyFault};
 
 use crate::limits::{LARGEST_SIZE, MAX_BYTES};
@@ -107,6 +108,45 @@ impl Reply {
             denied,
             bytes,
         }
+    }
+
+    /// An acknowledgement of one byte to source 0: room for replies that are written one after the other.
+    pub fn blank() -> Reply
+        ensures { result ≡ record {
+          op = AccessAck;
+          size = 0;
+          source = 0;
+          denied = false;
+          bytes = [];
+        } }
+    {
+        Reply {
+            op: ReplyOp::AccessAck,
+            size: 0,
+            source: 0,
+            denied: false,
+            bytes: ArrayVec::new(),
+        }
+    }
+
+    /// Puts the reply of these parts, which make one, in the place of the one that there was.
+    // no more bytes are moved than it has: the room for the longest reply stays where it is
+    pub fn refill(&mut self, op: ReplyOp, size: u8, source: u16, denied: bool, bytes: &[u8])
+        requires { IsLawfulResponse op size denied bytes.now }
+        ensures { self.new ≡ record {
+          op = op;
+          size = size;
+          source = source;
+          denied = denied;
+          bytes = bytes.now;
+        } }
+    {
+        self.bytes.clear();
+        self.bytes.try_extend_from_slice(bytes).unwrap();
+        self.op = op;
+        self.size = size;
+        self.source = source;
+        self.denied = denied;
     }
 
     /// The opcode.

@@ -1,6 +1,8 @@
 //! Requests on channel A.
-ghost use Rattle.std.specs.Prelude.{◌≡◌, ◌↔◌, ◌<◌, ◌≤◌, ◌^◌, length, IsOk, IfOk, IfErr};
+ghost use Rattle.std.specs.Prelude.{◌≡◌, ◌↔◌, ◌<◌, ◌≤◌, ◌^◌, [], length, map, slice_index, IsOk, IfOk, IfErr, Some};
+ghost use Rattle.tl_types.specs.Bytes.{given_in};
 ghost use Rattle.tl_types.specs.Operation.{byte_count};
+ghost use Rattle.tl_types.specs.declared.operation.AskOp.TheVariants.{Get};
 ghost use Rattle.tl_types.specs.Request.{IsLawfulRequest, IsFirstAskFault};
 
 use crate::bytes::Bytes;
@@ -103,6 +105,89 @@ impl Ask {
             address,
             bytes,
         }
+    }
+
+    /// A get of one byte at address 0 from source 0: room for requests that are read one after the other.
+    pub fn blank() -> Ask
+        ensures { result ≡ record {
+          op = Get;
+          size = 0;
+          source = 0;
+          address = 0;
+          bytes = [];
+        } }
+    {
+        Ask {
+            op: AskOp::Get,
+            size: 0,
+            source: 0,
+            address: 0,
+            bytes: Bytes::new(),
+        }
+    }
+
+    /// Puts the request of these parts, which make one, in the place of the one that there was.
+    // no more bytes are moved than it has: the room for the longest request stays where it is
+    pub fn refill(&mut self, op: AskOp, size: u8, source: u16, address: u64, bytes: &[Option<u8>])
+        requires { IsLawfulRequest op size bytes.now }
+        ensures { self.new ≡ record {
+          op = op;
+          size = size;
+          source = source;
+          address = address;
+          bytes = bytes.now;
+        } }
+    {
+        self.bytes.refill(bytes);
+        self.op = op;
+        self.size = size;
+        self.source = source;
+        self.address = address;
+    }
+
+    /// As `refill`, with bytes that are all given.
+    pub fn refill_given(&mut self, op: AskOp, size: u8, source: u16, address: u64, bytes: &[u8])
+        requires { IsLawfulRequest op size (map (λ byte. Some byte) bytes.now) }
+        ensures { self.new ≡ record {
+          op = op;
+          size = size;
+          source = source;
+          address = address;
+          bytes = map (λ byte. Some byte) bytes.now;
+        } }
+    {
+        self.bytes.refill_given(bytes);
+        self.op = op;
+        self.size = size;
+        self.source = source;
+        self.address = address;
+    }
+
+    /// As `refill`, with bytes of which one is left unset where its flag is zero.
+    pub fn refill_flagged(
+        &mut self,
+        op: AskOp,
+        size: u8,
+        source: u16,
+        address: u64,
+        bytes: &[u8],
+        flags: &[u8],
+    )
+        requires lawful { IsLawfulRequest op size (given_in (slice_index flags.now) bytes.now) }
+        requires flags { length bytes.now ≤ length flags.now }
+        ensures { self.new ≡ record {
+          op = op;
+          size = size;
+          source = source;
+          address = address;
+          bytes = given_in (slice_index flags.now) bytes.now;
+        } }
+    {
+        self.bytes.refill_flagged(bytes, flags);
+        self.op = op;
+        self.size = size;
+        self.source = source;
+        self.address = address;
     }
 
     /// The operation.
