@@ -155,8 +155,16 @@ fn request(pools: &Pools, header: &Header) -> Ask
     requires { IsEntryIn pools.now header.now }
     ensures { result ≡ ask_in pools.now header.now }
 {
-    let bytes = pools.bytes(header.op, header.size, header.start);
-    Ask::from_parts(header.op, header.size, header.source, header.address, bytes)
+    let mut ask = Ask::blank();
+    pools.fill(
+        header.op,
+        header.size,
+        header.source,
+        header.address,
+        header.start,
+        &mut ask,
+    );
+    ask
 }
 
 /// The reply of a header.

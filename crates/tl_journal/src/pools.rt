@@ -1,12 +1,11 @@
 //! The bytes of messages, those of one behind those of the other.
-ghost use Rattle.std.specs.Prelude.{◌≡◌, ◌+◌, ◌<◌, ◌≤◌, ◌++◌, [], length, map, vec_len, vec_capacity, IfOk, OnErr, OnOk, Some};
+ghost use Rattle.std.specs.Prelude.{◌≡◌, ◌+◌, ◌≤◌, ◌++◌, [], length, vec_len, vec_capacity, IfOk, OnErr, OnOk};
 ghost use Rattle.tl_types.specs.Operation.{byte_count, may_leave_unset};
-ghost use Rattle.tl_types.specs.declared.limits.TheConstants.{LARGEST_SIZE, MAX_BYTES};
-ghost use Rattle.tl_journal.specs.Pools.{HasSameBytes, IsKept, IsPlainKept, KeepsRoom, bytes_in, plain_in, pool_len, pool_room};
+ghost use Rattle.tl_journal.specs.Pools.{AreIn, HasSameBytes, IsKept, IsPlainKept, KeepsRoom, bytes_in, plain_in, pool_len, pool_room};
 
 use std::alloc::{AllocError, Global};
 use std::marker::Model;
-use tl_types::{AskOp, BUS_BYTES, Bytes};
+use tl_types::{Ask, AskOp, Bytes};
 
 /// The bytes that messages carry, those of one behind those of the other: of partial puts, which may leave some unset, in
 /// a pool of their own.
@@ -39,21 +38,6 @@ fn push_each(pool: &mut Vec<Option<u8>>, bytes: &Bytes)
     for place in 0..bytes.len() {
         pool.push_reserved(bytes.get(place));
     }
-}
-
-/// Bytes that are all given.
-fn given(plain: &[u8]) -> Bytes
-    requires { length plain.now ≤ MAX_BYTES }
-    ensures { result ≡ map (λ byte. Some byte) plain.now }
-{
-    let mut bytes = Bytes::new();
-    let mut rest = plain;
-    while !rest.is_empty() {
-        let (word, more) = rest.split_at(rest.len().min(BUS_BYTES));
-        bytes.push_given(word);
-        rest = more;
-    }
-    bytes
 }
 
 impl Pools {
@@ -120,17 +104,23 @@ impl Pools {
         start
     }
 
-    /// The bytes of a request of this operation and size that begin at a place of their pool.
-    pub fn bytes(&self, op: AskOp, size: u8, start: usize) -> Bytes
-        requires size { size ≤ LARGEST_SIZE }
-        requires within { start + byte_count op size ≤ pool_len self.now (may_leave_unset op) }
-        ensures { result ≡ bytes_in self.now (may_leave_unset op) start (byte_count op size) }
+    /// Puts a request of these parts, whose bytes begin at a place of their pool, in the place of another.
+    pub fn fill(&self, op: AskOp, size: u8, source: u16, address: u64, start: usize, ask: &mut Ask)
+        requires { AreIn self.now op size start }
+        ensures { ask.new ≡ record {
+          op = op;
+          size = size;
+          source = source;
+          address = address;
+          bytes = bytes_in self.now (may_leave_unset op) start (byte_count op size);
+        } }
     {
         let count = op.byte_count(size);
         if op.may_leave_unset() {
-            Bytes::of(&self.partial[start..][..count])
+            let bytes = &self.partial[start..][..count];
+            ask.refill(op, size, source, address, bytes);
         } else {
-            given(self.plain(start, count))
+            ask.refill_given(op, size, source, address, self.plain(start, count));
         }
     }
 
