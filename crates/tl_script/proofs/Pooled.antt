@@ -1,10 +1,11 @@
 -- What is read of operations when more has been put into their pools.
-use Rattle.std.proofs.Common.{◌≡◌, ◌∙◌, ℕ, suc, Bool, true, false, List, [], ◌∷◌, ◌++◌, length, map, filter, refl, ap}
+use Rattle.std.proofs.Common.{◌≡◌, ◌∙◌, ℕ, suc, Bool, true, false, List, [], ◌∷◌, ◌++◌, length, map, filter, Option, refl, ap}
 use Rattle.std.specs.Prelude.{All}
 use Rattle.std.proofs.lemmas.List.{map-append}
 use Rattle.std.proofs.lemmas.List.Elements.{All-head, All-push, All-tail}
 use Rattle.tl_types.specs.Operation.{byte_count, may_leave_unset}
-use Rattle.tl_types.specs.Request.{Request, IsLawfulRequest}
+use Rattle.tl_types.specs.Request.{IsLawfulRequest}
+use Rattle.tl_types.specs.declared.operation.AskOp.{AskOp}
 use Rattle.tl_journal.specs.Pools.{PoolsView, IsKept}
 use Rattle.tl_journal.proofs.Pooled.{AreIn-grow, Grow, bytes_in-grow, grow_kept, grow_none, sent_in}
 use Rattle.tl_script.specs.Operations.{IsIn, job_in}
@@ -43,11 +44,11 @@ pub record Takes (old new : PoolsView) (header : Header) (job : Job) : Type 0 wh
 pub takes_wait : (pools : PoolsView) → Takes pools pools Wait WaitJob
 takes_wait pools = record { grow = grow_none pools pools (refl, refl); stands = tt; is = refl }
 
-pub takes_send : (ask : Request) (old new : PoolsView) (start : ℕ) → IsLawfulRequest ask.op ask.size ask.bytes → IsKept (may_leave_unset ask.op) ask.bytes old new start
-    → Takes old new (Send ask.op ask.size ask.source start ask.address) (SendJob ask)
-takes_send ask old new start lawful kept =
-    let sent = sent_in ask old new start lawful kept in
-    record { grow = grow_kept (may_leave_unset ask.op) ask.bytes old new start kept; stands = sent.0; is = rw sent.1 refl }
+pub takes_send : (op : AskOp) (size source address : ℕ) (bytes : List (Option ℕ)) (old new : PoolsView) (start : ℕ) → IsLawfulRequest op size bytes → IsKept (may_leave_unset op) bytes old new start
+    → Takes old new (Send op size source start address) (SendJob (record { op = op; size = size; source = source; address = address; bytes = bytes }))
+takes_send op size source address bytes old new start lawful kept =
+    let sent = sent_in (record { op = op; size = size; source = source; address = address; bytes = bytes }) old new start lawful kept in
+    record { grow = grow_kept (may_leave_unset op) bytes old new start kept; stands = sent.0; is = rw sent.1 refl }
 
 pub pushed_jobs : (headers : List Header) (header : Header) (job : Job) (old new : PoolsView) → Takes old new header job → All (IsIn old) headers
     → map (job_in new) (headers ++ header ∷ []) ≡ map (job_in old) headers ++ job ∷ []

@@ -3,7 +3,7 @@ use Rattle.std.specs.Prelude.{ℕ, ◌*◌, ◌^◌, Bool, false, ◌||◌, nat_
 use Rattle.std.specs.List.{list_all, starts_with}
 use Rattle.std.specs.Str.{bytes_eq}
 use Rattle.tl_types.specs.Operation.{carries_bytes, may_leave_unset}
-use Rattle.tl_types.specs.Request.{Request}
+use Rattle.tl_types.specs.Request.{Request, IsLawfulRequest}
 use Rattle.tl_types.specs.declared.operation.AskOp.{AskOp}
 use Rattle.tl_types.specs.declared.limits.TheConstants.{LARGEST_SIZE}
 use Rattle.tl_script.specs.Data.{data_of}
@@ -12,6 +12,8 @@ use Rattle.tl_script.specs.Number.{number_of}
 use Rattle.tl_script.specs.Word.{words_of}
 use Rattle.tl_script.specs.declared.operation.Job.{Job}
 use Rattle.tl_script.specs.declared.operation.Job.TheVariants.{Wait, Send}
+use Rattle.tl_script.specs.declared.operation.Spelled.{Spelled}
+use Rattle.tl_script.specs.declared.operation.Spelled.TheVariants.{Wait as SpelledWait, Send as SpelledSend}
 
 infixl 10 ◌>>=◌
 abbrev ◌>>=◌ : {A B : Type 0} → Option A → (A → Option B) → Option B
@@ -66,3 +68,16 @@ operation_in sources words = if is_wait words then Some Wait else option_map Sen
 -- the operation that a line spells
 unfoldable pub operation_of : ℕ → List ℕ → Option Job
 operation_of sources line = operation_in sources (words_of line)
+
+-- ---- what a line spells, apart from the bytes of its request
+
+-- the operation of what is spelled, with these bytes
+abbrev pub job_of : Spelled → List (Option ℕ) → Job
+job_of SpelledWait bytes = Wait
+job_of (SpelledSend op size source address) bytes =
+    Send (record { op = op; size = size; source = source; address = address; bytes = bytes })
+
+-- where it sends a request, these are bytes of one
+abbrev pub IsLawfulJob : Spelled → List (Option ℕ) → Type 0
+IsLawfulJob SpelledWait bytes = Unit {0}
+IsLawfulJob (SpelledSend op size source address) bytes = IsLawfulRequest op size bytes

@@ -1,7 +1,6 @@
 -- What a script describes.
-use Rattle.std.specs.Prelude.{◌≡◌, ℕ, ◌<◌, ◌≤◌, List, [], ◌∷◌, ◌++◌, map, length, All, Option, Some, None, Vec, slice_get}
+use Rattle.std.specs.Prelude.{◌≡◌, ℕ, ◌<◌, ◌≤◌, List, [], ◌∷◌, ◌++◌, map, length, All, Option, Some, None, slice_get}
 use Rattle.std.specs.List.{filter_map}
-use Rattle.std.specs.Global.{Global}
 use Rattle.tl_types.specs.Request.{Request}
 use Rattle.tl_types.specs.declared.limits.TheConstants.{MAX_SLOTS}
 use Rattle.tl_ops.specs.Store.{Store}

@@ -1,27 +1,27 @@
 //! DATA: the bytes that a word spells.
-ghost use Rattle.std.specs.Prelude.{◌≡◌, ◌≤◌, length, IfSome};
+ghost use Rattle.std.specs.Prelude.{◌≡◌, ◌≤◌, length, option_map, IfSome};
 ghost use Rattle.tl_script.specs.Data.{byte_of, pair_of};
 ghost use Rattle.tl_script.specs.Operation.{counted_data_of};
 
 use tl_types::{Bytes, MAX_BYTES};
 
-/// The bytes that a word spells, if it spells this many.
+/// Reads the bytes that a word spells, if it spells this many, in the place of those that there were.
 #[tactic(auto, unfolding(crate::specs::Operation::counted_data_of))]
-pub fn read_data(word: &[u8], count: usize) -> Option<Bytes>
+pub fn read_data(word: &[u8], count: usize, bytes: &mut Bytes) -> Option<()>
     requires { count ≤ MAX_BYTES }
-    ensures value { result ≡ counted_data_of count word.now }
-    ensures counted { IfSome result (λ bytes. length bytes ≡ count) }
+    ensures value { option_map (λ _. bytes.new) result ≡ counted_data_of count word.now }
+    ensures counted { IfSome result (λ _. length bytes.new ≡ count) }
 {
     if word.len() != 2 * count {
         return None;
     }
-    let mut bytes = Bytes::new();
+    bytes.clear();
     let mut rest = word;
     while let [high, low, more @ ..] = rest {
         bytes.push(read_byte(*high, *low)?);
         rest = more;
     }
-    Some(bytes)
+    Some(())
 }
 
 /// What two characters spell: a byte by its hexadecimal digits, or an unset one by dashes.

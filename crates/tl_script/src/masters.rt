@@ -6,12 +6,13 @@ ghost use Rattle.tl_script.specs.Reading.{Gives, each};
 ghost use Rattle.tl_script.specs.System.{AreLawfulJobs};
 
 use crate::fault::{Key, ScriptFault};
-use crate::operation::read_operation;
+use crate::operation::spell;
 use crate::operations::Operations;
 use crate::parts::Master;
 use crate::system::MAX_JOBS;
 use crate::value::{list_at, number_at, tables_of, texts_of, value_at};
 use std::alloc::Global;
+use tl_types::Bytes;
 use toml::Table;
 
 /// The most sources that a script may say.
@@ -79,9 +80,10 @@ fn read_operations(alloc: Global, m: usize, master: &Master<'_>) -> Result<Opera
     ensures bad { IfErr result IsOfJobs }
 {
     let mut jobs = Operations::with_capacity(alloc, master.lines.len())?;
+    let mut bytes = Bytes::new();
     for (n, line) in master.lines.iter().enumerate() {
-        match read_operation(line.as_bytes(), master.sources) {
-            Some(job) => jobs.push(&job)?,
+        match spell(line.as_bytes(), master.sources, &mut bytes) {
+            Some(spelled) => jobs.push(spelled, &bytes)?,
             None => return Err(ScriptFault::BadOp(m, n)),
         }
     }

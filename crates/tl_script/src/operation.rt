@@ -1,10 +1,11 @@
 //! The operation that a line of a script spells.
-ghost use Rattle.std.specs.Prelude.{◌≡◌, ◌≤◌, ◌<◌, ◌^◌, ◌||◌, IfSome, is_some, map};
+ghost use Rattle.std.specs.Prelude.{◌≡◌, ◌≤◌, ◌<◌, ◌^◌, ◌||◌, IfSome, is_some, map, option_map};
 ghost use Rattle.std.specs.List.{list_all};
 ghost use Rattle.tl_types.specs.Operation.{may_leave_unset};
 ghost use Rattle.tl_types.specs.Request.{IsLawfulRequest};
-ghost use Rattle.tl_script.specs.Operation.{address_of, bytes_of, operation_in, operation_of, request_of, size_of, source_of};
+ghost use Rattle.tl_script.specs.Operation.{IsLawfulJob, address_of, bytes_of, job_of, operation_in, operation_of, request_of, size_of, source_of};
 ghost use Rattle.tl_script.specs.System.{IsFrom};
+ghost use Rattle.tl_script.specs.declared.operation.Job.TheVariants.{Send};
 
 use crate::data::read_data;
 use crate::name::read_name;
@@ -21,31 +22,67 @@ pub enum Job {
     Send(Ask),
 }
 
+/// What a line spells, but for the bytes of its request.
+#[derive(Clone, Copy)]
+pub(crate) enum Spelled {
+    Wait,
+    Send {
+        op: AskOp,
+        size: u8,
+        source: u16,
+        address: u64,
+    },
+}
+
 /// The operation that a line spells, for a master that has this many sources; none for every other line.
 pub fn read_operation(line: &[u8], sources: u16) -> Option<Job>
     ensures value { result ≡ operation_of sources line.now }
     ensures source { IfSome result (IsFrom sources) }
 {
-    read_words(split_words(line).as_slice(), sources)
+    let mut bytes = Bytes::new();
+    match spell(line, sources, &mut bytes)? {
+        Spelled::Wait => Some(Job::Wait),
+        Spelled::Send {
+            op,
+            size,
+            source,
+            address,
+        } => Some(Job::Send(Ask::from_parts(op, size, source, address, bytes))),
+    }
+}
+
+/// What a line spells, for a master that has this many sources, with the bytes of its request in the place of those that
+/// there were; none for every other line.
+// line after line is read into the same bytes: no message is moved to where it is kept
+pub(crate) fn spell(line: &[u8], sources: u16, bytes: &mut Bytes) -> Option<Spelled>
+    ensures value { option_map (λ spelled. job_of spelled bytes.new) result ≡ operation_of sources line.now }
+    ensures lawful { IfSome result (λ spelled. IsLawfulJob spelled bytes.new) }
+    ensures source { IfSome result (λ spelled. IsFrom sources (job_of spelled bytes.new)) }
+{
+    spell_words(split_words(line).as_slice(), sources, bytes)
 }
 
 #[tactic(auto, unfolding(crate::specs::Operation::operation_in))]
-fn read_words(words: &[&[u8]], sources: u16) -> Option<Job>
-    ensures value { result ≡ operation_in sources (map (λ word. word.now) words.now) }
-    ensures source { IfSome result (IsFrom sources) }
+fn spell_words(words: &[&[u8]], sources: u16, bytes: &mut Bytes) -> Option<Spelled>
+    ensures value { option_map (λ spelled. job_of spelled bytes.new) result
+        ≡ operation_in sources (map (λ word. word.now) words.now) }
+    ensures lawful { IfSome result (λ spelled. IsLawfulJob spelled bytes.new) }
+    ensures source { IfSome result (λ spelled. IsFrom sources (job_of spelled bytes.new)) }
 {
     if let [word] = words {
         if *word == b"wait".as_slice() {
-            return Some(Job::Wait);
+            return Some(Spelled::Wait);
         }
     }
-    read_request(words, sources).map(Job::Send)
+    spell_request(words, sources, bytes)
 }
 
 #[tactic(auto, unfolding(crate::specs::Operation::request_of))]
-fn read_request(words: &[&[u8]], sources: u16) -> Option<Ask>
-    ensures value { result ≡ request_of sources (map (λ word. word.now) words.now) }
-    ensures source { IfSome result (λ ask. ask.source < sources) }
+fn spell_request(words: &[&[u8]], sources: u16, bytes: &mut Bytes) -> Option<Spelled>
+    ensures value { option_map (λ spelled. job_of spelled bytes.new) result
+        ≡ option_map Send (request_of sources (map (λ word. word.now) words.now)) }
+    ensures lawful { IfSome result (λ spelled. IsLawfulJob spelled bytes.new) }
+    ensures source { IfSome result (λ spelled. IsFrom sources (job_of spelled bytes.new)) }
 {
     let [source, name, address, size, more @ ..] = words else {
         return None;
@@ -54,8 +91,13 @@ fn read_request(words: &[&[u8]], sources: u16) -> Option<Ask>
     let op = read_name(name)?;
     let address = read_address(address)?;
     let size = read_size(size)?;
-    let bytes = read_bytes(op, size, more)?;
-    Some(Ask::from_parts(op, size, source, address, bytes))
+    read_bytes(op, size, more, bytes)?;
+    Some(Spelled::Send {
+        op,
+        size,
+        source,
+        address,
+    })
 }
 
 #[tactic(auto, unfolding(crate::specs::Operation::source_of))]
@@ -94,21 +136,21 @@ fn read_size(word: &[u8]) -> Option<u8>
     }
 }
 
+/// Reads the bytes that the words after the size spell in the place of those that there were.
 #[tactic(auto, unfolding(crate::specs::Operation::bytes_of))]
-fn read_bytes(op: AskOp, size: u8, words: &[&[u8]]) -> Option<Bytes>
+fn read_bytes(op: AskOp, size: u8, words: &[&[u8]], bytes: &mut Bytes) -> Option<()>
     requires { size ≤ LARGEST_SIZE }
-    ensures value { result ≡ bytes_of op size (map (λ word. word.now) words.now) }
-    ensures lawful { IfSome result (λ bytes. IsLawfulRequest op size bytes) }
+    ensures value { option_map (λ _. bytes.new) result ≡ bytes_of op size (map (λ word. word.now) words.now) }
+    ensures lawful { IfSome result (λ _. IsLawfulRequest op size bytes.new) }
 {
     match words {
-        [] if !op.carries_bytes() => Some(Bytes::new()),
+        [] if !op.carries_bytes() => {
+            bytes.clear();
+            Some(())
+        }
         [word] if op.carries_bytes() => {
-            let bytes = read_data(word, width(size))?;
-            if may_carry(op, &bytes) {
-                Some(bytes)
-            } else {
-                None
-            }
+            read_data(word, width(size), bytes)?;
+            if may_carry(op, bytes) { Some(()) } else { None }
         }
         _ => None,
     }

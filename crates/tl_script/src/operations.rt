@@ -1,13 +1,15 @@
 //! The operations of a master, kept compactly.
-ghost use Rattle.std.specs.Prelude.{◌≡◌, ◌<◌, ◌++◌, ◌∷◌, [], length, slice_get, IfOk, OnErr, OnOk, Some};
+ghost use Rattle.std.specs.Prelude.{◌≡◌, ◌<◌, ◌++◌, ◌∷◌, [], false, length, slice_get, IfOk, OnErr, OnOk, Some};
+ghost use Rattle.tl_script.specs.Operation.{IsLawfulJob, job_of};
+ghost use Rattle.tl_script.specs.Operations.{job_at};
 ghost use Rattle.tl_script.specs.System.{sends};
 
-use crate::operation::Job;
+use crate::operation::{Job, Spelled};
 use std::alloc::{AllocError, Global};
 use std::marker::Model;
 use std::mem::size_of;
 use tl_journal::Pools;
-use tl_types::{Ask, AskOp};
+use tl_types::{Ask, AskOp, Bytes};
 
 /// What is kept of an operation beside the bytes that it carries.
 // The fields stand in an order that leaves few gaps.
@@ -58,19 +60,25 @@ impl Operations {
         })
     }
 
-    /// Appends an operation.
-    pub fn push(&mut self, job: &Job) -> Result<(), AllocError>
-        ensures ok { OnOk result (self.new ≡ self.old ++ job.now ∷ []) }
+    /// Appends the operation that a line spells with these bytes.
+    pub(crate) fn push(&mut self, spelled: Spelled, bytes: &Bytes) -> Result<(), AllocError>
+        requires { IsLawfulJob spelled bytes.now }
+        ensures ok { OnOk result (self.new ≡ self.old ++ job_of spelled bytes.now ∷ []) }
         ensures err { OnErr result (self.new ≡ self.old) }
     {
-        let header = match job {
-            Job::Wait => Header::Wait,
-            Job::Send(ask) => Header::Send {
-                op: ask.op(),
-                size: ask.size(),
-                source: ask.source(),
-                start: self.pools.keep(ask.op(), ask.bytes())?,
-                address: ask.address(),
+        let header = match spelled {
+            Spelled::Wait => Header::Wait,
+            Spelled::Send {
+                op,
+                size,
+                source,
+                address,
+            } => Header::Send {
+                op,
+                size,
+                source,
+                start: self.pools.keep(op, bytes)?,
+                address,
             },
         };
         self.headers.push(header)?;
@@ -102,13 +110,15 @@ impl Operations {
             .count()
     }
 
-    /// The operation of this number.
-    pub fn job(&self, number: usize) -> Job
+    /// Puts the request that the operation of this number sends in the place of another, and answers whether it sends one: a
+    /// wait leaves the other as it is.
+    pub fn fill(&self, number: usize, ask: &mut Ask) -> bool
         requires { number < length self.now }
-        ensures { slice_get self.now number ≡ Some result }
+        ensures job { slice_get self.now number ≡ Some (job_at result ask.new) }
+        ensures wait { result ≡ false → ask.new ≡ ask.old }
     {
         match &self.headers[number] {
-            Header::Wait => Job::Wait,
+            Header::Wait => false,
             Header::Send {
                 op,
                 size,
@@ -116,9 +126,22 @@ impl Operations {
                 start,
                 address,
             } => {
-                let bytes = self.pools.bytes(*op, *size, *start);
-                Job::Send(Ask::from_parts(*op, *size, *source, *address, bytes))
+                self.pools.fill(*op, *size, *source, *address, *start, ask);
+                true
             }
+        }
+    }
+
+    /// The operation of this number.
+    pub fn job(&self, number: usize) -> Job
+        requires { number < length self.now }
+        ensures { slice_get self.now number ≡ Some result }
+    {
+        let mut ask = Ask::blank();
+        if self.fill(number, &mut ask) {
+            Job::Send(ask)
+        } else {
+            Job::Wait
         }
     }
 }

@@ -11,7 +11,6 @@ use Rattle.tl_script.specs.Trace.{lines_of, trace_text}
 use Rattle.tl_serial.specs.Serial.{requests_at, at_port, asks_in, log_of, numbered, AreServedInTurn, IsHistoryOf}
 use Rattle.tl_script.specs.System.{resets}
 use Rattle.tl_script.specs.declared.operation.Job.{Job}
-use Rattle.tl_serial.specs.declared.run.Served.{Served}
 use Rattle.tl_serial.specs.declared.run.Slave.{Slave}
 
 -- what a slave port holds
@@ -49,10 +48,6 @@ pub record Stand (s : System) (keeps : Bool) (log : List (ℕ × Entry)) (slaves
   pub served : AreServedInTurn s log
   pub wide : HaveWide s.counts log
   pub each : (port : ℕ) (slave : Slave) → slice_get slaves port ≡ Some slave → HasServed s keeps log port slave
-
--- the entry of a request that was served so
-abbrev pub entry_of : Request → Served → Entry
-entry_of ask served = record { ask = ask; reply = served.reply; port = served.port; index = served.index }
 
 -- a master's operations took the slaves from the ones to the others, and the lines of its entries were put behind the text
 pub record IsAppended (s : System) (master : ℕ) (jobs : List Job) (old new : List Slave) (before text : List ℕ) : Type 0 where

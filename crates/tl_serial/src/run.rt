@@ -2,16 +2,16 @@
 ghost use Rattle.std.specs.Prelude.{◌≡◌, ◌++◌, ◌∷◌, [], ◌+◌, ◌<◌, ℕ, Bool, List, length, map, option_map, replicate, IfOk, OnOk, Some, slice_get, IsSomeAnd, All, false};
 ghost use Rattle.tl_types.specs.declared.trace.Entry.{Entry};
 ghost use Rattle.tl_journal.specs.Journal.{pairs_in};
-ghost use Rattle.tl_journal.specs.Trace.{entries_in};
+ghost use Rattle.tl_journal.specs.Trace.{entries_in, entry_of};
 ghost use Rattle.tl_ops.specs.Store.{after, reply};
 ghost use Rattle.tl_script.specs.System.{System, sends, store_of, error_store};
 ghost use Rattle.tl_serial.specs.Serial.{IsSerialRun, numbered, asks_in, log_of};
-ghost use Rattle.tl_serial.specs.Slave.{Stand, IsFresh, bank_of, entry_of, history_of, kept_by};
+ghost use Rattle.tl_serial.specs.Slave.{Stand, IsFresh, bank_of, history_of, kept_by};
 
 use std::alloc::Global;
 use tl_journal::{Journal, Place, Trace};
 use tl_ops::{Bank, Kind};
-use tl_script::{Device, Job, Operations, System};
+use tl_script::{Device, Operations, System};
 use tl_types::{Ask, Memory, Reply};
 
 /// What one thread makes of a system: a trace for each master, and a history for each port.
@@ -34,66 +34,46 @@ pub(crate) struct Slave {
 
 impl Slave {
     /// Serves a request, and puts it into the history with its wide source, where that is kept. The answer is how many
-    /// were served before it, and the reply.
-    fn serve(&mut self, ask: &Ask, wide: u16) -> Result<(usize, Reply), Memory>
+    /// were served before it; the reply stands in the place of another.
+    fn serve(&mut self, ask: &Ask, wide: u16, answer: &mut Reply) -> Result<usize, Memory>
         ensures bank { OnOk result (self.new.bank ≡ after self.old.bank ask.now) }
-        ensures index { IfOk result (λ served. served.0 ≡ self.old.served) }
+        ensures index { IfOk result (λ served. served ≡ self.old.served) }
         ensures counted { OnOk result (self.new.served ≡ self.old.served + 1) }
-        ensures reply { IfOk result (λ served. served.1 ≡ reply self.old.bank ask.now) }
-        ensures history { IfOk result (λ served. kept_by self.new
-            ≡ option_map
-            (λ h. h ++ (record ask.now { source = wide }, record served.1 { source = wide }) ∷ [])
+        ensures reply { OnOk result (answer.new ≡ reply self.old.bank ask.now) }
+        ensures history { OnOk result (kept_by self.new ≡ option_map
+            (λ h. h ++ (record ask.now { source = wide }, record answer.new { source = wide }) ∷ [])
             (kept_by self.old)) }
     {
         let index = self.served;
-        let reply = self.bank.serve(ask);
+        *answer = self.bank.serve(ask);
         if let Some(history) = &mut self.history {
-            history.push(wide, ask, &reply)?;
+            history.push(wide, ask, answer)?;
         }
         self.served = index.checked_add(1).ok_or(Memory)?;
-        Ok((index, reply))
+        Ok(index)
     }
 }
 
-/// Where a request was served, and what it was answered.
-#[derive(Drop)]
-pub(crate) struct Served {
-    pub(crate) port: usize,
-    pub(crate) index: usize,
-    pub(crate) reply: Reply,
-}
-
-impl Served {
-    /// Where it was served.
-    fn place(&self) -> Place
-        ensures { result ≡ record { port = self.now.port; index = self.now.index } }
-    {
-        Place {
-            port: self.port,
-            index: self.index,
-        }
-    }
-}
-
-/// Serves a master's next request.
+/// Serves a master's next request, and answers where; the reply stands in the place of another.
 pub(crate) fn send(
     slaves: &mut [Slave],
     system: &System,
     master: usize,
     ask: &Ask,
-) -> Result<Served, Memory>
+    answer: &mut Reply,
+) -> Result<Place, Memory>
     requires ready { length slaves.old ≡ length system.now.ranges + 1 }
     requires source { IsSomeAnd (slice_get system.now.counts master)
         (λ count. ask.now.source < count) }
-    ensures source { IfOk result (λ served. served.reply.source ≡ ask.now.source) }
-    ensures stands { IfOk result (λ served. (keeps : Bool) (log : List (ℕ × Entry))
+    ensures source { OnOk result (answer.new.source ≡ ask.now.source) }
+    ensures stands { IfOk result (λ place. (keeps : Bool) (log : List (ℕ × Entry))
         → Stand system.now keeps log slaves.old
-        → Stand system.now keeps (log ++ (master, entry_of ask.now served) ∷ []) slaves.new) }
+        → Stand system.now keeps (log ++ (master, entry_of ask.now answer.new place) ∷ []) slaves.new) }
 {
     let port = system.map().route(ask);
     let wide = system.sources().widen(master, ask.source()).unwrap();
-    let (index, reply) = slaves[port].serve(ask, wide)?;
-    Ok(Served { port, index, reply })
+    let index = slaves[port].serve(ask, wide, answer)?;
+    Ok(Place { port, index })
 }
 
 /// Serves a master's operations in order, and gives its trace.
@@ -113,13 +93,11 @@ fn run_master(
         → Stand system.now keeps (log ++ numbered master trace.items) slaves.new) }
 {
     let mut trace = Trace::with_room(alloc, jobs.len())?;
+    let (mut ask, mut answer) = (Ask::blank(), Reply::blank());
     for number in 0..jobs.len() {
-        match jobs.job(number) {
-            Job::Wait => {}
-            Job::Send(ask) => {
-                let served = send(slaves, system, master, &ask)?;
-                trace.push_reserved(ask.source(), &ask, &served.reply, served.place());
-            }
+        if jobs.fill(number, &mut ask) {
+            let place = send(slaves, system, master, &ask, &mut answer)?;
+            trace.push_reserved(ask.source(), &ask, &answer, place);
         }
     }
     Ok(trace)

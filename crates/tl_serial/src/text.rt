@@ -8,8 +8,8 @@ ghost use Rattle.tl_serial.specs.Slave.{AreWritten, IsAppended};
 use crate::run::{Slave, run_serial, send, slaves_of};
 use std::alloc::{AllocError, Global};
 use tl_journal::Journal;
-use tl_script::{Job, Operations, System, push_entry, push_history, push_traces};
-use tl_types::Memory;
+use tl_script::{Operations, System, push_entry, push_history, push_traces};
+use tl_types::{Ask, Memory, Reply};
 
 /// Serves a master's operations in order, and appends the lines of its trace: each request is printed as it is answered,
 /// and none is kept.
@@ -26,13 +26,11 @@ fn write_master(
     ensures { OnOk result (IsAppended system.now master jobs.now slaves.old slaves.new
         text.old.items text.new.items) }
 {
+    let (mut ask, mut answer) = (Ask::blank(), Reply::blank());
     for number in 0..jobs.len() {
-        match jobs.job(number) {
-            Job::Wait => {}
-            Job::Send(ask) => {
-                let served = send(slaves, system, master, &ask)?;
-                push_entry(text, master, &ask, &served.reply, served.port, served.index)?;
-            }
+        if jobs.fill(number, &mut ask) {
+            let place = send(slaves, system, master, &ask, &mut answer)?;
+            push_entry(text, master, &ask, &answer, place.port, place.index)?;
         }
     }
     Ok(())
