@@ -2,7 +2,7 @@
 ghost use Rattle.std.specs.Prelude.{◌≡◌, ◌+◌, ◌<◌, length, vec_len};
 ghost use Rattle.tl_script.specs.System.{sends};
 ghost use Rattle.tl_master.specs.Master.{out_of};
-ghost use Rattle.tl_threads.specs.Trace.{IsTrace, IsSame, HasAsked, HasDone, IsIdle};
+ghost use Rattle.tl_threads.specs.Trace.{IsTrace, IsSame, HasAsked, IsIdle};
 
 use crate::bell::{Bells, Listener, ring_at};
 use crate::context::Shared;
@@ -12,7 +12,7 @@ use std::thread::yield_now;
 use tl_arena::ArenaName;
 use tl_journal::Trace;
 use tl_master::{Issued, Master, Polled};
-use tl_script::{Job, Operations};
+use tl_script::Operations;
 use tl_types::Ask;
 
 /// Looks once at each source that a request is out for, the lowest first.
@@ -104,26 +104,21 @@ fn issue<N: ArenaName, R: Wait, G: Gate>(
     unreachable!()
 }
 
-/// Does one operation.
-fn do_job<N: ArenaName, R: Wait, G: Gate>(
+/// Sends a request, and rings at its port.
+fn send<N: ArenaName, R: Wait, G: Gate>(
     rt: &R,
     shared: &Shared<'_, N, G>,
     master: &mut Master,
-    job: &Job,
+    ask: &Ask,
     bells: &mut Bells,
 )
     requires arena { master.old.seat.arena ≡ shared.now.arena.now }
     requires bells { vec_len bells.old.others ≡ length shared.now.system.now.ranges + 1 }
-    ensures done { HasDone shared.now.system.now.ranges master.old job.now master.new }
+    ensures asked { HasAsked shared.now.system.now.ranges master.old ask.now master.new }
     ensures bells { vec_len bells.new.others ≡ vec_len bells.old.others }
 {
-    match job {
-        Job::Wait => collect_all(rt, shared, master, &mut bells.own),
-        Job::Send(ask) => {
-            let port = issue(rt, shared, master, ask, &mut bells.own).port;
-            ring_at(rt, &mut bells.others, port);
-        }
-    }
+    let port = issue(rt, shared, master, ask, &mut bells.own).port;
+    ring_at(rt, &mut bells.others, port);
 }
 
 /// Does a master's operations in order, collects all that is out, and leaves with the trace, which has room for all
@@ -141,9 +136,13 @@ pub(crate) fn run_master<N: ArenaName, R: Wait, G: Gate>(
     requires bells { vec_len bells.others ≡ length shared.now.system.now.ranges + 1 }
     ensures { IsTrace shared.now.arena.now shared.now.system.now.ranges number jobs.now result.items }
 {
+    let mut ask = Ask::blank();
     for operation in 0..jobs.len() {
-        let job = jobs.job(operation);
-        do_job(rt, shared, &mut master, &job, &mut bells);
+        if jobs.fill(operation, &mut ask) {
+            send(rt, shared, &mut master, &ask, &mut bells);
+        } else {
+            collect_all(rt, shared, &mut master, &mut bells.own);
+        }
     }
     collect_all(rt, shared, &mut master, &mut bells.own);
     master.finish(shared.arena)

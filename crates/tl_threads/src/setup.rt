@@ -19,8 +19,8 @@ use tl_map::Map;
 use tl_master::Master;
 use tl_ops::{Bank, Kind};
 use tl_port::Book;
-use tl_script::{Device, Job, Operations, System};
-use tl_types::Memory;
+use tl_script::{Device, Operations, System};
+use tl_types::{Ask, Memory};
 
 /// The bank of each of these devices at reset, and behind them that of the error port.
 pub(crate) fn banks_of(alloc: Global, devices: &[Device]) -> Result<Vec<Bank>, Memory>
@@ -54,10 +54,10 @@ fn count_sends(map: &Map, jobs: &Operations, counts: &mut [usize])
     requires room { (p n : ℕ) → slice_get counts.old p ≡ Some n → n + length jobs.now < 2 ^ 64 }
     ensures { AddsArrivals map.now (sends jobs.now) counts.old counts.new }
 {
+    let mut ask = Ask::blank();
     for number in 0..jobs.len() {
-        match jobs.job(number) {
-            Job::Wait => (),
-            Job::Send(ask) => counts[map.route(&ask)] += 1,
+        if jobs.fill(number, &mut ask) {
+            counts[map.route(&ask)] += 1;
         }
     }
 }
