@@ -146,7 +146,7 @@ impl Lanes {
     }
 
     /// So many words from a place on.
-    fn whole_words(&self, start: usize, count: usize) -> Window
+    pub fn whole_words(&self, start: usize, count: usize) -> Window
         requires whole { start % BUS_BYTES ≡ 0 }
         requires room { BUS_BYTES * count ≤ MAX_BYTES }
         requires inside { start + BUS_BYTES * count ≤ length self.now }
@@ -159,21 +159,6 @@ impl Lanes {
             bytes.try_extend_from_slice(&word.to_le_bytes()).unwrap();
         }
         bytes
-    }
-
-    /// The bytes from a place on: a cell, or whole words.
-    pub fn read(&self, start: usize, width: usize) -> Window
-        requires fits { FitsWords start width }
-        requires room { width ≤ MAX_BYTES }
-        requires inside { start + width ≤ length self.now }
-        ensures { result.items ≡ take width (drop start self.now) }
-    {
-        if width <= BUS_BYTES {
-            let mut bytes = Window::new();
-            push_cell(&mut bytes, self.cell(start, width), width);
-            return bytes;
-        }
-        self.whole_words(start, width / BUS_BYTES)
     }
 
     /// Puts the given bytes from a place on: into a cell, or into whole words.
@@ -191,26 +176,5 @@ impl Lanes {
         for k in 0..width / BUS_BYTES {
             self.put_word(start / BUS_BYTES + k, given, k);
         }
-    }
-}
-
-/// Appends the bytes of a cell.
-// always inlined: where it is called the window is new, and the bytes go from a register straight into the reply
-#[inline(always)]
-pub fn push_cell(bytes: &mut Window, cell: u64, width: usize)
-    requires in_word { width ≤ BUS_BYTES }
-    requires room { length bytes.old.items + width ≤ MAX_BYTES }
-    ensures { bytes.new.items ≡ bytes.old.items ++ low_bytes width cell }
-{
-    let word = cell.to_le_bytes();
-    // each width that a request has is one move, since its length is known here
-    match width {
-        1 => bytes.push(word[0]),
-        2 => bytes.try_extend_from_slice(&[word[0], word[1]]).unwrap(),
-        4 => bytes
-            .try_extend_from_slice(&[word[0], word[1], word[2], word[3]])
-            .unwrap(),
-        BUS_BYTES => bytes.try_extend_from_slice(&word).unwrap(),
-        _ => bytes.try_extend_from_slice(&word[..width]).unwrap(),
     }
 }
