@@ -45,7 +45,7 @@ impl Slave {
             (kept_by self.old)) }
     {
         let index = self.served;
-        *answer = self.bank.serve(ask);
+        self.bank.serve_into(ask, answer);
         if let Some(history) = &mut self.history {
             history.push(wide, ask, answer)?;
         }
