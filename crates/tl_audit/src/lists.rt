@@ -13,8 +13,9 @@ use crate::marks::{Mark, first_marked, mark_traces, unnamed};
 use crate::order::first_out_of_order;
 use crate::recorded::is_recorded;
 use std::alloc::{AllocError, Global};
-use tl_journal::{Journal, Trace};
+use tl_journal::{Journal, Trace, blank_entry};
 use tl_map::Sources;
+use tl_types::{Ask, Reply};
 
 /// The first entry of a master's trace that is not the one at its port and index.
 fn first_unrecorded(
@@ -28,8 +29,10 @@ fn first_unrecorded(
     ensures none { IfNone result
         (All (IsRecorded sources.now (journals_in histories.now) master) trace.now.items) }
 {
+    let (mut entry, mut pair) = (blank_entry(), (Ask::blank(), Reply::blank()));
     for place in 0..trace.len() {
-        if !is_recorded(sources, histories, master, &trace.get(place)) {
+        trace.read(place, &mut entry);
+        if !is_recorded(sources, histories, master, &entry, &mut pair) {
             return Some(place);
         }
     }

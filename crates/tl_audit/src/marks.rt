@@ -5,7 +5,7 @@ ghost use Rattle.tl_audit.specs.Agrees.{journals_in, times_in, times_named};
 ghost use Rattle.tl_audit.specs.Marks.{AllNamePlaces, AreMarkedBy, IsSetAt, NamePlaces, cell, next_of, rows_in};
 
 use std::alloc::{AllocError, Global};
-use tl_journal::{Journal, Trace};
+use tl_journal::{Journal, Trace, blank_entry};
 
 /// How often a place is named, as far as it matters.
 #[derive(Debug, Clone, Copy, PartialEq, Eq)]
@@ -61,8 +61,9 @@ fn mark_trace(rows: &mut [Vec<Mark>], trace: &Trace)
     ensures { AreMarkedBy (λ p i. times_in p i trace.now.items)
         (rows_in rows.old) (rows_in rows.new) }
 {
+    let mut entry = blank_entry();
     for place in 0..trace.len() {
-        let entry = trace.get(place);
+        trace.read(place, &mut entry);
         let mark = next(get(rows, entry.port, entry.index));
         put(rows, entry.port, entry.index, mark);
     }

@@ -4,7 +4,7 @@ ghost use Rattle.tl_audit.specs.Agrees.{IsInOrder, IsOutOfOrder};
 ghost use Rattle.tl_audit.specs.Marks.{IsSetAt, cell, rows_in};
 ghost use Rattle.tl_audit.specs.Order.{AreBlank, HaveCells, IsAtLeast};
 
-use tl_journal::Trace;
+use tl_journal::{Trace, blank_entry};
 
 /// The last index of a source at a port, where there is one.
 fn last(lasts: &[Vec<Option<usize>>], port: usize, source: u16) -> Option<usize>
@@ -41,8 +41,9 @@ pub(crate) fn first_out_of_order(lasts: &mut [Vec<Option<usize>>], trace: &Trace
     ensures found { IfSome result (IsOutOfOrder trace.now.items) }
     ensures none { IfNone result (IsInOrder trace.now.items) }
 {
+    let mut entry = blank_entry();
     for place in 0..trace.len() {
-        let entry = trace.get(place);
+        trace.read(place, &mut entry);
         let source = entry.ask.source();
         if is_at_least(last(lasts, entry.port, source), entry.index) {
             return Some(place);

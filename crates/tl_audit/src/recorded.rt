@@ -1,5 +1,5 @@
 //! Whether an entry of a trace is the one at its port and index.
-ghost use Rattle.std.specs.Prelude.{◌≡◌, ◌↔◌, IsTrue};
+ghost use Rattle.std.specs.Prelude.{◌≡◌, ◌↔◌, IsTrue, None, Some, false};
 ghost use Rattle.tl_audit.specs.Agrees.{IsRecorded, journals_in, pair_at};
 
 use tl_journal::Journal;
@@ -36,32 +36,37 @@ fn is_pair(pair: &(Ask, Reply), wide: u16, entry: &Entry) -> bool
     is_ask(&pair.0, wide, &entry.ask) && is_reply(&pair.1, wide, &entry.reply)
 }
 
-/// The request and the reply at a place of a port's history.
-fn pair_of(histories: &[&Journal], port: usize, index: usize) -> Option<(Ask, Reply)>
-    ensures { result ≡ pair_at (journals_in histories.now) port index }
+/// Puts the request and the reply at a place of a port's history in the place of others, where there is such a place.
+fn read_pair(histories: &[&Journal], port: usize, index: usize, pair: &mut (Ask, Reply)) -> bool
+    ensures found { IsTrue result → pair_at (journals_in histories.now) port index ≡ Some pair.new }
+    ensures none { result ≡ false → pair_at (journals_in histories.now) port index ≡ None }
 {
-    let history = histories.get(port)?;
-    if index < history.len() {
-        Some(history.get(index))
-    } else {
-        None
+    let Some(history) = histories.get(port) else {
+        return false;
+    };
+    if index >= history.len() {
+        return false;
     }
+    history.read(index, &mut pair.0, &mut pair.1);
+    true
 }
 
-/// Whether an entry of a master, with its source widened, is the pair at its port and index.
+/// Whether an entry of a master, with its source widened, is the pair at its port and index, which is read into the place of
+/// another.
 pub(crate) fn is_recorded(
     sources: &Sources,
     histories: &[&Journal],
     master: usize,
     entry: &Entry,
+    pair: &mut (Ask, Reply),
 ) -> bool
     ensures { IsTrue result ↔ IsRecorded sources.now (journals_in histories.now) master entry.now }
 {
     let Some(wide) = sources.widen(master, entry.ask.source()) else {
         return false;
     };
-    match pair_of(histories, entry.port, entry.index) {
-        Some(pair) => is_pair(&pair, wide, entry),
-        None => false,
+    if !read_pair(histories, entry.port, entry.index, pair) {
+        return false;
     }
+    is_pair(pair, wide, entry)
 }

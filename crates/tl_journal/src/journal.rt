@@ -3,7 +3,6 @@ ghost use Rattle.std.specs.Prelude.{◌≡◌, ◌<◌, ◌≤◌, ◌==◌, ◌
 ghost use Rattle.tl_journal.specs.Headers.{IsEntryIn, ask_in, reply_in};
 
 use crate::pools::Pools;
-use arrayvec::ArrayVec;
 use std::alloc::{AllocError, Global};
 use std::marker::Model;
 use std::mem::size_of;
@@ -145,40 +144,48 @@ impl Journal {
         requires { place < length self.now.items }
         ensures { slice_get self.now.items place ≡ Some result }
     {
+        let (mut ask, mut reply) = (Ask::blank(), Reply::blank());
+        self.read(place, &mut ask, &mut reply);
+        (ask, reply)
+    }
+
+    /// Puts the request at a place, and its reply, in the places of others: no more bytes are moved than they have.
+    pub fn read(&self, place: usize, ask: &mut Ask, reply: &mut Reply)
+        requires { place < length self.now.items }
+        ensures { slice_get self.now.items place ≡ Some (ask.new, reply.new) }
+    {
         let header = &self.headers[place];
-        (request(&self.pools, header), reply(&self.pools, header))
+        read_request(&self.pools, header, ask);
+        read_reply(&self.pools, header, reply);
     }
 }
 
-/// The request of a header.
-fn request(pools: &Pools, header: &Header) -> Ask
+/// Puts the request of a header in the place of another.
+fn read_request(pools: &Pools, header: &Header, ask: &mut Ask)
     requires { IsEntryIn pools.now header.now }
-    ensures { result ≡ ask_in pools.now header.now }
+    ensures { ask.new ≡ ask_in pools.now header.now }
 {
-    let mut ask = Ask::blank();
     pools.fill(
         header.op,
         header.size,
         header.source,
         header.address,
         header.start,
-        &mut ask,
+        ask,
     );
-    ask
 }
 
-/// The reply of a header.
-fn reply(pools: &Pools, header: &Header) -> Reply
+/// Puts the reply of a header in the place of another.
+fn read_reply(pools: &Pools, header: &Header, reply: &mut Reply)
     requires { IsEntryIn pools.now header.now }
-    ensures { result ≡ reply_in pools.now header.now }
+    ensures { reply.new ≡ reply_in pools.now header.now }
 {
     let count = header.answer.byte_count(header.answer_size);
-    let bytes = ArrayVec::try_from(pools.plain(header.answer_start, count)).unwrap();
-    Reply::from_parts(
+    reply.refill(
         header.answer,
         header.answer_size,
         header.source,
         header.denied,
-        bytes,
-    )
+        pools.plain(header.answer_start, count),
+    );
 }

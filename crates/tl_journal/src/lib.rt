@@ -16,4 +16,4 @@ mod trace;
 
 pub use journal::Journal;
 pub use pools::Pools;
-pub use trace::{Place, Trace};
+pub use trace::{Place, Trace, blank_entry};

@@ -75,13 +75,29 @@ impl Trace {
         requires { place < length self.now.items }
         ensures { slice_get self.now.items place ≡ Some result }
     {
-        let (ask, reply) = self.journal.get(place);
+        let mut entry = blank_entry();
+        self.read(place, &mut entry);
+        entry
+    }
+
+    /// Puts the entry at a place in the place of another: no more bytes are moved than it has.
+    pub fn read(&self, place: usize, entry: &mut Entry)
+        requires { place < length self.now.items }
+        ensures { slice_get self.now.items place ≡ Some entry.new }
+    {
+        self.journal.read(place, &mut entry.ask, &mut entry.reply);
         let Place { port, index } = self.places[place];
-        Entry {
-            ask,
-            reply,
-            port,
-            index,
-        }
+        entry.port = port;
+        entry.index = index;
+    }
+}
+
+/// An entry of a get: room for entries that are read one after the other.
+pub fn blank_entry() -> Entry {
+    Entry {
+        ask: Ask::blank(),
+        reply: Reply::blank(),
+        port: 0,
+        index: 0,
     }
 }

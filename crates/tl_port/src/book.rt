@@ -60,6 +60,8 @@ pub struct Book {
     journal: usize,
     history: Journal,
     flights: VecDeque<Accepted>,
+    /// The last reply that was given: room for the next one, which contracts don't see.
+    reply: Reply,
 }
 
 impl Model for Book {
@@ -104,6 +106,7 @@ impl Book {
             journal,
             history,
             flights,
+            reply: Reply::blank(),
         })
     }
 
@@ -139,6 +142,7 @@ impl Book {
             &mut self.seat,
             &mut self.bank,
             &mut self.history,
+            &mut self.reply,
             accepted,
         );
         Some(place)
@@ -256,6 +260,7 @@ fn answer_by(
     seat: &mut PortSeat,
     bank: &mut Bank,
     history: &mut Journal,
+    answer: &mut Reply,
     accepted: Accepted,
 )
     requires arena { seat.old.arena ≡ arena.now }
@@ -271,7 +276,7 @@ fn answer_by(
     ensures capacity { history.new.room ≡ history.old.room }
 {
     let ask = accepted.ask();
-    let reply = bank.serve(ask);
-    history.push_reserved(ask.source(), ask, &reply);
-    arena.answer(seat, accepted, &reply);
+    bank.serve_into(ask, answer);
+    history.push_reserved(ask.source(), ask, answer);
+    arena.answer(seat, accepted, answer);
 }

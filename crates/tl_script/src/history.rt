@@ -34,8 +34,9 @@ pub fn push_history(text: &mut Vec<u8>, port: usize, history: &Journal) -> Resul
     ensures { OnOk result
         (text.new.items ≡ text.old.items ++ history_text port history.now.items) }
 {
+    let (mut ask, mut reply) = (Ask::blank(), Reply::blank());
     for index in 0..history.len() {
-        let (ask, reply) = history.get(index);
+        history.read(index, &mut ask, &mut reply);
         push_line(text, port, index, &ask, &reply)?;
     }
     Ok(())

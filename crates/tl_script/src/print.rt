@@ -7,7 +7,7 @@ ghost use Rattle.tl_script.specs.Trace.{ask_text, bytes_part, denied_text, lines
 use crate::digits::{hex_digit, push_decimal, push_field, push_hex};
 use crate::name::{reply_word, word};
 use std::alloc::{AllocError, Global};
-use tl_journal::Trace;
+use tl_journal::{Trace, blank_entry};
 use tl_types::{Ask, Bytes, Memory, Reply};
 
 /// Appends a byte as two hexadecimal digits, or an unset one as dashes.
@@ -119,8 +119,9 @@ pub fn push_trace(text: &mut Vec<u8>, master: usize, trace: &Trace) -> Result<()
     ensures { OnOk result
         (text.new.items ≡ text.old.items ++ lines_of master trace.now.items) }
 {
+    let mut entry = blank_entry();
     for place in 0..trace.len() {
-        let entry = trace.get(place);
+        trace.read(place, &mut entry);
         push_entry(
             text,
             master,

@@ -6,8 +6,8 @@ use Rattle.tl_audit.proofs.lists.first_unrecorded.Goals as goal
 
 pub loop-place-preserved : goal.loop-place-preserved
 loop-place-preserved c =
-    all_more (IsRecorded c.args.sources.now (journals_in c.args.histories.now) c.args.master) c.args.trace.now.items c.loop-place.place c.get.result
-    c.get.ensures c.loop-place.invariant (c.if-not-is_recorded.ensures.0 refl)
+    all_more (IsRecorded c.args.sources.now (journals_in c.args.histories.now) c.args.master) c.args.trace.now.items c.loop-place.place c.read.new.entry
+    c.read.ensures c.loop-place.invariant (c.if-not-is_recorded.ensures.0 refl)
 
 pub returns-clause-none : goal.returns-clause-none
 returns-clause-none c =

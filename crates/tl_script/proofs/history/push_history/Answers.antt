@@ -8,8 +8,8 @@ pub loop-index-preserved : goal.loop-index-preserved
 loop-index-preserved c =
     let history = c.args.history.now.items in
     let place = c.loop-index.index in
-    let first = drop_at history place c.get-ask.result c.get-ask.ensures in
-    let line = history_line c.args.port place c.get-ask.result in
+    let first = drop_at history place (c.read.new.ask, c.read.new.reply) c.read.ensures in
+    let line = history_line c.args.port place (c.read.new.ask, c.read.new.reply) in
     let rest = history_from c.args.port (place + 1) (drop (place + 1) history) in
     ap (λ text. text ++ rest) c.in_ok-push_line.ensures ∙ append_assoc c.loop-index.text.items line rest
     ∙ ap (λ left. c.loop-index.text.items ++ history_from c.args.port place left) (sym first) ∙ c.loop-index.invariant
