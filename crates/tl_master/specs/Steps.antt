@@ -80,6 +80,13 @@ pub record IsReply (v : MasterView) (t : TicketView) (source : ℕ) (e : Entry) 
   pub entry : e ≡ entry_from source (entry_of served)
   pub seat : w ≡ with_held taken served.slot Nothing
 
+-- the same, and the entry is the last of these, at this place, where those stood before
+pub record Appends (v : MasterView) (t : TicketView) (source : ℕ) (before : List Entry) (place : ℕ) (w : MasterView) (after : List Entry) : Type 0 where
+  pub entry : Entry
+  pub reply : IsReply v t source entry w
+  pub place_is : place ≡ length before
+  pub is : after ≡ before ++ entry ∷ []
+
 -- the reply to what was out for the source is collected, and this is its entry's place in the trace
 pub record CollectsOne (m : MasterState) (source place : ℕ) (n : MasterState) : Type 0 where
   pub ticket : TicketView

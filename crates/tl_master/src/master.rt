@@ -7,7 +7,7 @@ ghost use Rattle.tl_rule.specs.Views.{Owns};
 ghost use Rattle.tl_arena.specs.Views.{owned_of, in_hand, with_held};
 ghost use Rattle.tl_arena.specs.Promises.{IsUnsent, OwnsHistories};
 ghost use Rattle.tl_master.specs.Master.{new_state, count_of, out_of, ticket_at, IsInOrder, AreWidened, asks_of, of_source, asked, reply_to, IsNextOut};
-ghost use Rattle.tl_master.specs.Steps.{IsPosted, IsReply, Issues, Polls, AsksMore, AsksSame};
+ghost use Rattle.tl_master.specs.Steps.{Appends, IsPosted, Issues, Polls, AsksMore, AsksSame};
 
 use crate::source_set::SourceSet;
 use arrayvec::ArrayVec;
@@ -17,7 +17,7 @@ use thiserror::Error;
 use tl_arena::{Arena, Claim, MasterSeat, Served, Ticket};
 use tl_journal::{Place, Trace};
 use tl_map::{Map, Sources};
-use tl_types::{Ask, Entry, Reply};
+use tl_types::{Ask, Entry, MAX_BYTES, Reply};
 
 /// Where a request was posted: its slot, and the port that the map gives it.
 #[derive(Debug, Clone, Copy, PartialEq, Eq)]
@@ -61,6 +61,8 @@ pub struct Master {
     count: usize,
     limit: usize,
     trace: Trace,
+    /// The last reply that was collected: room for the next one, which contracts don't see.
+    reply: Reply,
 }
 
 impl Model for Master {
@@ -108,6 +110,7 @@ impl Master {
             count: 0,
             limit,
             trace,
+            reply: Reply::blank(),
         })
     }
 
@@ -153,15 +156,16 @@ impl Master {
         let Some(ticket) = self.out[at].take() else {
             return Polled::Idle;
         };
-        match collect_entry(arena, &mut self.seat, ticket, source) {
+        let (trace, reply) = (&mut self.trace, &mut self.reply);
+        match collect_entry(arena, &mut self.seat, ticket, source, trace, reply) {
             Err(ticket) => {
                 self.out[at] = Some(ticket);
                 Polled::NotYet
             }
-            Ok(entry) => {
+            Ok(place) => {
                 self.busy.remove(at);
                 self.count -= 1;
-                Polled::Done(append(&mut self.trace, &entry))
+                Polled::Done(place)
             }
         }
     }
@@ -236,6 +240,7 @@ impl Master {
             count: _,
             limit: _,
             trace,
+            reply: _,
         } = self;
         arena.leave(seat);
         trace
@@ -266,67 +271,57 @@ fn post_routed(
     (ticket, Issued { slot, port })
 }
 
-/// Collects the reply to what was posted, where it is there, and releases its slot. The entry has the master's own
-/// source.
+/// Collects the reply to what was posted, where it is there, into the place of another, puts its entry, with the master's
+/// own source, at the end of a trace that has room for it, and releases its slot. The answer is the entry's place.
 fn collect_entry(
     arena: &Arena,
     seat: &mut MasterSeat,
     ticket: Ticket,
     source: u16,
-) -> Result<Entry, Ticket>
+    trace: &mut Trace,
+    reply: &mut Reply,
+) -> Result<usize, Ticket>
     requires arena { seat.old.arena ≡ arena.now }
     requires ticket { in_hand seat.old ticket.slot ≡ Sent ticket.ask ticket.port ticket.known }
-    requires room { length seat.old.got < usize.MAX }
-    ensures ok { IfOk result (λ entry. IsReply seat.old ticket source entry seat.new) }
-    ensures err { IfErr result (λ back. (back ≡ ticket) × (seat.new ≡ seat.old)) }
+    requires count { length seat.old.got < usize.MAX }
+    requires room { length trace.old.items < trace.old.room }
+    ensures ok { IfOk result (λ place.
+        Appends seat.old ticket source trace.old.items place seat.new trace.new.items) }
+    ensures capacity { trace.new.room ≡ trace.old.room }
+    ensures err { IfErr result
+        (λ back. (back ≡ ticket) × (seat.new ≡ seat.old) × (trace.new ≡ trace.old)) }
 {
     let served = arena.collect(seat, ticket)?;
-    let entry = Entry {
-        ask: served.ask().with_source(source),
-        reply: reply_for(&served, source),
+    read_reply(&served, source, reply);
+    let place = trace.len();
+    let at = Place {
         port: served.port(),
         index: served.index(),
     };
+    trace.push_reserved(source, served.ask(), reply, at);
     arena.release(seat, served);
-    Ok(entry)
+    Ok(place)
 }
 
-/// The reply that was collected, to the master's own source, made of its bytes where they lie.
-fn reply_for(served: &Served, source: u16) -> Reply
+/// Puts the reply that was collected, to the master's own source, in the place of another.
+fn read_reply(served: &Served, source: u16, reply: &mut Reply)
     requires op { served.now.reply.op ≡ reply_op_of served.now.ask.op }
     requires size { served.now.reply.size ≡ served.now.ask.size }
-    ensures { result ≡ reply_to source served.now.reply }
+    ensures { reply.new ≡ reply_to source served.now.reply }
 {
     let ask = served.ask();
     let denied = served.is_denied();
-    let mut bytes = ArrayVec::new();
+    let mut bytes: ArrayVec<u8, MAX_BYTES> = ArrayVec::new();
     while let Some(byte) = served.reply_byte(bytes.len()) {
         bytes.push(byte);
     }
-    Reply::from_parts(ask.op().reply_op(), ask.size(), source, denied, bytes)
-}
-
-/// Puts an entry at the end of a trace that has room for it, and answers its place.
-fn append(trace: &mut Trace, entry: &Entry) -> usize
-    requires room { length trace.old.items < trace.old.room }
-    requires source { entry.now.reply.source ≡ entry.now.ask.source }
-    ensures place { result ≡ length trace.old.items }
-    ensures entry { trace.new.items ≡ trace.old.items ++ entry.now ∷ [] }
-    ensures capacity { trace.new.room ≡ trace.old.room }
-{
-    let place = trace.len();
-    let Entry {
-        ask,
-        reply,
-        port,
-        index,
-    } = entry;
-    let served = Place {
-        port: *port,
-        index: *index,
-    };
-    trace.push_reserved(ask.source(), ask, reply, served);
-    place
+    reply.refill(
+        ask.op().reply_op(),
+        ask.size(),
+        source,
+        denied,
+        bytes.as_slice(),
+    );
 }
 
 /// Nothing out, for each of these sources.

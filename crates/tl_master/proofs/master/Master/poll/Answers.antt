@@ -1,6 +1,7 @@
 use Rattle.std.proofs.Common.{◌≡◌, Some, refl, sym, subst, ◌∙◌, ap, arith, IsSome, ◌<◌, length, slice_set, Option}
 use Rattle.std.proofs.lemmas.Grind.{common_steps}
 use Rattle.tl_arena.specs.Views.{TicketView}
+use Rattle.tl_journal.specs.Trace.{TraceView}
 use Rattle.tl_master.specs.Master.{MasterState, ticket_at}
 use Rattle.tl_master.specs.Kept.{IsKeptMaster}
 use Rattle.tl_master.specs.SourceSet.{IsSetOfOut}
@@ -12,23 +13,23 @@ use Rattle.tl_master.proofs.master.Master.poll.Goals as goal
 pub invariant_of-self-in-Err : goal.invariant_of-self-in-Err
 invariant_of-self-in-Err c =
     let old : MasterState = record { seat = c.self.inside.seat; out = c.self.inside.out.items; trace = c.self.inside.trace.items; limit = c.self.inside.limit } in
-    let new : MasterState = record { seat = c.collect_entry.new.seat; out = slice_set (slice_set c.self.inside.out.items c.args.source c.take.new.self) c.args.source (Some c.in-Err.ticket); trace = c.self.inside.trace.items; limit = c.self.inside.limit } in
+    let new : MasterState = record { seat = c.collect_entry.new.seat; out = slice_set (slice_set c.self.inside.out.items c.args.source c.take.new.self) c.args.source (Some c.in-Err.ticket); trace = c.collect_entry.new.trace.items; limit = c.self.inside.limit } in
     let within : c.args.source < length old.out = grind (arith, common_steps) in
     let was : ticket_at old.out c.args.source ≡ Some c.in-Some.ticket = shown_at old.out c.args.source c.index_mut.result.now within c.index_mut.ensures.value ∙ (sym c.take.ensures.value ∙ c.in-Some.is) in
-    let same : new ≡ old = stays old new c.args.source c.take.new.self c.in-Some.ticket c.in-Err.ticket was c.take.ensures.after c.in-Err.ensures.err.0 c.in-Err.ensures.err.1 refl refl refl in (
+    let same : new ≡ old = stays old new c.args.source c.take.new.self c.in-Some.ticket c.in-Err.ticket was c.take.ensures.after c.in-Err.ensures.err.0 c.in-Err.ensures.err.1 refl (ap (λ (t : TraceView). t.items) c.in-Err.ensures.err.2) refl in (
       subst (λ (m : MasterState). IsKeptMaster m c.self.inside.start c.self.inside.count) (sym same) c.self.invariant.0,
-      c.self.invariant.1,
+      rw c.in-Err.ensures.capacity c.self.invariant.1,
       subst (λ (m : MasterState). IsSetOfOut c.self.inside.busy.words m.out) (sym same) c.self.invariant.2,
     )
 
 pub invariant_of-self-in-Ok : goal.invariant_of-self-in-Ok
 invariant_of-self-in-Ok c =
     let old : MasterState = record { seat = c.self.inside.seat; out = c.self.inside.out.items; trace = c.self.inside.trace.items; limit = c.self.inside.limit } in
-    let new : MasterState = record { seat = c.collect_entry.new.seat; out = slice_set c.self.inside.out.items c.args.source c.take.new.self; trace = c.append.new.trace.items; limit = c.self.inside.limit } in
+    let new : MasterState = record { seat = c.collect_entry.new.seat; out = slice_set c.self.inside.out.items c.args.source c.take.new.self; trace = c.collect_entry.new.trace.items; limit = c.self.inside.limit } in
     let within : c.args.source < length old.out = grind (arith, common_steps) in
     let was : ticket_at old.out c.args.source ≡ Some c.in-Some.ticket = shown_at old.out c.args.source c.index_mut.result.now within c.index_mut.ensures.value ∙ (sym c.take.ensures.value ∙ c.in-Some.is) in (
-      collects_on old new _ _ _ c.in-Some.ticket c.in-Ok.entry c.self.invariant.0 was c.in-Ok.ensures.ok (ap (λ (x : Option TicketView). slice_set old.out c.args.source x) c.take.ensures.after) c.append.ensures.entry refl,
-      rw c.append.ensures.capacity c.self.invariant.1,
+      collects_on old new _ _ _ c.in-Some.ticket c.in-Ok.ensures.ok.entry c.self.invariant.0 was c.in-Ok.ensures.ok.reply (ap (λ (x : Option TicketView). slice_set old.out c.args.source x) c.take.ensures.after) c.in-Ok.ensures.ok.is refl,
+      rw c.in-Ok.ensures.capacity c.self.invariant.1,
       busy_set c.self.inside.busy.words c.remove.new.self.words old.out c.args.source c.take.new.self c.self.invariant.2 within (c.remove.ensures.here ∙ sym (ap shown c.take.ensures.after)) c.remove.ensures.others,
     )
 
@@ -38,8 +39,8 @@ remove-requires c = let within : c.args.source < length c.self.inside.out.items 
 pub returns-in-Err-clause-polls : goal.returns-in-Err-clause-polls
 returns-in-Err-clause-polls c =
     let old : MasterState = record { seat = c.self.inside.seat; out = c.self.inside.out.items; trace = c.self.inside.trace.items; limit = c.self.inside.limit } in
-    let new : MasterState = record { seat = c.collect_entry.new.seat; out = slice_set (slice_set c.self.inside.out.items c.args.source c.take.new.self) c.args.source (Some c.in-Err.ticket); trace = c.self.inside.trace.items; limit = c.self.inside.limit } in
+    let new : MasterState = record { seat = c.collect_entry.new.seat; out = slice_set (slice_set c.self.inside.out.items c.args.source c.take.new.self) c.args.source (Some c.in-Err.ticket); trace = c.collect_entry.new.trace.items; limit = c.self.inside.limit } in
     let within : c.args.source < length old.out = grind (arith, common_steps) in
     let was : ticket_at old.out c.args.source ≡ Some c.in-Some.ticket = shown_at old.out c.args.source c.index_mut.result.now within c.index_mut.ensures.value ∙ (sym c.take.ensures.value ∙ c.in-Some.is) in
-    let same : new ≡ old = stays old new c.args.source c.take.new.self c.in-Some.ticket c.in-Err.ticket was c.take.ensures.after c.in-Err.ensures.err.0 c.in-Err.ensures.err.1 refl refl refl in
+    let same : new ≡ old = stays old new c.args.source c.take.new.self c.in-Some.ticket c.in-Err.ticket was c.take.ensures.after c.in-Err.ensures.err.0 c.in-Err.ensures.err.1 refl (ap (λ (t : TraceView). t.items) c.in-Err.ensures.err.2) refl in
     (same ∙ c.self.view_is, subst (λ (m : MasterState). IsSome (ticket_at m.out c.args.source)) c.self.view_is (rw was refl))

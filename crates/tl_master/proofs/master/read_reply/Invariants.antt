@@ -1,5 +1,5 @@
 use Rattle.std.proofs.Common.{◌≡◌, ◌-◌, length, take}
-use Rattle.tl_master.proofs.master.reply_for.Given as goal
+use Rattle.tl_master.proofs.master.read_reply.Given as goal
 
 -- the bytes so far are the reply's first
 abbrev pub invariant-loop-byte : goal.invariant-loop-byte
