@@ -2,7 +2,7 @@
 use Rattle.std.proofs.Common.{◌≡◌, ◌∙◌, ℕ, zero, suc, List, [], ◌∷◌, map, slice_get, unwrap_or, refl, ap, sym}
 use Rattle.tl_ops.specs.Store.{Store}
 use Rattle.tl_link.specs.Past.{nothing_under}
-use Rattle.tl_watch.specs.declared.flight.Crossing.TheVariants.{Waiting}
+use Rattle.tl_watch.specs.Flight.Crossing.{Waiting}
 use Rattle.tl_watch.specs.declared.slave.Slave.{Slave}
 use Rattle.tl_watch.specs.Plan.{Plan, IsPlan, Side}
 use Rattle.tl_watch.specs.Plan.Side.{AtMasters, AtPorts}

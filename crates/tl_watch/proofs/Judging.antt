@@ -1,27 +1,29 @@
 -- From what a judge finds to what a beat is after its past: the first fault, or that it is lawful.
-use Rattle.std.proofs.Common.{◌≡◌, ℕ, ◌<◌, ◌↔◌, Bool, List, [], ◌∷◌, ◌++◌, sym, subst, refl, arith}
+use Rattle.std.proofs.Common.{◌≡◌, ◌∙◌, ap, Some, ℕ, ◌<◌, ◌↔◌, Bool, List, [], ◌∷◌, ◌++◌, sym, subst, refl, arith}
 use Rattle.std.specs.Prelude.{IsTrue}
+use Rattle.tl_types.specs.Request.{Request}
 use Rattle.tl_types.specs.declared.operation.AskOp.{AskOp}
 use Rattle.tl_beats.specs.Beats.{IsLawfulMask}
 use Rattle.tl_beats.specs.declared.beat.ABeat.{ABeat}
+use Rattle.tl_beats.specs.declared.beat.DBeat.{DBeat}
 use Rattle.tl_beats.proofs.Codes.{same_op}
 use Rattle.tl_map.specs.Map.{RoutesBytes}
 use Rattle.tl_link.specs.declared.beat.Link.{Link}
 use Rattle.tl_link.specs.declared.beat.Link.TheVariants.{Master, Port}
-use Rattle.tl_link.specs.declared.beat.Beat.TheVariants.{A}
+use Rattle.tl_link.specs.declared.beat.Beat.TheVariants.{A, D}
 use Rattle.tl_link.specs.declared.fault.FormFault.{FormFault}
 use Rattle.tl_link.specs.declared.fault.FormFault.TheVariants.{Changed, Opcode, Size, Mask, CorruptFlag, UnknownData as UnknownLanes}
 use Rattle.tl_link.specs.Form.{FitsAsk, IsKnown, HasAskFormFault}
 use Rattle.tl_watch.specs.declared.fault.Fault.{Fault}
 use Rattle.tl_watch.specs.declared.fault.Fault.TheVariants.{Form, NoSuchSource, SourceBusy, WrongPort, NoRequest, EarlyReply, WrongSize, WrongOpcode, UnknownData, NotSent, NotGiven, WrongReply}
 use Rattle.tl_watch.specs.Plan.{Layout, Plan, HasSource, IsWideAt, wide_of}
-use Rattle.tl_watch.specs.Scene.{Scene}
-use Rattle.tl_watch.specs.Past.{port_of}
+use Rattle.tl_watch.specs.Scene.{Scene, asked}
+use Rattle.tl_watch.specs.Past.{port_in, port_of}
 use Rattle.tl_watch.specs.Allowed.{IsSent, BeginsFree, BeginsPlaced, EndsSent, IsAllowedAsk}
 use Rattle.tl_watch.specs.Faults.{HasAskFault, IsFirstAskFault, fault_rank}
 use Rattle.tl_watch.specs.View.{View, Suits, under_in, flight_in, flight_at, crossing_at, scene_in}
-use Rattle.tl_watch.specs.declared.flight.Turn.{Turn}
-use Rattle.tl_watch.specs.declared.flight.Turn.TheVariants.{Idle}
+use Rattle.tl_watch.specs.Flight.{Turn}
+use Rattle.tl_watch.specs.Flight.Turn.{Idle, Asking, Asked}
 use Rattle.tl_link.specs.Message.{ask_of}
 use Rattle.tl_link.specs.Past.{ends_ask}
 
@@ -40,6 +42,21 @@ pub port_found : (plan : Plan) (view : View) (link : Link) (turn : Turn) (beat :
     → port ≡ port_of plan link turn (A beat)
 port_found plan view (Master m) turn beat port suits master at_port = port_is plan view beat.address beat.size port suits (λ other. master m other refl)
 port_found plan view (Port p) turn beat port suits master at_port = at_port p refl
+
+-- the request in flight that has ended
+pub asked_is : (turn : Turn) (ask : Request) → asked turn ≡ Some ask → (at : ℕ) × (turn ≡ Asked at ask)
+asked_is Idle ask is = absurd (cc)
+asked_is (Asking at) ask is = absurd (cc)
+asked_is (Asked at other) ask is = (at, ap (λ r. Asked at r) (cc))
+
+-- the port that it goes to is that of the plan
+pub port_asked : (plan : Plan) (view : View) (link : Link) (turn : Turn) (ask : Request) (beat : DBeat) (port : ℕ) → Suits plan view → asked turn ≡ Some ask
+    → ((number other : ℕ) → link ≡ Master number → (port ≡ other) ↔ RoutesBytes view.layout.ranges ask.address ask.size other) → ((number : ℕ) → link ≡ Port number → port ≡ number)
+    → port ≡ port_of plan link turn (D beat)
+port_asked plan view (Port p) turn ask beat port suits is master at_port = at_port p refl
+port_asked plan view (Master m) turn ask beat port suits is master at_port =
+    let found = asked_is turn ask is in
+    port_is plan view ask.address ask.size port suits (λ other. master m other refl) ∙ ap (λ t. port_in plan t) (sym found.1)
 
 -- ---- requests
 

@@ -1,5 +1,5 @@
 -- What is kept of the past, after one beat more.
-use Rattle.std.proofs.Common.{◌≡◌, ◌∙◌, ℕ, ◌<◌, Bool, true, false, if◌then◌else◌, List, ◌∷◌, length, Option, Some, None, slice_get, unwrap_or, refl, ap, sym, subst, eqb-true, length-set}
+use Rattle.std.proofs.Common.{◌≡◌, ◌∙◌, ℕ, zero, suc, [], ◌++◌, ◌<◌, Bool, true, false, if◌then◌else◌, List, ◌∷◌, length, Option, Some, None, slice_get, unwrap_or, refl, ap, sym, subst, eqb-true, length-set}
 use Rattle.std.specs.Prelude.{slice_set, ◌==◌, ◌&&◌, ◌↔◌, Result, Ok, Err, IsOk, OnOk, IfErr}
 use Rattle.std.proofs.lemmas.Bool.{eqb-false}
 use Rattle.tl_types.specs.Request.{Request}
@@ -11,21 +11,22 @@ use Rattle.tl_link.specs.declared.beat.Beat.TheVariants.{A, D}
 use Rattle.tl_link.specs.declared.beat.Link.{Link}
 use Rattle.tl_link.specs.declared.beat.Link.TheVariants.{Master, Port}
 use Rattle.tl_link.specs.declared.beat.Sighting.{Sighting}
+use Rattle.tl_link.specs.Message.{ask_of}
 use Rattle.tl_link.specs.Past.{under_after, nothing_under, ends_ask, ends_reply}
 use Rattle.tl_watch.specs.declared.flight.Answer.{Answer}
-use Rattle.tl_watch.specs.declared.flight.Flight.{Flight}
-use Rattle.tl_watch.specs.declared.flight.Crossing.{Crossing}
-use Rattle.tl_watch.specs.declared.flight.Crossing.TheVariants.{Waiting, Crossed, Given}
+use Rattle.tl_watch.specs.Flight.{Turn, Flight, Crossing}
+use Rattle.tl_watch.specs.Flight.Turn.{Asked}
+use Rattle.tl_watch.specs.Flight.Crossing.{Waiting, Crossed, Given}
 use Rattle.tl_watch.specs.declared.slave.Slave.{Slave}
 use Rattle.tl_watch.specs.declared.side.TheConstants.{WIDES}
 use Rattle.tl_watch.specs.Plan.{Layout, Plan, Side, HasLink, IsWideAt, side_of, number_of, source_of, wide_of, is_link, is_of, is_at_acceptance}
 use Rattle.tl_watch.specs.Plan.Side.{AtMasters, AtPorts}
-use Rattle.tl_watch.specs.Scene.{Scene, idle, ask_by, takes_effect, effect_by, effect, answering, flight_due, served_by, slave_by, answer_by, turn_by, flight_after, crossing_after, given_by}
+use Rattle.tl_watch.specs.Scene.{Scene, idle, asked, ask_by, takes_effect, effect_by, effect, answering, flight_due, served_by, slave_by, answer_by, turn_by, flight_after, crossing_after, given_by}
 use Rattle.tl_watch.specs.Past.{State, port_in, port_of, found_in, scene_of, state_after, state, scene}
 use Rattle.tl_watch.specs.declared.fault.Fault.{Fault}
 use Rattle.tl_watch.specs.Allowed.{IsAllowedAsk, IsAllowedReply}
 use Rattle.tl_watch.specs.Lawful.{IsLawful, IsAllowed, IsAllowedBeat, IsFirstFaultOf, IsFirstFault}
-use Rattle.tl_watch.specs.View.{View, IsSized, Suits, Keeps, AreSame, state_in, side_in, under_at, flight_at, crossing_at, no_slave, slave_at, under_in, flight_in, scene_in, slaves_with, crossings_taken, crossings_given, effect_in, late_in, late_answer, flights_due, with_ask, with_late, with_part, with_end}
+use Rattle.tl_watch.specs.View.{View, IsSized, Suits, Keeps, AreSame, state_in, side_in, under_at, flight_at, crossing_at, no_slave, slave_at, under_in, flight_in, scene_in, slaves_with, crossings_taken, crossings_given, effect_in, late_in, late_answer, flights_due, with_ask_at, with_ask, with_answer, with_late, with_part, with_end}
 use Rattle.tl_watch.proofs.Judging.{wide_is, no_ask_fault}
 use Rattle.tl_watch.proofs.Replying.{no_reply_fault}
 
@@ -61,6 +62,21 @@ given_set : (crossings : List Crossing) (wide w : ℕ) (due : Option Answer) →
     → crossing_at (crossings_given crossings wide due) w ≡ (if wide == w then given_by due (crossing_at crossings wide) else crossing_at crossings w)
 given_set crossings wide w None within = stays (λ k. crossing_at crossings k) wide w
 given_set crossings wide w (Some answer) within = set_at Waiting crossings wide w (Given answer) within
+
+-- the latter of two writes at a place stands
+set_twice : {X : Type 0} (xs : List X) (k : ℕ) (x y : X) → slice_set (slice_set xs k x) k y ≡ slice_set xs k y
+set_twice [] k x y = refl
+set_twice (z ∷ xs) zero x y = refl
+set_twice (z ∷ xs) (suc k) x y = ap (λ l. z ∷ l) (set_twice xs k x y)
+
+-- what is in flight, and then the reply that must come
+answered : (flights : List Flight) (wide : ℕ) (turn : Turn) (answer : Option Answer) → wide < length flights
+    → flights_due (slice_set flights wide (record { turn = turn; due = None })) wide answer ≡ slice_set flights wide (record { turn = turn; due = answer })
+answered flights wide turn None within = refl
+answered flights wide turn (Some answer) within =
+    let first : Flight = record { turn = turn; due = None } in
+    let here : flight_at (slice_set flights wide first) wide ≡ first = ap (λ o. unwrap_or o idle) (slice_get-set_same flights wide first within) in
+    ap (λ (f : Flight). slice_set (slice_set flights wide first) wide (flight_due f (Some answer))) here ∙ set_twice flights wide first (record { turn = turn; due = Some answer })
 
 -- ---- room
 
@@ -126,6 +142,35 @@ module _ (plan : Plan) (view : View) (known : ℕ) (suits : Suits plan view) whe
       flights AtMasters w = refl
       flights AtPorts w = set_at idle view.ports.flights beat.source w (flight_made view (Port n) n beat view.layout) room.in_flight
           ∙ ap (λ (l : Layout). if beat.source == w then flight_made view (Port n) n beat l else flight_at view.ports.flights w) suits.layout
+
+-- a request ends, and then it takes effect if it does so as it is accepted
+abbrev ask_ended : View → Link → ℕ → ABeat → View
+ask_ended view link wide beat = with_ask_at view link wide beat (record { turn = Asked (number_of link) (ask_of beat ((under_in view link).asking ++ beat ∷ [])); due = None })
+
+pub ask_served : (view : View) (link : Link) (wide port : ℕ) (beat : ABeat) → HasRoom view link wide → ends_ask (under_in view link).asking beat ≡ true
+    → with_answer (ask_ended view link wide beat) link wide port (effect_in (ask_ended view link wide beat) link port (asked (flight_in (ask_ended view link wide beat) link wide).turn)) ≡ with_ask view link wide port beat
+ask_served view (Master m) wide port beat room ends =
+    let ask = ask_of beat ((under_in view (Master m)).asking ++ beat ∷ []) in
+    let turn = Asked m ask in
+    let first : Flight = record { turn = turn; due = None } in
+    let here : flight_at (slice_set view.masters.flights wide first) wide ≡ first = ap (λ o. unwrap_or o idle) (slice_get-set_same view.masters.flights wide first room.in_flight) in
+    let ended = ask_ended view (Master m) wide beat in
+    let effect = effect_in view (Master m) port (Some ask) in
+    ap (λ (f : Flight). with_answer ended (Master m) wide port (effect_in ended (Master m) port (asked f.turn))) here
+    ∙ ap (λ (l : List Flight). record ended { masters = record ended.masters { flights = l }; slaves = slaves_with view.slaves port effect })
+    (answered view.masters.flights wide turn (answer_by port (slave_at view.slaves port) effect) room.in_flight)
+    ∙ rw ends refl
+ask_served view (Port p) wide port beat room ends =
+    let ask = ask_of beat ((under_in view (Port p)).asking ++ beat ∷ []) in
+    let turn = Asked p ask in
+    let first : Flight = record { turn = turn; due = None } in
+    let here : flight_at (slice_set view.ports.flights wide first) wide ≡ first = ap (λ o. unwrap_or o idle) (slice_get-set_same view.ports.flights wide first room.in_flight) in
+    let ended = ask_ended view (Port p) wide beat in
+    let effect = effect_in view (Port p) port (Some ask) in
+    ap (λ (f : Flight). with_answer ended (Port p) wide port (effect_in ended (Port p) port (asked f.turn))) here
+    ∙ ap (λ (l : List Flight). record ended { ports = record ended.ports { flights = l }; slaves = slaves_with view.slaves port effect })
+    (answered view.ports.flights wide turn (answer_by port (slave_at view.slaves port) effect) room.in_flight)
+    ∙ rw ends refl
 
 -- ---- a beat of a reply, at the wide source and the port that the plan says
 

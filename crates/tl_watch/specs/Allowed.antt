@@ -1,6 +1,6 @@
 -- When a beat is lawful, by what it finds: the chapters "Beats and bursts" and "TL-UL and TL-UH operations" of the TileLink
 -- specification; sources, the address map and crossing are this project's crossbar's.
-use Rattle.std.specs.Prelude.{◌≡◌, ℕ, false, [], ◌∷◌, ◌++◌, IsTrue, IsSomeAnd, bit_and}
+use Rattle.std.specs.Prelude.{◌≡◌, ℕ, Bool, false, [], ◌∷◌, ◌++◌, IsTrue, IsSomeAnd, bit_and}
 use Rattle.tl_types.specs.Operation.{reply_op_of}
 use Rattle.tl_types.specs.Request.{Request}
 use Rattle.tl_types.specs.Response.{Response, IsLawfulResponse}
@@ -15,12 +15,11 @@ use Rattle.tl_link.specs.declared.beat.Link.TheVariants.{Master, Port}
 use Rattle.tl_link.specs.Message.{ask_of}
 use Rattle.tl_link.specs.Past.{ends_ask, ends_reply}
 use Rattle.tl_link.specs.Form.{FitsAsk, FitsReply, IsKnown}
-use Rattle.tl_watch.specs.declared.flight.Turn.{Turn}
-use Rattle.tl_watch.specs.declared.flight.Turn.TheVariants.{Idle, Asking, Asked}
-use Rattle.tl_watch.specs.declared.flight.Crossing.{Crossing}
-use Rattle.tl_watch.specs.declared.flight.Crossing.TheVariants.{Waiting}
+use Rattle.tl_watch.specs.Flight.{Turn, Crossing}
+use Rattle.tl_watch.specs.Flight.Turn.{Idle, Asking, Asked}
+use Rattle.tl_watch.specs.Flight.Crossing.{Waiting}
 use Rattle.tl_watch.specs.declared.links.Links.TheVariants.{Both}
-use Rattle.tl_watch.specs.Plan.{Layout, HasSource, number_of}
+use Rattle.tl_watch.specs.Plan.{Layout, HasSource, number_of, are_both}
 use Rattle.tl_watch.specs.Scene.{Scene, must_come}
 
 -- ---- requests
@@ -41,6 +40,11 @@ IsAskedAs (Asked number sent) ask = record sent { source = ask.source } ≡ ask
 abbrev pub IsSent : Layout → Link → Turn → Crossing → Request → Type 0
 IsSent layout (Master m) sent crossing ask = Unit {0}
 IsSent layout (Port p) sent crossing ask = layout.links ≡ Both → IsAskedAs sent ask × (crossing ≡ Waiting)
+
+-- requests at a link are sent at another first
+abbrev pub is_second : Layout → Link → Bool
+is_second layout (Master m) = false
+is_second layout (Port p) = are_both layout.links
 
 -- a request begins where none of its source is in flight on this side
 abbrev pub BeginsFree : Scene → Type 0

@@ -12,8 +12,8 @@ use Rattle.tl_link.specs.Past.{ends_reply}
 use Rattle.tl_link.specs.Form.{HasAskFormFault, HasReplyFormFault, form_rank}
 use Rattle.tl_watch.specs.declared.fault.Fault.{Fault}
 use Rattle.tl_watch.specs.declared.fault.Fault.TheVariants.{Form, NoSuchSource, SourceBusy, WrongPort, NoRequest, EarlyReply, WrongSize, WrongOpcode, UnknownData, NotSent, NotGiven, WrongReply}
-use Rattle.tl_watch.specs.declared.flight.Turn.{Turn}
-use Rattle.tl_watch.specs.declared.flight.Turn.TheVariants.{Idle, Asking, Asked}
+use Rattle.tl_watch.specs.Flight.{Turn}
+use Rattle.tl_watch.specs.Flight.Turn.{Idle, Asking, Asked}
 use Rattle.tl_watch.specs.declared.flight.Answer.{Answer}
 use Rattle.tl_watch.specs.Plan.{Layout, HasSource, number_of}
 use Rattle.tl_watch.specs.Scene.{Scene, is_given, must_come}

@@ -1,8 +1,8 @@
+pub mod Flight
 pub mod Plan
 pub mod Scene
 pub mod Past
 pub mod Allowed
 pub mod Faults
 pub mod Lawful
-pub mod Side
 pub mod View

@@ -8,11 +8,9 @@ use Rattle.tl_link.specs.declared.beat.Link.{Link}
 use Rattle.tl_link.specs.declared.beat.Link.TheVariants.{Master, Port}
 use Rattle.tl_link.specs.declared.beat.Sighting.{Sighting}
 use Rattle.tl_link.specs.Past.{Under, under_after, nothing_under}
-use Rattle.tl_watch.specs.declared.flight.Turn.{Turn}
-use Rattle.tl_watch.specs.declared.flight.Turn.TheVariants.{Idle, Asking, Asked}
-use Rattle.tl_watch.specs.declared.flight.Flight.{Flight}
-use Rattle.tl_watch.specs.declared.flight.Crossing.{Crossing}
-use Rattle.tl_watch.specs.declared.flight.Crossing.TheVariants.{Waiting}
+use Rattle.tl_watch.specs.Flight.{Turn, Flight, Crossing}
+use Rattle.tl_watch.specs.Flight.Turn.{Idle, Asking, Asked}
+use Rattle.tl_watch.specs.Flight.Crossing.{Waiting}
 use Rattle.tl_watch.specs.declared.slave.Slave.{Slave}
 use Rattle.tl_watch.specs.Plan.{Plan, Side, side_of, number_of, source_of, wide_of, is_link, is_of}
 use Rattle.tl_watch.specs.Plan.Side.{AtMasters}

@@ -12,12 +12,10 @@ use Rattle.tl_link.specs.declared.beat.Link.{Link}
 use Rattle.tl_link.specs.declared.beat.Link.TheVariants.{Master, Port}
 use Rattle.tl_link.specs.Message.{ask_of}
 use Rattle.tl_link.specs.Past.{Under, ends_ask, ends_reply}
-use Rattle.tl_watch.specs.declared.flight.Turn.{Turn}
-use Rattle.tl_watch.specs.declared.flight.Turn.TheVariants.{Idle, Asking, Asked}
+use Rattle.tl_watch.specs.Flight.{Turn, Flight, Crossing}
+use Rattle.tl_watch.specs.Flight.Turn.{Idle, Asking, Asked}
 use Rattle.tl_watch.specs.declared.flight.Answer.{Answer}
-use Rattle.tl_watch.specs.declared.flight.Flight.{Flight}
-use Rattle.tl_watch.specs.declared.flight.Crossing.{Crossing}
-use Rattle.tl_watch.specs.declared.flight.Crossing.TheVariants.{Waiting, Crossed, Given}
+use Rattle.tl_watch.specs.Flight.Crossing.{Waiting, Crossed, Given}
 use Rattle.tl_watch.specs.declared.slave.Slave.{Slave}
 use Rattle.tl_watch.specs.declared.seen.Seen.{Seen}
 use Rattle.tl_watch.specs.declared.seen.Seen.TheVariants.{Part, WholeAsk, WholeReply}
@@ -135,7 +133,13 @@ crossing_after (Port p) scene (D beat) = if ends_reply scene.under.replying beat
 
 -- ---- the reply that must come
 
--- what the port gave, for this source
+-- what the port gave
+abbrev pub given : Crossing → Option Answer
+given Waiting = None
+given Crossed = None
+given (Given answer) = Some answer
+
+-- the same, for this source
 abbrev pub given_to : ℕ → Crossing → Option Answer
 given_to source Waiting = None
 given_to source Crossed = None

@@ -13,15 +13,14 @@ use Rattle.tl_link.specs.declared.beat.Sighting.{Sighting}
 use Rattle.tl_link.specs.Past.{Under, under_after, nothing_under, ends_ask, ends_reply}
 use Rattle.tl_watch.specs.declared.fault.Fault.{Fault}
 use Rattle.tl_watch.specs.declared.flight.Answer.{Answer}
-use Rattle.tl_watch.specs.declared.flight.Flight.{Flight}
-use Rattle.tl_watch.specs.declared.flight.Crossing.{Crossing}
-use Rattle.tl_watch.specs.declared.flight.Crossing.TheVariants.{Waiting, Crossed, Given}
+use Rattle.tl_watch.specs.Flight.{Flight, Crossing}
+use Rattle.tl_watch.specs.Flight.Crossing.{Waiting, Crossed, Given}
 use Rattle.tl_ops.specs.Store.{Store}
 use Rattle.tl_watch.specs.declared.slave.Slave.{Slave}
 use Rattle.tl_watch.specs.declared.side.TheConstants.{WIDES}
-use Rattle.tl_watch.specs.Plan.{Layout, Plan, IsPlan, Side, side_of, number_of, is_at_acceptance}
+use Rattle.tl_watch.specs.Plan.{Layout, Plan, IsPlan, Side, side_of, number_of, is_at_acceptance, is_at_reply}
 use Rattle.tl_watch.specs.Plan.Side.{AtMasters, AtPorts}
-use Rattle.tl_watch.specs.Scene.{Scene, idle, is_given, must_by, ask_by, takes_effect, effect_by, late_effect, due_by, flight_due, served_by, answer_by, turn_by}
+use Rattle.tl_watch.specs.Scene.{Scene, idle, is_given, must_by, ask_by, takes_effect, begins_reply, effect_by, late_effect, due_by, flight_due, served_by, answer_by, turn_by}
 use Rattle.tl_watch.specs.Past.{State, no_store, port_of, scene_of, state}
 use Rattle.tl_watch.specs.Faults.{HasEndFault}
 use Rattle.tl_watch.specs.Lawful.{IsLawful}
@@ -93,6 +92,11 @@ scene_in plan view link beat = scene_of plan (state_in view) (record { link = li
 abbrev pub late_in : View → Link → ℕ → ℕ → Option Request
 late_in view link wide port = late_effect view.layout link port (under_in view link).replying (flight_in view link wide).turn
 
+-- requests to a port take effect as the next beat of channel D crosses at a link
+abbrev pub is_late_in : View → Link → ℕ → Bool
+is_late_in view link port =
+    is_at_reply view.layout.order && takes_effect view.layout link port && begins_reply (under_in view link).replying
+
 -- its answer, if it takes effect now
 abbrev pub late_answer : View → Link → ℕ → ℕ → Option Answer
 late_answer view link wide port = answer_by port (slave_at view.slaves port) (late_in view link wide port)
@@ -100,6 +104,11 @@ late_answer view link wide port = answer_by port (slave_at view.slaves port) (la
 -- the reply that the port's slave has to give
 abbrev pub due_in : View → Link → ℕ → ℕ → Option Answer
 due_in view link wide port = due_by (flight_in view link wide).due (late_answer view link wide port)
+
+-- the reply of this port that must come to what is in flight of a wide source, for this source
+abbrev pub must_in : View → Link → ℕ → ℕ → ℕ → Option Answer
+must_in view link wide port source =
+    must_by (is_given view.layout link port) source (crossing_at view.crossings wide) (due_in view link wide port)
 
 -- the reply that must come to what is in flight of a wide source, by the beat that ends it
 abbrev pub due_at : Plan → View → Link → ℕ → DBeat → Option Answer
@@ -208,6 +217,11 @@ side_due side wide answer = record side { flights = flights_due side.flights wid
 abbrev pub with_due : View → Link → ℕ → Option Answer → View
 with_due view (Master m) wide answer = record view { masters = side_due view.masters wide answer }
 with_due view (Port p) wide answer = record view { ports = side_due view.ports wide answer }
+
+-- this request of what is in flight takes effect, if any
+abbrev pub with_answer : View → Link → ℕ → ℕ → Option Request → View
+with_answer view link wide port ask =
+    with_due (record view { slaves = slaves_with view.slaves port ask }) link wide (answer_by port (slave_at view.slaves port) ask)
 
 -- the request in flight takes effect, if it does so as its reply begins
 abbrev pub with_late : View → Link → ℕ → ℕ → View

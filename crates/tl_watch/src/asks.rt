@@ -5,18 +5,18 @@ ghost use Rattle.tl_types.specs.declared.limits.TheConstants.{LARGEST_SIZE};
 ghost use Rattle.tl_link.specs.Message.{ask_of};
 ghost use Rattle.tl_link.specs.Past.{ends_ask};
 ghost use Rattle.tl_link.specs.Form.{FitsAsk};
-ghost use Rattle.tl_watch.specs.declared.flight.Turn.{Turn as Flying};
-ghost use Rattle.tl_watch.specs.declared.flight.Turn.TheVariants.{Idle};
-ghost use Rattle.tl_watch.specs.declared.flight.Crossing.TheVariants.{Waiting};
+ghost use Rattle.tl_watch.specs.Flight.{Turn as Flying};
+ghost use Rattle.tl_watch.specs.Flight.Turn.{Idle};
+ghost use Rattle.tl_watch.specs.Flight.Crossing.{Waiting};
 ghost use Rattle.tl_watch.specs.declared.side.TheConstants.{WIDES};
 ghost use Rattle.tl_watch.specs.Plan.{Plan, HasLink, IsWideAt};
 ghost use Rattle.tl_watch.specs.Past.{port_of};
-ghost use Rattle.tl_watch.specs.Allowed.{IsAskedAs, IsSent, IsPlaced, BeginsFree, BeginsPlaced, EndsSent, IsAllowedAsk};
+ghost use Rattle.tl_watch.specs.Allowed.{is_second, IsAskedAs, IsSent, IsPlaced, BeginsFree, BeginsPlaced, EndsSent, IsAllowedAsk};
 ghost use Rattle.tl_watch.specs.Faults.{IsFirstAskFault};
 ghost use Rattle.tl_watch.specs.View.{Suits, under_in, flight_in, flight_at, crossing_at, scene_in};
 
 use crate::fault::Fault;
-use crate::flight::{Crossing, Turn};
+use crate::flight::Flight;
 use crate::watch::Watch;
 use tl_beats::ABeat;
 use tl_link::Link;
@@ -27,20 +27,6 @@ use tl_types::Ask;
 pub struct Place {
     pub wide: u16,
     pub port: usize,
-}
-
-/// Whether nothing is in flight.
-fn is_idle(turn: &Turn) -> bool
-    ensures { IsTrue result ↔ (turn.now ≡ Idle) }
-{
-    matches!(turn, Turn::Idle)
-}
-
-/// Whether no port has taken the request in flight.
-fn is_waiting(crossing: &Crossing) -> bool
-    ensures { IsTrue result ↔ (crossing.now ≡ Waiting) }
-{
-    matches!(crossing, Crossing::Waiting)
 }
 
 /// Whether two requests are the same but for their sources.
@@ -54,29 +40,32 @@ fn is_same_but_source(sent: &Ask, ask: &Ask) -> bool
 }
 
 /// Whether the request in flight has ended, and is this one but for the source.
-fn is_asked_as(turn: &Turn, ask: &Ask) -> bool
-    ensures { IsTrue result ↔ IsAskedAs turn.now ask.now }
+fn is_asked_as(flight: &Flight, ask: &Ask) -> bool
+    ensures { IsTrue result ↔ IsAskedAs flight.now.turn ask.now }
 {
-    match turn {
-        Turn::Idle | Turn::Asking(_) => false,
-        Turn::Asked(_, sent) => is_same_but_source(sent, ask),
+    match flight.asked() {
+        Some(sent) => is_same_but_source(sent, ask),
+        None => false,
     }
 }
 
-/// Whether a master has sent a request that ends at a link, where that is asked.
-fn is_sent(watch: &Watch, link: Link, wide: u16, ask: &Ask) -> bool
+/// Whether a master has sent a request that crosses to a port, and it has not crossed before.
+fn is_sent(watch: &Watch, wide: u16, ask: &Ask) -> bool
     requires { wide < WIDES }
     ensures { IsTrue result
-        ↔ IsSent watch.now.layout link (flight_at watch.now.masters.flights wide).turn
-        (crossing_at watch.now.crossings wide) ask.now }
+        ↔ (IsAskedAs (flight_at watch.now.masters.flights wide).turn ask.now
+        × (crossing_at watch.now.crossings wide ≡ Waiting)) }
+{
+    is_asked_as(watch.masters.flight(wide), ask) && watch.crossing(wide).is_waiting()
+}
+
+/// Whether requests at a link are to be sent at another first: at a port's, where both sides are watched.
+fn is_second(watch: &Watch, link: Link) -> bool
+    ensures { result ≡ is_second watch.now.layout link }
 {
     match link {
-        Link::Master(_) => true,
-        Link::Port(_) => {
-            !watch.watches_both()
-                || (is_asked_as(&watch.masters.flight(wide).turn, ask)
-                    && is_waiting(watch.crossing(wide)))
-        }
+        Link::Master(_) => false,
+        Link::Port(_) => watch.watches_both(),
     }
 }
 
@@ -87,7 +76,7 @@ fn begins_free(watch: &Watch, link: Link, wide: u16) -> bool
     ensures { IsTrue result
         ↔ ((under_in watch.now link).asking ≡ [] → (flight_in watch.now link wide).turn ≡ Idle) }
 {
-    !watch.link(link).begins_ask() || is_idle(&watch.flight(link, wide).turn)
+    !watch.link(link).begins_ask() || watch.flight(link, wide).is_idle()
 }
 
 /// Whether the address map has a request with the port of a link.
@@ -123,7 +112,7 @@ fn ends_sent(watch: &Watch, link: Link, wide: u16, beat: &ABeat) -> bool
         (ask_of beat.now ((under_in watch.now link).asking ++ beat.now ∷ []))) }
 {
     let under = watch.link(link);
-    !under.ends_ask(beat) || is_sent(watch, link, wide, &under.ask(beat))
+    !is_second(watch, link) || !under.ends_ask(beat) || is_sent(watch, wide, &under.ask(beat))
 }
 
 /// Judges a beat of a request: its place, or the first fault that it has.

@@ -1,19 +1,15 @@
 //! What is in flight.
-ghost use Rattle.std.specs.Prelude.{◌≡◌, Option};
-ghost use Rattle.tl_watch.specs.Scene.{turn_by, given_to};
+//!
+//! A message is some 300 bytes long, and most beats need but a few of them. So what is in flight is kept in one place and written
+//! there: where it is nothing, what stands of a message is left as it is, and says nothing.
+ghost use Rattle.std.specs.Prelude.{◌≡◌, ◌↔◌, IsTrue, Some, None, option_map};
+ghost use Rattle.tl_watch.specs.Flight.Turn.{Idle, Asking, Asked};
+ghost use Rattle.tl_watch.specs.Flight.Crossing.{Waiting, Crossed, Given};
+ghost use Rattle.tl_watch.specs.Scene.{idle, asked, given};
+ghost use Rattle.tl_watch.specs.Faults.{IsInFlight};
 
-use tl_types::{Ask, Reply};
-
-/// What is in flight of a source on one side: between which link and which part of a message.
-#[derive(Debug, Drop)]
-pub enum Turn {
-    /// Nothing.
-    Idle,
-    /// A request that has begun at the link of this number, and not ended.
-    Asking(usize),
-    /// A request that has ended there.
-    Asked(usize, Ask),
-}
+use std::marker::Model;
+use tl_types::{Ask, AskOp, Bytes, Reply, ReplyOp};
 
 /// The reply that a request gets, the port that gives it, and the place of the request in the port's list.
 #[derive(Debug, Drop)]
@@ -23,25 +19,78 @@ pub struct Answer {
     pub index: usize,
 }
 
+/// Which part of a request is in flight, and between which link.
+#[derive(Debug, Clone, Copy, PartialEq, Eq)]
+pub enum Stage {
+    /// None.
+    Nothing,
+    /// One that has begun at the link of this number, and not ended.
+    Begun(usize),
+    /// One that has ended there.
+    Ended(usize),
+}
+
 /// What is in flight of a source on one side, with the reply that must come, where it takes effect there.
 #[derive(Debug, Drop)]
 pub struct Flight {
-    pub turn: Turn,
-    pub due: Option<Answer>,
+    stage: Stage,
+    /// The request, where it has ended.
+    ask: Ask,
+    is_due: bool,
+    /// The reply that must come, where one is due.
+    due: Answer,
+}
+
+/// How far a request has come.
+#[derive(Debug, Clone, Copy, PartialEq, Eq)]
+pub enum Reach {
+    /// It is at its master's link alone.
+    AtMaster,
+    /// A port has taken it.
+    AtPort,
+    /// The port has given its reply.
+    Answered,
 }
 
 /// How far the request in flight of a master's source has come across.
 #[derive(Debug, Drop)]
-pub enum Crossing {
-    /// It is at its master's link alone.
-    Waiting,
-    /// A port has taken it.
-    Crossed,
-    /// The port has given this reply.
-    Given(Answer),
+pub struct Crossing {
+    reach: Reach,
+    /// The reply that the port has given, where it has.
+    answer: Answer,
+}
+
+impl Model for Flight {
+    ghost use Rattle.tl_watch.specs.Flight.{Flight, turn_kept, due_kept};
+
+    ghost Value = { Flight };
+
+    ghost view = { λ f. record { turn = turn_kept f.stage f.ask; due = due_kept f.is_due f.due } };
+}
+
+impl Model for Crossing {
+    ghost use Rattle.tl_watch.specs.Flight.{Crossing, crossing_kept};
+
+    ghost Value = { Crossing };
+
+    ghost view = { λ c. crossing_kept c.reach c.answer };
+}
+
+/// A request that stands where none is in flight.
+fn no_ask() -> Ask {
+    Ask::from_parts(AskOp::Get, 0, 0, 0, Bytes::new())
 }
 
 impl Answer {
+    /// One that stands where no reply is due.
+    fn none() -> Answer {
+        Answer {
+            reply: Reply::new(ReplyOp::AccessAck, 0, 0, false, &[]).unwrap(),
+            port: 0,
+            index: 0,
+        }
+    }
+
     /// The same answer.
     pub fn copy(&self) -> Answer
         ensures { result ≡ self.now }
@@ -54,26 +103,134 @@ impl Answer {
     }
 }
 
-/// What is in flight after a beat at the link of this number: the request that it ends, or one that has begun.
-pub fn turn_by(number: usize, ask: Option<Ask>) -> Turn
-    ensures { result ≡ turn_by number ask }
-{
-    match ask {
-        Some(ask) => Turn::Asked(number, ask),
-        None => Turn::Asking(number),
+impl Flight {
+    /// Nothing in flight.
+    pub fn idle() -> Flight
+        ensures { result ≡ idle }
+    {
+        Flight {
+            stage: Stage::Nothing,
+            ask: no_ask(),
+            is_due: false,
+            due: Answer::none(),
+        }
+    }
+
+    /// Whether nothing is in flight.
+    pub fn is_idle(&self) -> bool
+        ensures { IsTrue result ↔ (self.now.turn ≡ Idle) }
+    {
+        matches!(self.stage, Stage::Nothing)
+    }
+
+    /// Whether a request is in flight at the link of this number.
+    pub fn is_at(&self, number: usize) -> bool
+        ensures { IsTrue result ↔ IsInFlight number self.now.turn }
+    {
+        match self.stage {
+            Stage::Nothing => false,
+            Stage::Begun(at) | Stage::Ended(at) => at == number,
+        }
+    }
+
+    /// The request, where it has ended.
+    pub fn asked(&self) -> Option<&Ask>
+        ensures { option_map (λ ask. ask.now) result ≡ asked self.now.turn }
+    {
+        match self.stage {
+            Stage::Nothing | Stage::Begun(_) => None,
+            Stage::Ended(_) => Some(&self.ask),
+        }
+    }
+
+    /// The reply that must come, where it is known.
+    pub fn due(&self) -> Option<&Answer>
+        ensures { option_map (λ answer. answer.now) result ≡ self.now.due }
+    {
+        if self.is_due { Some(&self.due) } else { None }
+    }
+
+    /// A request has begun at the link of this number.
+    pub fn begin(&mut self, number: usize)
+        ensures { self.new ≡ record { turn = Asking number; due = None } }
+    {
+        self.stage = Stage::Begun(number);
+        self.is_due = false;
+    }
+
+    /// This request has ended there.
+    pub fn end(&mut self, number: usize, ask: Ask)
+        ensures { self.new ≡ record { turn = Asked number ask; due = None } }
+    {
+        self.stage = Stage::Ended(number);
+        self.ask = ask;
+        self.is_due = false;
+    }
+
+    /// This reply must come.
+    pub fn set_due(&mut self, answer: Answer)
+        ensures { self.new ≡ record self.old { due = Some answer } }
+    {
+        self.due = answer;
+        self.is_due = true;
+    }
+
+    /// Nothing is in flight any more.
+    pub fn clear(&mut self)
+        ensures { self.new ≡ idle }
+    {
+        self.stage = Stage::Nothing;
+        self.is_due = false;
     }
 }
 
-/// The reply that a port gave, for this source.
-pub fn given_to(source: u16, crossing: &Crossing) -> Option<Answer>
-    ensures { result ≡ given_to source crossing.now }
-{
-    match crossing {
-        Crossing::Waiting | Crossing::Crossed => None,
-        Crossing::Given(answer) => Some(Answer {
-            reply: answer.reply.with_source(source),
-            port: answer.port,
-            index: answer.index,
-        }),
+impl Crossing {
+    /// The request is at its master's link alone.
+    pub fn waiting() -> Crossing
+        ensures { result ≡ Waiting }
+    {
+        Crossing {
+            reach: Reach::AtMaster,
+            answer: Answer::none(),
+        }
+    }
+
+    /// Whether no port has taken the request.
+    pub fn is_waiting(&self) -> bool
+        ensures { IsTrue result ↔ (self.now ≡ Waiting) }
+    {
+        matches!(self.reach, Reach::AtMaster)
+    }
+
+    /// What the port has given, where it has.
+    pub fn given(&self) -> Option<&Answer>
+        ensures { option_map (λ answer. answer.now) result ≡ given self.now }
+    {
+        match self.reach {
+            Reach::AtMaster | Reach::AtPort => None,
+            Reach::Answered => Some(&self.answer),
+        }
+    }
+
+    /// A request is at its master's link.
+    pub fn wait(&mut self)
+        ensures { self.new ≡ Waiting }
+    {
+        self.reach = Reach::AtMaster;
+    }
+
+    /// A port has taken the request.
+    pub fn cross(&mut self)
+        ensures { self.new ≡ Crossed }
+    {
+        self.reach = Reach::AtPort;
+    }
+
+    /// The port has given this reply.
+    pub fn give(&mut self, answer: &Answer)
+        ensures { self.new ≡ Given answer.now }
+    {
+        self.answer = answer.copy();
+        self.reach = Reach::Answered;
     }
 }

@@ -26,7 +26,6 @@ mod slave;
 mod watch;
 
 pub use fault::Fault;
-pub use flight::{Answer, Crossing, Flight, Turn};
 pub use links::Links;
 pub use order::Order;
 pub use seen::Seen;

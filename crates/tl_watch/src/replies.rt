@@ -1,5 +1,5 @@
 //! Judging beats of channel D.
-ghost use Rattle.std.specs.Prelude.{◌≡◌, ◌<◌, ◌≤◌, ◌↔◌, ◌++◌, ◌∷◌, ℕ, [], length, IsTrue, IsSomeAnd, IfOk, OnOk, IfErr, IfSome, IfNone};
+ghost use Rattle.std.specs.Prelude.{◌≡◌, ◌<◌, ◌≤◌, ◌↔◌, ◌++◌, ◌∷◌, ℕ, [], length, true, false, Some, IsTrue, IsSomeAnd, IfOk, OnOk, IfErr, IfSome, IfNone};
 ghost use Rattle.tl_types.specs.Fault.{IsFirstOf};
 ghost use Rattle.tl_types.specs.Request.{Request};
 ghost use Rattle.tl_types.specs.Response.{Response, IsLawfulResponse};
@@ -8,18 +8,18 @@ ghost use Rattle.tl_beats.specs.Replies.{SpellsReply};
 ghost use Rattle.tl_link.specs.declared.beat.Beat.TheVariants.{D};
 ghost use Rattle.tl_link.specs.Past.{ends_reply};
 ghost use Rattle.tl_link.specs.Form.{FitsReply};
-ghost use Rattle.tl_watch.specs.declared.flight.Turn.TheVariants.{Asked};
+ghost use Rattle.tl_watch.specs.Flight.Turn.{Asked};
 ghost use Rattle.tl_watch.specs.declared.side.TheConstants.{WIDES};
 ghost use Rattle.tl_watch.specs.Plan.{Plan, HasLink, IsWideAt, number_of};
-ghost use Rattle.tl_watch.specs.Scene.{is_given, must_by, seen_reply, entry_of};
+ghost use Rattle.tl_watch.specs.Scene.{is_given, given_to, seen_reply, entry_of};
 ghost use Rattle.tl_watch.specs.Past.{port_of};
 ghost use Rattle.tl_watch.specs.Allowed.{OfAsked, IsKnownReply, IsAnswer, IsAllowedReply};
 ghost use Rattle.tl_watch.specs.Faults.{HasAnswerFault, HasEndFault, IsFirstReplyFault, fault_rank};
-ghost use Rattle.tl_watch.specs.View.{Suits, under_in, flight_in, crossing_at, scene_in, due_in, due_at, IsEndFault, IsEndWell};
+ghost use Rattle.tl_watch.specs.View.{Suits, under_in, flight_in, scene_in, must_in, due_in, due_at, IsEndFault, IsEndWell};
 
 use crate::asks::Place;
 use crate::fault::Fault;
-use crate::flight::{Answer, Turn, given_to};
+use crate::flight::{Answer, Crossing, Flight};
 use crate::seen::Seen;
 use crate::watch::Watch;
 use tl_beats::{DBeat, active_mask};
@@ -47,19 +47,16 @@ fn is_known(ask: &Ask, beat: &DBeat, known: u8) -> bool
 }
 
 /// The first fault of a beat as an answer to what is in flight of its source, at the link of this number.
-fn answer_fault(turn: &Turn, number: usize, beat: &DBeat, known: u8) -> Option<Fault>
-    ensures fault { IfSome result (IsFirstOf (HasAnswerFault number turn.now beat.now known) fault_rank) }
-    ensures none { IfNone result (OfAsked number turn.now (IsAnswer beat.now known)) }
+fn answer_fault(flight: &Flight, number: usize, beat: &DBeat, known: u8) -> Option<Fault>
+    ensures fault { IfSome result (IsFirstOf (HasAnswerFault number flight.now.turn beat.now known) fault_rank) }
+    ensures none { IfNone result (OfAsked number flight.now.turn (IsAnswer beat.now known)) }
 {
-    let (at, ask) = match turn {
-        Turn::Idle => return Some(Fault::NoRequest),
-        Turn::Asking(at) if *at == number => return Some(Fault::EarlyReply),
-        Turn::Asking(_) => return Some(Fault::NoRequest),
-        Turn::Asked(at, ask) => (*at, ask),
-    };
-    if at != number {
+    if !flight.is_at(number) {
         return Some(Fault::NoRequest);
     }
+    let Some(ask) = flight.asked() else {
+        return Some(Fault::EarlyReply);
+    };
     if beat.size != ask.size() {
         return Some(Fault::WrongSize);
     }
@@ -72,32 +69,96 @@ fn answer_fault(turn: &Turn, number: usize, beat: &DBeat, known: u8) -> Option<F
     None
 }
 
-/// Whether two replies are the same.
-fn is_same_reply(a: &Reply, b: &Reply) -> bool
-    ensures { IsTrue result ↔ (a.now ≡ b.now) }
+/// Whether two replies are the same but for their sources.
+fn is_same_but_source(expected: &Reply, captured: &Reply) -> bool
+    ensures { IsTrue result ↔ (record expected.now { source = captured.now.source } ≡ captured.now) }
 {
-    a.op() == b.op()
-        && a.size() == b.size()
-        && a.source() == b.source()
-        && a.denied() == b.denied()
-        && a.bytes() == b.bytes()
+    expected.op() == captured.op()
+        && expected.size() == captured.size()
+        && expected.denied() == captured.denied()
+        && expected.bytes() == captured.bytes()
 }
 
-/// The fault of a whole reply, where this one must come.
-fn end_fault(given: bool, due: Option<Answer>, captured: Reply) -> Option<Fault>
-    ensures fault { IfSome result (HasEndFault given due captured) }
-    ensures none { IfNone result (IsSomeAnd due (λ answer. answer.reply ≡ captured)) }
+/// The fault of a whole reply, where this is what crossed of its request.
+fn given_fault(crossing: &Crossing, source: u16, captured: &Reply) -> Option<Fault>
+    ensures fault { IfSome result (HasEndFault true (given_to source crossing.now) captured.now) }
+    ensures none { IfNone result
+        (IsSomeAnd (given_to source crossing.now) (λ answer. answer.reply ≡ captured.now)) }
 {
-    let Some(answer) = due else {
-        return Some(Fault::NotGiven);
-    };
-    if is_same_reply(&answer.reply, &captured) {
-        return None;
+    match crossing.given() {
+        Some(answer)
+            if source == captured.source() && is_same_but_source(&answer.reply, captured) => None,
+        _ => Some(Fault::NotGiven),
     }
-    if given {
-        return Some(Fault::NotGiven);
+}
+
+/// The fault of a whole reply, where the memory gives this one.
+fn memory_fault(expected: &Reply, captured: &Reply) -> Option<Fault>
+    ensures fault { (answer : Answer) → answer.reply ≡ expected.now
+        → IfSome result (HasEndFault false (Some answer) captured.now) }
+    ensures none { IfNone result (expected.now ≡ captured.now) }
+{
+    if expected.source() == captured.source() && is_same_but_source(expected, captured) {
+        None
+    } else {
+        Some(Fault::WrongReply(expected.copy(), captured.copy()))
     }
-    Some(Fault::WrongReply(answer.reply, captured))
+}
+
+/// The fault of a whole reply, where it is a memory that gives it.
+fn due_fault(watch: &Watch, link: Link, wide: u16, port: usize, captured: &Reply) -> Option<Fault>
+    requires known { HasLink watch.now.layout link }
+    requires wide { wide < WIDES }
+    requires port { port < length watch.now.slaves }
+    ensures fault { IfSome result (HasEndFault false (due_in watch.now link wide port) captured.now) }
+    ensures none { IfNone result
+        (IsSomeAnd (due_in watch.now link wide port) (λ answer. answer.reply ≡ captured.now)) }
+{
+    if let Some(answer) = watch.late(link, wide, port) {
+        return memory_fault(&answer.reply, captured);
+    }
+    match watch.flight(link, wide).due() {
+        Some(answer) => memory_fault(&answer.reply, captured),
+        None => Some(Fault::NotGiven),
+    }
+}
+
+/// The fault of a whole reply to a request to this port.
+fn end_fault(
+    watch: &Watch,
+    link: Link,
+    wide: u16,
+    port: usize,
+    source: u16,
+    captured: &Reply,
+) -> Option<Fault>
+    requires known { HasLink watch.now.layout link }
+    requires wide { wide < WIDES }
+    requires port { port < length watch.now.slaves }
+    ensures fault { IfSome result
+        (HasEndFault (is_given watch.now.layout link port) (must_in watch.now link wide port source) captured.now) }
+    ensures none { IfNone result
+        (IsSomeAnd (must_in watch.now link wide port source) (λ answer. answer.reply ≡ captured.now)) }
+{
+    if watch.is_given(link, port) {
+        given_fault(watch.crossing(wide), source, captured)
+    } else {
+        due_fault(watch, link, wide, port, captured)
+    }
+}
+
+/// The reply that a port gave, for this source.
+fn given_to(source: u16, crossing: &Crossing) -> Option<Answer>
+    ensures { result ≡ given_to source crossing.now }
+{
+    match crossing.given() {
+        Some(answer) => Some(Answer {
+            reply: answer.reply.with_source(source),
+            port: answer.port,
+            index: answer.index,
+        }),
+        None => None,
+    }
 }
 
 /// The reply that must come at a link, for this source.
@@ -105,13 +166,17 @@ pub fn must_come(watch: &Watch, link: Link, wide: u16, port: usize, source: u16)
     requires known { HasLink watch.now.layout link }
     requires wide { wide < WIDES }
     requires port { port < length watch.now.slaves }
-    ensures { result ≡ must_by (is_given watch.now.layout link port) source
-        (crossing_at watch.now.crossings wide) (due_in watch.now link wide port) }
+    ensures { result ≡ must_in watch.now link wide port source }
 {
     if watch.is_given(link, port) {
-        given_to(source, watch.crossing(wide))
-    } else {
-        watch.due(link, wide, port)
+        return given_to(source, watch.crossing(wide));
+    }
+    if let Some(answer) = watch.late(link, wide, port) {
+        return Some(answer);
+    }
+    match watch.flight(link, wide).due() {
+        Some(answer) => Some(answer.copy()),
+        None => None,
     }
 }
 
@@ -132,15 +197,11 @@ fn whole_fault(watch: &Watch, link: Link, wide: u16, port: usize, beat: &DBeat) 
     if !under.ends_reply(beat) {
         return None;
     }
-    let Turn::Asked(_, ask) = &watch.flight(link, wide).turn else {
+    let Some(ask) = watch.flight(link, wide).asked() else {
         return None;
     };
-    let due = must_come(watch, link, wide, port, beat.source);
-    end_fault(
-        watch.is_given(link, port),
-        due,
-        under.reply(beat, ask.address()),
-    )
+    let captured = under.reply(beat, ask.address());
+    end_fault(watch, link, wide, port, beat.source, &captured)
 }
 
 /// What a beat ends that ends a reply.
@@ -151,7 +212,7 @@ pub fn seen_end(watch: &Watch, link: Link, wide: u16, port: usize, beat: &DBeat)
     ensures { (plan : Plan) → port ≡ port_of plan link (flight_in watch.now link wide).turn (D beat.now)
         → result ≡ seen_reply (flight_in watch.now link wide).turn (due_at plan watch.now link wide beat.now) }
 {
-    let Turn::Asked(_, ask) = &watch.flight(link, wide).turn else {
+    let Some(ask) = watch.flight(link, wide).asked() else {
         return Seen::Part;
     };
     match must_come(watch, link, wide, port, beat.source) {
@@ -195,8 +256,8 @@ pub fn judge_reply(watch: &Watch, link: Link, beat: &DBeat, known: u8) -> Result
     let Some(wide) = watch.wide(link, beat.source) else {
         return Err(Fault::NoSuchSource);
     };
-    let turn = &watch.flight(link, wide).turn;
-    if let Some(fault) = answer_fault(turn, number_of(link), beat, known) {
+    let flight = watch.flight(link, wide);
+    if let Some(fault) = answer_fault(flight, number_of(link), beat, known) {
         return Err(fault);
     }
     let port = watch.port_in_flight(link, wide);

@@ -1,15 +1,18 @@
 //! One side of a crossbar.
-ghost use Rattle.std.specs.Prelude.{◌≡◌, ◌<◌, ℕ, Some, length, IfOk};
-ghost use Rattle.tl_link.specs.Past.{nothing_under};
+ghost use Rattle.std.specs.Prelude.{◌≡◌, ◌<◌, ◌++◌, ◌∷◌, [], ℕ, Some, None, length, IfOk, IsTrue};
+ghost use Rattle.tl_link.specs.declared.beat.Beat.TheVariants.{A, D};
+ghost use Rattle.tl_link.specs.Message.{ask_of};
+ghost use Rattle.tl_link.specs.Past.{nothing_under, ends_ask};
+ghost use Rattle.tl_link.specs.Form.{FitsAsk, FitsReply};
+ghost use Rattle.tl_watch.specs.Flight.Turn.{Asking, Asked};
 ghost use Rattle.tl_watch.specs.Scene.{idle};
 ghost use Rattle.tl_watch.specs.View.{under_at, flight_at, side_crossed, side_with, side_due};
-ghost use Rattle.tl_watch.specs.Side.{Fits};
 
-use crate::flight::{Answer, Flight, Turn};
+use crate::flight::{Answer, Flight};
 use std::alloc::{AllocError, Global};
 use std::marker::Model;
-use std::mem;
-use tl_link::{Beat, UnderWay};
+use tl_beats::{ABeat, DBeat};
+use tl_link::UnderWay;
 use tl_map::MAX_SOURCES;
 use tl_types::MAX_MASTERS;
 
@@ -35,16 +38,6 @@ impl Model for Side {
     ghost invariant = { λ s. length s.flights.items ≡ WIDES };
 }
 
-/// Nothing in flight.
-pub fn idle() -> Flight
-    ensures { result ≡ idle }
-{
-    Flight {
-        turn: Turn::Idle,
-        due: None,
-    }
-}
-
 /// As many links, with no message under way.
 fn fresh_links(alloc: Global, count: usize) -> Result<Vec<UnderWay>, AllocError>
     ensures counted { IfOk result (λ links. length links.items ≡ count) }
@@ -64,7 +57,7 @@ fn fresh_flights(alloc: Global) -> Result<Vec<Flight>, AllocError>
 {
     let mut flights = Vec::with_capacity(alloc, WIDES)?;
     for _wide in 0..WIDES {
-        flights.push(idle())?;
+        flights.push(Flight::idle())?;
     }
     Ok(flights)
 }
@@ -106,28 +99,60 @@ impl Side {
         &self.flights[wide as usize]
     }
 
-    /// A beat crosses a link.
-    pub fn cross(&mut self, number: usize, beat: &Beat)
+    /// A beat of channel A crosses a link.
+    pub fn cross_ask(&mut self, number: usize, beat: &ABeat)
         requires within { number < length self.old.links }
-        requires fits { Fits (under_at self.old.links number) beat.now }
-        ensures { self.new ≡ side_crossed self.old number beat.now }
+        requires fits { FitsAsk (under_at self.old.links number).asking beat.now }
+        ensures { self.new ≡ side_crossed self.old number (A beat.now) }
     {
-        match beat {
-            Beat::A(beat) => self.links[number].take_ask(beat),
-            Beat::D(beat) => self.links[number].take_reply(beat),
-        }
+        self.links[number].take_ask(beat);
     }
 
-    /// A beat crosses a link, and this is in flight of its wide source from then on; the answer is what was before.
-    pub fn cross_with(&mut self, number: usize, beat: &Beat, wide: u16, flight: Flight) -> Flight
+    /// A beat of channel D crosses a link.
+    pub fn cross_reply(&mut self, number: usize, beat: &DBeat)
         requires within { number < length self.old.links }
-        requires fits { Fits (under_at self.old.links number) beat.now }
-        requires wide { wide < WIDES }
-        ensures after { self.new ≡ side_with self.old number beat.now wide flight }
-        ensures before { result ≡ flight_at self.old.flights wide }
+        requires fits { FitsReply (under_at self.old.links number).replying beat.now }
+        ensures { self.new ≡ side_crossed self.old number (D beat.now) }
     {
-        self.cross(number, beat);
-        mem::replace(&mut self.flights[wide as usize], flight)
+        self.links[number].take_reply(beat);
+    }
+
+    /// A beat crosses a link that does not end its request, of this wide source.
+    pub fn begin_ask(&mut self, number: usize, wide: u16, beat: &ABeat)
+        requires within { number < length self.old.links }
+        requires wide { wide < WIDES }
+        requires fits { FitsAsk (under_at self.old.links number).asking beat.now }
+        ensures { self.new
+            ≡ side_with self.old number (A beat.now) wide (record { turn = Asking number; due = None }) }
+    {
+        self.cross_ask(number, beat);
+        self.flights[wide as usize].begin(number);
+    }
+
+    /// A beat crosses a link that ends its request, of this wide source.
+    pub fn end_ask(&mut self, number: usize, wide: u16, beat: &ABeat)
+        requires within { number < length self.old.links }
+        requires wide { wide < WIDES }
+        requires fits { FitsAsk (under_at self.old.links number).asking beat.now }
+        requires ends { IsTrue (ends_ask (under_at self.old.links number).asking beat.now) }
+        ensures { let ask = ask_of beat.now ((under_at self.old.links number).asking ++ beat.now ∷ []) in
+            self.new
+            ≡ side_with self.old number (A beat.now) wide (record { turn = Asked number ask; due = None }) }
+    {
+        let ask = self.links[number].ask(beat);
+        self.cross_ask(number, beat);
+        self.flights[wide as usize].end(number, ask);
+    }
+
+    /// A beat crosses a link that ends its reply, of this wide source.
+    pub fn end_reply(&mut self, number: usize, wide: u16, beat: &DBeat)
+        requires within { number < length self.old.links }
+        requires wide { wide < WIDES }
+        requires fits { FitsReply (under_at self.old.links number).replying beat.now }
+        ensures { self.new ≡ side_with self.old number (D beat.now) wide idle }
+    {
+        self.cross_reply(number, beat);
+        self.flights[wide as usize].clear();
     }
 
     /// This is the reply that must come to what is in flight of a wide source.
@@ -135,6 +160,6 @@ impl Side {
         requires { wide < WIDES }
         ensures { self.new ≡ side_due self.old wide (Some answer) }
     {
-        self.flights[wide as usize].due = Some(answer);
+        self.flights[wide as usize].set_due(answer);
     }
 }

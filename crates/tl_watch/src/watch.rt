@@ -1,28 +1,30 @@
 //! The judge of what crossed the links of a crossbar.
-ghost use Rattle.std.specs.Prelude.{◌≡◌, ◌<◌, ◌≤◌, ◌↔◌, ◌+◌, ℕ, List, [], ◌∷◌, length, map, Some, None, IsTrue, IfOk, IsOk, OnOk, OnErr, IfErr, IfSome, IfNone};
+ghost use Rattle.std.specs.Prelude.{◌≡◌, ◌<◌, ◌≤◌, ◌↔◌, ◌+◌, ℕ, List, [], ◌∷◌, ◌++◌, length, map, false, Some, None, IsTrue, IfOk, IsOk, OnOk, OnErr, IfErr, IfSome, IfNone};
 ghost use Rattle.tl_map.specs.Block.{IsWide};
 ghost use Rattle.tl_map.specs.Map.{RoutesBytes};
 ghost use Rattle.tl_link.specs.declared.beat.Beat.{Beat};
 ghost use Rattle.tl_beats.specs.declared.beat.DBeat.{DBeat};
 ghost use Rattle.tl_link.specs.declared.beat.Beat.TheVariants.{A, D};
 ghost use Rattle.tl_link.specs.declared.beat.Sighting.{Sighting};
+ghost use Rattle.tl_link.specs.Message.{ask_of};
 ghost use Rattle.tl_link.specs.Form.{FitsAsk, FitsReply};
 ghost use Rattle.tl_link.specs.Past.{ends_ask, ends_reply};
-ghost use Rattle.tl_watch.specs.declared.flight.Crossing.TheVariants.{Waiting};
+ghost use Rattle.tl_watch.specs.Flight.Turn.{Asking, Asked};
+ghost use Rattle.tl_watch.specs.Flight.Crossing.{Waiting};
 ghost use Rattle.tl_watch.specs.Past.{port_of};
-ghost use Rattle.tl_watch.specs.Plan.{Plan, IsPlan, Side, side_of, HasLink, HasSource, IsWideAt, crosses, are_both, is_at_acceptance, IsWatched};
-ghost use Rattle.tl_watch.specs.Scene.{ask_by, takes_effect, effect_by, answer_by, is_given, turn_by, seen_ask, idle};
+ghost use Rattle.tl_watch.specs.Plan.{Plan, IsPlan, Side, side_of, HasLink, HasSource, IsWideAt, number_of, crosses, are_both, is_at_acceptance, IsWatched};
+ghost use Rattle.tl_watch.specs.Scene.{ask_by, asked, takes_effect, is_given, seen_ask};
 ghost use Rattle.tl_watch.specs.Lawful.{IsLawful, IsFirstFault, what_is_seen};
-ghost use Rattle.tl_watch.specs.View.{View, IsSized, Suits, Keeps, side_in, under_in, flight_in, crossing_at, fresh_slave, slave_at, slaves_with, effect_in, late_in, due_in, with_ask_at, with_ask, with_due, with_late, with_part, with_end};
+ghost use Rattle.tl_watch.specs.View.{View, IsSized, Suits, Keeps, side_in, under_in, flight_in, crossing_at, fresh_slave, slave_at, slaves_with, effect_in, is_late_in, late_answer, with_answer, with_ask_at, with_ask, with_due, with_late, with_part, with_end};
 
 use crate::asks::judge_ask;
 use crate::fault::Fault;
-use crate::flight::{Answer, Crossing, Flight, Turn, turn_by};
+use crate::flight::{Answer, Crossing, Flight};
 use crate::links::Links;
 use crate::order::Order;
-use crate::replies::{judge_reply, number_of, seen_end};
+use crate::replies::{judge_reply, seen_end};
 use crate::seen::Seen;
-use crate::side::{Side, WIDES, idle};
+use crate::side::{Side, WIDES};
 use crate::slave::Slave;
 use std::alloc::{AllocError, Global};
 use std::marker::Model;
@@ -99,7 +101,7 @@ fn fresh_crossings(alloc: Global) -> Result<Vec<Crossing>, AllocError>
 {
     let mut crossings = Vec::with_capacity(alloc, WIDES)?;
     for _wide in 0..WIDES {
-        crossings.push(Crossing::Waiting)?;
+        crossings.push(Crossing::waiting())?;
     }
     Ok(crossings)
 }
@@ -265,10 +267,10 @@ impl Watch {
         ensures in_ports { result < length self.now.slaves }
     {
         self.sized();
-        match (&self.flight(link, wide).turn, link) {
-            (Turn::Asked(_, ask), _) => self.port(link, ask.address(), ask.size()),
-            (Turn::Idle | Turn::Asking(_), Link::Port(port)) => port,
-            (Turn::Idle | Turn::Asking(_), Link::Master(_)) => 0,
+        match (self.flight(link, wide).asked(), link) {
+            (Some(ask), _) => self.port(link, ask.address(), ask.size()),
+            (None, Link::Port(port)) => port,
+            (None, Link::Master(_)) => 0,
         }
     }
 
@@ -322,65 +324,50 @@ impl Watch {
         matches!(self.order, Order::Accept)
     }
 
-    /// The request in flight of a wide source to this port, if it takes effect as its reply begins at a link.
-    fn late(&self, link: Link, wide: u16, port: usize) -> Option<Ask>
-        requires known { HasLink self.now.layout link }
-        requires wide { wide < WIDES }
-        ensures { result ≡ late_in self.now link wide port }
+    /// Whether requests to a port take effect as the next beat of channel D crosses at a link.
+    fn is_late(&self, link: Link, port: usize) -> bool
+        requires { HasLink self.now.layout link }
+        ensures { result ≡ is_late_in self.now link port }
     {
-        if self.is_at_acceptance()
-            || !self.takes_effect(link, port)
-            || !self.link(link).begins_reply()
-        {
-            return None;
-        }
-        match &self.flight(link, wide).turn {
-            Turn::Idle | Turn::Asking(_) => None,
-            Turn::Asked(_, ask) => Some(ask.copy()),
-        }
+        !self.is_at_acceptance() && self.takes_effect(link, port) && self.link(link).begins_reply()
     }
 
-    /// The reply that a port's slave has to give to what is in flight of a wide source.
-    pub(crate) fn due(&self, link: Link, wide: u16, port: usize) -> Option<Answer>
+    /// The answer of a port's slave to the request in flight of a wide source, if that takes effect as its reply begins at a link.
+    pub(crate) fn late(&self, link: Link, wide: u16, port: usize) -> Option<Answer>
         requires known { HasLink self.now.layout link }
         requires wide { wide < WIDES }
         requires port { port < length self.now.slaves }
-        ensures { result ≡ due_in self.now link wide port }
+        ensures { result ≡ late_answer self.now link wide port }
     {
-        if let Some(ask) = self.late(link, wide, port) {
-            return Some(self.slaves[port].answer(port, &ask));
+        if !self.is_late(link, port) {
+            return None;
         }
-        match &self.flight(link, wide).due {
-            Some(answer) => Some(answer.copy()),
+        match self.flight(link, wide).asked() {
+            Some(ask) => Some(self.slaves[port].answer(port, ask)),
             None => None,
         }
     }
 
-    /// Serves a request at a port.
-    fn serve_at(&mut self, port: usize, ask: &Ask) -> Answer
-        requires { port < length self.old.slaves }
-        ensures after { self.new ≡ record self.old { slaves = slaves_with self.old.slaves port (Some ask.now) } }
-        ensures answer { Some result ≡ answer_by port (slave_at self.old.slaves port) (Some ask.now) }
+    /// Serves the request in flight of a wide source that has ended at a link, if one has.
+    fn serve(&mut self, link: Link, wide: u16, port: usize)
+        requires wide { wide < WIDES }
+        requires port { port < length self.old.slaves }
+        ensures { self.new ≡ with_answer self.old link wide port (asked (flight_in self.old link wide).turn) }
     {
-        self.slaves[port].serve(port, ask)
-    }
-
-    /// Serves a request that has ended at a link, if one has and it takes effect there.
-    pub(crate) fn serve(&mut self, link: Link, port: usize, ask: &Option<Ask>) -> Option<Answer>
-        requires { port < length self.old.slaves }
-        ensures after { self.new ≡ record self.old {
-          slaves = slaves_with self.old.slaves port (effect_in self.old link port ask.now);
-        } }
-        ensures answer { result
-            ≡ answer_by port (slave_at self.old.slaves port) (effect_in self.old link port ask.now) }
-    {
-        let Some(ask) = ask else {
-            return None;
-        };
-        if !self.is_at_acceptance() || !self.takes_effect(link, port) {
-            return None;
+        match link {
+            Link::Master(_) => {
+                if let Some(ask) = self.masters.flight(wide).asked() {
+                    let answer = self.slaves[port].serve(port, ask);
+                    self.masters.set_due(wide, answer);
+                }
+            }
+            Link::Port(_) => {
+                if let Some(ask) = self.ports.flight(wide).asked() {
+                    let answer = self.slaves[port].serve(port, ask);
+                    self.ports.set_due(wide, answer);
+                }
+            }
         }
-        Some(self.serve_at(port, ask))
     }
 
     /// That what is kept is of its sizes: it is called for its clauses alone.
@@ -393,27 +380,55 @@ impl Watch {
         let _ports = self.ports.wides();
     }
 
-    /// A beat of a request crosses at a link, and this is in flight of its wide source from then on.
-    fn cross_ask(&mut self, link: Link, wide: u16, beat: &ABeat, flight: Flight)
+    /// A beat of a request crosses at a link that does not end it, of this wide source.
+    fn begin_ask(&mut self, link: Link, wide: u16, beat: &ABeat)
         requires known { HasLink self.old.layout link }
         requires wide { wide < WIDES }
         requires fits { FitsAsk (under_in self.old link).asking beat.now }
-        ensures { self.new ≡ with_ask_at self.old link wide beat.now flight }
+        requires ends { ends_ask (under_in self.old link).asking beat.now ≡ false }
+        ensures { self.new
+            ≡ with_ask_at self.old link wide beat.now (record { turn = Asking (number_of link); due = None }) }
     {
-        let ends = self.link(link).ends_ask(beat);
         match link {
             Link::Master(number) => {
-                let _before = self
-                    .masters
-                    .cross_with(number, &Beat::A(*beat), wide, flight);
-                self.crossings[wide as usize] = Crossing::Waiting;
+                self.masters.begin_ask(number, wide, beat);
+                self.crossings[wide as usize].wait();
+            }
+            Link::Port(number) => self.ports.begin_ask(number, wide, beat),
+        }
+    }
+
+    /// A beat of a request crosses at a link that ends it, of this wide source.
+    fn end_ask(&mut self, link: Link, wide: u16, beat: &ABeat)
+        requires known { HasLink self.old.layout link }
+        requires wide { wide < WIDES }
+        requires fits { FitsAsk (under_in self.old link).asking beat.now }
+        requires ends { IsTrue (ends_ask (under_in self.old link).asking beat.now) }
+        ensures { let ask = ask_of beat.now ((under_in self.old link).asking ++ beat.now ∷ []) in
+            self.new
+            ≡ with_ask_at self.old link wide beat.now (record { turn = Asked (number_of link) ask; due = None }) }
+    {
+        match link {
+            Link::Master(number) => {
+                self.masters.end_ask(number, wide, beat);
+                self.crossings[wide as usize].wait();
             }
             Link::Port(number) => {
-                let _before = self.ports.cross_with(number, &Beat::A(*beat), wide, flight);
-                if ends {
-                    self.crossings[wide as usize] = Crossing::Crossed;
-                }
+                self.ports.end_ask(number, wide, beat);
+                self.crossings[wide as usize].cross();
             }
+        }
+    }
+
+    /// Serves the request in flight of a wide source that has ended at a link, if it takes effect as it is accepted.
+    fn serve_accepted(&mut self, link: Link, wide: u16, port: usize)
+        requires wide { wide < WIDES }
+        requires port { port < length self.old.slaves }
+        ensures { self.new
+            ≡ with_answer self.old link wide port (effect_in self.old link port (asked (flight_in self.old link wide).turn)) }
+    {
+        if self.is_at_acceptance() && self.takes_effect(link, port) {
+            self.serve(link, wide, port);
         }
     }
 
@@ -426,23 +441,14 @@ impl Watch {
         ensures after { self.new ≡ with_ask self.old link wide port beat.now }
         ensures seen { result ≡ seen_ask (ask_by (under_in self.old link).asking beat.now) }
     {
-        let ask = ended_ask(self.link(link), beat);
-        let due = self.serve(link, port, &ask);
-        let seen = seen_ask(&ask);
-        let turn = turn_by(number_of(link), ask);
-        self.cross_ask(link, wide, beat, Flight { turn, due });
-        seen
-    }
-
-    /// This is the reply that must come to what is in flight of a wide source.
-    fn set_due(&mut self, link: Link, wide: u16, answer: Answer)
-        requires { wide < WIDES }
-        ensures { self.new ≡ with_due self.old link wide (Some answer) }
-    {
-        match link {
-            Link::Master(_) => self.masters.set_due(wide, answer),
-            Link::Port(_) => self.ports.set_due(wide, answer),
+        self.sized();
+        if !self.link(link).ends_ask(beat) {
+            self.begin_ask(link, wide, beat);
+            return Seen::Part;
         }
+        self.end_ask(link, wide, beat);
+        self.serve_accepted(link, wide, port);
+        Seen::WholeAsk
     }
 
     /// Serves the request in flight of a wide source, if it takes effect as its reply begins at a link.
@@ -454,11 +460,9 @@ impl Watch {
         ensures layout { self.new.layout ≡ self.old.layout }
         ensures under { under_in self.new link ≡ under_in self.old link }
     {
-        let Some(ask) = self.late(link, wide, port) else {
-            return;
-        };
-        let answer = self.serve_at(port, &ask);
-        self.set_due(link, wide, answer);
+        if self.is_late(link, port) {
+            self.serve(link, wide, port);
+        }
     }
 
     /// A beat of a reply crosses at a link that does not end it.
@@ -468,8 +472,8 @@ impl Watch {
         ensures { self.new ≡ with_part self.old link beat.now }
     {
         match link {
-            Link::Master(number) => self.masters.cross(number, &Beat::D(*beat)),
-            Link::Port(number) => self.ports.cross(number, &Beat::D(*beat)),
+            Link::Master(number) => self.masters.cross_reply(number, beat),
+            Link::Port(number) => self.ports.cross_reply(number, beat),
         }
     }
 
@@ -481,16 +485,12 @@ impl Watch {
         ensures { self.new ≡ with_end self.old link wide beat.now }
     {
         match link {
-            Link::Master(number) => {
-                let _before = self
-                    .masters
-                    .cross_with(number, &Beat::D(*beat), wide, idle());
-            }
+            Link::Master(number) => self.masters.end_reply(number, wide, beat),
             Link::Port(number) => {
-                let before = self.ports.cross_with(number, &Beat::D(*beat), wide, idle());
-                if let Some(answer) = before.due {
-                    self.crossings[wide as usize] = Crossing::Given(answer);
+                if let Some(answer) = self.ports.flight(wide).due() {
+                    self.crossings[wide as usize].give(answer);
                 }
+                self.ports.end_reply(number, wide, beat);
             }
         }
     }
@@ -559,27 +559,5 @@ impl Watch {
             Beat::A(beat) => self.step_ask(sighting.link, beat, sighting.known),
             Beat::D(beat) => self.step_reply(sighting.link, beat, sighting.known),
         }
-    }
-}
-
-/// The request that a beat ends, if it ends one.
-fn ended_ask(under: &UnderWay, beat: &ABeat) -> Option<Ask>
-    requires { FitsAsk under.now.asking beat.now }
-    ensures { result ≡ ask_by under.now.asking beat.now }
-{
-    if under.ends_ask(beat) {
-        Some(under.ask(beat))
-    } else {
-        None
-    }
-}
-
-/// What a beat ends that ends this request, if any.
-fn seen_ask(ask: &Option<Ask>) -> Seen
-    ensures { result ≡ seen_ask ask.now }
-{
-    match ask {
-        Some(_) => Seen::WholeAsk,
-        None => Seen::Part,
     }
 }
