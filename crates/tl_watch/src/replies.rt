@@ -11,7 +11,7 @@ ghost use Rattle.tl_link.specs.Form.{FitsReply};
 ghost use Rattle.tl_watch.specs.Flight.Turn.{Asked};
 ghost use Rattle.tl_watch.specs.declared.side.TheConstants.{WIDES};
 ghost use Rattle.tl_watch.specs.Plan.{Plan, HasLink, IsWideAt, number_of};
-ghost use Rattle.tl_watch.specs.Scene.{is_given, given_to, seen_reply, entry_of};
+ghost use Rattle.tl_watch.specs.Scene.{asked, is_given, given_to, seen_answer, seen_reply, entry_of};
 ghost use Rattle.tl_watch.specs.Past.{port_of};
 ghost use Rattle.tl_watch.specs.Allowed.{OfAsked, IsKnownReply, IsAnswer, IsAllowedReply};
 ghost use Rattle.tl_watch.specs.Faults.{HasAnswerFault, HasEndFault, IsFirstReplyFault, fault_rank};
@@ -105,17 +105,25 @@ fn memory_fault(expected: &Reply, captured: &Reply) -> Option<Fault>
     }
 }
 
-/// The fault of a whole reply, where it is a memory that gives it.
-fn due_fault(watch: &Watch, link: Link, wide: u16, port: usize, captured: &Reply) -> Option<Fault>
+/// The fault of a whole reply to this request in flight, where it is a memory that gives it.
+fn due_fault(
+    watch: &Watch,
+    link: Link,
+    wide: u16,
+    port: usize,
+    ask: &Ask,
+    captured: &Reply,
+) -> Option<Fault>
     requires known { HasLink watch.now.layout link }
     requires wide { wide < WIDES }
     requires port { port < length watch.now.slaves }
+    requires ask { asked (flight_in watch.now link wide).turn ≡ Some ask.now }
     ensures fault { IfSome result (HasEndFault false (due_in watch.now link wide port) captured.now) }
     ensures none { IfNone result
         (IsSomeAnd (due_in watch.now link wide port) (λ answer. answer.reply ≡ captured.now)) }
 {
-    if let Some(answer) = watch.late(link, wide, port) {
-        return memory_fault(&answer.reply, captured);
+    if watch.is_late(link, port) {
+        return memory_fault(&watch.answer(port, ask).reply, captured);
     }
     match watch.flight(link, wide).due() {
         Some(answer) => memory_fault(&answer.reply, captured),
@@ -123,18 +131,20 @@ fn due_fault(watch: &Watch, link: Link, wide: u16, port: usize, captured: &Reply
     }
 }
 
-/// The fault of a whole reply to a request to this port.
+/// The fault of a whole reply to this request in flight, which goes to this port.
 fn end_fault(
     watch: &Watch,
     link: Link,
     wide: u16,
     port: usize,
+    ask: &Ask,
     source: u16,
     captured: &Reply,
 ) -> Option<Fault>
     requires known { HasLink watch.now.layout link }
     requires wide { wide < WIDES }
     requires port { port < length watch.now.slaves }
+    requires ask { asked (flight_in watch.now link wide).turn ≡ Some ask.now }
     ensures fault { IfSome result
         (HasEndFault (is_given watch.now.layout link port) (must_in watch.now link wide port source) captured.now) }
     ensures none { IfNone result
@@ -143,40 +153,7 @@ fn end_fault(
     if watch.is_given(link, port) {
         given_fault(watch.crossing(wide), source, captured)
     } else {
-        due_fault(watch, link, wide, port, captured)
-    }
-}
-
-/// The reply that a port gave, for this source.
-fn given_to(source: u16, crossing: &Crossing) -> Option<Answer>
-    ensures { result ≡ given_to source crossing.now }
-{
-    match crossing.given() {
-        Some(answer) => Some(Answer {
-            reply: answer.reply.with_source(source),
-            port: answer.port,
-            index: answer.index,
-        }),
-        None => None,
-    }
-}
-
-/// The reply that must come at a link, for this source.
-pub fn must_come(watch: &Watch, link: Link, wide: u16, port: usize, source: u16) -> Option<Answer>
-    requires known { HasLink watch.now.layout link }
-    requires wide { wide < WIDES }
-    requires port { port < length watch.now.slaves }
-    ensures { result ≡ must_in watch.now link wide port source }
-{
-    if watch.is_given(link, port) {
-        return given_to(source, watch.crossing(wide));
-    }
-    if let Some(answer) = watch.late(link, wide, port) {
-        return Some(answer);
-    }
-    match watch.flight(link, wide).due() {
-        Some(answer) => Some(answer.copy()),
-        None => None,
+        due_fault(watch, link, wide, port, ask, captured)
     }
 }
 
@@ -201,7 +178,48 @@ fn whole_fault(watch: &Watch, link: Link, wide: u16, port: usize, beat: &DBeat) 
         return None;
     };
     let captured = under.reply(beat, ask.address());
-    end_fault(watch, link, wide, port, beat.source, &captured)
+    end_fault(watch, link, wide, port, ask, beat.source, &captured)
+}
+
+/// The entry of a request that gets this answer, for this source.
+fn entry_of(ask: &Ask, answer: &Answer, source: u16) -> Entry
+    ensures { result
+        ≡ entry_of ask.now (record answer.now { reply = record answer.now.reply { source = source } }) }
+{
+    Entry {
+        ask: ask.copy(),
+        reply: answer.reply.with_source(source),
+        port: answer.port,
+        index: answer.index,
+    }
+}
+
+/// What a beat ends that ends the reply to this request, where this is what crossed of it.
+fn seen_given(ask: &Ask, crossing: &Crossing, source: u16) -> Seen
+    ensures { result ≡ seen_answer ask.now (given_to source crossing.now) }
+{
+    match crossing.given() {
+        Some(answer) => Seen::WholeReply(entry_of(ask, answer, source)),
+        None => Seen::Part,
+    }
+}
+
+/// What a beat ends that ends the reply to this request in flight, where it is a memory that gives it.
+fn seen_due(watch: &Watch, link: Link, wide: u16, port: usize, ask: &Ask) -> Seen
+    requires known { HasLink watch.now.layout link }
+    requires wide { wide < WIDES }
+    requires port { port < length watch.now.slaves }
+    requires ask { asked (flight_in watch.now link wide).turn ≡ Some ask.now }
+    ensures { result ≡ seen_answer ask.now (due_in watch.now link wide port) }
+{
+    if watch.is_late(link, port) {
+        let answer = watch.answer(port, ask);
+        return Seen::WholeReply(entry_of(ask, &answer, answer.reply.source()));
+    }
+    match watch.flight(link, wide).due() {
+        Some(answer) => Seen::WholeReply(entry_of(ask, answer, answer.reply.source())),
+        None => Seen::Part,
+    }
 }
 
 /// What a beat ends that ends a reply.
@@ -215,22 +233,10 @@ pub fn seen_end(watch: &Watch, link: Link, wide: u16, port: usize, beat: &DBeat)
     let Some(ask) = watch.flight(link, wide).asked() else {
         return Seen::Part;
     };
-    match must_come(watch, link, wide, port, beat.source) {
-        Some(answer) => Seen::WholeReply(entry_of(ask, answer)),
-        None => Seen::Part,
+    if watch.is_given(link, port) {
+        return seen_given(ask, watch.crossing(wide), beat.source);
     }
-}
-
-/// The entry of a request that gets this answer.
-fn entry_of(ask: &Ask, answer: Answer) -> Entry
-    ensures { result ≡ entry_of ask.now answer }
-{
-    Entry {
-        ask: ask.copy(),
-        reply: answer.reply,
-        port: answer.port,
-        index: answer.index,
-    }
+    seen_due(watch, link, wide, port, ask)
 }
 
 /// Judges a beat of a reply: the wide source and the port of its request, or the first fault that it has.

@@ -13,7 +13,7 @@ ghost use Rattle.tl_watch.specs.Flight.Turn.{Asking, Asked};
 ghost use Rattle.tl_watch.specs.Flight.Crossing.{Waiting};
 ghost use Rattle.tl_watch.specs.Past.{port_of};
 ghost use Rattle.tl_watch.specs.Plan.{Plan, IsPlan, Side, side_of, HasLink, HasSource, IsWideAt, number_of, crosses, are_both, is_at_acceptance, IsWatched};
-ghost use Rattle.tl_watch.specs.Scene.{ask_by, asked, takes_effect, is_given, seen_ask};
+ghost use Rattle.tl_watch.specs.Scene.{answer_by, ask_by, asked, takes_effect, is_given, seen_ask};
 ghost use Rattle.tl_watch.specs.Lawful.{IsLawful, IsFirstFault, what_is_seen};
 ghost use Rattle.tl_watch.specs.View.{View, IsSized, Suits, Keeps, side_in, under_in, flight_in, crossing_at, fresh_slave, slave_at, slaves_with, effect_in, is_late_in, late_answer, with_answer, with_ask_at, with_ask, with_due, with_late, with_part, with_end};
 
@@ -325,27 +325,19 @@ impl Watch {
     }
 
     /// Whether requests to a port take effect as the next beat of channel D crosses at a link.
-    fn is_late(&self, link: Link, port: usize) -> bool
+    pub(crate) fn is_late(&self, link: Link, port: usize) -> bool
         requires { HasLink self.now.layout link }
         ensures { result ≡ is_late_in self.now link port }
     {
         !self.is_at_acceptance() && self.takes_effect(link, port) && self.link(link).begins_reply()
     }
 
-    /// The answer of a port's slave to the request in flight of a wide source, if that takes effect as its reply begins at a link.
-    pub(crate) fn late(&self, link: Link, wide: u16, port: usize) -> Option<Answer>
-        requires known { HasLink self.now.layout link }
-        requires wide { wide < WIDES }
-        requires port { port < length self.now.slaves }
-        ensures { result ≡ late_answer self.now link wide port }
+    /// The answer of a port's slave to a request, which it does not serve.
+    pub(crate) fn answer(&self, port: usize, ask: &Ask) -> Answer
+        requires { port < length self.now.slaves }
+        ensures { Some result ≡ answer_by port (slave_at self.now.slaves port) (Some ask.now) }
     {
-        if !self.is_late(link, port) {
-            return None;
-        }
-        match self.flight(link, wide).asked() {
-            Some(ask) => Some(self.slaves[port].answer(port, ask)),
-            None => None,
-        }
+        self.slaves[port].answer(port, ask)
     }
 
     /// Serves the request in flight of a wide source that has ended at a link, if one has.
