@@ -1,5 +1,5 @@
 -- From what a judge finds of a beat of a reply to what it is after its past: the first fault, or that it is lawful.
-use Rattle.std.proofs.Common.{◌≡◌, ◌∙◌, ℕ, ◌<◌, ◌≤◌, ◌⊎◌, inl, inr, Bool, false, List, [], ◌∷◌, ◌++◌, Option, Some, None, ap, sym, subst, refl, arith}
+use Rattle.std.proofs.Common.{◌≡◌, ◌∙◌, ℕ, ◌<◌, ◌≤◌, ◌⊎◌, inl, inr, Bool, true, false, List, [], ◌∷◌, ◌++◌, Option, Some, None, ap, sym, subst, refl, arith}
 use Rattle.std.specs.Prelude.{IsTrue, IsSomeAnd, IfSome, IfNone}
 use Rattle.tl_types.specs.Fault.{IsFirstOf}
 use Rattle.tl_types.specs.Request.{Request}
@@ -21,11 +21,11 @@ use Rattle.tl_watch.specs.Flight.{Turn}
 use Rattle.tl_watch.specs.Flight.Turn.{Idle, Asking, Asked}
 use Rattle.tl_watch.specs.declared.flight.Answer.{Answer}
 use Rattle.tl_watch.specs.Plan.{Layout, Plan, HasSource, IsWideAt, number_of}
-use Rattle.tl_watch.specs.Scene.{Scene, answering, is_given, must_by, must_come}
+use Rattle.tl_watch.specs.Scene.{Scene, asked, effect_by, answer_by, due_by, answering, is_given, must_by, must_come}
 use Rattle.tl_watch.specs.Past.{port_of}
 use Rattle.tl_watch.specs.Allowed.{OfAsked, IsAnswer, EndsWell, IsAllowedReply}
 use Rattle.tl_watch.specs.Faults.{HasAnswerFault, HasEndFault, EndsWith, HasReplyFault, IsFirstReplyFault, fault_rank}
-use Rattle.tl_watch.specs.View.{View, Suits, under_in, flight_in, flight_at, crossing_at, slave_at, scene_in, due_in, due_at, IsEndFault, IsEndWell}
+use Rattle.tl_watch.specs.View.{View, Suits, under_in, flight_in, flight_at, crossing_at, slave_at, scene_in, is_late_in, due_in, due_at, IsEndFault, IsEndWell}
 use Rattle.tl_watch.proofs.Judging.{wide_is}
 
 -- ---- the reply that a beat ends
@@ -53,6 +53,20 @@ module _ (plan : Plan) (view : View) (link : Link) (wide : ℕ) (beat : DBeat) (
   whole_well due captured (Some fault) due_is lawful spells well = tt
   whole_well due captured None due_is lawful spells well =
       (λ ends. (captured, lawful, spells, subst (λ (o : Option Answer). IsSomeAnd o (λ answer. answer.reply ≡ captured)) (due_here due due_is) well))
+
+-- the reply that is due, where the request takes effect as its reply begins, and where it does not
+pub due_late : (view : View) (link : Link) (wide port : ℕ) (ask : Request) (answer : Answer) → is_late_in view link port ≡ true → asked (flight_in view link wide).turn ≡ Some ask
+    → Some answer ≡ answer_by port (slave_at view.slaves port) (Some ask) → due_in view link wide port ≡ Some answer
+due_late view link wide port ask answer late is given =
+    let flight = flight_in view link wide in
+    ap (λ b. due_by flight.due (answer_by port (slave_at view.slaves port) (effect_by b (asked flight.turn)))) late
+    ∙ ap (λ o. due_by flight.due (answer_by port (slave_at view.slaves port) o)) is
+    ∙ ap (λ o. due_by flight.due o) (sym given)
+
+pub due_kept_before : (view : View) (link : Link) (wide port : ℕ) → is_late_in view link port ≡ false → due_in view link wide port ≡ (flight_in view link wide).due
+due_kept_before view link wide port late =
+    let flight = flight_in view link wide in
+    ap (λ b. due_by flight.due (answer_by port (slave_at view.slaves port) (effect_by b (asked flight.turn)))) late
 
 -- ---- no fault before
 

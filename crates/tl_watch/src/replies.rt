@@ -79,55 +79,59 @@ fn is_same_but_source(expected: &Reply, captured: &Reply) -> bool
         && expected.bytes() == captured.bytes()
 }
 
-/// The fault of a whole reply, where this is what crossed of its request.
-fn given_fault(crossing: &Crossing, source: u16, captured: &Reply) -> Option<Fault>
-    ensures fault { IfSome result (HasEndFault true (given_to source crossing.now) captured.now) }
-    ensures none { IfNone result
-        (IsSomeAnd (given_to source crossing.now) (λ answer. answer.reply ≡ captured.now)) }
+/// Whether two replies are the same.
+fn is_same(expected: &Reply, captured: &Reply) -> bool
+    ensures { IsTrue result ↔ (expected.now ≡ captured.now) }
+{
+    expected.source() == captured.source() && is_same_but_source(expected, captured)
+}
+
+/// Whether a whole reply to this source is the one that a port gave.
+fn is_given_reply(crossing: &Crossing, source: u16, captured: &Reply) -> bool
+    ensures { IsTrue result
+        ↔ IsSomeAnd (given_to source crossing.now) (λ answer. answer.reply ≡ captured.now) }
 {
     match crossing.given() {
-        Some(answer)
-            if source == captured.source() && is_same_but_source(&answer.reply, captured) => None,
-        _ => Some(Fault::NotGiven),
+        Some(answer) => {
+            source == captured.source() && is_same_but_source(&answer.reply, captured)
+        }
+        None => false,
     }
 }
 
-/// The fault of a whole reply, where the memory gives this one.
-fn memory_fault(expected: &Reply, captured: &Reply) -> Option<Fault>
-    ensures fault { (answer : Answer) → answer.reply ≡ expected.now
-        → IfSome result (HasEndFault false (Some answer) captured.now) }
-    ensures none { IfNone result (expected.now ≡ captured.now) }
-{
-    if expected.source() == captured.source() && is_same_but_source(expected, captured) {
-        None
-    } else {
-        Some(Fault::WrongReply(expected.copy(), captured.copy()))
-    }
-}
-
-/// The fault of a whole reply to this request in flight, where it is a memory that gives it.
-fn due_fault(
-    watch: &Watch,
-    link: Link,
-    wide: u16,
-    port: usize,
-    ask: &Ask,
-    captured: &Reply,
-) -> Option<Fault>
+/// Whether a whole reply to this request in flight is the one that a memory gives.
+fn is_due(watch: &Watch, link: Link, wide: u16, port: usize, ask: &Ask, captured: &Reply) -> bool
     requires known { HasLink watch.now.layout link }
     requires wide { wide < WIDES }
     requires port { port < length watch.now.slaves }
     requires ask { asked (flight_in watch.now link wide).turn ≡ Some ask.now }
-    ensures fault { IfSome result (HasEndFault false (due_in watch.now link wide port) captured.now) }
-    ensures none { IfNone result
-        (IsSomeAnd (due_in watch.now link wide port) (λ answer. answer.reply ≡ captured.now)) }
+    ensures { IsTrue result
+        ↔ IsSomeAnd (due_in watch.now link wide port) (λ answer. answer.reply ≡ captured.now) }
 {
     if watch.is_late(link, port) {
-        return memory_fault(&watch.answer(port, ask).reply, captured);
+        return is_same(&watch.answer(port, ask).reply, captured);
     }
     match watch.flight(link, wide).due() {
-        Some(answer) => memory_fault(&answer.reply, captured),
-        None => Some(Fault::NotGiven),
+        Some(answer) => is_same(&answer.reply, captured),
+        None => false,
+    }
+}
+
+/// The fault of a whole reply to this request in flight that is not the one that a memory gives.
+fn due_fault(watch: &Watch, link: Link, wide: u16, port: usize, ask: &Ask, captured: Reply) -> Fault
+    requires known { HasLink watch.now.layout link }
+    requires wide { wide < WIDES }
+    requires port { port < length watch.now.slaves }
+    requires ask { asked (flight_in watch.now link wide).turn ≡ Some ask.now }
+    requires wrong { IsSomeAnd (due_in watch.now link wide port) (λ answer. answer.reply ≡ captured) → ⊥ }
+    ensures { HasEndFault false (due_in watch.now link wide port) captured result }
+{
+    if watch.is_late(link, port) {
+        return Fault::WrongReply(watch.answer(port, ask).reply, captured);
+    }
+    match watch.flight(link, wide).due() {
+        Some(answer) => Fault::WrongReply(answer.reply.copy(), captured),
+        None => Fault::NotGiven,
     }
 }
 
@@ -139,22 +143,27 @@ fn end_fault(
     port: usize,
     ask: &Ask,
     source: u16,
-    captured: &Reply,
+    captured: Reply,
 ) -> Option<Fault>
     requires known { HasLink watch.now.layout link }
     requires wide { wide < WIDES }
     requires port { port < length watch.now.slaves }
     requires ask { asked (flight_in watch.now link wide).turn ≡ Some ask.now }
     ensures fault { IfSome result
-        (HasEndFault (is_given watch.now.layout link port) (must_in watch.now link wide port source) captured.now) }
+        (HasEndFault (is_given watch.now.layout link port) (must_in watch.now link wide port source) captured) }
     ensures none { IfNone result
-        (IsSomeAnd (must_in watch.now link wide port source) (λ answer. answer.reply ≡ captured.now)) }
+        (IsSomeAnd (must_in watch.now link wide port source) (λ answer. answer.reply ≡ captured)) }
 {
     if watch.is_given(link, port) {
-        given_fault(watch.crossing(wide), source, captured)
-    } else {
-        due_fault(watch, link, wide, port, ask, captured)
+        if is_given_reply(watch.crossing(wide), source, &captured) {
+            return None;
+        }
+        return Some(Fault::NotGiven);
     }
+    if is_due(watch, link, wide, port, ask, &captured) {
+        return None;
+    }
+    Some(due_fault(watch, link, wide, port, ask, captured))
 }
 
 /// The fault of the reply that a beat ends, if it ends one, of a request to this port.
@@ -178,7 +187,7 @@ fn whole_fault(watch: &Watch, link: Link, wide: u16, port: usize, beat: &DBeat) 
         return None;
     };
     let captured = under.reply(beat, ask.address());
-    end_fault(watch, link, wide, port, ask, beat.source, &captured)
+    end_fault(watch, link, wide, port, ask, beat.source, captured)
 }
 
 /// The entry of a request that gets this answer, for this source.
