@@ -190,44 +190,56 @@ fn whole_fault(watch: &Watch, link: Link, wide: u16, port: usize, beat: &DBeat) 
     end_fault(watch, link, wide, port, ask, beat.source, captured)
 }
 
-/// The entry of a request that gets this answer, for this source.
-fn entry_of(ask: &Ask, answer: &Answer, source: u16) -> Entry
-    ensures { result
-        ≡ entry_of ask.now (record answer.now { reply = record answer.now.reply { source = source } }) }
-{
-    Entry {
-        ask: ask.copy(),
-        reply: answer.reply.with_source(source),
-        port: answer.port,
-        index: answer.index,
-    }
-}
-
-/// What a beat ends that ends the reply to this request, where this is what crossed of it.
-fn seen_given(ask: &Ask, crossing: &Crossing, source: u16) -> Seen
-    ensures { result ≡ seen_answer ask.now (given_to source crossing.now) }
+/// The reply that a port gave, for this source.
+fn given_to(source: u16, crossing: &Crossing) -> Option<Answer>
+    ensures { result ≡ given_to source crossing.now }
 {
     match crossing.given() {
-        Some(answer) => Seen::WholeReply(entry_of(ask, answer, source)),
-        None => Seen::Part,
+        Some(answer) => Some(Answer {
+            reply: answer.reply.with_source(source),
+            port: answer.port,
+            index: answer.index,
+        }),
+        None => None,
     }
 }
 
-/// What a beat ends that ends the reply to this request in flight, where it is a memory that gives it.
-fn seen_due(watch: &Watch, link: Link, wide: u16, port: usize, ask: &Ask) -> Seen
+/// The reply that must come to this request in flight, which goes to this port, for this source.
+fn must_come(
+    watch: &Watch,
+    link: Link,
+    wide: u16,
+    port: usize,
+    ask: &Ask,
+    source: u16,
+) -> Option<Answer>
     requires known { HasLink watch.now.layout link }
     requires wide { wide < WIDES }
     requires port { port < length watch.now.slaves }
     requires ask { asked (flight_in watch.now link wide).turn ≡ Some ask.now }
-    ensures { result ≡ seen_answer ask.now (due_in watch.now link wide port) }
+    ensures { result ≡ must_in watch.now link wide port source }
 {
+    if watch.is_given(link, port) {
+        return given_to(source, watch.crossing(wide));
+    }
     if watch.is_late(link, port) {
-        let answer = watch.answer(port, ask);
-        return Seen::WholeReply(entry_of(ask, &answer, answer.reply.source()));
+        return Some(watch.answer(port, ask));
     }
     match watch.flight(link, wide).due() {
-        Some(answer) => Seen::WholeReply(entry_of(ask, answer, answer.reply.source())),
-        None => Seen::Part,
+        Some(answer) => Some(answer.copy()),
+        None => None,
+    }
+}
+
+/// The entry of a request that gets this answer.
+fn entry_of(ask: &Ask, answer: Answer) -> Entry
+    ensures { result ≡ entry_of ask.now answer }
+{
+    Entry {
+        ask: ask.copy(),
+        reply: answer.reply,
+        port: answer.port,
+        index: answer.index,
     }
 }
 
@@ -242,10 +254,10 @@ pub fn seen_end(watch: &Watch, link: Link, wide: u16, port: usize, beat: &DBeat)
     let Some(ask) = watch.flight(link, wide).asked() else {
         return Seen::Part;
     };
-    if watch.is_given(link, port) {
-        return seen_given(ask, watch.crossing(wide), beat.source);
+    match must_come(watch, link, wide, port, ask, beat.source) {
+        Some(answer) => Seen::WholeReply(entry_of(ask, answer)),
+        None => Seen::Part,
     }
-    seen_due(watch, link, wide, port, ask)
 }
 
 /// Judges a beat of a reply: the wide source and the port of its request, or the first fault that it has.
