@@ -162,12 +162,9 @@ must_come layout link scene source = must_by (is_given layout link scene.port) s
 abbrev pub entry_of : Request → Answer → Entry
 entry_of ask answer = record { ask = ask; reply = answer.reply; port = answer.port; index = answer.index }
 
-abbrev pub seen_answer : Request → Option Answer → Seen
-seen_answer ask None = Part
-seen_answer ask (Some answer) = WholeReply (entry_of ask answer)
-
 abbrev pub seen_reply : Turn → Option Answer → Seen
-seen_reply (Asked number ask) answer = seen_answer ask answer
+seen_reply (Asked number ask) (Some answer) = WholeReply (entry_of ask answer)
+seen_reply (Asked number ask) None = Part
 seen_reply (Asking number) answer = Part
 seen_reply Idle answer = Part
 

@@ -11,7 +11,7 @@ ghost use Rattle.tl_link.specs.Form.{FitsReply};
 ghost use Rattle.tl_watch.specs.Flight.Turn.{Asked};
 ghost use Rattle.tl_watch.specs.declared.side.TheConstants.{WIDES};
 ghost use Rattle.tl_watch.specs.Plan.{Plan, HasLink, IsWideAt, number_of};
-ghost use Rattle.tl_watch.specs.Scene.{asked, is_given, given_to, seen_answer, seen_reply, entry_of};
+ghost use Rattle.tl_watch.specs.Scene.{asked, is_given, given_to, seen_reply, entry_of};
 ghost use Rattle.tl_watch.specs.Past.{port_of};
 ghost use Rattle.tl_watch.specs.Allowed.{OfAsked, IsKnownReply, IsAnswer, IsAllowedReply};
 ghost use Rattle.tl_watch.specs.Faults.{HasAnswerFault, HasEndFault, IsFirstReplyFault, fault_rank};
