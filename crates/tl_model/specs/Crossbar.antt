@@ -58,6 +58,15 @@ pub record Accepts (c : CrossbarState) (master : ℕ) (ask : Request) : Type 0 w
   pub source : IsSomeAnd (slice_get c.counts master) (λ count. ask.source < count)
   pub counted : (port : ℕ) → Routes c.ranges ask port → IsSomeAnd (slice_get c.ports port) (λ state. state.served < MOST_SERVED)
 
+-- the port is that of the request, and can count it
+pub record CanServe (c : CrossbarState) (ask : Request) (port : ℕ) : Type 0 where
+  pub routed : Routes c.ranges ask port
+  pub counted : IsSomeAnd (slice_get c.ports port) (λ state. state.served < MOST_SERVED)
+
+-- so many requests has the port served
+abbrev pub IsCountAt : CrossbarState → ℕ → ℕ → Type 0
+IsCountAt c port count = IsSomeAnd (slice_get c.ports port) (λ state. count ≡ state.served)
+
 -- a port after one request more
 abbrev pub served_more : PortState → Request → PortState
 served_more port ask = record { store = after port.store ask; served = port.served + 1 }

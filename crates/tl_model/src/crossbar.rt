@@ -1,7 +1,7 @@
 //! The crossbar that serves one request a call.
-ghost use Rattle.std.specs.Prelude.{◌≡◌, ◌↔◌, ℕ, IfErr, IfOk, IsOk, IsSomeAnd, OnErr, length, slice_get};
+ghost use Rattle.std.specs.Prelude.{◌≡◌, ◌↔◌, ◌<◌, ℕ, IfErr, IfOk, IsOk, IsSomeAnd, OnErr, length, slice_get};
 ghost use Rattle.tl_map.specs.Map.{RoutesBytes};
-ghost use Rattle.tl_model.specs.Crossbar.{Accepts, IsFirstServeFault, IsServed, at_reset, byte_in};
+ghost use Rattle.tl_model.specs.Crossbar.{Accepts, CanServe, IsCountAt, IsFirstServeFault, IsServed, at_reset, byte_in};
 
 use crate::fault::ServeFault;
 use crate::port::{MOST_SERVED, Port, ports_of};
@@ -60,6 +60,19 @@ impl Crossbar {
         ensures fault { IfErr result (IsFirstServeFault self.old master ask.now) }
         ensures err { OnErr result (self.new ≡ self.old) }
     {
+        let port = self.admit(master, ask)?;
+        let place = self.served(port);
+        let reply = self.serve_at(port, ask);
+        Ok(Answer { reply, port, place })
+    }
+
+    /// The port that may serve a master's request, whose source is the master's own: `serve` in parts, for callers that would move an
+    /// answer once more, is `admit`, `served` and `serve_at` of the port that it answers.
+    pub fn admit(&self, master: usize, ask: &Ask) -> Result<usize, ServeFault>
+        ensures ok { IsOk result ↔ Accepts self.now master ask.now }
+        ensures port { IfOk result (CanServe self.now ask.now) }
+        ensures fault { IfErr result (IsFirstServeFault self.now master ask.now) }
+    {
         let Some(count) = self.sources.count(master) else {
             return Err(ServeFault::NoSuchMaster);
         };
@@ -70,8 +83,27 @@ impl Crossbar {
         if self.ports[port].served == MOST_SERVED {
             return Err(ServeFault::Uncountable);
         }
-        let (place, reply) = self.ports[port].serve(ask);
-        Ok(Answer { reply, port, place })
+        Ok(port)
+    }
+
+    /// How many requests a port has served.
+    pub fn served(&self, port: usize) -> usize
+        requires { port < length self.now.ports }
+        ensures { IsCountAt self.now port result }
+    {
+        self.ports[port].served
+    }
+
+    /// Serves a request at the port that may serve it.
+    pub fn serve_at(&mut self, port: usize, ask: &Ask) -> Reply
+        requires { CanServe self.old ask.now port }
+        ensures { (place : ℕ) → IsCountAt self.old port place → IsServed self.old ask.now (record {
+          reply = result;
+          port = port;
+          place = place;
+        }) self.new }
+    {
+        self.ports[port].serve(ask)
     }
 
     /// The byte that the slave of an address holds there, where it has one.

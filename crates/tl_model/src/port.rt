@@ -21,17 +21,15 @@ pub(crate) struct Port {
 }
 
 impl Port {
-    /// Serves a request. The answer is how many were served before it, and the reply.
-    pub(crate) fn serve(&mut self, ask: &Ask) -> (usize, Reply)
+    /// Serves a request, and counts it.
+    pub(crate) fn serve(&mut self, ask: &Ask) -> Reply
         requires { self.old.served < MOST_SERVED }
         ensures bank { self.new.bank ≡ after self.old.bank ask.now }
         ensures counted { self.new.served ≡ self.old.served + 1 }
-        ensures place { result.0 ≡ self.old.served }
-        ensures reply { result.1 ≡ reply self.old.bank ask.now }
+        ensures reply { result ≡ reply self.old.bank ask.now }
     {
-        let place = self.served;
         self.served += 1;
-        (place, self.bank.serve(ask))
+        self.bank.serve(ask)
     }
 }
 

@@ -1,0 +1,20 @@
+-- The port serves.
+use Rattle.std.proofs.Common.{rules, List, ap}
+use Rattle.tl_model.specs.Crossbar.{PortState}
+use Rattle.tl_model.specs.Ports.{state_of}
+use Rattle.tl_model.proofs.Serving.{holds_within, served_at, state_at}
+use Rattle.tl_model.proofs.crossbar.Crossbar.serve_at.Goals as goal
+
+pub returns : goal.returns
+returns c = λ place count.
+    let port = c.index_mut.result.now in
+    let at = state_at c.self.inside.ports.items c.self.inside.ports.len c.args.port port (search rules) (holds_within c.self.inside.ports.items c.self.inside.ports.len c.args.port _ (search rules) (rw (← c.self.view_is) at c.requires.counted)) c.index_mut.ensures.value in
+    let ports = served_at c.self.inside.ports.items c.args.port c.args.ask.now port c.serve.new.self c.serve.ensures.bank c.serve.ensures.counted in
+    rw (← c.self.view_is) (record {
+      port = state_of port;
+      routed = rw (← c.self.view_is) at c.requires.routed;
+      at = at;
+      reply = c.serve.ensures.reply;
+      place = rw (at) at (rw (← c.self.view_is) at count);
+      is = ap (λ (states : List PortState). record { ranges = c.self.inside.ranges; counts = c.self.inside.sources; ports = states }) ports;
+    })
