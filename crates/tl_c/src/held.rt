@@ -1,7 +1,24 @@
 //! What handles hold.
+use std::marker::Model;
 use tl_model::Crossbar;
 use tl_script::System;
+use tl_types::Ask;
 use tl_watch::Watch;
+
+/// The model of a crossbar. Each request that it is handed is read into the place of the one before, which contracts don't see.
+#[derive(Drop)]
+pub struct Server {
+    pub crossbar: Crossbar,
+    pub ask: Ask,
+}
+
+impl Model for Server {
+    ghost use Rattle.tl_model.specs.Crossbar.{CrossbarState};
+
+    ghost Value = { CrossbarState };
+
+    ghost view = { λ s. s.crossbar };
+}
 
 /// A judge of beats, with how many whole requests and replies it has seen, and the line of the last fault.
 #[derive(Drop)]
@@ -16,6 +33,6 @@ pub struct Judge {
 #[derive(Drop)]
 pub enum Held {
     System(System),
-    Model(Crossbar),
+    Model(Server),
     Judge(Judge),
 }

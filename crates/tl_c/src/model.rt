@@ -7,11 +7,12 @@ ghost use Rattle.tl_model.specs.Crossbar.{CrossbarState, at_reset, byte_in};
 
 use crate::fault::{EMPTY, FULL, MEMORY, NO_BYTE, OK, SIZE, serve_number};
 use crate::handle::Handle;
-use crate::held::Held;
+use crate::held::{Held, Server};
 use crate::system::{hold, take};
-use crate::wire::{WireAnswer, WireAsk, ask_of, put_answer};
+use crate::wire::{WireAnswer, WireAsk, put_answer, read_ask};
 use std::alloc::Global;
 use tl_model::Crossbar;
+use tl_types::Ask;
 
 /// `tlx_model_make_at` of the header: the model of a system at reset.
 #[unsafe(no_mangle)]
@@ -31,25 +32,30 @@ pub extern "C" fn tlx_model_make_at(alloc: Global, model: &mut Handle, system: &
         return EMPTY;
     };
     match Crossbar::new(alloc, made) {
-        Ok(crossbar) => hold(alloc, model, Held::Model(crossbar)),
+        Ok(crossbar) => {
+            let ask = Ask::blank();
+            hold(alloc, model, Held::Model(Server { crossbar, ask }))
+        }
         Err(_) => MEMORY,
     }
 }
 
 /// Serves a request of a master.
-fn serve(model: &mut Crossbar, master: usize, ask: &WireAsk, answer: &mut WireAnswer) -> u32
-    ensures ok { result ≡ OK → IsServedBy model.old master ask.now answer.new model.new }
-    ensures fault { SIZE < result → IsRefusedBy model.old master ask.now result }
+fn serve(model: &mut Server, master: usize, wire: &WireAsk, answer: &mut WireAnswer) -> u32
+    ensures ok { result ≡ OK → IsServedBy model.old master wire.now answer.new model.new }
+    ensures fault { SIZE < result → IsRefusedBy model.old master wire.now result }
     ensures err { result ≢ OK → model.new ≡ model.old }
     ensures quiet { result ≢ OK → answer.new ≡ answer.old }
 {
-    let ask = match ask_of(ask) {
-        Ok(ask) => ask,
-        Err(number) => return number,
-    };
-    match model.serve(master, &ask) {
-        Ok(given) => {
-            put_answer(answer, &given);
+    let read = read_ask(wire, &mut model.ask);
+    if read != OK {
+        return read;
+    }
+    match model.crossbar.admit(master, &model.ask) {
+        Ok(port) => {
+            let place = model.crossbar.served(port);
+            let reply = model.crossbar.serve_at(port, &model.ask);
+            put_answer(answer, port, place, &reply);
             OK
         }
         Err(fault) => serve_number(fault),
@@ -74,11 +80,19 @@ pub extern "C" fn tlx_model_serve_at(
         return EMPTY;
     };
     let number = match &mut *held {
-        Held::Model(crossbar) => serve(crossbar, master, ask, answer),
+        Held::Model(server) => serve(server, master, ask, answer),
         Held::System(_) | Held::Judge(_) => EMPTY,
     };
     *model = Handle::of(held);
     number
+}
+
+/// The byte that the slave of an address holds there, where it has one.
+fn byte_of(model: &Server, address: u64) -> Option<u8>
+    ensures { (port : ℕ) → RoutesBytes model.now.ranges address 0 port
+        → IsSomeAnd (slice_get model.now.ports port) (λ state. result ≡ byte_in state.store address) }
+{
+    model.crossbar.byte(address)
 }
 
 /// `tlx_model_byte_at` of the header: the byte that the slave of an address holds there.
@@ -98,7 +112,7 @@ pub extern "C" fn tlx_model_byte_at(
         return EMPTY;
     };
     let number = match &*held {
-        Held::Model(crossbar) => match crossbar.byte(address) {
+        Held::Model(server) => match byte_of(server, address) {
             Some(found) => {
                 *byte = found;
                 OK
@@ -121,7 +135,7 @@ pub extern "C" fn tlx_model_masters_at(alloc: Global, model: &mut Handle) -> usi
         return 0;
     };
     let count = match &*held {
-        Held::Model(crossbar) => crossbar.masters(),
+        Held::Model(server) => server.crossbar.masters(),
         Held::System(_) | Held::Judge(_) => 0,
     };
     *model = Handle::of(held);
@@ -138,7 +152,7 @@ pub extern "C" fn tlx_model_ports_at(alloc: Global, model: &mut Handle) -> usize
         return 0;
     };
     let count = match &*held {
-        Held::Model(crossbar) => crossbar.ports(),
+        Held::Model(server) => server.crossbar.ports(),
         Held::System(_) | Held::Judge(_) => 0,
     };
     *model = Handle::of(held);

@@ -1,14 +1,12 @@
 //! The structs of the header, and what they stand for.
-ghost use Rattle.std.specs.Prelude.{◌≡◌, ◌≤◌, ◌<◌, Bool, IfErr, IfOk, IfSome, Some, map};
-ghost use Rattle.std.specs.List.{range_with_len};
-ghost use Rattle.tl_c.specs.Wire.{IsAnswerOf, IsAskOf, Shows, ask_beat, byte_at, flag_of, link_of, reply_beat};
+ghost use Rattle.std.specs.Prelude.{◌≡◌, ◌≤◌, Bool, IfSome, Some};
+ghost use Rattle.tl_types.specs.Wire.{IsCodeOf};
+ghost use Rattle.tl_c.specs.Wire.{IsAnswerOf, IsAskOf, Shows, ask_beat, flag_of, link_of, reply_beat};
 
-use crate::fault::{BAD_ARGUMENT, NO_OPERATION, OK, SIZE};
-use arrayvec::ArrayVec;
+use crate::fault::{NO_OPERATION, OK, SIZE};
 use tl_beats::{ABeat, DBeat};
 use tl_link::{Beat, Link, Sighting};
-use tl_model::Answer;
-use tl_types::{Ask, BUS_BYTES, LARGEST_SIZE, MAX_BYTES, read_op, reply_opcode};
+use tl_types::{Ask, AskOp, BUS_BYTES, LARGEST_SIZE, Reply, read_op, reply_opcode};
 
 /// The room of a message's bytes in the header's structs.
 pub const ROOM: usize = 256;
@@ -61,57 +59,43 @@ pub struct WireBeat {
     pub lanes: [u8; BUS_BYTES],
 }
 
-/// The byte of a request at a place: none where a partial put leaves it unset.
-fn byte_at(wire: &WireAsk, partial: bool, place: usize) -> Option<u8>
-    requires { place < ROOM }
-    ensures { result ≡ byte_at wire.now partial place }
-{
-    if partial && wire.set[place] == 0 {
-        return None;
-    }
-    Some(wire.bytes[place])
-}
-
-/// The bytes that a request carries.
-fn bytes_of(wire: &WireAsk, count: usize, partial: bool) -> ArrayVec<Option<u8>, MAX_BYTES>
-    requires { count ≤ MAX_BYTES }
-    ensures { result.items ≡ map (byte_at wire.now partial) (range_with_len 0 count) }
-{
-    let mut bytes = ArrayVec::new();
-    for place in 0..count {
-        bytes.push(byte_at(wire, partial, place));
-    }
-    bytes
-}
-
-/// The request of a struct, or the number of its fault.
-pub(crate) fn ask_of(wire: &WireAsk) -> Result<Ask, u32>
-    ensures ask { IfOk result (IsAskOf wire.now) }
-    ensures fault { IfErr result (λ number. (OK < number) × (number ≤ SIZE)) }
+/// Reads the request of a struct into the place of another, and answers `OK` or the number of its fault.
+pub(crate) fn read_ask(wire: &WireAsk, ask: &mut Ask) -> u32
+    ensures ask { result ≡ OK → IsAskOf wire.now ask.new }
+    ensures fault { result ≤ SIZE }
 {
     let Ok(op) = read_op(wire.opcode, wire.param) else {
-        return Err(NO_OPERATION);
+        return NO_OPERATION;
     };
     if wire.size > LARGEST_SIZE {
-        return Err(SIZE);
+        return SIZE;
     }
-    let count = op.byte_count(wire.size);
-    let bytes = bytes_of(wire, count, op.may_leave_unset());
-    match Ask::new(op, wire.size, wire.source, wire.address, &bytes) {
-        Ok(ask) => Ok(ask),
-        Err(_) => Err(BAD_ARGUMENT),
+    fill_ask(wire, op, ask);
+    OK
+}
+
+/// Puts a request of this operation, with the other fields of a struct, in the place of another.
+fn fill_ask(wire: &WireAsk, op: AskOp, ask: &mut Ask)
+    requires code { IsCodeOf op wire.now.opcode wire.now.param }
+    requires in_limit { wire.now.size ≤ LARGEST_SIZE }
+    ensures { IsAskOf wire.now ask.new }
+{
+    let bytes = &wire.bytes[..op.byte_count(wire.size)];
+    if op.may_leave_unset() {
+        ask.refill_flagged(op, wire.size, wire.source, wire.address, bytes, &wire.set);
+    } else {
+        ask.refill_given(op, wire.size, wire.source, wire.address, bytes);
     }
 }
 
-/// Puts an answer into a struct. Behind its bytes the struct stays as it was: a short reply pays for no long one.
-pub(crate) fn put_answer(wire: &mut WireAnswer, answer: &Answer)
-    ensures { IsAnswerOf wire.new answer.now.port answer.now.place answer.now.reply }
+/// Puts a reply with its port and place into a struct. Behind its bytes the struct stays as it was: a short reply pays for no long one.
+pub(crate) fn put_answer(wire: &mut WireAnswer, port: usize, place: usize, reply: &Reply)
+    ensures { IsAnswerOf wire.new port place reply.now }
 {
-    let reply = &answer.reply;
     let bytes = reply.bytes();
     let count = bytes.len();
-    wire.port = answer.port;
-    wire.place = answer.place;
+    wire.port = port;
+    wire.place = place;
     wire.count = count;
     wire.source = reply.source();
     wire.opcode = reply_opcode(reply.op());
