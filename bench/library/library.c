@@ -38,16 +38,16 @@ static void judge(const char *script, size_t length, const struct tlx_beat *beat
 }
 
 static void serve(const char *name, int opcode, int param, int size, int holes) {
-  static const char script[] = "slots = 1\n[[port]]\nkind = \"ram\"\nbase = 0x1000\nlength = 256\n[[master]]\nsources = 4\nops = []\n";
+  static const char script[] = "slots = 1\n[[port]]\nkind = \"ram\"\nbase = 0x1000\nlength = 1024\n[[master]]\nsources = 4\nops = []\n";
   struct tlx_system system = {0};
   struct tlx_model model = {0};
-  struct tlx_request asks[2] = {{.address = 0x1000, .source = 1}, {.address = 0x1040, .source = 2}};
+  struct tlx_request asks[2] = {{.address = 0x1000, .source = 1}, {.address = 0x1100, .source = 2}};
   struct tlx_answer answer;
   unsigned long long seen = 0;
   for (int which = 0; which < 2; which++) {
     asks[which].opcode = opcode, asks[which].param = param, asks[which].size = size;
-    memset(asks[which].bytes, 7, 64);
-    for (int k = 0; k < 64; k++) asks[which].set[k] = !holes || k % 2 == 0;
+    memset(asks[which].bytes, 7, sizeof asks[which].bytes);
+    for (size_t k = 0; k < sizeof asks[which].set; k++) asks[which].set[k] = !holes || k % 2 == 0;
   }
   if (tlx_system_read(&system, script, sizeof script - 1, NULL, 0) || tlx_model_make(&model, &system)) exit(1);
   double start = now();
@@ -65,10 +65,10 @@ int main(int argc, char **argv) {
   size_t length, bytes;
   char *script = whole(argv[1], &length);
   struct tlx_beat *beats = whole(argv[2], &bytes);
-  static const int sizes[] = {0, 2, 3, 6};
+  static const int sizes[] = {0, 2, 3, 6, 7, 8};
   for (int round = 0; round < atoi(argv[3]); round++) {
     judge(script, length, beats, bytes / sizeof *beats);
-    for (int k = 0; k < 4; k++) {
+    for (int k = 0; k < 6; k++) {
       serve("get", 4, 0, sizes[k], 0);
       serve("put", 0, 0, sizes[k], 0);
       serve("holes", 1, 0, sizes[k], 1);

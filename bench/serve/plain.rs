@@ -5,6 +5,10 @@ use std::hint::black_box;
 use std::time::Instant;
 
 const TURNS: u64 = 2_000_000;
+/// The most bytes of a message.
+const MAX_BYTES: usize = 256;
+/// The size of such a message.
+const LARGEST_SIZE: u8 = 8;
 
 #[derive(Clone, Copy)]
 enum Arith {
@@ -23,7 +27,7 @@ enum Op {
 }
 
 struct List<T> {
-    items: [T; 64],
+    items: [T; MAX_BYTES],
     len: usize,
 }
 
@@ -50,7 +54,7 @@ struct Bank {
 }
 
 fn no_bytes() -> List<u8> {
-    List { items: [0; 64], len: 0 }
+    List { items: [0; MAX_BYTES], len: 0 }
 }
 
 /// The bytes that are given, and a mask of them.
@@ -70,7 +74,7 @@ impl Bank {
         let width = 1u64 << ask.size;
         let supported = match ask.op {
             Op::Arithmetic(_) | Op::Xor => ask.size == 2 || ask.size == 3,
-            _ => ask.size <= 6,
+            _ => ask.size <= LARGEST_SIZE,
         };
         supported
             && ask.address % width == 0
@@ -151,14 +155,14 @@ fn served(bank: &mut Bank, ask: &Ask) -> Reply {
 
 fn time(bank: &mut Bank, name: &str, op: Op, size: u8, holes: bool) {
     let ask = |source, address| {
-        let mut items = [Some(7); 64];
-        for k in (1..64).step_by(2).filter(|_| holes) {
+        let mut items = [Some(7); MAX_BYTES];
+        for k in (1..MAX_BYTES).step_by(2).filter(|_| holes) {
             items[k] = None;
         }
         let len = if matches!(op, Op::Get | Op::Intent) { 0 } else { 1 << size };
         Ask { op, size, source, address, bytes: List { items, len } }
     };
-    let (one, two) = (ask(1, 0x1000), ask(2, 0x1040));
+    let (one, two) = (ask(1, 0x1000), ask(2, 0x1100));
     let mut seen = 0usize;
     let start = Instant::now();
     for _ in 0..TURNS {
@@ -172,8 +176,8 @@ fn time(bank: &mut Bank, name: &str, op: Op, size: u8, holes: bool) {
 }
 
 fn main() {
-    let mut bank = Bank { base: 0x1000, len: 256, words: vec![0x0909_0909_0909_0909; 32] };
-    for size in [0, 2, 3, 6] {
+    let mut bank = Bank { base: 0x1000, len: 1024, words: vec![0x0909_0909_0909_0909; 128] };
+    for size in [0, 2, 3, 6, 7, 8] {
         time(&mut bank, "get", Op::Get, size, false);
         time(&mut bank, "put", Op::PutFull, size, false);
         time(&mut bank, "holes", Op::PutPartial, size, true);
