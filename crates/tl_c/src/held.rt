@@ -2,14 +2,16 @@
 use std::marker::Model;
 use tl_model::Crossbar;
 use tl_script::System;
-use tl_types::Ask;
+use tl_types::{Ask, Reply};
 use tl_watch::Watch;
 
-/// The model of a crossbar. Each request that it is handed is read into the place of the one before, which contracts don't see.
+/// The model of a crossbar. Each request that it is handed is read into the place of the one before, and each reply served into the
+/// place of the one before: contracts see the crossbar alone.
 #[derive(Drop)]
 pub struct Server {
     pub crossbar: Crossbar,
     pub ask: Ask,
+    pub reply: Reply,
 }
 
 impl Model for Server {

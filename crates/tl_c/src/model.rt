@@ -12,7 +12,7 @@ use crate::system::{hold, take};
 use crate::wire::{WireAnswer, WireAsk, put_answer, read_ask};
 use std::alloc::Global;
 use tl_model::Crossbar;
-use tl_types::Ask;
+use tl_types::{Ask, Reply};
 
 /// `tlx_model_make_at` of the header: the model of a system at reset.
 #[unsafe(no_mangle)]
@@ -33,8 +33,13 @@ pub extern "C" fn tlx_model_make_at(alloc: Global, model: &mut Handle, system: &
     };
     match Crossbar::new(alloc, made) {
         Ok(crossbar) => {
-            let ask = Ask::blank();
-            hold(alloc, model, Held::Model(Server { crossbar, ask }))
+            let (ask, reply) = (Ask::blank(), Reply::blank());
+            let server = Server {
+                crossbar,
+                ask,
+                reply,
+            };
+            hold(alloc, model, Held::Model(server))
         }
         Err(_) => MEMORY,
     }
@@ -54,8 +59,8 @@ fn serve(model: &mut Server, master: usize, wire: &WireAsk, answer: &mut WireAns
     match model.crossbar.admit(master, &model.ask) {
         Ok(port) => {
             let place = model.crossbar.served(port);
-            let reply = model.crossbar.serve_at(port, &model.ask);
-            put_answer(answer, port, place, &reply);
+            model.crossbar.serve_at(port, &model.ask, &mut model.reply);
+            put_answer(answer, port, place, &model.reply);
             OK
         }
         Err(fault) => serve_number(fault),

@@ -62,7 +62,8 @@ impl Crossbar {
     {
         let port = self.admit(master, ask)?;
         let place = self.served(port);
-        let reply = self.serve_at(port, ask);
+        let mut reply = Reply::blank();
+        self.serve_at(port, ask, &mut reply);
         Ok(Answer { reply, port, place })
     }
 
@@ -94,16 +95,16 @@ impl Crossbar {
         self.ports[port].served
     }
 
-    /// Serves a request at the port that may serve it.
-    pub fn serve_at(&mut self, port: usize, ask: &Ask) -> Reply
+    /// Serves a request at the port that may serve it: the reply stands in the place of another.
+    pub fn serve_at(&mut self, port: usize, ask: &Ask, reply: &mut Reply)
         requires { CanServe self.old ask.now port }
         ensures { (place : ℕ) → IsCountAt self.old port place → IsServed self.old ask.now (record {
-          reply = result;
+          reply = reply.new;
           port = port;
           place = place;
         }) self.new }
     {
-        self.ports[port].serve(ask)
+        self.ports[port].serve(ask, reply);
     }
 
     /// The byte that the slave of an address holds there, where it has one.

@@ -21,15 +21,15 @@ pub(crate) struct Port {
 }
 
 impl Port {
-    /// Serves a request, and counts it.
-    pub(crate) fn serve(&mut self, ask: &Ask) -> Reply
+    /// Serves a request, and counts it: the reply stands in the place of another.
+    pub(crate) fn serve(&mut self, ask: &Ask, answer: &mut Reply)
         requires { self.old.served < MOST_SERVED }
         ensures bank { self.new.bank ≡ after self.old.bank ask.now }
         ensures counted { self.new.served ≡ self.old.served + 1 }
-        ensures reply { result ≡ reply self.old.bank ask.now }
+        ensures reply { answer.new ≡ reply self.old.bank ask.now }
     {
         self.served += 1;
-        self.bank.serve(ask)
+        self.bank.serve_into(ask, answer);
     }
 }
 
