@@ -1,6 +1,6 @@
 -- What is kept of the past, after one beat more.
 use Rattle.std.proofs.Common.{◌≡◌, ◌∙◌, ℕ, zero, suc, [], ◌++◌, ◌<◌, Bool, true, false, if◌then◌else◌, List, ◌∷◌, length, Option, Some, None, slice_get, unwrap_or, refl, ap, sym, subst, eqb-true, length-set}
-use Rattle.std.specs.Prelude.{slice_set, ◌==◌, ◌&&◌, ◌↔◌, Result, Ok, Err, IsOk, OnOk, IfErr}
+use Rattle.std.specs.Prelude.{slice_set, ◌==◌, ◌&&◌, ◌↔◌, Result, Ok, Err, IsOk, IsSome, OnOk, OnSome, IfErr, IfNone}
 use Rattle.std.proofs.lemmas.Bool.{eqb-false}
 use Rattle.tl_types.specs.Request.{Request}
 use Rattle.tl_types.proofs.Lists.{slice_get-set_same, slice_get-set_other}
@@ -429,12 +429,19 @@ module _ (plan : Plan) (past : List Sighting) (view new : View) (link : Link) (k
 
 -- ---- what a step answers
 
+-- what is lawful has no fault
+no_fault : (plan : Plan) (here : Scene) (y : Sighting) (beat : Beat) (fault : Fault) → IsAllowedBeat plan here y beat → IsFirstFaultOf plan here y beat fault → ⊥
+no_fault plan here y (A beat) fault allowed first = no_ask_fault plan.layout y.link here beat y.known allowed fault first.applies
+no_fault plan here y (D beat) fault allowed first = no_reply_fault plan.layout y.link here beat y.known allowed fault first.applies
+
 -- a beat is lawful after a past that is kept where no fault is answered
 pub lawful_of : {V : Type 0} (plan : Plan) (past : List Sighting) (view new : View) (x : Sighting) (r : Result V Fault) → Keeps plan past view → OnOk r (Keeps plan (x ∷ past) new) → IfErr r (IsFirstFault plan past x)
     → IsOk r ↔ IsLawful plan (x ∷ past)
 lawful_of plan past view new x (Ok v) keeps next first = (λ ok. next.lawful, λ lawful. refl)
 lawful_of plan past view new x (Err fault) keeps next first = (λ ok. absurd (cc), λ lawful. absurd (no_fault plan (scene plan past x) x x.beat fault lawful.1 first))
-  where
-    no_fault : (plan : Plan) (here : Scene) (y : Sighting) (beat : Beat) (fault : Fault) → IsAllowedBeat plan here y beat → IsFirstFaultOf plan here y beat fault → ⊥
-    no_fault plan here y (A beat) fault allowed first = no_ask_fault plan.layout y.link here beat y.known allowed fault first.applies
-    no_fault plan here y (D beat) fault allowed first = no_reply_fault plan.layout y.link here beat y.known allowed fault first.applies
+
+-- the same, where a beat is taken, and where it has a fault
+pub lawful_taken : {V : Type 0} (plan : Plan) (past : List Sighting) (view new : View) (x : Sighting) (r : Option V) → Keeps plan past view → OnSome r (Keeps plan (x ∷ past) new) → IfNone r ((fault : Fault) × IsFirstFault plan past x fault)
+    → IsSome r ↔ IsLawful plan (x ∷ past)
+lawful_taken plan past view new x (Some v) keeps next first = (λ some. next.lawful, λ lawful. refl)
+lawful_taken plan past view new x None keeps next first = (λ some. absurd (cc), λ lawful. absurd (no_fault plan (scene plan past x) x x.beat first.0 lawful.1 first.1))

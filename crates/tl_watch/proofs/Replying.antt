@@ -1,5 +1,5 @@
 -- From what a judge finds of a beat of a reply to what it is after its past: the first fault, or that it is lawful.
-use Rattle.std.proofs.Common.{◌≡◌, ◌∙◌, ℕ, ◌<◌, ◌≤◌, ◌⊎◌, inl, inr, Bool, true, false, List, [], ◌∷◌, ◌++◌, Option, Some, None, ap, sym, subst, refl, arith}
+use Rattle.std.proofs.Common.{◌≡◌, ◌∙◌, ℕ, ◌<◌, ◌≤◌, ◌⊎◌, inl, inr, Bool, true, false, if◌then◌else◌, List, [], ◌∷◌, ◌++◌, Option, Some, None, ap, sym, subst, refl, arith}
 use Rattle.std.specs.Prelude.{IsTrue, IsSomeAnd, IfSome, IfNone}
 use Rattle.tl_types.specs.Fault.{IsFirstOf}
 use Rattle.tl_types.specs.Request.{Request}
@@ -21,7 +21,9 @@ use Rattle.tl_watch.specs.Flight.{Turn}
 use Rattle.tl_watch.specs.Flight.Turn.{Idle, Asking, Asked}
 use Rattle.tl_watch.specs.declared.flight.Answer.{Answer}
 use Rattle.tl_watch.specs.Plan.{Layout, Plan, HasSource, IsWideAt, number_of}
-use Rattle.tl_watch.specs.Scene.{Scene, asked, effect_by, answer_by, due_by, answering, is_given, must_by, must_come}
+use Rattle.tl_watch.specs.Scene.{Scene, asked, effect_by, answer_by, due_by, answering, is_given, must_by, must_come, seen, seen_reply, ended}
+use Rattle.tl_watch.specs.declared.seen.Seen.TheVariants.{Part}
+use Rattle.tl_watch.specs.declared.seen.Ended.TheVariants as ends
 use Rattle.tl_watch.specs.Past.{port_of}
 use Rattle.tl_watch.specs.Allowed.{OfAsked, IsAnswer, EndsWell, IsAllowedReply}
 use Rattle.tl_watch.specs.Faults.{HasAnswerFault, HasEndFault, EndsWith, HasReplyFault, IsFirstReplyFault, fault_rank}
@@ -53,6 +55,23 @@ module _ (plan : Plan) (view : View) (link : Link) (wide : ℕ) (beat : DBeat) (
   whole_well due captured (Some fault) due_is lawful spells well = tt
   whole_well due captured None due_is lawful spells well =
       (λ ends. (captured, lawful, spells, subst (λ (o : Option Answer). IsSomeAnd o (λ answer. answer.reply ≡ captured)) (due_here due due_is) well))
+
+  pub whole_right : (due : Option Answer) (captured : Response) → due ≡ due_by_port port
+      → IsLawfulResponse captured.op captured.size captured.denied captured.bytes → SpellsReply captured ask.address ((under_in view link).replying ++ beat ∷ [])
+      → IsSomeAnd due (λ answer. answer.reply ≡ captured) → IsEndWell plan view link wide beat ask
+  whole_right due captured due_is lawful spells well = whole_well due captured None due_is lawful spells well
+
+  -- a reply that is not the one that must come has a fault
+  some_fault : (given : Bool) (due : Option Answer) (captured : Response) → (IsSomeAnd due (λ answer. answer.reply ≡ captured) → ⊥) → (fault : Fault) × HasEndFault given due captured fault
+  some_fault true due captured wrong = (NotGiven, (inl refl, wrong))
+  some_fault false None captured wrong = (NotGiven, (inr refl, wrong))
+  some_fault false (Some answer) captured wrong = (WrongReply answer.reply captured, (refl, refl, refl, wrong))
+
+  pub whole_wrong : (given : Bool) (due : Option Answer) (captured : Response) → given ≡ is_given view.layout link port → due ≡ due_by_port port
+      → IsTrue (ends_reply (under_in view link).replying beat) → IsLawfulResponse captured.op captured.size captured.denied captured.bytes → SpellsReply captured ask.address ((under_in view link).replying ++ beat ∷ [])
+      → (IsSomeAnd due (λ answer. answer.reply ≡ captured) → ⊥) → (fault : Fault) × IsEndFault plan view link wide beat ask fault
+  whole_wrong given due captured given_is due_is ends lawful spells wrong =
+      let found = some_fault given due captured wrong in (found.0, whole_has given due captured (Some found.0) given_is due_is ends lawful spells found.1)
 
 -- the reply that is due, where the request takes effect as its reply begins, and where it does not
 pub due_late : (view : View) (link : Link) (wide port : ℕ) (ask : Request) (answer : Answer) → is_late_in view link port ≡ true → asked (flight_in view link wide).turn ≡ Some ask
@@ -268,6 +287,22 @@ module _ (layout : Layout) (link : Link) (scene : Scene) (beat : DBeat) (known :
       ends_twice scene.flight.turn (is_given layout link scene.port) (must_come layout link scene beat.source) (WrongReply e r) (give_ends scene.flight.turn has.0 allowed.ends) has.1
       (λ captured well wrong. wrong.3 (two_replies (must_come layout link scene beat.source) e captured wrong.1 well))
 
+  -- a lawful beat that ends a reply is told as one that does
+  pub tells_reply : IsAllowedReply layout link scene beat known → ends_reply scene.under.replying beat ≡ true → ended (seen layout link scene (D beat)) ≡ ends.Reply
+  tells_reply allowed last =
+      ap (λ b. ended (if b then seen_reply scene.flight.turn (must_come layout link scene beat.source) else Part)) last
+      ∙ by_turn scene.flight.turn (must_come layout link scene beat.source) (give_ends scene.flight.turn last allowed.ends)
+    where
+      by_turn : (turn : Turn) (due : Option Answer) → OfAsked (number_of link) turn (λ ask. (captured : Response) × IsLawfulResponse captured.op captured.size captured.denied captured.bytes × SpellsReply captured ask.address (scene.under.replying ++ beat ∷ []) × IsSomeAnd due (λ answer. answer.reply ≡ captured))
+          → ended (seen_reply turn due) ≡ ends.Reply
+      by_turn Idle due of = absurd of
+      by_turn (Asking at) due of = absurd of
+      by_turn (Asked at ask) None of = absurd of.1.3
+      by_turn (Asked at ask) (Some answer) of = refl
+
+  pub tells_part : ends_reply scene.under.replying beat ≡ false → ended (seen layout link scene (D beat)) ≡ ends.Part
+  tells_part last = ap (λ b. ended (if b then seen_reply scene.flight.turn (must_come layout link scene beat.source) else Part)) last
+
 -- ---- at the wide source that a judge finds, and in the order of the plan
 
 module _ (plan : Plan) (view : View) (link : Link) (beat : DBeat) (known wide : ℕ) (suits : Suits plan view) (found : IsWideAt view.layout link beat.source wide) (fits : FitsReply (under_in view link).replying beat) where
@@ -306,6 +341,20 @@ module _ (plan : Plan) (view : View) (link : Link) (beat : DBeat) (known wide : 
       by_turn (Asked at ask) is of =
           let h = has at ask is in
           first_end view.layout link (scene_at view.layout wide) beat known fits (wide, found) at ask fault is answers h.0 h.1.0 h.1.1 h.1.2 h.1.3
+
+  pub some_end_first : OfAsked (number_of link) (flight_in view link wide).turn (IsAnswer beat known)
+      → ((at : ℕ) (ask : Request) → (flight_in view link wide).turn ≡ Asked at ask → (fault : Fault) × IsEndFault plan view link wide beat ask fault)
+      → (fault : Fault) × IsFirstReplyFault view.layout link (scene_in plan view link (D beat)) beat known fault
+  some_end_first answers has =
+      carried_here (λ s. (fault : Fault) × IsFirstReplyFault view.layout link s beat known fault)
+      (by_turn (flight_in view link wide).turn refl answers)
+    where
+      by_turn : (turn : Turn) → (flight_in view link wide).turn ≡ turn → OfAsked (number_of link) turn (IsAnswer beat known) → (fault : Fault) × IsFirstReplyFault view.layout link (scene_at view.layout wide) beat known fault
+      by_turn Idle is of = absurd of
+      by_turn (Asking at) is of = absurd of
+      by_turn (Asked at ask) is of =
+          let h = has at ask is in
+          (h.0, first_end view.layout link (scene_at view.layout wide) beat known fits (wide, found) at ask h.0 is answers h.1.0 h.1.1.0 h.1.1.1 h.1.1.2 h.1.1.3)
 
   pub reply_allowed : OfAsked (number_of link) (flight_in view link wide).turn (IsAnswer beat known)
       → ((at : ℕ) (ask : Request) → (flight_in view link wide).turn ≡ Asked at ask → IsEndWell plan view link wide beat ask)

@@ -11,6 +11,8 @@ use Rattle.tl_link.specs.declared.beat.Link.{Link}
 use Rattle.tl_link.specs.Past.{ends_reply}
 use Rattle.tl_link.specs.Form.{HasAskFormFault, HasReplyFormFault, form_rank}
 use Rattle.tl_watch.specs.declared.fault.Fault.{Fault}
+use Rattle.tl_watch.specs.declared.fault.Reason.{Reason}
+use Rattle.tl_watch.specs.declared.fault.Reason.TheVariants as reasons
 use Rattle.tl_watch.specs.declared.fault.Fault.TheVariants.{Form, NoSuchSource, SourceBusy, WrongPort, NoRequest, EarlyReply, WrongSize, WrongOpcode, UnknownData, NotSent, NotGiven, WrongReply}
 use Rattle.tl_watch.specs.Flight.{Turn}
 use Rattle.tl_watch.specs.Flight.Turn.{Idle, Asking, Asked}
@@ -96,6 +98,19 @@ HasReplyFault layout link scene beat known UnknownData = HasAnswerFault (number_
 HasReplyFault layout link scene beat known NotSent = ⊥
 HasReplyFault layout link scene beat known NotGiven = EndsWith layout link scene beat NotGiven
 HasReplyFault layout link scene beat known (WrongReply expected captured) = EndsWith layout link scene beat (WrongReply expected captured)
+
+-- the fault that a reason is
+abbrev pub fault_of : Reason → Fault
+fault_of (reasons.Form fault) = Form fault
+fault_of reasons.NoSuchSource = NoSuchSource
+fault_of reasons.SourceBusy = SourceBusy
+fault_of reasons.WrongPort = WrongPort
+fault_of reasons.NoRequest = NoRequest
+fault_of reasons.EarlyReply = EarlyReply
+fault_of reasons.WrongSize = WrongSize
+fault_of reasons.WrongOpcode = WrongOpcode
+fault_of reasons.UnknownData = UnknownData
+fault_of reasons.NotSent = NotSent
 
 -- the place of a fault in the order in which faults are tried
 abbrev pub fault_rank : Fault → ℕ

@@ -19,6 +19,8 @@ use Rattle.tl_watch.specs.Flight.Crossing.{Waiting, Crossed, Given}
 use Rattle.tl_watch.specs.declared.slave.Slave.{Slave}
 use Rattle.tl_watch.specs.declared.seen.Seen.{Seen}
 use Rattle.tl_watch.specs.declared.seen.Seen.TheVariants.{Part, WholeAsk, WholeReply}
+use Rattle.tl_watch.specs.declared.seen.Ended.{Ended}
+use Rattle.tl_watch.specs.declared.seen.Ended.TheVariants as ends
 use Rattle.tl_watch.specs.Plan.{Layout, number_of, crosses, is_at_acceptance, is_at_reply}
 
 -- the messages under way at its link, what is in flight of its source on its side and on the masters' side, how far that has
@@ -176,3 +178,9 @@ seen_ask (Some ask) = WholeAsk
 abbrev pub seen : Layout → Link → Scene → Beat → Seen
 seen layout link scene (A beat) = seen_ask (ask_by scene.under.asking beat)
 seen layout link scene (D beat) = if ends_reply scene.under.replying beat then seen_reply scene.flight.turn (must_come layout link scene beat.source) else Part
+
+-- the same, without the reply
+abbrev pub ended : Seen → Ended
+ended Part = ends.Part
+ended WholeAsk = ends.Ask
+ended (WholeReply entry) = ends.Reply

@@ -12,10 +12,10 @@ ghost use Rattle.tl_watch.specs.declared.side.TheConstants.{WIDES};
 ghost use Rattle.tl_watch.specs.Plan.{Plan, HasLink, IsWideAt};
 ghost use Rattle.tl_watch.specs.Past.{port_of};
 ghost use Rattle.tl_watch.specs.Allowed.{is_second, IsAskedAs, IsSent, IsPlaced, BeginsFree, BeginsPlaced, EndsSent, IsAllowedAsk};
-ghost use Rattle.tl_watch.specs.Faults.{IsFirstAskFault};
+ghost use Rattle.tl_watch.specs.Faults.{IsFirstAskFault, fault_of};
 ghost use Rattle.tl_watch.specs.View.{Suits, under_in, flight_in, flight_at, crossing_at, scene_in};
 
-use crate::fault::Fault;
+use crate::fault::Reason;
 use crate::flight::Flight;
 use crate::watch::Watch;
 use tl_beats::ABeat;
@@ -116,11 +116,11 @@ fn ends_sent(watch: &Watch, link: Link, wide: u16, beat: &ABeat) -> bool
 }
 
 /// Judges a beat of a request: its place, or the first fault that it has.
-pub fn judge_ask(watch: &Watch, link: Link, beat: &ABeat, known: u8) -> Result<Place, Fault>
+pub fn judge_ask(watch: &Watch, link: Link, beat: &ABeat, known: u8) -> Result<Place, Reason>
     requires { HasLink watch.now.layout link }
     ensures fault { (plan : Plan) → Suits plan watch.now
-        → IfErr result (IsFirstAskFault watch.now.layout link
-        (scene_in plan watch.now link (A beat.now)) beat.now known) }
+        → IfErr result (λ reason. IsFirstAskFault watch.now.layout link
+        (scene_in plan watch.now link (A beat.now)) beat.now known (fault_of reason)) }
     ensures allowed { (plan : Plan) → Suits plan watch.now
         → OnOk result (IsAllowedAsk watch.now.layout link
         (scene_in plan watch.now link (A beat.now)) beat.now known) }
@@ -132,19 +132,19 @@ pub fn judge_ask(watch: &Watch, link: Link, beat: &ABeat, known: u8) -> Result<P
     ensures in_ports { IfOk result (λ place. place.port < length watch.now.slaves) }
 {
     if let Some(fault) = watch.link(link).ask_fault(beat, known) {
-        return Err(Fault::Form(fault));
+        return Err(Reason::Form(fault));
     }
     let Some(wide) = watch.wide(link, beat.source) else {
-        return Err(Fault::NoSuchSource);
+        return Err(Reason::NoSuchSource);
     };
     if !begins_free(watch, link, wide) {
-        return Err(Fault::SourceBusy);
+        return Err(Reason::SourceBusy);
     }
     if !begins_placed(watch, link, beat) {
-        return Err(Fault::WrongPort);
+        return Err(Reason::WrongPort);
     }
     if !ends_sent(watch, link, wide, beat) {
-        return Err(Fault::NotSent);
+        return Err(Reason::NotSent);
     }
     let port = watch.port(link, beat.address, beat.size);
     Ok(Place { wide, port })

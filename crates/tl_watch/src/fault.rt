@@ -1,4 +1,7 @@
 //! Why no lawful crossbar could have shown a beat.
+ghost use Rattle.std.specs.Prelude.{◌≡◌};
+ghost use Rattle.tl_watch.specs.Faults.{fault_of};
+
 use thiserror::Error;
 use tl_link::FormFault;
 use tl_types::Reply;
@@ -31,4 +34,40 @@ pub enum Fault {
     /// The reply that had to come, and the one that was captured.
     #[error("wrong reply")]
     WrongReply(Reply, Reply),
+}
+
+/// Why a beat is not lawful, but for the reply that it ends. A fault of that tells both replies, which are some 600 bytes long: it is
+/// made where a beat is refused, and this is what the judge hands on.
+#[derive(Debug, Clone, Copy, PartialEq, Eq)]
+pub enum Reason {
+    Form(FormFault),
+    NoSuchSource,
+    SourceBusy,
+    WrongPort,
+    NoRequest,
+    EarlyReply,
+    WrongSize,
+    WrongOpcode,
+    UnknownData,
+    NotSent,
+}
+
+impl Reason {
+    /// The fault that this is.
+    pub fn fault(self) -> Fault
+        ensures { result ≡ fault_of self }
+    {
+        match self {
+            Reason::Form(fault) => Fault::Form(fault),
+            Reason::NoSuchSource => Fault::NoSuchSource,
+            Reason::SourceBusy => Fault::SourceBusy,
+            Reason::WrongPort => Fault::WrongPort,
+            Reason::NoRequest => Fault::NoRequest,
+            Reason::EarlyReply => Fault::EarlyReply,
+            Reason::WrongSize => Fault::WrongSize,
+            Reason::WrongOpcode => Fault::WrongOpcode,
+            Reason::UnknownData => Fault::UnknownData,
+            Reason::NotSent => Fault::NotSent,
+        }
+    }
 }

@@ -4,7 +4,7 @@
 //! A [`Watch`] is made of a system's address map, its sources and its slaves at reset, and of which links are watched
 //! ([`Links`]). [`Watch::step`] takes one beat more. For every past that the judge keeps it answers `Ok` exactly where the list
 //! with this beat is lawful, and keeps that list then; an `Err` changes nothing, and is the first [`Fault`] that the beat has.
-//! An `Ok` says what the beat ends ([`Seen`]).
+//! An `Ok` says what the beat ends ([`Seen`]). [`Watch::take`] takes a lawful beat too, and makes neither the fault nor the reply.
 //!
 //! What is lawful is said beat by beat (`specs/Allowed.antt`) by what the beat finds: the messages under way at its link, what
 //! is in flight of its source, how far that has come across, and its port's slave (`specs/Scene.antt`, `specs/Past.antt`). A
@@ -28,5 +28,5 @@ mod watch;
 pub use fault::Fault;
 pub use links::Links;
 pub use order::Order;
-pub use seen::Seen;
+pub use seen::{Ended, Seen};
 pub use watch::Watch;

@@ -1,5 +1,5 @@
 //! Judging beats of channel D.
-ghost use Rattle.std.specs.Prelude.{◌≡◌, ◌<◌, ◌≤◌, ◌↔◌, ◌++◌, ◌∷◌, ℕ, [], length, true, false, Some, IsTrue, IsSomeAnd, IfOk, OnOk, IfErr, IfSome, IfNone};
+ghost use Rattle.std.specs.Prelude.{◌≡◌, ◌<◌, ◌≤◌, ◌↔◌, ◌++◌, ◌∷◌, ℕ, [], length, true, false, Some, IsTrue, IsSomeAnd, IfOk, OnOk, IfErr, IfSome, IfNone, OnSome};
 ghost use Rattle.tl_types.specs.Fault.{IsFirstOf};
 ghost use Rattle.tl_types.specs.Request.{Request};
 ghost use Rattle.tl_types.specs.Response.{Response, IsLawfulResponse};
@@ -14,11 +14,11 @@ ghost use Rattle.tl_watch.specs.Plan.{Plan, HasLink, IsWideAt, number_of};
 ghost use Rattle.tl_watch.specs.Scene.{asked, is_given, given_to, seen_reply, entry_of};
 ghost use Rattle.tl_watch.specs.Past.{port_of};
 ghost use Rattle.tl_watch.specs.Allowed.{OfAsked, IsKnownReply, IsAnswer, IsAllowedReply};
-ghost use Rattle.tl_watch.specs.Faults.{HasAnswerFault, HasEndFault, IsFirstReplyFault, fault_rank};
+ghost use Rattle.tl_watch.specs.Faults.{HasAnswerFault, HasEndFault, IsFirstReplyFault, fault_of, fault_rank};
 ghost use Rattle.tl_watch.specs.View.{Suits, under_in, flight_in, scene_in, must_in, due_in, due_at, IsEndFault, IsEndWell};
 
 use crate::asks::Place;
-use crate::fault::Fault;
+use crate::fault::{Fault, Reason};
 use crate::flight::{Answer, Crossing, Flight};
 use crate::seen::Seen;
 use crate::watch::Watch;
@@ -47,24 +47,25 @@ fn is_known(ask: &Ask, beat: &DBeat, known: u8) -> bool
 }
 
 /// The first fault of a beat as an answer to what is in flight of its source, at the link of this number.
-fn answer_fault(flight: &Flight, number: usize, beat: &DBeat, known: u8) -> Option<Fault>
-    ensures fault { IfSome result (IsFirstOf (HasAnswerFault number flight.now.turn beat.now known) fault_rank) }
+fn answer_fault(flight: &Flight, number: usize, beat: &DBeat, known: u8) -> Option<Reason>
+    ensures fault { IfSome result (λ reason. IsFirstOf (HasAnswerFault number flight.now.turn beat.now known) fault_rank
+        (fault_of reason)) }
     ensures none { IfNone result (OfAsked number flight.now.turn (IsAnswer beat.now known)) }
 {
     if !flight.is_at(number) {
-        return Some(Fault::NoRequest);
+        return Some(Reason::NoRequest);
     }
     let Some(ask) = flight.asked() else {
-        return Some(Fault::EarlyReply);
+        return Some(Reason::EarlyReply);
     };
     if beat.size != ask.size() {
-        return Some(Fault::WrongSize);
+        return Some(Reason::WrongSize);
     }
     if beat.opcode != reply_opcode(ask.op().reply_op()) {
-        return Some(Fault::WrongOpcode);
+        return Some(Reason::WrongOpcode);
     }
     if !is_known(ask, beat, known) {
-        return Some(Fault::UnknownData);
+        return Some(Reason::UnknownData);
     }
     None
 }
@@ -135,6 +136,29 @@ fn due_fault(watch: &Watch, link: Link, wide: u16, port: usize, ask: &Ask, captu
     }
 }
 
+/// Whether a whole reply to this request in flight, which goes to this port, is the one that must come.
+fn is_answered(
+    watch: &Watch,
+    link: Link,
+    wide: u16,
+    port: usize,
+    ask: &Ask,
+    source: u16,
+    captured: &Reply,
+) -> bool
+    requires known { HasLink watch.now.layout link }
+    requires wide { wide < WIDES }
+    requires port { port < length watch.now.slaves }
+    requires ask { asked (flight_in watch.now link wide).turn ≡ Some ask.now }
+    ensures { IsTrue result
+        ↔ IsSomeAnd (must_in watch.now link wide port source) (λ answer. answer.reply ≡ captured.now) }
+{
+    if watch.is_given(link, port) {
+        return is_given_reply(watch.crossing(wide), source, captured);
+    }
+    is_due(watch, link, wide, port, ask, captured)
+}
+
 /// The fault of a whole reply to this request in flight, which goes to this port.
 fn end_fault(
     watch: &Watch,
@@ -154,14 +178,11 @@ fn end_fault(
     ensures none { IfNone result
         (IsSomeAnd (must_in watch.now link wide port source) (λ answer. answer.reply ≡ captured)) }
 {
-    if watch.is_given(link, port) {
-        if is_given_reply(watch.crossing(wide), source, &captured) {
-            return None;
-        }
-        return Some(Fault::NotGiven);
-    }
-    if is_due(watch, link, wide, port, ask, &captured) {
+    if is_answered(watch, link, wide, port, ask, source, &captured) {
         return None;
+    }
+    if watch.is_given(link, port) {
+        return Some(Fault::NotGiven);
     }
     Some(due_fault(watch, link, wide, port, ask, captured))
 }
@@ -188,6 +209,30 @@ fn whole_fault(watch: &Watch, link: Link, wide: u16, port: usize, beat: &DBeat) 
     };
     let captured = under.reply(beat, ask.address());
     end_fault(watch, link, wide, port, ask, beat.source, captured)
+}
+
+/// Whether the reply that a beat ends, if it ends one, of a request to this port is the one that must come.
+fn ends_well(watch: &Watch, link: Link, wide: u16, port: usize, beat: &DBeat) -> bool
+    requires known { HasLink watch.now.layout link }
+    requires wide { wide < WIDES }
+    requires port { port < length watch.now.slaves }
+    requires fits { FitsReply (under_in watch.now link).replying beat.now }
+    ensures well { (plan : Plan) (at : ℕ) (ask : Request) → (flight_in watch.now link wide).turn ≡ Asked at ask
+        → port ≡ port_of plan link (flight_in watch.now link wide).turn (D beat.now)
+        → result ≡ true → IsEndWell plan watch.now link wide beat.now ask }
+    ensures wrong { (plan : Plan) (at : ℕ) (ask : Request) → (flight_in watch.now link wide).turn ≡ Asked at ask
+        → port ≡ port_of plan link (flight_in watch.now link wide).turn (D beat.now)
+        → result ≡ false → (fault : Fault) × IsEndFault plan watch.now link wide beat.now ask fault }
+{
+    let under = watch.link(link);
+    if !under.ends_reply(beat) {
+        return true;
+    }
+    let Some(ask) = watch.flight(link, wide).asked() else {
+        return true;
+    };
+    let captured = under.reply(beat, ask.address());
+    is_answered(watch, link, wide, port, ask, beat.source, &captured)
 }
 
 /// The reply that a port gave, for this source.
@@ -260,6 +305,62 @@ pub fn seen_end(watch: &Watch, link: Link, wide: u16, port: usize, beat: &DBeat)
     }
 }
 
+/// The wide source and the port of the request that a beat of a reply answers, or the first fault that the beat has, but for that
+/// of the reply that it ends.
+fn place_reply(watch: &Watch, link: Link, beat: &DBeat, known: u8) -> Result<Place, Reason>
+    requires { HasLink watch.now.layout link }
+    ensures fault { (plan : Plan) → Suits plan watch.now
+        → IfErr result (λ reason. IsFirstReplyFault watch.now.layout link
+        (scene_in plan watch.now link (D beat.now)) beat.now known (fault_of reason)) }
+    ensures answers { IfOk result (λ place. OfAsked (number_of link)
+        (flight_in watch.now link place.wide).turn (IsAnswer beat.now known)) }
+    ensures fits { OnOk result (FitsReply (under_in watch.now link).replying beat.now) }
+    ensures wide { IfOk result (λ place. IsWideAt watch.now.layout link beat.now.source place.wide) }
+    ensures in_limit { IfOk result (λ place. place.wide < WIDES) }
+    ensures port { (plan : Plan) → Suits plan watch.now
+        → IfOk result (λ place. place.port
+        ≡ port_of plan link (flight_in watch.now link place.wide).turn (D beat.now)) }
+    ensures in_ports { IfOk result (λ place. place.port < length watch.now.slaves) }
+{
+    if let Some(fault) = watch.link(link).reply_fault(beat) {
+        return Err(Reason::Form(fault));
+    }
+    let Some(wide) = watch.wide(link, beat.source) else {
+        return Err(Reason::NoSuchSource);
+    };
+    if let Some(reason) = answer_fault(watch.flight(link, wide), number_of(link), beat, known) {
+        return Err(reason);
+    }
+    let port = watch.port_in_flight(link, wide);
+    Ok(Place { wide, port })
+}
+
+/// The place of a lawful beat of a reply: the wide source and the port of its request.
+pub fn lawful_reply(watch: &Watch, link: Link, beat: &DBeat, known: u8) -> Option<Place>
+    requires { HasLink watch.now.layout link }
+    ensures fault { (plan : Plan) → Suits plan watch.now
+        → IfNone result ((fault : Fault) × IsFirstReplyFault watch.now.layout link
+        (scene_in plan watch.now link (D beat.now)) beat.now known fault) }
+    ensures allowed { (plan : Plan) → Suits plan watch.now
+        → OnSome result (IsAllowedReply watch.now.layout link
+        (scene_in plan watch.now link (D beat.now)) beat.now known) }
+    ensures fits { OnSome result (FitsReply (under_in watch.now link).replying beat.now) }
+    ensures wide { IfSome result (λ place. IsWideAt watch.now.layout link beat.now.source place.wide) }
+    ensures in_limit { IfSome result (λ place. place.wide < WIDES) }
+    ensures port { (plan : Plan) → Suits plan watch.now
+        → IfSome result (λ place. place.port
+        ≡ port_of plan link (flight_in watch.now link place.wide).turn (D beat.now)) }
+    ensures in_ports { IfSome result (λ place. place.port < length watch.now.slaves) }
+{
+    let Ok(place) = place_reply(watch, link, beat, known) else {
+        return None;
+    };
+    if !ends_well(watch, link, place.wide, place.port, beat) {
+        return None;
+    }
+    Some(place)
+}
+
 /// Judges a beat of a reply: the wide source and the port of its request, or the first fault that it has.
 pub fn judge_reply(watch: &Watch, link: Link, beat: &DBeat, known: u8) -> Result<Place, Fault>
     requires { HasLink watch.now.layout link }
@@ -277,19 +378,12 @@ pub fn judge_reply(watch: &Watch, link: Link, beat: &DBeat, known: u8) -> Result
         ≡ port_of plan link (flight_in watch.now link place.wide).turn (D beat.now)) }
     ensures in_ports { IfOk result (λ place. place.port < length watch.now.slaves) }
 {
-    if let Some(fault) = watch.link(link).reply_fault(beat) {
-        return Err(Fault::Form(fault));
-    }
-    let Some(wide) = watch.wide(link, beat.source) else {
-        return Err(Fault::NoSuchSource);
+    let place = match place_reply(watch, link, beat, known) {
+        Ok(place) => place,
+        Err(reason) => return Err(reason.fault()),
     };
-    let flight = watch.flight(link, wide);
-    if let Some(fault) = answer_fault(flight, number_of(link), beat, known) {
+    if let Some(fault) = whole_fault(watch, link, place.wide, place.port, beat) {
         return Err(fault);
     }
-    let port = watch.port_in_flight(link, wide);
-    if let Some(fault) = whole_fault(watch, link, wide, port, beat) {
-        return Err(fault);
-    }
-    Ok(Place { wide, port })
+    Ok(place)
 }

@@ -1,5 +1,5 @@
 //! The judge of what crossed the links of a crossbar.
-ghost use Rattle.std.specs.Prelude.{◌≡◌, ◌<◌, ◌≤◌, ◌↔◌, ◌+◌, ℕ, List, [], ◌∷◌, ◌++◌, length, map, false, Some, None, IsTrue, IfOk, IsOk, OnOk, OnErr, IfErr, IfSome, IfNone};
+ghost use Rattle.std.specs.Prelude.{◌≡◌, ◌<◌, ◌≤◌, ◌↔◌, ◌+◌, ℕ, List, [], ◌∷◌, ◌++◌, length, map, false, Some, None, IsTrue, IfOk, IsOk, OnOk, OnErr, IfErr, IfSome, IsSome, IfNone, OnSome};
 ghost use Rattle.tl_map.specs.Block.{IsWide};
 ghost use Rattle.tl_map.specs.Map.{RoutesBytes};
 ghost use Rattle.tl_link.specs.declared.beat.Beat.{Beat};
@@ -13,7 +13,7 @@ ghost use Rattle.tl_watch.specs.Flight.Turn.{Asking, Asked};
 ghost use Rattle.tl_watch.specs.Flight.Crossing.{Waiting};
 ghost use Rattle.tl_watch.specs.Past.{port_of};
 ghost use Rattle.tl_watch.specs.Plan.{Plan, IsPlan, Side, side_of, HasLink, HasSource, IsWideAt, number_of, crosses, are_both, is_at_acceptance, IsWatched};
-ghost use Rattle.tl_watch.specs.Scene.{answer_by, ask_by, asked, takes_effect, is_given, seen_ask};
+ghost use Rattle.tl_watch.specs.Scene.{answer_by, asked, takes_effect, is_given, ended};
 ghost use Rattle.tl_watch.specs.Lawful.{IsLawful, IsFirstFault, what_is_seen};
 ghost use Rattle.tl_watch.specs.View.{View, IsSized, Suits, Keeps, side_in, under_in, flight_in, crossing_at, fresh_slave, slave_at, slaves_with, effect_in, is_late_in, late_answer, with_answer, with_ask_at, with_ask, with_due, with_late, with_part, with_end};
 
@@ -22,8 +22,8 @@ use crate::fault::Fault;
 use crate::flight::{Answer, Crossing, Flight};
 use crate::links::Links;
 use crate::order::Order;
-use crate::replies::{judge_reply, seen_end};
-use crate::seen::Seen;
+use crate::replies::{judge_reply, lawful_reply, seen_end};
+use crate::seen::{Ended, Seen};
 use crate::side::{Side, WIDES};
 use crate::slave::Slave;
 use std::alloc::{AllocError, Global};
@@ -424,23 +424,23 @@ impl Watch {
         }
     }
 
-    /// A beat of a request crosses at a link, of this wide source and to this port: what it ends.
-    pub(crate) fn take_ask(&mut self, link: Link, wide: u16, port: usize, beat: &ABeat) -> Seen
+    /// A beat of a request crosses at a link, of this wide source and to this port: whether it ends it.
+    pub(crate) fn take_ask(&mut self, link: Link, wide: u16, port: usize, beat: &ABeat) -> bool
         requires known { HasLink self.old.layout link }
         requires wide { wide < WIDES }
         requires port { port < length self.old.slaves }
         requires fits { FitsAsk (under_in self.old link).asking beat.now }
         ensures after { self.new ≡ with_ask self.old link wide port beat.now }
-        ensures seen { result ≡ seen_ask (ask_by (under_in self.old link).asking beat.now) }
+        ensures ends { result ≡ ends_ask (under_in self.old link).asking beat.now }
     {
         self.sized();
         if !self.link(link).ends_ask(beat) {
             self.begin_ask(link, wide, beat);
-            return Seen::Part;
+            return false;
         }
         self.end_ask(link, wide, beat);
         self.serve_accepted(link, wide, port);
-        Seen::WholeAsk
+        true
     }
 
     /// Serves the request in flight of a wide source, if it takes effect as its reply begins at a link.
@@ -501,9 +501,13 @@ impl Watch {
         self.sized();
         let place = match judge_ask(self, link, beat, known) {
             Ok(place) => place,
-            Err(fault) => return Err(fault),
+            Err(reason) => return Err(reason.fault()),
         };
-        Ok(self.take_ask(link, place.wide, place.port, beat))
+        if self.take_ask(link, place.wide, place.port, beat) {
+            Ok(Seen::WholeAsk)
+        } else {
+            Ok(Seen::Part)
+        }
     }
 
     /// Judges one beat more of channel D.
@@ -531,6 +535,74 @@ impl Watch {
         self.serve_late(link, place.wide, place.port);
         self.take_end(link, place.wide, beat);
         Ok(seen)
+    }
+
+    /// Takes one beat more of channel A, where it is lawful: what it ends.
+    fn admit_ask(&mut self, link: Link, beat: &ABeat, known: u8) -> Option<Ended>
+        requires { HasLink self.old.layout link }
+        ensures fault { (plan : Plan) (past : List Sighting) → Keeps plan past self.old
+            → IfNone result ((fault : Fault) × IsFirstFault plan past (record { link = link; beat = A beat.now; known = known }) fault) }
+        ensures keeps { (plan : Plan) (past : List Sighting) → Keeps plan past self.old
+            → OnSome result (Keeps plan (record { link = link; beat = A beat.now; known = known } ∷ past) self.new) }
+        ensures ended { (plan : Plan) (past : List Sighting) → Keeps plan past self.old
+            → IfSome result (λ e. e ≡ ended (what_is_seen plan past (record { link = link; beat = A beat.now; known = known }))) }
+        ensures none { IfNone result (self.new ≡ self.old) }
+    {
+        self.sized();
+        let place = match judge_ask(self, link, beat, known) {
+            Ok(place) => place,
+            Err(_reason) => return None,
+        };
+        if self.take_ask(link, place.wide, place.port, beat) {
+            Some(Ended::Ask)
+        } else {
+            Some(Ended::Part)
+        }
+    }
+
+    /// Takes one beat more of channel D, where it is lawful: what it ends.
+    fn admit_reply(&mut self, link: Link, beat: &DBeat, known: u8) -> Option<Ended>
+        requires { HasLink self.old.layout link }
+        ensures fault { (plan : Plan) (past : List Sighting) → Keeps plan past self.old
+            → IfNone result ((fault : Fault) × IsFirstFault plan past (record { link = link; beat = D beat.now; known = known }) fault) }
+        ensures keeps { (plan : Plan) (past : List Sighting) → Keeps plan past self.old
+            → OnSome result (Keeps plan (record { link = link; beat = D beat.now; known = known } ∷ past) self.new) }
+        ensures ended { (plan : Plan) (past : List Sighting) → Keeps plan past self.old
+            → IfSome result (λ e. e ≡ ended (what_is_seen plan past (record { link = link; beat = D beat.now; known = known }))) }
+        ensures none { IfNone result (self.new ≡ self.old) }
+    {
+        self.sized();
+        let Some(place) = lawful_reply(self, link, beat, known) else {
+            return None;
+        };
+        let ends = self.link(link).ends_reply(beat);
+        self.serve_late(link, place.wide, place.port);
+        if !ends {
+            self.take_part(link, beat);
+            return Some(Ended::Part);
+        }
+        self.take_end(link, place.wide, beat);
+        Some(Ended::Reply)
+    }
+
+    /// Takes one beat more, at a link that is watched, where it is lawful: what it ends. Where it is not, nothing changes.
+    ///
+    /// It costs less than [`Watch::step`], which makes the fault or the reply that a beat ends, too.
+    pub fn take(&mut self, sighting: &Sighting) -> Option<Ended>
+        requires known { HasLink self.old.layout sighting.now.link }
+        requires watched { IsWatched self.old.layout.links sighting.now.link }
+        ensures lawful { (plan : Plan) (past : List Sighting) → Keeps plan past self.old
+            → IsSome result ↔ IsLawful plan (sighting.now ∷ past) }
+        ensures keeps { (plan : Plan) (past : List Sighting) → Keeps plan past self.old
+            → OnSome result (Keeps plan (sighting.now ∷ past) self.new) }
+        ensures ended { (plan : Plan) (past : List Sighting) → Keeps plan past self.old
+            → IfSome result (λ e. e ≡ ended (what_is_seen plan past sighting.now)) }
+        ensures none { IfNone result (self.new ≡ self.old) }
+    {
+        match &sighting.beat {
+            Beat::A(beat) => self.admit_ask(sighting.link, beat, sighting.known),
+            Beat::D(beat) => self.admit_reply(sighting.link, beat, sighting.known),
+        }
     }
 
     /// Judges one beat more, at a link that is watched: what it ends, or its first fault, which changes nothing.

@@ -1,5 +1,5 @@
 use Rattle.tl_link.specs.declared.beat.Beat.TheVariants.{A}
-use Rattle.tl_watch.specs.Faults.{IsFirstAskFault}
+use Rattle.tl_watch.specs.Faults.{IsFirstAskFault, fault_of}
 use Rattle.tl_watch.specs.View.{flight_in}
 use Rattle.tl_watch.proofs.Keeping.{carried, room_of, ask_step}
 use Rattle.tl_watch.proofs.watch.Watch.step_ask.Goals as goal
@@ -9,10 +9,18 @@ returns-in-Err-clause-fault c plan past keeps =
     let link = c.args.link in
     let beat = c.args.beat.now in
     let known = c.args.known in
-    carried plan past c.args.self.now (record { link = link; beat = A beat; known = known }) keeps (λ l s. IsFirstAskFault l link s beat known c.in-Err.fault) (c.in-Err.ensures.fault plan keeps.suits)
+    rw (c.fault.ensures) (carried plan past c.args.self.now (record { link = link; beat = A beat; known = known }) keeps (λ l s. IsFirstAskFault l link s beat known (fault_of c.in-Err.reason)) (c.in-Err.ensures.fault plan keeps.suits))
 
-pub returns-clause-keeps : goal.returns-clause-keeps
-returns-clause-keeps c plan past keeps =
+pub returns-then-take_ask-clause-keeps : goal.returns-then-take_ask-clause-keeps
+returns-then-take_ask-clause-keeps c plan past keeps =
+    let view = c.args.self.now in
+    let place = c.in-Ok.place in
+    let room = room_of view c.args.link place.wide c.sized.ensures.sized c.sized.ensures.masters c.sized.ensures.ports c.requires c.in-Ok.ensures.in_limit in
+    ask_step plan past view c.take_ask.new.self c.args.link c.args.known keeps c.args.beat.now place.wide place.port room c.in-Ok.ensures.wide
+    (c.in-Ok.ensures.port plan (flight_in view c.args.link place.wide).turn keeps.suits) c.in-Ok.ensures.in_ports (c.in-Ok.ensures.allowed plan keeps.suits) c.take_ask.ensures.after
+
+pub returns-else-take_ask-clause-keeps : goal.returns-else-take_ask-clause-keeps
+returns-else-take_ask-clause-keeps c plan past keeps =
     let view = c.args.self.now in
     let place = c.in-Ok.place in
     let room = room_of view c.args.link place.wide c.sized.ensures.sized c.sized.ensures.masters c.sized.ensures.ports c.requires c.in-Ok.ensures.in_limit in
