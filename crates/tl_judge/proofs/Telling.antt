@@ -86,6 +86,11 @@ tells_row trace plan before row old new watched one =
     subst (λ now. AppendsTold trace plan (seen plan.layout before) now old new) (sym (seen_one plan.layout row before watched))
     (tells_one trace plan (seen plan.layout before) row.sighting old new one)
 
+-- nothing is told of a row where replies are not told
+pub tells_quietly : (plan : Plan) (before : List Row) (row : Row) (text : List ℕ) → is_watched plan.layout row.sighting.link ≡ true
+    → AppendsTold false plan (seen plan.layout before) (seen plan.layout (row ∷ before)) text text
+tells_quietly plan before row text watched = tells_row false plan before row text text watched ([], sym (append-nil text), refl)
+
 pub tells_no_row : (trace : Bool) (plan : Plan) (before : List Row) (row : Row) (text : List ℕ) → is_watched plan.layout row.sighting.link ≡ false
     → AppendsTold trace plan (seen plan.layout before) (seen plan.layout (row ∷ before)) text text
 tells_no_row trace plan before row text watched =

@@ -6,8 +6,10 @@ use Rattle.tl_link.specs.declared.beat.Sighting.{Sighting}
 use Rattle.tl_watch.specs.declared.links.Links.{Links}
 use Rattle.tl_watch.specs.declared.links.Links.TheVariants.{Both, Masters, Ports}
 use Rattle.tl_watch.specs.declared.seen.Seen.{Seen}
-use Rattle.tl_watch.specs.declared.seen.Seen.TheVariants.{Part, WholeAsk, WholeReply}
+use Rattle.tl_watch.specs.declared.seen.Ended.{Ended}
+use Rattle.tl_watch.specs.declared.seen.Ended.TheVariants as ends
 use Rattle.tl_watch.specs.Plan.{Plan}
+use Rattle.tl_watch.specs.Scene.{ended}
 use Rattle.tl_watch.specs.Lawful.{what_is_seen}
 
 -- messages are counted at the masters' links where these are watched, else at the ports'
@@ -19,15 +21,21 @@ is_counted Masters (Port p) = false
 is_counted Ports (Master m) = false
 is_counted Ports (Port p) = true
 
+abbrev pub ends_an_ask : Ended → Bool
+ends_an_ask ends.Part = false
+ends_an_ask ends.Ask = true
+ends_an_ask ends.Reply = false
+
+abbrev pub ends_a_reply : Ended → Bool
+ends_a_reply ends.Part = false
+ends_a_reply ends.Ask = false
+ends_a_reply ends.Reply = true
+
 abbrev pub is_whole_ask : Seen → Bool
-is_whole_ask Part = false
-is_whole_ask WholeAsk = true
-is_whole_ask (WholeReply entry) = false
+is_whole_ask seen = ends_an_ask (ended seen)
 
 abbrev pub is_whole_reply : Seen → Bool
-is_whole_reply Part = false
-is_whole_reply WholeAsk = false
-is_whole_reply (WholeReply entry) = true
+is_whole_reply seen = ends_a_reply (ended seen)
 
 -- one more where the test holds
 abbrev pub one_more : Bool → ℕ → ℕ

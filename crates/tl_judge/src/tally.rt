@@ -1,8 +1,8 @@
 //! Beats judged in the order in which they cross, and what they end, counted.
-ghost use Rattle.std.specs.Prelude.{◌≡◌, ◌&&◌, true, List, ◌∷◌, ◌++◌, reverse, OnOk, IfErr};
-ghost use Rattle.tl_watch.specs.Plan.{Plan, HasSource, source_of};
+ghost use Rattle.std.specs.Prelude.{◌≡◌, ◌&&◌, false, true, List, ◌∷◌, ◌++◌, reverse, OnOk, IfErr};
+ghost use Rattle.tl_watch.specs.Plan.{Plan, HasLink, HasSource, IsWatched, source_of};
 ghost use Rattle.tl_capture.specs.declared.row.Row.{Row};
-ghost use Rattle.tl_judge.specs.Count.{is_counted, is_whole_ask, is_whole_reply, one_more};
+ghost use Rattle.tl_judge.specs.Count.{ends_a_reply, ends_an_ask, is_counted, one_more};
 ghost use Rattle.tl_judge.specs.Order.{seen};
 ghost use Rattle.tl_judge.specs.Told.{AppendsTold, AppendsToldOf};
 ghost use Rattle.tl_judge.specs.View.{Kept};
@@ -13,7 +13,7 @@ use crate::trace::{push_answer, source_of};
 use std::alloc::AllocError;
 use tl_capture::Row;
 use tl_link::{Link, Sighting};
-use tl_watch::{Links, Seen, Watch};
+use tl_watch::{Ended, Links, Seen, Watch};
 
 /// Whether messages are counted at a link: at the masters' where these are watched, else at the ports'.
 fn is_counted(links: Links, link: Link) -> bool
@@ -37,23 +37,23 @@ pub struct Tally {
 
 impl Tally {
     /// Counts what a beat ends at a link.
-    fn count(&mut self, link: Link, seen: &Seen)
+    fn count(&mut self, link: Link, end: Ended)
         ensures watch { self.new.watch ≡ self.old.watch }
         ensures trace { self.new.trace ≡ self.old.trace }
         ensures requests { self.new.requests
-            ≡ one_more (is_counted self.old.watch.layout.links link && is_whole_ask seen.now)
+            ≡ one_more (is_counted self.old.watch.layout.links link && ends_an_ask end)
             self.old.requests }
         ensures answered { self.new.answered
-            ≡ one_more (is_counted self.old.watch.layout.links link && is_whole_reply seen.now)
+            ≡ one_more (is_counted self.old.watch.layout.links link && ends_a_reply end)
             self.old.answered }
     {
         if !is_counted(self.watch.links(), link) {
             return;
         }
-        match seen {
-            Seen::Part => {}
-            Seen::WholeAsk => self.requests = self.requests.wrapping_add(1),
-            Seen::WholeReply(_) => self.answered = self.answered.wrapping_add(1),
+        match end {
+            Ended::Part => {}
+            Ended::Ask => self.requests = self.requests.wrapping_add(1),
+            Ended::Reply => self.answered = self.answered.wrapping_add(1),
         }
     }
 
@@ -79,6 +79,52 @@ impl Tally {
         }
     }
 
+    /// Takes the beat of a row behind those before it, if it is lawful, and tells nothing: whether it is. Most beats of a file are,
+    /// and where nothing is told of them nobody asks for their replies.
+    fn take_row(&mut self, row: &Row) -> bool
+        requires known { HasLink self.old.watch.layout row.now.sighting.link }
+        requires watched { IsWatched self.old.watch.layout.links row.now.sighting.link }
+        ensures trace { self.new.trace ≡ self.old.trace }
+        ensures keeps { (plan : Plan) (before : List Row) → Kept plan before self.old → result ≡ true
+            → Kept plan (row.now ∷ before) self.new }
+        ensures refused { result ≡ false → self.new ≡ self.old }
+    {
+        match self.watch.take(&row.sighting) {
+            Some(end) => {
+                self.count(row.sighting.link, end);
+                true
+            }
+            None => false,
+        }
+    }
+
+    /// Judges the beat of a row, whose link is watched, behind those before it, and appends what is told of it.
+    fn tell_row(&mut self, row: &Row, text: &mut Vec<u8>) -> Result<(), Refusal>
+        requires known { HasLink self.old.watch.layout row.now.sighting.link }
+        requires watched { IsWatched self.old.watch.layout.links row.now.sighting.link }
+        ensures trace { self.new.trace ≡ self.old.trace }
+        ensures keeps { (plan : Plan) (before : List Row) → Kept plan before self.old
+            → OnOk result (Kept plan (row.now ∷ before) self.new) }
+        ensures told { (plan : Plan) (before : List Row) → Kept plan before self.old
+            → OnOk result (AppendsTold self.old.trace plan (seen plan.layout before)
+            (seen plan.layout (row.now ∷ before)) text.old.items text.new.items) }
+        ensures fault { (plan : Plan) (before : List Row) → Kept plan before self.old
+            → IfErr result (OfUnlawful (IsUnlawfulAfter plan before)) }
+        ensures row { IfErr result (OfUnlawful (λ found. found.row ≡ row.now)) }
+        ensures quiet { IfErr result (OfUnlawful (λ _. text.new.items ≡ text.old.items)) }
+        ensures memory { IfErr result (λ why. why ≡ Refusal.Memory → self.old.trace ≡ true) }
+    {
+        let seen = match self.watch.step(&row.sighting) {
+            Ok(seen) => seen,
+            Err(fault) => return Err(Refusal::Unlawful(Unlawful { row: *row, fault })),
+        };
+        self.count(row.sighting.link, seen.ended());
+        match self.tell(&row.sighting, &seen, text) {
+            Ok(()) => Ok(()),
+            Err(_) => Err(Refusal::Memory),
+        }
+    }
+
     /// Judges the beat of a row behind those before it, if its link is watched, and appends what is told of it.
     fn judge_row(&mut self, row: &Row, text: &mut Vec<u8>) -> Result<(), Refusal>
         ensures trace { self.new.trace ≡ self.old.trace }
@@ -93,19 +139,17 @@ impl Tally {
         ensures quiet { IfErr result (OfUnlawful (λ _. text.new.items ≡ text.old.items)) }
         ensures memory { IfErr result (λ why. why ≡ Refusal.Memory → self.old.trace ≡ true) }
     {
-        let link = row.sighting.link;
-        if !self.watch.watches(link) {
+        if !self.watch.watches(row.sighting.link) {
             return Ok(());
         }
-        let seen = match self.watch.step(&row.sighting) {
-            Ok(seen) => seen,
-            Err(fault) => return Err(Refusal::Unlawful(Unlawful { row: *row, fault })),
-        };
-        self.count(link, &seen);
-        match self.tell(&row.sighting, &seen, text) {
-            Ok(()) => Ok(()),
-            Err(_) => Err(Refusal::Memory),
+        if self.trace {
+            return self.tell_row(row, text);
         }
+        if self.take_row(row) {
+            return Ok(());
+        }
+        // it is judged again for its fault
+        self.tell_row(row, text)
     }
 
     /// Judges the beats of rows that cross in this order behind those before them, up to the first that is not lawful, and

@@ -1,19 +1,18 @@
--- What is told of a row whose link is watched.
-use Rattle.std.proofs.Common.{◌≡◌, true, subst}
+-- What is told of a row where replies are not told.
+use Rattle.std.proofs.Common.{◌≡◌, ◌∷◌, true, false, sym, subst}
 use Rattle.tl_watch.specs.Plan.{HasLink, IsWatched, Layout}
 use Rattle.tl_judge.specs.Order.{is_watched, seen}
-use Rattle.tl_judge.proofs.Telling.{tells_row, tells_step}
+use Rattle.tl_judge.specs.Told.{AppendsTold}
+use Rattle.tl_judge.proofs.Telling.{tells_quietly}
 use Rattle.tl_judge.proofs.Watched.{watched_is}
 use Rattle.tl_judge.proofs.tally.Tally.judge_row.Goals as goal
 
-pub returns-in-Ok-tell-clause-told : goal.returns-in-Ok-tell-clause-told
-returns-in-Ok-tell-clause-told c plan before kept =
+pub returns-then-take_row-clause-told : goal.returns-then-take_row-clause-told
+returns-then-take_row-clause-told c plan before kept =
     let row = c.args.row.now in
-    let past = seen plan.layout before in
-    let keeps = c.in-Ok.ensures.keeps plan past kept.keeps in
     let P : Layout → Type 0 = λ l. HasLink l row.sighting.link × IsWatched l.links row.sighting.link in
     let watched : is_watched plan.layout row.sighting.link ≡ true =
     (watched_is plan.layout row.sighting.link).1 (subst P kept.keeps.suits.layout (c.watches.ensures.0 c.if-not-watches.false)) in
-    tells_row c.args.self.now.trace plan before row c.args.text.now.items c.tell.new.text.items watched
-    (tells_step c.args.self.now.trace c.count.new.self.trace plan past row.sighting c.count.new.self.watch.layout c.in-Ok.seen c.args.text.now.items c.tell.new.text.items
-    c.count.ensures.trace (rw c.count.ensures.watch keeps.suits.layout) (c.in-Ok.ensures.seen plan past kept.keeps) keeps.lawful.1 c.in-Ok-tell.ensures.told)
+    let quiet : c.args.self.now.trace ≡ false = c.if-self.false in
+    subst (λ t. AppendsTold t plan (seen plan.layout before) (seen plan.layout (row ∷ before)) c.args.text.now.items c.args.text.now.items) (sym quiet)
+    (tells_quietly plan before row c.args.text.now.items watched)
