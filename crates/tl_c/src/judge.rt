@@ -4,7 +4,7 @@ ghost use Rattle.tl_c.specs.Calls.{BeginsAs, BeginsBy, HoldsJudge, HoldsSystem, 
 ghost use Rattle.tl_c.specs.Wire.{Shows};
 ghost use Rattle.tl_c.specs.declared.held.Judge.{Judge};
 ghost use Rattle.tl_c.specs.declared.held.Held.TheVariants as held;
-ghost use Rattle.tl_judge.specs.Count.{is_counted, is_whole_ask, is_whole_reply, one_more};
+ghost use Rattle.tl_judge.specs.Count.{ends_a_reply, ends_an_ask, is_counted, one_more};
 ghost use Rattle.tl_link.specs.declared.beat.Sighting.{Sighting};
 ghost use Rattle.tl_ops.specs.Store.{Store};
 ghost use Rattle.tl_script.specs.System.{error_store, store_of};
@@ -24,7 +24,7 @@ use tl_link::{Link, Sighting};
 use tl_ops::{Bank, Kind};
 use tl_script::{Device, System};
 use tl_types::Memory;
-use tl_watch::{Links, Order, Seen, Watch};
+use tl_watch::{Ended, Links, Order, Watch};
 
 /// The room that a judge reserves for the line of a fault.
 const LINE_ROOM: usize = 2048;
@@ -130,20 +130,20 @@ fn is_counted(links: Links, link: Link) -> bool
 }
 
 /// Counts what a beat ends at a link.
-fn count(judge: &mut Judge, link: Link, seen: &Seen)
+fn count(judge: &mut Judge, link: Link, end: Ended)
     ensures watch { judge.new.watch ≡ judge.old.watch }
     ensures requests { judge.new.requests
-        ≡ one_more (is_counted judge.old.watch.layout.links link && is_whole_ask seen.now) judge.old.requests }
+        ≡ one_more (is_counted judge.old.watch.layout.links link && ends_an_ask end) judge.old.requests }
     ensures answered { judge.new.answered
-        ≡ one_more (is_counted judge.old.watch.layout.links link && is_whole_reply seen.now) judge.old.answered }
+        ≡ one_more (is_counted judge.old.watch.layout.links link && ends_a_reply end) judge.old.answered }
 {
     if !is_counted(judge.watch.links(), link) {
         return;
     }
-    match seen {
-        Seen::Part => {}
-        Seen::WholeAsk => judge.requests = judge.requests.wrapping_add(1),
-        Seen::WholeReply(_) => judge.answered = judge.answered.wrapping_add(1),
+    match end {
+        Ended::Part => {}
+        Ended::Ask => judge.requests = judge.requests.wrapping_add(1),
+        Ended::Reply => judge.answered = judge.answered.wrapping_add(1),
     }
 }
 
@@ -155,22 +155,20 @@ fn keep_line(text: &mut Vec<u8>, found: &Unlawful) {
     }
 }
 
-/// Judges one beat more.
-fn step(judge: &mut Judge, line: u64, time: u64, sighting: Sighting) -> u32
-    ensures step { (plan : Plan) (past : List Sighting) → Keeps plan past judge.old.watch → result ≢ NO_LINK
+/// Judges one beat more, at a link that is watched, for its fault.
+fn judge_fault(judge: &mut Judge, line: u64, time: u64, sighting: Sighting) -> u32
+    requires known { HasLink judge.old.watch.layout sighting.link }
+    requires watched { IsWatched judge.old.watch.layout.links sighting.link }
+    ensures step { (plan : Plan) (past : List Sighting) → Keeps plan past judge.old.watch
         → IsStep plan past sighting judge.old result judge.new }
     ensures fault { (plan : Plan) (past : List Sighting) → Keeps plan past judge.old.watch → NO_LINK < result
         → IsFaultOfBeat plan past sighting result }
-    ensures link { result ≡ NO_LINK ↔ ((HasLink judge.old.watch.layout sighting.link
-        × IsWatched judge.old.watch.layout.links sighting.link) → ⊥) }
+    ensures link { result ≢ NO_LINK }
     ensures err { result ≢ OK → judge.new.watch ≡ judge.old.watch }
 {
-    if !judge.watch.watches(sighting.link) {
-        return NO_LINK;
-    }
     match judge.watch.step(&sighting) {
         Ok(seen) => {
-            count(judge, sighting.link, &seen);
+            count(judge, sighting.link, seen.ended());
             OK
         }
         Err(fault) => {
@@ -184,6 +182,26 @@ fn step(judge: &mut Judge, line: u64, time: u64, sighting: Sighting) -> u32
             number
         }
     }
+}
+
+/// Judges one beat more. Most are lawful, and no more is asked of them than what they end.
+fn step(judge: &mut Judge, line: u64, time: u64, sighting: Sighting) -> u32
+    ensures step { (plan : Plan) (past : List Sighting) → Keeps plan past judge.old.watch → result ≢ NO_LINK
+        → IsStep plan past sighting judge.old result judge.new }
+    ensures fault { (plan : Plan) (past : List Sighting) → Keeps plan past judge.old.watch → NO_LINK < result
+        → IsFaultOfBeat plan past sighting result }
+    ensures link { result ≡ NO_LINK ↔ ((HasLink judge.old.watch.layout sighting.link
+        × IsWatched judge.old.watch.layout.links sighting.link) → ⊥) }
+    ensures err { result ≢ OK → judge.new.watch ≡ judge.old.watch }
+{
+    if !judge.watch.watches(sighting.link) {
+        return NO_LINK;
+    }
+    if let Some(end) = judge.watch.take(&sighting) {
+        count(judge, sighting.link, end);
+        return OK;
+    }
+    judge_fault(judge, line, time, sighting)
 }
 
 /// `tlx_judge_step_at` of the header: judges one beat more.
