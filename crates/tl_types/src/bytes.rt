@@ -118,6 +118,17 @@ impl Bytes {
         self.append_given(plain);
     }
 
+    /// Puts a copy of other bytes in the place of those that there were.
+    pub fn refill_from(&mut self, other: &Bytes)
+        ensures { self.new ≡ other.now }
+    {
+        self.plain.clear();
+        self.plain
+            .try_extend_from_slice(other.plain.as_slice())
+            .unwrap();
+        self.masks = other.masks;
+    }
+
     /// Puts these bytes in the place of those that there were: one is left unset where its flag is zero.
     pub fn refill_flagged(&mut self, plain: &[u8], flags: &[u8])
         requires limit { length plain.now ≤ MAX_BYTES }

@@ -163,6 +163,24 @@ impl Ask {
         self.address = address;
     }
 
+    /// As `refill`, with a copy of these bytes.
+    pub fn refill_from(&mut self, op: AskOp, size: u8, source: u16, address: u64, bytes: &Bytes)
+        requires { IsLawfulRequest op size bytes.now }
+        ensures { self.new ≡ record {
+          op = op;
+          size = size;
+          source = source;
+          address = address;
+          bytes = bytes.now;
+        } }
+    {
+        self.bytes.refill_from(bytes);
+        self.op = op;
+        self.size = size;
+        self.source = source;
+        self.address = address;
+    }
+
     /// As `refill`, with bytes of which one is left unset where its flag is zero.
     pub fn refill_flagged(
         &mut self,
