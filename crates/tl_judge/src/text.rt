@@ -6,7 +6,8 @@ ghost use Rattle.tl_judge.specs.Text.{channel_text, fault_text, form_text, lawfu
 use crate::stop::{Counts, Unlawful};
 use std::alloc::AllocError;
 use tl_link::{Beat, FormFault, Link};
-use tl_script::{push_field, push_reply};
+use tl_script::push_reply;
+use tl_text::push_field;
 use tl_types::Reply;
 use tl_watch::Fault;
 

@@ -1,11 +1,9 @@
 pub mod DataLemmas
-pub mod NumberLemmas
 pub mod Views
-pub mod WordLemmas
+pub mod SixWords
 pub mod Jobs
 pub mod Resets
 pub mod Systems
-pub mod Names
 pub mod Printed
 pub mod Pooled
 pub mod Lines

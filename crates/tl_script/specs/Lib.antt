@@ -1,7 +1,4 @@
 pub mod Data
-pub mod Name
-pub mod Number
-pub mod Word
 pub mod Operation
 pub mod Operations
 pub mod Trace

@@ -7,9 +7,9 @@ use Rattle.tl_types.specs.Request.{Request, IsLawfulRequest}
 use Rattle.tl_types.specs.declared.operation.AskOp.{AskOp}
 use Rattle.tl_types.specs.declared.limits.TheConstants.{LARGEST_SIZE}
 use Rattle.tl_script.specs.Data.{data_of}
-use Rattle.tl_script.specs.Name.{name_of}
-use Rattle.tl_script.specs.Number.{number_of}
-use Rattle.tl_script.specs.Word.{words_of}
+use Rattle.tl_text.specs.Name.{name_of}
+use Rattle.tl_text.specs.Number.{number_of}
+use Rattle.tl_text.specs.Word.{words_of}
 use Rattle.tl_script.specs.declared.operation.Job.{Job}
 use Rattle.tl_script.specs.declared.operation.Job.TheVariants.{Wait, Send}
 use Rattle.tl_script.specs.declared.operation.Spelled.{Spelled}

@@ -2,10 +2,10 @@
 ghost use Rattle.std.specs.Prelude.{◌≡◌, ◌++◌, IfOk, OnOk};
 ghost use Rattle.tl_script.specs.History.{account_text, history_line, history_text};
 
-use crate::digits::push_field;
 use crate::print::push_message;
 use std::alloc::{AllocError, Global};
 use tl_journal::Journal;
+use tl_text::push_field;
 use tl_types::{Ask, Memory, Reply};
 
 #[tactic(auto, unfolding(crate::specs::History::history_line))]

@@ -1,11 +1,9 @@
 //! Laws of scripts, each on a function that does nothing but carry it.
 ghost use Rattle.std.specs.Prelude.{◌≡◌, ◌<◌, ◌↔◌, ℕ, true, All, IfSome, List, Option, Some};
 ghost use Rattle.tl_types.specs.Request.{Request};
-ghost use Rattle.tl_types.specs.declared.operation.AskOp.{AskOp};
 ghost use Rattle.tl_script.specs.Data.{data_of, data_text};
 ghost use Rattle.tl_map.specs.Range.{HoldsAsk};
 ghost use Rattle.tl_ops.specs.Store.{Store, contains_window};
-ghost use Rattle.tl_script.specs.Name.{name_of, word_of};
 ghost use Rattle.tl_script.specs.System.{range_of};
 ghost use Rattle.tl_script.specs.declared.script.TheConstants.{SCRIPT_LIMIT};
 ghost use Rattle.tl_script.specs.declared.system.TheConstants.{MAX_JOBS};
@@ -14,11 +12,6 @@ ghost use Rattle.tl_script.specs.declared.system.TheConstants.{MAX_JOBS};
 pub fn limits_in_numbers()
     ensures script { SCRIPT_LIMIT ≡ 1048576 }
     ensures operations { MAX_JOBS ≡ 4096 }
-{}
-
-/// The word that names an operation in traces names it in scripts, and no other.
-pub fn names_are_read_back()
-    ensures { (op : AskOp) → name_of (word_of op) ≡ Some op }
 {}
 
 /// Bytes are read as they are printed.

@@ -5,22 +5,18 @@
 //! of memory is answered. [`read_operation`] answers the one [`Job`] that a line spells, and nothing for every other line
 //! (`specs/Operation.antt`). [`write_trace`], [`write_history`] and [`write_account`] give exactly the texts of
 //! `specs/Trace.antt` and `specs/History.antt`; [`push_traces`], [`push_trace`], [`push_entry`], [`push_history`] and
-//! [`push_account`] append them to a text, [`push_reply`] and [`push_field`] parts of lines. Reading and writing use one
-//! table of names (`specs/Name.antt`).
+//! [`push_account`] append them to a text, [`push_reply`] part of a line. Words and numbers are the crate `tl_text`'s.
 //!
 //! What is a TOML document, and what its table is, is the crate `toml`'s own definition, `parse_document`.
 //!
-//! Read on in `docs/FORMATS.md`, which has the formats with examples, and in `docs/MODEL.md`, "Scripts and texts".
+//! Read on in `docs/FORMATS.md`, which has the formats with examples, and in `docs/MODEL.md`, "Texts".
 #![tactic(auto)]
 
 mod data;
-mod digits;
 mod fault;
 mod history;
 pub mod laws;
 mod masters;
-mod name;
-mod number;
 mod operation;
 mod operations;
 mod parts;
@@ -29,9 +25,7 @@ mod print;
 mod script;
 mod system;
 mod value;
-mod words;
 
-pub use digits::push_field;
 pub use fault::{Key, ScriptFault};
 pub use history::{push_account, push_history, write_account, write_history};
 pub use operation::{Job, read_operation};

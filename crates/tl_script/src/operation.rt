@@ -8,9 +8,7 @@ ghost use Rattle.tl_script.specs.System.{IsFrom};
 ghost use Rattle.tl_script.specs.declared.operation.Job.TheVariants.{Send};
 
 use crate::data::read_data;
-use crate::name::read_name;
-use crate::number::read_number;
-use crate::words::split_words;
+use tl_text::{read_name, read_number, split_words};
 use tl_types::{Ask, AskOp, Bytes, LARGEST_SIZE, width};
 
 /// One step of a master.

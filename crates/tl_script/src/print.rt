@@ -4,10 +4,9 @@ ghost use Rattle.std.specs.Fmt.{digit_glyph};
 ghost use Rattle.tl_script.specs.Data.{byte_text};
 ghost use Rattle.tl_script.specs.Trace.{ask_text, bytes_part, denied_text, lines_of, message_text, reply_text, trace_line, trace_text};
 
-use crate::digits::{hex_digit, push_decimal, push_field, push_hex};
-use crate::name::{reply_word, word};
 use std::alloc::{AllocError, Global};
 use tl_journal::{Trace, blank_entry};
+use tl_text::{hex_digit, push_decimal, push_field, push_hex, reply_word, word};
 use tl_types::{Ask, Bytes, Memory, Reply};
 
 /// Appends a byte as two hexadecimal digits, or an unset one as dashes.

@@ -1,8 +1,8 @@
 -- Six words of a line tell its operation.
 use Rattle.std.proofs.Common.{◌∙◌}
 use Rattle.tl_script.specs.Operation.{operation_of}
-use Rattle.tl_script.specs.Word.{words_of}
-use Rattle.tl_script.proofs.WordLemmas.{operation_in-six}
+use Rattle.tl_text.specs.Word.{words_of}
+use Rattle.tl_script.proofs.SixWords.{operation_in-six}
 use Rattle.tl_script.proofs.operation.spell.Goals as goal
 
 pub returns-clause-value : goal.returns-clause-value
