@@ -6,8 +6,9 @@
  * starts no thread, takes no lock, writes nothing and keeps no pointer that it is given. Only the calls that make what a handle holds
  * (tlx_system_read, tlx_model_make, tlx_judge_make) take memory, by malloc and free; no call may be made from a signal handler.
  *
- * Each call but those that count answers a fault, TLX_OK (0) where there is none. A call that answers another fault has changed
- * nothing of what a handle holds, unless it says so. A null pointer is TLX_NULL, found by the inline functions below.
+ * Each call but those that count answers a fault, TLX_OK (0) where there is none; its faults are listed in the order in which they are
+ * tried. A call that answers another fault has changed nothing of what a handle holds, unless it says so. A null pointer is TLX_NULL,
+ * found by the inline functions below.
  *
  * What the caller must not do: hand over a pointer that is neither null nor at its type's value (a handle before its first use is
  * all zero), two pointers to memory that overlaps, or a length that is more than the memory there.
@@ -209,7 +210,7 @@ static inline void tlx_judge_free(struct tlx_judge *judge) { if (judge) tlx_judg
 
 /* Judges one beat more: TLX_OK if what crossed so far is lawful with it, else the first fault that it has, which changes nothing but the
  * text. Of one clock cycle give channel A of the masters' links first, then A of the ports', D of the ports', and D of the masters'.
- * Faults: TLX_NULL, TLX_EMPTY, TLX_BAD_ARGUMENT, TLX_NO_LINK, and those of a beat. */
+ * Faults: TLX_NULL, TLX_BAD_ARGUMENT, TLX_EMPTY, TLX_NO_LINK, and those of a beat. */
 static inline uint32_t tlx_judge_step(struct tlx_judge *judge, const struct tlx_beat *beat) {
   return judge && beat ? tlx_judge_step_at(judge, beat) : (uint32_t)TLX_NULL;
 }

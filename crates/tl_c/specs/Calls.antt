@@ -1,5 +1,5 @@
 -- What each call makes of what a handle holds. This project's own.
-use Rattle.std.specs.Prelude.{◌≡◌, ◌↔◌, ◌&&◌, ◌<◌, ◌==◌, if◌then◌else◌, ℕ, List, [], ◌∷◌, Option, Some, None, IsSomeAnd}
+use Rattle.std.specs.Prelude.{◌≡◌, ◌↔◌, ◌&&◌, ◌<◌, ◌==◌, if◌then◌else◌, ⊤, ℕ, List, [], ◌∷◌, Option, Some, None, IsSomeAnd}
 use Rattle.tl_judge.specs.Count.{is_counted, is_whole_ask, is_whole_reply, one_more}
 use Rattle.tl_link.specs.declared.beat.Sighting.{Sighting}
 use Rattle.tl_model.specs.Crossbar.{CrossbarState, Accepts, IsFirstServeFault, IsServed}
@@ -44,6 +44,16 @@ HoldsJudge Is (Some (held.System s)) = ⊥
 HoldsJudge Is (Some (held.Model c)) = ⊥
 HoldsJudge Is (Some (held.Judge j)) = Is j
 HoldsJudge Is None = ⊥
+
+-- it holds one of that kind at all
+abbrev pub IsSystem : Option Held → Type 0
+IsSystem = HoldsSystem (λ _. ⊤)
+
+abbrev pub IsModel : Option Held → Type 0
+IsModel = HoldsModel (λ _. ⊤)
+
+abbrev pub IsJudge : Option Held → Type 0
+IsJudge = HoldsJudge (λ _. ⊤)
 
 -- ---- scripts
 

@@ -1,11 +1,13 @@
 -- What the structs of the header stand for. This project's own.
-use Rattle.std.specs.Prelude.{◌≡◌, ℕ, Bool, true, false, length, Option, Some, None, ◌==◌, ◌&&◌, if◌then◌else◌, map, get_or, take}
+use Rattle.std.specs.Prelude.{◌≡◌, ◌<◌, ℕ, Bool, true, false, length, Option, Some, None, ◌==◌, ◌&&◌, if◌then◌else◌, map, get_or, take}
 use Rattle.std.specs.List.{range_with_len}
 use Rattle.tl_link.specs.declared.beat.Beat.{Beat}
 use Rattle.tl_link.specs.declared.beat.Beat.TheVariants.{A, D}
 use Rattle.tl_link.specs.declared.beat.Link.{Link}
 use Rattle.tl_link.specs.declared.beat.Link.TheVariants.{Master, Port}
 use Rattle.tl_link.specs.declared.beat.Sighting.{Sighting}
+use Rattle.tl_types.specs.declared.limits.TheConstants.{LARGEST_SIZE}
+use Rattle.tl_types.specs.declared.operation.AskOp.{AskOp}
 use Rattle.tl_types.specs.Operation.{byte_count, may_leave_unset}
 use Rattle.tl_types.specs.Request.{Request}
 use Rattle.tl_types.specs.Response.{Response}
@@ -25,6 +27,16 @@ pub record IsAskOf (wire : WireAsk) (ask : Request) : Type 0 where
   pub source : ask.source ≡ wire.source
   pub address : ask.address ≡ wire.address
   pub bytes : ask.bytes ≡ map (byte_at wire (may_leave_unset ask.op)) (range_with_len 0 (byte_count ask.op ask.size))
+
+-- the struct names no operation
+abbrev pub NamesNone : WireAsk → Type 0
+NamesNone wire = (op : AskOp) → IsCodeOf op wire.opcode wire.param → ⊥
+
+-- it names one, and its size is over the limit
+pub record IsTooLarge (wire : WireAsk) : Type 0 where
+  pub op : AskOp
+  pub code : IsCodeOf op wire.opcode wire.param
+  pub over : LARGEST_SIZE < wire.size
 
 -- a flag as a number
 abbrev pub number_of : Bool → ℕ
@@ -50,6 +62,7 @@ flag_of n = if n == 0 then Some false else if n == 1 then Some true else None
 abbrev pub link_of : ℕ → ℕ → Option Link
 link_of side number = if side == 0 then Some (Master number) else if side == 1 then Some (Port number) else None
 
+-- the beat of a request, and that of a reply by its flags
 abbrev pub ask_beat : WireBeat → Beat
 ask_beat w = A (record {
   opcode = w.opcode;
@@ -61,19 +74,27 @@ ask_beat w = A (record {
   lanes = w.lanes;
 })
 
-abbrev pub reply_beat : WireBeat → Bool → Bool → Beat
-reply_beat w denied corrupt = D (record {
+abbrev pub reply_beat : WireBeat → Option Bool → Option Bool → Option Beat
+reply_beat w (Some denied) (Some corrupt) = Some (D (record {
   opcode = w.opcode;
   size = w.size;
   source = w.source;
   denied = denied;
   corrupt = corrupt;
   lanes = w.lanes;
-})
+}))
+reply_beat w (Some denied) None = None
+reply_beat w None corrupt = None
 
--- the beat that was seen is that of a struct
-pub record Shows (w : WireBeat) (s : Sighting) : Type 0 where
-  pub link : link_of w.side w.number ≡ Some s.link
-  pub known : s.known ≡ w.known
-  pub ask : w.channel ≡ 0 → s.beat ≡ ask_beat w
-  pub reply : w.channel ≡ 1 → (denied corrupt : Bool) → flag_of w.denied ≡ Some denied → flag_of w.corrupt ≡ Some corrupt → s.beat ≡ reply_beat w denied corrupt
+-- the beat that a struct stands for, if its numbers have a meaning
+abbrev pub beat_of : WireBeat → Option Beat
+beat_of w = if w.channel == 0 then Some (ask_beat w) else if w.channel == 1 then reply_beat w (flag_of w.denied) (flag_of w.corrupt) else None
+
+abbrev pub seen_at : Option Link → Option Beat → ℕ → Option Sighting
+seen_at (Some link) (Some beat) known = Some (record { link = link; beat = beat; known = known })
+seen_at (Some link) None known = None
+seen_at None beat known = None
+
+-- what was seen by a struct, if its numbers have a meaning
+abbrev pub shown_by : WireBeat → Option Sighting
+shown_by w = seen_at (link_of w.side w.number) (beat_of w) w.known

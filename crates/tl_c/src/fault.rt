@@ -1,5 +1,5 @@
 //! The numbers of faults, as the header has them, and their words.
-ghost use Rattle.std.specs.Prelude.{◌≡◌};
+ghost use Rattle.std.specs.Prelude.{◌≡◌, ◌<◌};
 ghost use Rattle.tl_c.specs.Numbers.{beat_number, form_number, script_number, serve_number};
 
 use tl_link::FormFault;
@@ -55,7 +55,8 @@ pub(crate) fn serve_number(fault: ServeFault) -> u32
 
 /// The number of a fault of a beat alone.
 fn form_number(fault: FormFault) -> u32
-    ensures { result ≡ form_number fault }
+    ensures value { result ≡ form_number fault }
+    ensures above { NO_LINK < result }
 {
     match fault {
         FormFault::Changed => 31,
@@ -69,7 +70,8 @@ fn form_number(fault: FormFault) -> u32
 
 /// The number of a fault of a beat.
 pub(crate) fn beat_number(fault: &Fault) -> u32
-    ensures { result ≡ beat_number fault.now }
+    ensures value { result ≡ beat_number fault.now }
+    ensures above { NO_LINK < result }
 {
     match fault {
         Fault::Form(fault) => form_number(*fault),

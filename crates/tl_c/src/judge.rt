@@ -1,7 +1,7 @@
 //! Judges of beats.
-ghost use Rattle.std.specs.Prelude.{◌≡◌, ◌≢◌, ◌<◌, ◌≤◌, ◌↔◌, ◌++◌, ◌∷◌, ◌&&◌, ◌⊎◌, ℕ, List, [], IfOk, IfSome, None, Some, length, map};
-ghost use Rattle.tl_c.specs.Calls.{BeginsAs, BeginsBy, HoldsJudge, HoldsSystem, IsFaultOfBeat, IsStep, links_of, order_of};
-ghost use Rattle.tl_c.specs.Wire.{Shows};
+ghost use Rattle.std.specs.Prelude.{◌≡◌, ◌≢◌, ◌<◌, ◌≤◌, ◌↔◌, ◌++◌, ◌∷◌, ◌&&◌, ◌⊎◌, ℕ, List, [], IfOk, IsSome, None, Some, length, map};
+ghost use Rattle.tl_c.specs.Calls.{BeginsAs, BeginsBy, HoldsJudge, HoldsSystem, IsFaultOfBeat, IsJudge, IsStep, IsSystem, links_of, order_of};
+ghost use Rattle.tl_c.specs.Wire.{shown_by};
 ghost use Rattle.tl_c.specs.declared.held.Judge.{Judge};
 ghost use Rattle.tl_c.specs.declared.held.Held.TheVariants as held;
 ghost use Rattle.tl_judge.specs.Count.{ends_a_reply, ends_an_ask, is_counted, one_more};
@@ -14,7 +14,7 @@ ghost use Rattle.tl_watch.specs.View.{Keeps};
 use crate::fault::{BAD_ARGUMENT, EMPTY, FULL, MEMORY, NO_LINK, OK, beat_number};
 use crate::handle::Handle;
 use crate::held::{Held, Judge};
-use crate::system::{hold, take};
+use crate::system::{hold, is_full, take, take_system};
 use crate::text::put_text;
 use crate::wire::{WireBeat, sighting_of};
 use std::alloc::Global;
@@ -96,21 +96,24 @@ pub extern "C" fn tlx_judge_make_at(
     links: u8,
     order: u8,
 ) -> u32
+    ensures bad_argument { result ≡ BAD_ARGUMENT ↔ ((links_of links ≡ None) ⊎ (order_of order ≡ None)) }
+    ensures full { result ≡ FULL ↔ (IsSome (links_of links) × IsSome (order_of order) × (judge.old.value ≢ None)) }
+    ensures empty { result ≡ EMPTY ↔ (IsSome (links_of links) × IsSome (order_of order) × (judge.old.value ≡ None)
+        × (IsSystem system.old.value → ⊥)) }
     ensures ok { result ≡ OK → HoldsSystem (λ s. HoldsJudge (BeginsAs links order s) judge.new.value) system.old.value }
-    ensures taken { result ≡ OK → system.new.value ≡ None }
     ensures err { result ≢ OK → judge.new.value ≡ judge.old.value }
+    ensures taken { (result ≡ OK) ⊎ (result ≡ MEMORY) → system.new.value ≡ None }
+    ensures kept { result ≢ OK → result ≢ MEMORY → system.new.value ≡ system.old.value }
+    ensures first { result ≢ OK → EMPTY ≤ result }
+    ensures last { result ≤ BAD_ARGUMENT }
 {
     let (Some(links), Some(order)) = (links_of(links), order_of(order)) else {
         return BAD_ARGUMENT;
     };
-    if let Some(held) = take(alloc, judge) {
-        *judge = Handle::of(held);
+    if is_full(alloc, judge) {
         return FULL;
     }
-    let Some(held) = take(alloc, system) else {
-        return EMPTY;
-    };
-    let Held::System(made) = Box::into_inner(held) else {
+    let Some(made) = take_system(alloc, system) else {
         return EMPTY;
     };
     match judge_of(alloc, made, links, order) {
@@ -163,7 +166,7 @@ fn judge_fault(judge: &mut Judge, line: u64, time: u64, sighting: Sighting) -> u
         → IsStep plan past sighting judge.old result judge.new }
     ensures fault { (plan : Plan) (past : List Sighting) → Keeps plan past judge.old.watch → NO_LINK < result
         → IsFaultOfBeat plan past sighting result }
-    ensures link { result ≢ NO_LINK }
+    ensures above { result ≢ OK → NO_LINK < result }
     ensures err { result ≢ OK → judge.new.watch ≡ judge.old.watch }
 {
     match judge.watch.step(&sighting) {
@@ -192,6 +195,7 @@ fn step(judge: &mut Judge, line: u64, time: u64, sighting: Sighting) -> u32
         → IsFaultOfBeat plan past sighting result }
     ensures link { result ≡ NO_LINK ↔ ((HasLink judge.old.watch.layout sighting.link
         × IsWatched judge.old.watch.layout.links sighting.link) → ⊥) }
+    ensures first { result ≢ OK → NO_LINK ≤ result }
     ensures err { result ≢ OK → judge.new.watch ≡ judge.old.watch }
 {
     if !judge.watch.watches(sighting.link) {
@@ -207,10 +211,15 @@ fn step(judge: &mut Judge, line: u64, time: u64, sighting: Sighting) -> u32
 /// `tlx_judge_step_at` of the header: judges one beat more.
 #[unsafe(no_mangle)]
 pub extern "C" fn tlx_judge_step_at(alloc: Global, judge: &mut Handle, beat: &WireBeat) -> u32
-    ensures step { (plan : Plan) (past : List Sighting) → result ≡ OK → HoldsJudge (λ old. Keeps plan past old.watch
-        → HoldsJudge (λ new. (shown : Sighting) × Shows beat.now shown × IsStep plan past shown old result new) judge.new.value) judge.old.value }
-    ensures fault { (plan : Plan) (past : List Sighting) → NO_LINK < result → HoldsJudge (λ old. Keeps plan past old.watch
-        → (shown : Sighting) × Shows beat.now shown × IsFaultOfBeat plan past shown result) judge.old.value }
+    ensures bad_argument { result ≡ BAD_ARGUMENT ↔ (shown_by beat.now ≡ None) }
+    ensures empty { result ≡ EMPTY ↔ (IsSome (shown_by beat.now) × (IsJudge judge.old.value → ⊥)) }
+    ensures link { (j : Judge) (shown : Sighting) → judge.old.value ≡ Some (held.Judge j) → shown_by beat.now ≡ Some shown
+        → (result ≡ NO_LINK ↔ ((HasLink j.watch.layout shown.link × IsWatched j.watch.layout.links shown.link) → ⊥)) }
+    ensures step { (plan : Plan) (past : List Sighting) (j : Judge) (shown : Sighting) → judge.old.value ≡ Some (held.Judge j) → shown_by beat.now ≡ Some shown
+        → Keeps plan past j.watch → result ≢ NO_LINK → HoldsJudge (IsStep plan past shown j result) judge.new.value }
+    ensures fault { (plan : Plan) (past : List Sighting) (j : Judge) (shown : Sighting) → judge.old.value ≡ Some (held.Judge j) → shown_by beat.now ≡ Some shown
+        → Keeps plan past j.watch → NO_LINK < result → IsFaultOfBeat plan past shown result }
+    ensures first { result ≢ OK → result ≢ EMPTY → result ≢ BAD_ARGUMENT → NO_LINK ≤ result }
     ensures err { result ≢ OK → HoldsJudge (λ old. HoldsJudge (λ new. new.watch ≡ old.watch) judge.new.value) judge.old.value ⊎ (judge.new.value ≡ judge.old.value) }
 {
     let Some(sighting) = sighting_of(beat) else {
@@ -247,6 +256,7 @@ pub extern "C" fn tlx_judge_text_at(alloc: Global, judge: &mut Handle, room: &mu
 #[unsafe(no_mangle)]
 pub extern "C" fn tlx_judge_requests_at(alloc: Global, judge: &mut Handle) -> u64
     ensures count { (j : Judge) → judge.old.value ≡ Some (held.Judge j) → result ≡ j.requests }
+    ensures empty { (IsJudge judge.old.value → ⊥) → result ≡ 0 }
     ensures same { judge.new.value ≡ judge.old.value }
 {
     let Some(held) = take(alloc, judge) else {
@@ -264,6 +274,7 @@ pub extern "C" fn tlx_judge_requests_at(alloc: Global, judge: &mut Handle) -> u6
 #[unsafe(no_mangle)]
 pub extern "C" fn tlx_judge_answered_at(alloc: Global, judge: &mut Handle) -> u64
     ensures count { (j : Judge) → judge.old.value ≡ Some (held.Judge j) → result ≡ j.answered }
+    ensures empty { (IsJudge judge.old.value → ⊥) → result ≡ 0 }
     ensures same { judge.new.value ≡ judge.old.value }
 {
     let Some(held) = take(alloc, judge) else {

@@ -1,14 +1,15 @@
 //! Models of crossbars.
-ghost use Rattle.std.specs.Prelude.{◌≡◌, ◌≢◌, ◌<◌, ◌≤◌, ℕ, IfSome, IsSomeAnd, None, Some, length, slice_get};
-ghost use Rattle.tl_c.specs.Calls.{HoldsModel, HoldsSystem, IsRefusedBy, IsServedBy};
+ghost use Rattle.std.specs.Prelude.{◌≡◌, ◌≢◌, ◌<◌, ◌≤◌, ◌↔◌, ◌⊎◌, ℕ, IsSomeAnd, None, Some, length, slice_get};
+ghost use Rattle.tl_c.specs.Calls.{HoldsModel, HoldsSystem, IsModel, IsSystem, IsRefusedBy, IsServedBy};
+ghost use Rattle.tl_c.specs.Wire.{IsTooLarge, NamesNone};
 ghost use Rattle.tl_c.specs.declared.held.Held.TheVariants.{Model};
 ghost use Rattle.tl_map.specs.Map.{RoutesBytes};
 ghost use Rattle.tl_model.specs.Crossbar.{CrossbarState, at_reset, byte_in};
 
-use crate::fault::{EMPTY, FULL, MEMORY, NO_BYTE, OK, SIZE, serve_number};
+use crate::fault::{EMPTY, FULL, MEMORY, NO_BYTE, NO_OPERATION, OK, SIZE, serve_number};
 use crate::handle::Handle;
 use crate::held::{Held, Server};
-use crate::system::{hold, take};
+use crate::system::{hold, is_full, take, take_system};
 use crate::wire::{WireAnswer, WireAsk, put_answer, read_ask};
 use std::alloc::Global;
 use tl_model::Crossbar;
@@ -17,18 +18,19 @@ use tl_types::{Ask, Reply};
 /// `tlx_model_make_at` of the header: the model of a system at reset.
 #[unsafe(no_mangle)]
 pub extern "C" fn tlx_model_make_at(alloc: Global, model: &mut Handle, system: &mut Handle) -> u32
+    ensures full { result ≡ FULL ↔ (model.old.value ≢ None) }
+    ensures empty { result ≡ EMPTY ↔ ((model.old.value ≡ None) × (IsSystem system.old.value → ⊥)) }
     ensures ok { result ≡ OK → HoldsSystem (λ s. model.new.value ≡ Some (Model (at_reset s))) system.old.value }
-    ensures taken { result ≡ OK → system.new.value ≡ None }
     ensures err { result ≢ OK → model.new.value ≡ model.old.value }
+    ensures taken { result ≢ FULL → result ≢ EMPTY → system.new.value ≡ None }
+    ensures kept { (result ≡ FULL) ⊎ (result ≡ EMPTY) → system.new.value ≡ system.old.value }
+    ensures first { result ≢ OK → EMPTY ≤ result }
+    ensures last { result ≤ MEMORY }
 {
-    if let Some(held) = take(alloc, model) {
-        *model = Handle::of(held);
+    if is_full(alloc, model) {
         return FULL;
     }
-    let Some(held) = take(alloc, system) else {
-        return EMPTY;
-    };
-    let Held::System(made) = Box::into_inner(held) else {
+    let Some(made) = take_system(alloc, system) else {
         return EMPTY;
     };
     match Crossbar::new(alloc, made) {
@@ -47,8 +49,11 @@ pub extern "C" fn tlx_model_make_at(alloc: Global, model: &mut Handle, system: &
 
 /// Serves a request of a master.
 fn serve(model: &mut Server, master: usize, wire: &WireAsk, answer: &mut WireAnswer) -> u32
+    ensures no_operation { result ≡ NO_OPERATION ↔ NamesNone wire.now }
+    ensures size { result ≡ SIZE ↔ IsTooLarge wire.now }
     ensures ok { result ≡ OK → IsServedBy model.old master wire.now answer.new model.new }
     ensures fault { SIZE < result → IsRefusedBy model.old master wire.now result }
+    ensures first { result ≢ OK → NO_OPERATION ≤ result }
     ensures err { result ≢ OK → model.new ≡ model.old }
     ensures quiet { result ≢ OK → answer.new ≡ answer.old }
 {
@@ -76,8 +81,12 @@ pub extern "C" fn tlx_model_serve_at(
     ask: &WireAsk,
     answer: &mut WireAnswer,
 ) -> u32
+    ensures empty { result ≡ EMPTY ↔ (IsModel model.old.value → ⊥) }
+    ensures no_operation { result ≡ NO_OPERATION ↔ (IsModel model.old.value × NamesNone ask.now) }
+    ensures size { result ≡ SIZE ↔ (IsModel model.old.value × IsTooLarge ask.now) }
     ensures ok { result ≡ OK → HoldsModel (λ old. HoldsModel (IsServedBy old master ask.now answer.new) model.new.value) model.old.value }
     ensures fault { SIZE < result → HoldsModel (λ old. IsRefusedBy old master ask.now result) model.old.value }
+    ensures first { result ≢ OK → result ≢ EMPTY → NO_OPERATION ≤ result }
     ensures err { result ≢ OK → model.new.value ≡ model.old.value }
     ensures quiet { result ≢ OK → answer.new ≡ answer.old }
 {
@@ -108,8 +117,12 @@ pub extern "C" fn tlx_model_byte_at(
     address: u64,
     byte: &mut u8,
 ) -> u32
+    ensures empty { result ≡ EMPTY ↔ (IsModel model.old.value → ⊥) }
     ensures ok { result ≡ OK → HoldsModel (λ state. (port : ℕ) → RoutesBytes state.ranges address 0 port
         → IsSomeAnd (slice_get state.ports port) (λ at. byte_in at.store address ≡ Some byte.new)) model.old.value }
+    ensures no_byte { result ≡ NO_BYTE → HoldsModel (λ state. (port : ℕ) → RoutesBytes state.ranges address 0 port
+        → IsSomeAnd (slice_get state.ports port) (λ at. byte_in at.store address ≡ None)) model.old.value }
+    ensures number { result ≢ OK → result ≢ EMPTY → result ≡ NO_BYTE }
     ensures same { model.new.value ≡ model.old.value }
     ensures quiet { result ≢ OK → byte.new ≡ byte.old }
 {
@@ -134,6 +147,7 @@ pub extern "C" fn tlx_model_byte_at(
 #[unsafe(no_mangle)]
 pub extern "C" fn tlx_model_masters_at(alloc: Global, model: &mut Handle) -> usize
     ensures count { (state : CrossbarState) → model.old.value ≡ Some (Model state) → result ≡ length state.counts }
+    ensures empty { (IsModel model.old.value → ⊥) → result ≡ 0 }
     ensures same { model.new.value ≡ model.old.value }
 {
     let Some(held) = take(alloc, model) else {
@@ -151,6 +165,7 @@ pub extern "C" fn tlx_model_masters_at(alloc: Global, model: &mut Handle) -> usi
 #[unsafe(no_mangle)]
 pub extern "C" fn tlx_model_ports_at(alloc: Global, model: &mut Handle) -> usize
     ensures count { (state : CrossbarState) → model.old.value ≡ Some (Model state) → result ≡ length state.ports }
+    ensures empty { (IsModel model.old.value → ⊥) → result ≡ 0 }
     ensures same { model.new.value ≡ model.old.value }
 {
     let Some(held) = take(alloc, model) else {

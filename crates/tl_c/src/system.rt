@@ -1,7 +1,8 @@
 //! Systems of scripts.
-ghost use Rattle.std.specs.Prelude.{◌≡◌, ◌≢◌, None, Some};
-ghost use Rattle.tl_c.specs.Calls.{HoldsSystem, IsScriptAnswer};
+ghost use Rattle.std.specs.Prelude.{◌≡◌, ◌≢◌, ◌≤◌, ◌↔◌, IfNone, IfSome, IsTrue, None, Some};
+ghost use Rattle.tl_c.specs.Calls.{HoldsSystem, IsScriptAnswer, IsSystem};
 ghost use Rattle.tl_c.specs.Handle.{unboxed};
+ghost use Rattle.tl_c.specs.declared.held.Held.TheVariants as held;
 ghost use Rattle.tl_script.specs.Script.{Spells};
 
 use crate::fault::{FULL, MEMORY, OK, script_number};
@@ -9,7 +10,7 @@ use crate::handle::Handle;
 use crate::held::Held;
 use crate::text::put_text;
 use std::alloc::Global;
-use tl_script::{ScriptFault, read_system};
+use tl_script::{ScriptFault, System, read_system};
 
 /// What a handle holds, which is empty from then on.
 pub(crate) fn take(alloc: Global, handle: &mut Handle) -> Option<Box<Held>>
@@ -17,6 +18,38 @@ pub(crate) fn take(alloc: Global, handle: &mut Handle) -> Option<Box<Held>>
     ensures taken { handle.old.value ≡ unboxed result }
 {
     std::mem::replace(handle, Handle::empty(alloc)).take()
+}
+
+/// Whether a handle holds anything. What it holds stays there.
+pub(crate) fn is_full(alloc: Global, handle: &mut Handle) -> bool
+    ensures full { IsTrue result ↔ (handle.old.value ≢ None) }
+    ensures same { handle.new.value ≡ handle.old.value }
+{
+    match take(alloc, handle) {
+        Some(held) => {
+            *handle = Handle::of(held);
+            true
+        }
+        None => false,
+    }
+}
+
+/// The system that a handle holds, which is empty from then on. What is no system stays there.
+pub(crate) fn take_system(alloc: Global, handle: &mut Handle) -> Option<System>
+    ensures some { IfSome result (λ made. handle.old.value ≡ Some (held.System made)) }
+    ensures taken { IfSome result (λ _. handle.new.value ≡ None) }
+    ensures none { IfNone result (IsSystem handle.old.value → ⊥) }
+    ensures kept { IfNone result (handle.new.value ≡ handle.old.value) }
+{
+    let held = take(alloc, handle)?;
+    if !matches!(&*held, Held::System(_)) {
+        *handle = Handle::of(held);
+        return None;
+    }
+    match Box::into_inner(held) {
+        Held::System(made) => Some(made),
+        Held::Model(_) | Held::Judge(_) => None,
+    }
 }
 
 /// Has an empty handle hold this, if memory allows.
@@ -53,11 +86,12 @@ pub extern "C" fn tlx_system_read_at(
 ) -> u32
     ensures spelled { result ≡ OK → HoldsSystem (Spells script.now) system.new.value }
     ensures fault { IsScriptAnswer script.now result }
+    ensures full { result ≡ FULL ↔ (system.old.value ≢ None) }
     ensures err { result ≢ OK → system.new.value ≡ system.old.value }
+    ensures first { result ≢ OK → FULL ≤ result }
 {
     *written = put_text(room, b"");
-    if let Some(held) = take(alloc, system) {
-        *system = Handle::of(held);
+    if is_full(alloc, system) {
         return FULL;
     }
     match read_system(alloc, script) {

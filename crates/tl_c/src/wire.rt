@@ -1,7 +1,7 @@
 //! The structs of the header, and what they stand for.
-ghost use Rattle.std.specs.Prelude.{◌≡◌, ◌≤◌, Bool, IfSome, Some};
+ghost use Rattle.std.specs.Prelude.{◌≡◌, ◌≢◌, ◌≤◌, ◌↔◌};
 ghost use Rattle.tl_types.specs.Wire.{IsCodeOf};
-ghost use Rattle.tl_c.specs.Wire.{IsAnswerOf, IsAskOf, Shows, ask_beat, flag_of, link_of, reply_beat};
+ghost use Rattle.tl_c.specs.Wire.{IsAnswerOf, IsAskOf, IsTooLarge, NamesNone, beat_of, flag_of, link_of, reply_beat, shown_by};
 
 use crate::fault::{NO_OPERATION, OK, SIZE};
 use tl_beats::{ABeat, DBeat};
@@ -62,7 +62,10 @@ pub struct WireBeat {
 /// Reads the request of a struct into the place of another, and answers `OK` or the number of its fault.
 pub(crate) fn read_ask(wire: &WireAsk, ask: &mut Ask) -> u32
     ensures ask { result ≡ OK → IsAskOf wire.now ask.new }
-    ensures fault { result ≤ SIZE }
+    ensures no_operation { result ≡ NO_OPERATION ↔ NamesNone wire.now }
+    ensures size { result ≡ SIZE ↔ IsTooLarge wire.now }
+    ensures first { result ≢ OK → NO_OPERATION ≤ result }
+    ensures last { result ≤ SIZE }
 {
     let Ok(op) = read_op(wire.opcode, wire.param) else {
         return NO_OPERATION;
@@ -130,30 +133,12 @@ fn link_of(side: u8, number: usize) -> Option<Link>
     }
 }
 
-/// The beat of a struct, if its numbers have a meaning.
-fn beat_of(wire: &WireBeat) -> Option<Beat>
-    ensures ask { IfSome result (λ beat. wire.now.channel ≡ 0 → beat ≡ ask_beat wire.now) }
-    ensures reply { IfSome result (λ beat. wire.now.channel ≡ 1 → (denied corrupt : Bool)
-        → flag_of wire.now.denied ≡ Some denied → flag_of wire.now.corrupt ≡ Some corrupt
-        → beat ≡ reply_beat wire.now denied corrupt) }
+/// The beat of a reply of a struct, if its flags have a meaning.
+fn reply_beat(wire: &WireBeat) -> Option<Beat>
+    ensures { result ≡ reply_beat wire.now (flag_of wire.now.denied) (flag_of wire.now.corrupt) }
 {
-    if wire.channel == 0 {
-        return Some(Beat::A(ABeat {
-            opcode: wire.opcode,
-            param: wire.param,
-            size: wire.size,
-            source: wire.source,
-            address: wire.address,
-            mask: wire.mask,
-            lanes: wire.lanes,
-        }));
-    }
-    let (Some(denied), Some(corrupt)) = (flag_of(wire.denied), flag_of(wire.corrupt)) else {
-        return None;
-    };
-    if wire.channel != 1 {
-        return None;
-    }
+    let denied = flag_of(wire.denied)?;
+    let corrupt = flag_of(wire.corrupt)?;
     Some(Beat::D(DBeat {
         opcode: wire.opcode,
         size: wire.size,
@@ -164,9 +149,30 @@ fn beat_of(wire: &WireBeat) -> Option<Beat>
     }))
 }
 
+/// The beat of a struct, if its numbers have a meaning.
+fn beat_of(wire: &WireBeat) -> Option<Beat>
+    ensures { result ≡ beat_of wire.now }
+{
+    if wire.channel == 0 {
+        Some(Beat::A(ABeat {
+            opcode: wire.opcode,
+            param: wire.param,
+            size: wire.size,
+            source: wire.source,
+            address: wire.address,
+            mask: wire.mask,
+            lanes: wire.lanes,
+        }))
+    } else if wire.channel == 1 {
+        reply_beat(wire)
+    } else {
+        None
+    }
+}
+
 /// What was seen by a struct, if its numbers have a meaning.
 pub(crate) fn sighting_of(wire: &WireBeat) -> Option<Sighting>
-    ensures { IfSome result (Shows wire.now) }
+    ensures { result ≡ shown_by wire.now }
 {
     let link = link_of(wire.side, wire.number)?;
     let beat = beat_of(wire)?;
