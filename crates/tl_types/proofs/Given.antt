@@ -146,13 +146,13 @@ byte_unset : (n byte : ℕ) (new : List ℕ) → bit_in new n ≡ 1 → (k : ℕ
 byte_unset n byte new here zero clear = let e : n + 0 ≡ n = omega arith in let no : 1 ≡ 0 = sym here ∙ ap (bit_in new) (sym e) ∙ clear in absurd (omega (arith, no))
 byte_unset n byte new here (suc k) clear = refl
 
-slice_index-past : (bytes : List ℕ) (k : ℕ) → length bytes ≤ k → slice_index bytes k ≡ 0
+pub slice_index-past : (bytes : List ℕ) (k : ℕ) → length bytes ≤ k → slice_index bytes k ≡ 0
 slice_index-past [] k h = refl
 slice_index-past (byte ∷ bytes) zero h = absurd (omega (arith, h))
 slice_index-past (byte ∷ bytes) (suc k) h = slice_index-past bytes k (omega (arith, h))
 
 -- the lowest ones of a byte
-ones_are : (count : ℕ) → count ≤ 8 → 255 / 2 ^ (8 - count) ≡ 2 ^ count - 1
+pub ones_are : (count : ℕ) → count ≤ 8 → 255 / 2 ^ (8 - count) ≡ 2 ^ count - 1
 ones_are count fits = let e : 8 - (8 - count) ≡ count = omega (arith, fits) in ones_shr 8 (8 - count) (omega arith) ∙ ap (λ n. 2 ^ n - 1) e
 
 -- the bits of a word that has its lowest ones set
@@ -184,14 +184,14 @@ seen_bit plain masks place kept (inr past) =
     kept.past place past ∙ sym (ap (λ o. mask_bit (unwrap_or o None)) (slice_get_past (given_in (bit_in masks) plain) place (rw (length-given_in (bit_in masks) plain) past)))
 
 -- a mask that is replaced
-small_set : (masks : List ℕ) (word mask : ℕ) → ((w : ℕ) → slice_index masks w < 256) → mask < 256 → (w : ℕ) → slice_index (set masks word mask) w < 256
+pub small_set : (masks : List ℕ) (word mask : ℕ) → ((w : ℕ) → slice_index masks w < 256) → mask < 256 → (w : ℕ) → slice_index (set masks word mask) w < 256
 small_set [] word mask small fits w = small w
 small_set (m ∷ masks) zero mask small fits zero = fits
 small_set (m ∷ masks) zero mask small fits (suc w) = small (suc w)
 small_set (m ∷ masks) (suc word) mask small fits zero = small zero
 small_set (m ∷ masks) (suc word) mask small fits (suc w) = small_set masks word mask (λ v. small (suc v)) fits w
 
-small_ones : (count : ℕ) → count ≤ 8 → 255 / 2 ^ (8 - count) < 256
+pub small_ones : (count : ℕ) → count ≤ 8 → 255 / 2 ^ (8 - count) < 256
 small_ones count fits = let most : 2 ^ count ≤ 2 ^ 8 = pow-le-pow_right (lit≤ tt) fits in omega (arith, ones_are count fits, most)
 
 -- one byte that is left unset

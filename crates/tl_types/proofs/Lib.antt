@@ -1,4 +1,6 @@
 pub mod Given
 pub mod Lists
+pub mod Masks
 pub mod Operations
+pub mod Words
 pub mod Zipped

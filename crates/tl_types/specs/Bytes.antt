@@ -1,7 +1,8 @@
 -- Bytes of which some may be left unset: this project's own words. They are kept as plain bytes and a mask for each word
 -- of the bus, and seen as a list in which a byte that is left unset is None.
 use Rattle.std.specs.Prelude.{◌≡◌, ℕ, zero, suc, ◌+◌, ◌*◌, ◌/◌, ◌%◌, ◌^◌, ◌<◌, ◌≤◌, List, [], ◌∷◌, length, map, Option, None, Some, slice_get, slice_index, unwrap_or}
-use Rattle.std.specs.Int.{bit_at}
+use Rattle.std.specs.Int.{bit_at, to_le_bytes, w64}
+use Rattle.std.specs.List.{flat_map}
 use Rattle.tl_types.specs.declared.limits.TheConstants.{BUS_BYTES}
 use Rattle.tl_types.specs.declared.bytes.TheConstants.{MAX_WORDS}
 
@@ -14,6 +15,11 @@ mask_bit (Some byte) = 1
 abbrev pub given_byte : ℕ → ℕ → Option ℕ
 given_byte zero byte = None
 given_byte (suc _) byte = Some byte
+
+-- the bit of a mask for a byte with this flag
+abbrev pub flag_bit : ℕ → ℕ
+flag_bit zero = 0
+flag_bit (suc _) = 1
 
 -- bytes, of which those are given whose bits are set
 abbrev pub given_in : (ℕ → ℕ) → List ℕ → List (Option ℕ)
@@ -39,3 +45,7 @@ pub record AreKept (plain masks : List ℕ) : Type 0 where
   pub small : (word : ℕ) → slice_index masks word < 2 ^ BUS_BYTES
   pub unset : (place : ℕ) → bit_in masks place ≡ 0 → slice_index plain place ≡ 0
   pub past : (place : ℕ) → length plain ≤ place → bit_in masks place ≡ 0
+
+-- the bytes of words of the bus, the lowest byte of each first
+abbrev pub bytes_of_words : List ℕ → List ℕ
+bytes_of_words words = flat_map (λ word. to_le_bytes w64 word) words

@@ -1,11 +1,12 @@
 //! The bytes of a request, some of which may be left unset.
-ghost use Rattle.std.specs.Prelude.{◌≡◌, ◌↔◌, ◌+◌, ◌*◌, ◌%◌, ◌<◌, ◌≤◌, ◌==◌, ◌++◌, ◌∷◌, [], length, slice_get, slice_index, Some, IsTrue, map};
+ghost use Rattle.std.specs.Prelude.{◌≡◌, ◌↔◌, ℕ, ◌+◌, ◌*◌, ◌%◌, ◌^◌, ◌<◌, ◌≤◌, ◌==◌, ◌++◌, ◌∷◌, [], length, slice_get, slice_index, Some, IsTrue, map};
 ghost use Rattle.std.specs.Int.{bit_at};
-ghost use Rattle.tl_types.specs.Bytes.{IsMaskOf, given_in, plain_of};
+ghost use Rattle.tl_types.specs.Bytes.{IsMaskOf, bit_in, flag_bit, given_in, plain_of};
 
 use crate::limits::{BUS_BYTES, MAX_BYTES};
 use arrayvec::ArrayVec;
 use std::marker::Model;
+use std::simd::prelude::*;
 
 /// The most words of the bus that a message has.
 const MAX_WORDS: usize = MAX_BYTES / BUS_BYTES;
@@ -84,9 +85,10 @@ impl Bytes {
         requires { length plain.now ≤ MAX_BYTES }
         ensures { result ≡ map (λ byte. Some byte) plain.now }
     {
-        let mut bytes = Bytes::new();
-        bytes.append_given(plain);
-        bytes
+        Bytes {
+            plain: ArrayVec::try_from(plain).unwrap(),
+            masks: given_masks(plain.len()),
+        }
     }
 
     /// Takes all bytes away.
@@ -114,8 +116,9 @@ impl Bytes {
         requires { length plain.now ≤ MAX_BYTES }
         ensures { self.new ≡ map (λ byte. Some byte) plain.now }
     {
-        self.clear();
-        self.append_given(plain);
+        self.plain.clear();
+        self.plain.try_extend_from_slice(plain).unwrap();
+        self.masks = given_masks(plain.len());
     }
 
     /// Puts a copy of other bytes in the place of those that there were.
@@ -135,28 +138,10 @@ impl Bytes {
         requires flags { length plain.now ≤ length flags.now }
         ensures { self.new ≡ given_in (slice_index flags.now) plain.now }
     {
-        self.clear();
-        for place in 0..plain.len() {
-            if flags[place] == 0 {
-                self.push(None);
-            } else {
-                self.push(Some(plain[place]));
-            }
-        }
-    }
-
-    /// Appends bytes that are all given where there are none yet, a word at a time.
-    fn append_given(&mut self, plain: &[u8])
-        requires empty { self.old ≡ [] }
-        requires limit { length plain.now ≤ MAX_BYTES }
-        ensures { self.new ≡ map (λ byte. Some byte) plain.now }
-    {
-        let mut rest = plain;
-        while !rest.is_empty() {
-            let (word, more) = rest.split_at(rest.len().min(BUS_BYTES));
-            self.push_given(word);
-            rest = more;
-        }
+        self.plain.clear();
+        self.plain.try_extend_from_slice(plain).unwrap();
+        clear_unset(self.plain.as_mut_slice(), flags);
+        self.masks = flagged_masks(&flags[..plain.len()]);
     }
 
     /// How many bytes there are, those that are left unset among them.
@@ -218,4 +203,65 @@ impl Bytes {
             masks: self.masks,
         }
     }
+}
+
+/// The masks of so many bytes that are all given.
+fn given_masks(count: usize) -> [u8; MAX_WORDS]
+    requires { count ≤ MAX_BYTES }
+    ensures counted { length result ≡ MAX_WORDS }
+    ensures small { (word : ℕ) → slice_index result word < 2 ^ BUS_BYTES }
+    ensures given { (place : ℕ) → place < count → bit_in result place ≡ 1 }
+    ensures past { (place : ℕ) → count ≤ place → bit_in result place ≡ 0 }
+{
+    let mut masks = [0; MAX_WORDS];
+    let words = count / BUS_BYTES;
+    for word in 0..words {
+        masks[word] = u8::MAX;
+    }
+    if count % BUS_BYTES > 0 {
+        masks[words] = u8::MAX >> (BUS_BYTES - count % BUS_BYTES);
+    }
+    masks
+}
+
+/// Puts zero in the place of each byte whose flag is zero.
+fn clear_unset(bytes: &mut [u8], flags: &[u8])
+    requires { length bytes.old ≤ length flags.now }
+    ensures { bytes.new ≡ plain_of (given_in (slice_index flags.now) bytes.old) }
+{
+    for place in 0..bytes.len() {
+        bytes[place] = if flags[place] == 0 { 0 } else { bytes[place] };
+    }
+}
+
+/// The masks of as many bytes as there are flags: one is left unset where its flag is zero.
+fn flagged_masks(flags: &[u8]) -> [u8; MAX_WORDS]
+    requires { length flags.now ≤ MAX_BYTES }
+    ensures counted { length result ≡ MAX_WORDS }
+    ensures small { (word : ℕ) → slice_index result word < 2 ^ BUS_BYTES }
+    ensures bits { (place : ℕ) → bit_in result place ≡ flag_bit (slice_index flags.now place) }
+{
+    let mut masks = [0; MAX_WORDS];
+    for word in 0..flags.len().div_ceil(BUS_BYTES) {
+        let from = BUS_BYTES * word;
+        masks[word] = flag_mask(&flags[from..flags.len().min(from + BUS_BYTES)]);
+    }
+    masks
+}
+
+/// The mask of a word, or of the front of one: a bit is set where its flag is not zero.
+// the flags of a whole word are looked at side by side
+fn flag_mask(flags: &[u8]) -> u8
+    requires { length flags.now ≤ BUS_BYTES }
+    ensures { (k : ℕ) → bit_at result k ≡ flag_bit (slice_index flags.now k) }
+{
+    if flags.len() == BUS_BYTES {
+        let set = u8x8::from_slice(flags).simd_ne(u8x8::splat(0));
+        return set.to_bitmask() as u8;
+    }
+    let mut mask = 0;
+    for k in (0..flags.len()).rev() {
+        mask = mask << 1 | u8::from(flags[k] != 0);
+    }
+    mask
 }

@@ -1,13 +1,17 @@
 //! Replies on channel D.
-ghost use Rattle.std.specs.Prelude.{◌≡◌, ◌↔◌, ◌≤◌, [], false, length, IsOk, IfOk, IfErr};
+ghost use Rattle.std.specs.Prelude.{◌≡◌, ◌↔◌, ◌*◌, ◌≤◌, [], false, length, IsOk, IfOk, IfErr};
+ghost use Rattle.tl_types.specs.Bytes.{bytes_of_words};
 ghost use Rattle.tl_types.specs.declared.operation.ReplyOp.TheVariants.{AccessAck};
 ghost use Rattle.tl_types.specs.Response.{IsLawfulResponse, IsFirstReplyFault};
 
-use crate::limits::{LARGEST_SIZE, MAX_BYTES};
+use crate::limits::{BUS_BYTES, LARGEST_SIZE, MAX_BYTES};
 use crate::operation::ReplyOp;
 use arrayvec::ArrayVec;
 use std::marker::Model;
 use thiserror::Error;
+
+/// Room for the bytes of any message.
+const ZEROS: [u8; MAX_BYTES] = [0; MAX_BYTES];
 
 /// A reply, of lawful size and byte count, whose bytes are zero where it is denied.
 // The bytes stand first, as in a request.
@@ -149,6 +153,24 @@ impl Reply {
         self.denied = denied;
     }
 
+    /// As `refill`, with the bytes of whole words of the bus, the lowest byte of each first.
+    pub fn refill_words(&mut self, op: ReplyOp, size: u8, source: u16, denied: bool, words: &[u64])
+        requires { IsLawfulResponse op size denied (bytes_of_words words.now) }
+        ensures { self.new ≡ record {
+          op = op;
+          size = size;
+          source = source;
+          denied = denied;
+          bytes = bytes_of_words words.now;
+        } }
+    {
+        refill_words(&mut self.bytes, words);
+        self.op = op;
+        self.size = size;
+        self.source = source;
+        self.denied = denied;
+    }
+
     /// The opcode.
     pub fn op(&self) -> ReplyOp
         ensures { result ≡ self.now.op }
@@ -204,5 +226,28 @@ impl Reply {
             denied: self.denied,
             bytes: ArrayVec::try_from(self.bytes.as_slice()).unwrap(),
         }
+    }
+}
+
+/// Puts the bytes of words in the place of those that there were.
+// they are made room for at once, so that each word is written where it stays, with no length to keep
+fn refill_words(bytes: &mut ArrayVec<u8, MAX_BYTES>, words: &[u64])
+    requires { length (bytes_of_words words.now) ≤ MAX_BYTES }
+    ensures { bytes.new.items ≡ bytes_of_words words.now }
+{
+    bytes.clear();
+    let room = &ZEROS[..BUS_BYTES * words.len()];
+    bytes.try_extend_from_slice(room).unwrap();
+    write_words(bytes.as_mut_slice(), words);
+}
+
+/// Writes the bytes of words over as many others.
+fn write_words(bytes: &mut [u8], words: &[u64])
+    requires { length bytes.old ≡ BUS_BYTES * length words.now }
+    ensures { bytes.new ≡ bytes_of_words words.now }
+{
+    for k in 0..words.len() {
+        let place = BUS_BYTES * k;
+        bytes[place..place + BUS_BYTES].copy_from_slice(&words[k].to_le_bytes());
     }
 }

@@ -1,23 +1,27 @@
-use Rattle.std.proofs.Common.{◌∙◌, slice_index, sym, ap, arith}
-use Rattle.std.proofs.lemmas.List.{take_all}
-use Rattle.tl_types.specs.Bytes.{given_byte, given_in}
-use Rattle.tl_types.proofs.Given.{length-given_in, next_given, given_flag}
+use Rattle.std.proofs.Common.{◌≡◌, ◌∙◌, length, slice_index, ap, rules}
+use Rattle.std.proofs.lemmas.List.{take_at}
+use Rattle.std.specs.List.{refill}
+use Rattle.tl_types.specs.Bytes.{given_in, plain_of}
+use Rattle.tl_types.proofs.Masks.{length-cleared, kept_flagged, seen_flagged, front_bits}
 use Rattle.tl_types.proofs.bytes.Bytes.refill_flagged.Goals as goal
-use Rattle.tl_types.proofs.bytes.Bytes.refill_flagged.Goals.{then-flags-place-eq0, else-flags-place-eq0}
 
-pub loop-place-preserved : goal.loop-place-preserved
-loop-place-preserved c =
+-- the bytes that are kept are the cleared ones
+items_are : (c : goal.After-self-2-1) → refill (length c.try_extend_from_slice.new.self.items) c.try_extend_from_slice.new.self.items c.clear_unset.new.bytes ≡ plain_of (given_in (slice_index c.args.flags.now) c.args.plain.now)
+items_are c =
+    let flags = slice_index c.args.flags.now in
     let plain = c.args.plain.now in
-    let bits = slice_index c.args.flags.now in
-    elim c.if-flags-place-eq0.branch [
-      | then-flags-place-eq0 w ↦
-          rw (w.self-is, w.push.ensures, c.loop-place.invariant) (sym (next_given bits plain c.loop-place.place _ c.loop-place-test.true (ap (λ flag. given_byte flag (slice_index plain c.loop-place.place)) w.if-flags-place-eq0.true)))
-      | else-flags-place-eq0 w ↦
-          rw (w.self-is, w.push-else-flags-place-eq0.ensures, c.loop-place.invariant) (sym (next_given bits plain c.loop-place.place _ c.loop-place-test.true (given_flag (bits c.loop-place.place) (slice_index plain c.loop-place.place) w.if-flags-place-eq0.false)))
-    ]
+    let items : c.try_extend_from_slice.new.self.items ≡ plain = search rules in
+    let cleared : c.clear_unset.new.bytes ≡ plain_of (given_in flags plain) = c.clear_unset.ensures ∙ ap (λ bytes. plain_of (given_in flags bytes)) (c.as_mut_slice.ensures.value ∙ items) in
+    rw (items, cleared) (take_at (plain_of (given_in flags plain)) _ (length plain) (length-cleared flags plain))
+
+pub invariant_of-self : goal.invariant_of-self
+invariant_of-self c =
+    let masks = c.flagged_masks-self-inside in
+    rw (items_are c) (kept_flagged c.args.plain.now masks.result c.args.flags.now masks.ensures.counted masks.ensures.small c.requires.flags masks.ensures.bits)
 
 pub returns : goal.returns
 returns c =
+    let flags = c.args.flags.now in
     let plain = c.args.plain.now in
-    let all = length-given_in (slice_index c.args.flags.now) plain in
-    c.loop-place.invariant ∙ take_all c.loop-place.place (given_in (slice_index c.args.flags.now) plain) (omega (arith, all, c.loop-place-test.false))
+    let masks = c.flagged_masks-self-inside in
+    rw (items_are c) (seen_flagged _ (slice_index flags) plain (front_bits plain masks.result flags masks.ensures.bits))
