@@ -1,9 +1,8 @@
 -- What is given of a cell, byte by byte, the highest first; and the masked merge of it into what was there.
-use Rattle.std.proofs.Common.{◌≡◌, ℕ, suc, ◌+◌, ◌*◌, ◌/◌, ◌%◌, ◌^◌, ◌<◌, List, [], ◌∷◌, length, drop, get_or, map, Option, Some, None, bit_and, bit_or, ◌⊎◌, inl, inr, refl, ap, ◌∙◌, arith}
+use Rattle.std.proofs.Common.{◌≡◌, ℕ, suc, ◌+◌, ◌*◌, ◌/◌, ◌%◌, ◌^◌, ◌<◌, List, [], ◌∷◌, length, map, Option, Some, None, bit_and, bit_or, ◌⊎◌, inl, inr, refl, ap, ◌∙◌, arith}
 use Rattle.std.specs.List.{zip}
 use Rattle.std.specs.Int.Bits.{or_zero_r, or_zero_l, and_zero_r}
 use Rattle.std.proofs.lemmas.Nat.{and_mask, or_shifted, shl_whole, pow-add}
-use Rattle.std.proofs.lemmas.List.{drop_more}
 use Rattle.tl_types.specs.declared.operation.AskOp.{AskOp}
 use Rattle.tl_types.specs.declared.operation.AskOp.TheVariants.{PutFull, PutPartial}
 use Rattle.tl_ops.specs.declared.kind.Kind.{Kind}
@@ -21,11 +20,6 @@ byte_below cell byte n small fits room =
     let high : (cell * 256 + byte) / 256 ≡ cell = omega (arith, small) in
     let more : 2 ^ (8 * suc n) ≡ 2 ^ (8 * n) * 256 = ap (λ k. 2 ^ k) (omega arith) ∙ pow-add 2 (8 * n) 8 in
     (rw (joined, low, high) refl, rw (joined, more) (omega (arith, fits, small)))
-
--- what is given at a place and after it
-pub given_more : {X : Type 0} (f : Option ℕ → X) (given : List (Option ℕ)) (k : ℕ) (d : Option ℕ) → k < length given
-    → map f (drop k given) ≡ f (get_or given k d) ∷ map f (drop (k + 1) given)
-given_more f given k d within = ap (map f) (drop_more given k d within)
 
 -- a byte that is not given stays, and one that is given replaces the old one
 pub merged_by_masks : (given : List (Option ℕ)) (old : ℕ)

@@ -1,10 +1,12 @@
 -- The bytes of words: what one word adds, a cell read, and a cell replaced.
-use Rattle.std.proofs.Common.{◌≡◌, ℕ, zero, suc, ◌+◌, ◌-◌, ◌*◌, ◌/◌, ◌%◌, ◌^◌, ◌<◌, ◌≤◌, List, [], ◌∷◌, ◌++◌, length, take, drop, set, get_or, replicate, slice_get, Some, refl, sym, ap, ◌∙◌, arith}
+use Rattle.std.proofs.Common.{◌≡◌, ℕ, zero, suc, ◌+◌, ◌-◌, ◌*◌, ◌/◌, ◌%◌, ◌^◌, ◌<◌, ◌≤◌, List, [], ◌∷◌, ◌++◌, length, take, take-add, drop, set, get_or, replicate, slice_get, Some, refl, sym, ap, ◌∙◌, arith}
 use Rattle.std.proofs.lemmas.Nat.{pow_pos, mod_below, shr_high}
-use Rattle.std.proofs.lemmas.List.{append_assoc, length-append, take_at, drop_at, length-take-le, length-drop, set-get_or}
+use Rattle.std.proofs.lemmas.List.{append_assoc, drop-drop, length-append, take_at, drop_at, length-take-le, length-drop, set-get_or}
+use Rattle.tl_types.specs.Bytes.{bytes_of_words}
 use Rattle.tl_ops.specs.Number.{low_bytes}
 use Rattle.tl_ops.specs.Store.{with_window}
 use Rattle.tl_ops.specs.Cell.{word_bytes, lanes_of, cell_of, with_cell}
+use Rattle.tl_ops.proofs.Numbers.{to_le_bytes-low}
 use Rattle.tl_ops.proofs.Bytes.{length-low_bytes, low_bytes-add, low_bytes-mod, low_bytes-above}
 
 -- ---- lists in three parts
@@ -139,6 +141,37 @@ word_written words i word within =
     let was = get_or words i 0 in
     let wide : length (word_bytes word) ≡ length (word_bytes was) = length-word_bytes word ∙ sym (length-word_bytes was) in
     rw (lanes_at words i 0 within) (lanes_set words i word within ∙ sym (middle_replaced (lanes_of (take i words)) (word_bytes was) (lanes_of (drop (suc i) words)) (word_bytes word) (8 * i) (words_long words i within) wide))
+
+-- words from one on
+lanes_before : (words : List ℕ) (n : ℕ) → n ≤ length words → take (8 * n) (lanes_of words) ≡ lanes_of (take n words)
+unfolding lanes_of
+lanes_before words zero within = refl
+lanes_before [] (suc n) within = absurd (omega (arith, within))
+lanes_before (w ∷ words) (suc n) within =
+    let e : 8 * suc n ≡ 8 + 8 * n = omega arith in
+    ap (λ k. take k (word_bytes w ++ lanes_of words)) e ∙ take-add 8 (8 * n) (word_bytes w ++ lanes_of words)
+    ∙ rw (take_at (word_bytes w) (lanes_of words) 8 (length-word_bytes w), drop_at (word_bytes w) (lanes_of words) 8 (length-word_bytes w), lanes_before words n (omega (arith, within))) refl
+
+lanes_after : (words : List ℕ) (n : ℕ) → n ≤ length words → drop (8 * n) (lanes_of words) ≡ lanes_of (drop n words)
+unfolding lanes_of
+lanes_after words zero within = refl
+lanes_after [] (suc n) within = absurd (omega (arith, within))
+lanes_after (w ∷ words) (suc n) within =
+    let e : 8 * suc n ≡ 8 + 8 * n = omega arith in
+    ap (λ k. drop k (word_bytes w ++ lanes_of words)) e ∙ sym (drop-drop (8 * n) 8 (word_bytes w ++ lanes_of words))
+    ∙ ap (drop (8 * n)) (drop_at (word_bytes w) (lanes_of words) 8 (length-word_bytes w)) ∙ lanes_after words n (omega (arith, within))
+
+-- std's bytes of words
+bytes_of-words : (words : List ℕ) → bytes_of_words words ≡ lanes_of words
+unfolding lanes_of word_bytes
+bytes_of-words [] = refl
+bytes_of-words (w ∷ words) = ap (λ bytes. bytes ++ bytes_of_words words) (to_le_bytes-low w) ∙ ap (λ bytes. low_bytes 8 w ++ bytes) (bytes_of-words words)
+
+pub words_read : (words : List ℕ) (start first count : ℕ) → start ≡ 8 * first → first + count ≤ length words → bytes_of_words (take count (drop first words)) ≡ take (8 * count) (drop start (lanes_of words))
+words_read words start first count at within =
+    let rest = length-drop first words in
+    bytes_of-words (take count (drop first words)) ∙ sym (lanes_before (drop first words) count (omega (arith, within, rest)))
+    ∙ ap (take (8 * count)) (sym (lanes_after words first (omega (arith, within)))) ∙ ap (λ n. take (8 * count) (drop n (lanes_of words))) (sym at)
 
 -- the byte at a place, from a window of one
 pub byte_at_place : (bytes : List ℕ) (place byte : ℕ) → byte ∷ [] ≡ take 1 (drop place bytes) → slice_get bytes place ≡ Some byte

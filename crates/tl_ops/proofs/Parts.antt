@@ -1,16 +1,14 @@
 -- The part of a request's bytes that one word has.
-use Rattle.std.proofs.Common.{◌≡◌, ℕ, zero, suc, ◌+◌, ◌-◌, ◌*◌, ◌/◌, ◌^◌, ◌<◌, ◌≤◌, min, List, [], ◌∷◌, length, take, drop, get_or, slice_get, Option, Some, None, unwrap_or, refl, sym, ap, ◌∙◌, arith}
+use Rattle.std.proofs.Common.{◌≡◌, ℕ, zero, suc, ◌+◌, ◌-◌, ◌*◌, ◌/◌, ◌^◌, ◌<◌, ◌≤◌, min, List, [], ◌∷◌, length, take, drop, get_or, slice_index, Option, Some, None, unwrap_or, refl, sym, ap, ◌∙◌, arith}
 use Rattle.std.specs.Int.{bit_at}
 use Rattle.std.proofs.lemmas.Grind.{same_number_lists}
-use Rattle.std.proofs.lemmas.List.{length-take, length-drop, length-map, get_or-drop, get_or-map, get_or-take, take_all}
-use Rattle.std.proofs.lemmas.Nat.Bits.{bit_at_ones, ones_shr}
+use Rattle.std.proofs.lemmas.List.{length-take, length-drop, length-map, get_or_append_left, get_or-drop, get_or-map, get_or-take, take_all}
 use Rattle.std.proofs.lemmas.Option.{unwrap_or-slice_get}
-use Rattle.tl_types.proofs.Lists.{slice_get-take, slice_get-drop}
 use Rattle.tl_types.specs.Bytes.{mask_bit, plain_of, IsMaskOf}
 use Rattle.tl_ops.specs.Number.{low_bytes}
 use Rattle.tl_ops.specs.Window.{operand_of}
 use Rattle.tl_ops.specs.Cell.{keep_bit, keep_byte, keep_of, word_of}
-use Rattle.tl_ops.proofs.Bytes.{length-low_bytes}
+use Rattle.tl_ops.proofs.Bytes.{length-low_bytes, low_bytes-add}
 
 take_short : {X : Type 0} (n : ℕ) (xs : List X) → take (min (length xs) n) xs ≡ take n xs
 take_short {X} zero [] = let e : min (length {A = X} []) 0 ≡ 0 = omega arith in let none : List X = [] in ap (λ m. take m none) e
@@ -43,32 +41,6 @@ plain_part given from count = ap (take count) (drop-map given from) ∙ take-map
     take-map [] (suc n) = refl
     take-map (x ∷ xs) (suc n) = ap (λ ys. unwrap_or x 0 ∷ ys) (take-map xs n)
 
--- where a mask has all ones, no lane keeps its byte
-pub none_kept : (given : List (Option ℕ)) (word mask count : ℕ) → IsMaskOf given word mask → count ≡ min (length given - 8 * word) 8 → mask ≡ 255 / 2 ^ (8 - count) → low_bytes count 0 ≡ keep_of (word_of given word)
-none_kept given word mask count is count_is ones =
-    let part = word_of given word in
-    let long : length part ≡ count = length-word_of given word count count_is in
-    same_number_lists (low_bytes count 0) (keep_of part) (length-low_bytes count 0 ∙ sym (length-map part keep_byte ∙ long)) (λ k h. zero_at count k ∙ sym (given_at part k (omega (arith, h, length-low_bytes count 0, long)) (set k (omega (arith, h, length-low_bytes count 0)))))
-  where
-    zero_at : (n k : ℕ) → get_or (low_bytes n 0) k 0 ≡ 0
-    zero_at zero k = refl
-    zero_at (suc n) zero = refl
-    zero_at (suc n) (suc k) = zero_at n k
-
-    given_at : (part : List (Option ℕ)) (k : ℕ) → k < length part → mask_bit (unwrap_or (slice_get part k) None) ≡ 1 → get_or (keep_of part) k 0 ≡ 0
-    given_at part k within one = get_or-map keep_byte part k None 0 within ∙ ap keep_byte (sym (unwrap_or-slice_get part k None)) ∙ drops (unwrap_or (slice_get part k) None) one
-      where
-        drops : (byte : Option ℕ) → mask_bit byte ≡ 1 → keep_byte byte ≡ 0
-        drops None one = absurd (omega (arith, one))
-        drops (Some byte) one = refl
-
-    set : (k : ℕ) → k < count → mask_bit (unwrap_or (slice_get (word_of given word) k) None) ≡ 1
-    set k below =
-        let small : k < 8 = omega (arith, below, count_is) in
-        let back : 8 - (8 - count) ≡ count = omega (arith, count_is) in
-        let same : slice_get (word_of given word) k ≡ slice_get given (8 * word + k) = slice_get-take 8 (drop (8 * word) given) k small ∙ slice_get-drop (8 * word) given k in
-        ap (λ o. mask_bit (unwrap_or o None)) same ∙ sym (is k small) ∙ ap (λ m. bit_at m k) (ones ∙ ones_shr 8 (8 - count) (omega arith) ∙ ap (λ n. 2 ^ n - 1) back) ∙ bit_at_ones count k below
-
 -- the number that the plain bytes of a word spell has the bytes of the operand
 pub spelled_word : (given : List (Option ℕ)) (plain : List ℕ) (word n m number : ℕ) → plain ≡ plain_of given → n ≡ min (length given - 8 * word) 8 → m ≡ n → low_bytes (length (take m (drop (8 * word) plain))) number ≡ take m (drop (8 * word) plain) → low_bytes (length (word_of given word)) number ≡ operand_of (word_of given word)
 spelled_word given plain word n m number plain_is n_is m_is spells =
@@ -90,3 +62,22 @@ bit_of_part given word count k mask inside lane is =
 pub keep_bit-mask_bit : (byte : Option ℕ) → keep_bit (mask_bit byte) ≡ keep_byte byte
 keep_bit-mask_bit None = refl
 keep_bit-mask_bit (Some byte) = refl
+
+-- the lanes of a word that keep their byte, by the mask of those that are given
+pub kept_word : (given : List (Option ℕ)) (word mask keep : ℕ) → IsMaskOf given word mask → ((lane : ℕ) → lane < 8 → slice_index (low_bytes 8 keep) lane ≡ keep_bit (bit_at mask lane)) → low_bytes (length (word_of given word)) keep ≡ keep_of (word_of given word)
+kept_word given word mask keep is lanes =
+    same_number_lists (low_bytes n keep) (keep_of part) (length-low_bytes n keep ∙ sym (length-map part keep_byte)) (λ k h. lane k (omega (arith, h, length-low_bytes n keep)))
+  where
+    part : List (Option ℕ)
+    part = word_of given word
+
+    n : ℕ
+    n = length part
+
+    lane : (k : ℕ) → k < n → slice_index (low_bytes n keep) k ≡ slice_index (keep_of part) k
+    lane k within =
+        let in_word : k < 8 = omega (arith, within, length-take 8 (drop (8 * word) given)) in
+        let parts : 8 ≡ n + (8 - n) = omega (arith, length-take 8 (drop (8 * word) given)) in
+        let front : slice_index (low_bytes n keep) k ≡ slice_index (low_bytes 8 keep) k =
+        sym (ap (λ m. slice_index (low_bytes m keep) k) parts ∙ ap (λ bs. slice_index bs k) (low_bytes-add n (8 - n) keep) ∙ get_or_append_left (low_bytes n keep) (low_bytes (8 - n) (keep / 2 ^ (8 * n))) 0 k (omega (arith, within, length-low_bytes n keep))) in
+        front ∙ lanes k in_word ∙ ap keep_bit (bit_of_part given word 8 k mask in_word in_word is) ∙ keep_bit-mask_bit (get_or part k None) ∙ sym (get_or-map keep_byte part k None 0 within)

@@ -1,12 +1,12 @@
 //! Some bytes of one word, next to one another, as one number: a cell, and what a request makes of it.
-ghost use Rattle.std.specs.Prelude.{◌≡◌, ◌+◌, ◌*◌, ◌-◌, ◌^◌, ◌<◌, ◌≤◌, length, take, drop};
+ghost use Rattle.std.specs.Prelude.{◌≡◌, ℕ, ◌+◌, ◌*◌, ◌-◌, ◌^◌, ◌<◌, ◌≤◌, length, slice_index};
 ghost use Rattle.std.specs.Int.{bit_at};
 ghost use Rattle.tl_ops.specs.Number.{signed, low_bytes};
 ghost use Rattle.tl_ops.specs.Window.{operand_of, combine_arith, combine_logic, new_window, cleared};
 ghost use Rattle.tl_ops.specs.Cell.{cell_of, with_cell, keep_bit, keep_of, word_of};
 ghost use Rattle.tl_ops.specs.declared.kind.Kind.TheVariants.{Ram};
 
-use tl_types::{Arith, AskOp, BUS_BYTES, Bytes, Logic, MAX_BYTES};
+use tl_types::{Arith, AskOp, BUS_BYTES, Bytes, Logic};
 
 /// The mask of a cell of so many bytes, at the lowest lanes.
 fn cell_mask(width: usize) -> u64
@@ -45,12 +45,33 @@ pub struct Given {
     pub keep: u64,
 }
 
-/// The mask of a lane that keeps its byte where no bit says that one is given.
-fn keep_lane(mask: u8, lane: usize) -> u8
-    requires { lane < BUS_BYTES }
-    ensures { result ≡ keep_bit (bit_at mask lane) }
+/// For each half of a word's mask, the mask of the lanes that keep their byte, since no bit says that one is given.
+const KEPT: [u32; 16] = [
+    0xffff_ffff,
+    0xffff_ff00,
+    0xffff_00ff,
+    0xffff_0000,
+    0xff00_ffff,
+    0xff00_ff00,
+    0xff00_00ff,
+    0xff00_0000,
+    0x00ff_ffff,
+    0x00ff_ff00,
+    0x00ff_00ff,
+    0x00ff_0000,
+    0x0000_ffff,
+    0x0000_ff00,
+    0x0000_00ff,
+    0x0000_0000,
+];
+
+/// The mask of the lanes that keep their byte, where a word has this mask of those that are given.
+fn kept_lanes(mask: u8) -> u64
+    ensures { (lane : ℕ) → lane < BUS_BYTES → slice_index (low_bytes BUS_BYTES result) lane ≡ keep_bit (bit_at mask lane) }
 {
-    if mask >> lane & 1 == 1 { 0 } else { u8::MAX }
+    let low = u64::from(KEPT[usize::from(mask & 0xf)]);
+    let high = u64::from(KEPT[usize::from(mask >> 4)]);
+    high << 32 | low
 }
 
 /// The cell that these bytes spell.
@@ -71,21 +92,6 @@ fn spelled(bytes: &[u8]) -> u64
     cell
 }
 
-/// The mask of the lanes that keep their byte, for so many bytes of a word of a request.
-fn kept(bytes: &Bytes, word: usize, count: usize) -> u64
-    requires in_word { count ≤ BUS_BYTES }
-    requires in_limit { BUS_BYTES * word < MAX_BYTES }
-    requires inside { BUS_BYTES * word + count ≤ length bytes.now }
-    ensures { low_bytes count result ≡ keep_of (take count (drop (BUS_BYTES * word) bytes.now)) }
-{
-    let mask = bytes.mask(word);
-    let mut keep = 0u64;
-    for lane in (0..count).rev() {
-        keep = keep << 8 | u64::from(keep_lane(mask, lane));
-    }
-    keep
-}
-
 /// What a word of a request's bytes gives.
 fn given_word(bytes: &Bytes, word: usize) -> Given
     requires { BUS_BYTES * word < length bytes.now }
@@ -98,14 +104,9 @@ fn given_word(bytes: &Bytes, word: usize) -> Given
     let len = bytes.len();
     let from = BUS_BYTES * word;
     let count = (len - from).min(BUS_BYTES);
-    let all_given = bytes.mask(word) == u8::MAX >> (BUS_BYTES - count);
     Given {
         bytes: spelled(&bytes.plain()[from..from + count]),
-        keep: if all_given {
-            0
-        } else {
-            kept(bytes, word, count)
-        },
+        keep: kept_lanes(bytes.mask(word)),
     }
 }
 

@@ -1,5 +1,6 @@
 //! Bytes kept in words of the bus, and read and written a word at a time.
 ghost use Rattle.std.specs.Prelude.{◌≡◌, ◌+◌, ◌-◌, ◌*◌, ◌%◌, ◌^◌, ◌<◌, ◌≤◌, ◌++◌, ◌∷◌, [], length, take, drop, replicate, slice_get, Some, IfOk};
+ghost use Rattle.tl_types.specs.Bytes.{bytes_of_words};
 ghost use Rattle.tl_ops.specs.Number.{low_bytes};
 ghost use Rattle.tl_ops.specs.Store.{with_window};
 ghost use Rattle.tl_ops.specs.Window.{merged, new_window, cleared, operand_of};
@@ -125,14 +126,6 @@ impl Lanes {
         self.cell(place, 1) as u8
     }
 
-    /// Word number `i`.
-    fn word(&self, i: usize) -> u64
-        requires { BUS_BYTES * i + BUS_BYTES ≤ length self.now }
-        ensures { low_bytes BUS_BYTES result ≡ take BUS_BYTES (drop (BUS_BYTES * i) self.now) }
-    {
-        self.words[i]
-    }
-
     /// Puts word number `k` of the given bytes into word number `i`.
     fn put_word(&mut self, i: usize, given: &Bytes, k: usize)
         requires width { BUS_BYTES * k + BUS_BYTES ≤ length given.now }
@@ -146,19 +139,13 @@ impl Lanes {
     }
 
     /// So many words from a place on.
-    pub fn whole_words(&self, start: usize, count: usize) -> Window
+    pub fn words(&self, start: usize, count: usize) -> &[u64]
         requires whole { start % BUS_BYTES ≡ 0 }
-        requires room { BUS_BYTES * count ≤ MAX_BYTES }
         requires inside { start + BUS_BYTES * count ≤ length self.now }
-        ensures { result.items ≡ take (BUS_BYTES * count) (drop start self.now) }
+        ensures { bytes_of_words result.now ≡ take (BUS_BYTES * count) (drop start self.now) }
     {
-        let mut bytes = Window::new();
-        // said once more, the limit lets the compiler unroll the loop: then each word has a known place
-        for k in 0..count.min(MAX_BYTES / BUS_BYTES) {
-            let word = self.word(start / BUS_BYTES + k);
-            bytes.try_extend_from_slice(&word.to_le_bytes()).unwrap();
-        }
-        bytes
+        let first = start / BUS_BYTES;
+        &self.words[first..first + count]
     }
 
     /// Puts the given bytes from a place on: into a cell, or into whole words.
