@@ -12,7 +12,7 @@ use Rattle.tl_types.specs.declared.limits.TheConstants.{LARGEST_SIZE}
 use Rattle.tl_types.proofs.Operations.{no_fault_of_code}
 use Rattle.tl_beats.specs.Beats.{low, lane_of, beat_count, active_mask, IsLawfulMask, StandsAt, SpellsAsk}
 use Rattle.tl_beats.specs.Faults.{SameFields, HasBeatFault, beat_fault_rank, IsFirstBeatFault}
-use Rattle.tl_beats.specs.Reading.{Gains, GainsLanes, HasLawfulMask, AreFaultless, AreBytesOf, IsReadFrom, IsFaultOfBeats}
+use Rattle.tl_beats.specs.Reading.{Gains, GainsLanes, HasLawfulMask, AreFaultless, AreBytesOf, IsBegun, IsReadFrom, IsFaultOfBeats}
 use Rattle.tl_beats.specs.declared.beat.ABeat.{ABeat}
 use Rattle.tl_beats.specs.declared.beat.BeatFault.{BeatFault}
 use Rattle.tl_beats.specs.declared.beat.BeatFault.TheVariants.{NoBeat, Op, Size, Count, Changed, Mask, CorruptFlag}
@@ -62,6 +62,10 @@ bytes_all beats first op b bytes counted over so_far =
       each = λ j given beat at found. so_far.each j given at beat found;
     }
 
+-- a request that carries none has no bytes
+pub bytes_of_none : (beats : List ABeat) (first : ABeat) (op : AskOp) → carries_bytes op ≡ false → AreBytesOf beats first op []
+bytes_of_none beats first op none = record { counted = rw none refl; each = λ j given beat at found. absurd (cc) }
+
 -- beats without fault and the bytes that stand in them
 pub read_from : (beats : List ABeat) (first : ABeat) (op : AskOp) (bytes : List (Option ℕ)) → AreFaultless beats first op → AreBytesOf beats first op bytes → IsReadFrom beats first op bytes
 read_from beats first op bytes faultless read = record { same = faultless.same; masks = faultless.masks; counted = read.counted; each = read.each }
@@ -88,12 +92,6 @@ no_bad_mask ask beats first op b head spells same fails =
     found.2 (mask_same op ask.op first.size ask.size first.address ask.address found.0.mask same (sym there.size) (sym there.address) lawful)
 
 -- ---- beats whose first beat has no fault
-
-pub record IsBegun (beats : List ABeat) (first : ABeat) (op : AskOp) : Type 0 where
-  pub head : slice_get beats 0 ≡ Some first
-  pub code : IsCodeOf op first.opcode first.param
-  pub in_limit : first.size ≤ LARGEST_SIZE
-  pub count : length beats ≡ beat_count (carries_bytes op) first.size
 
 -- no request is spelled where a beat is at fault
 pub no_request : (beats : List ABeat) (first : ABeat) (op : AskOp) (fault : BeatFault) → IsBegun beats first op → IsFaultOfBeats beats first op fault → (ask : Request) → SpellsAsk ask beats → ⊥

@@ -1,5 +1,5 @@
 -- What is known of the beats of a reply that are read one by one.
-use Rattle.std.proofs.Common.{◌≡◌, ◌≢◌, ◌∙◌, ℕ, ◌/◌, ◌<◌, ◌≤◌, Bool, List, length, Some, None, slice_get, get_or, ap, sym, subst, arith}
+use Rattle.std.proofs.Common.{◌≡◌, ◌≢◌, ◌∙◌, ℕ, ◌/◌, ◌<◌, Bool, List, length, Some, None, slice_get, get_or, ap, sym, subst, arith}
 use Rattle.std.specs.Prelude.{IsSomeAnd}
 use Rattle.std.proofs.lemmas.Option.{slice_get_within, slice_get-get_or}
 use Rattle.tl_types.specs.List.{HoldsBelow, FailsFirstAt}
@@ -13,7 +13,7 @@ use Rattle.tl_types.specs.declared.limits.TheConstants.{LARGEST_SIZE}
 use Rattle.tl_beats.specs.Beats.{beat_count}
 use Rattle.tl_beats.specs.Replies.{IsLawfulFlag, SpellsReply}
 use Rattle.tl_beats.specs.Faults.{SameReplyFields, HasReplyBeatFault, beat_fault_rank, IsFirstReplyBeatFault}
-use Rattle.tl_beats.specs.Reading.{HasLawfulFlag, AreFaultlessReply, AreReplyBytesOf, IsReplyReadFrom, IsFaultOfReplyBeats}
+use Rattle.tl_beats.specs.Reading.{HasLawfulFlag, AreFaultlessReply, AreReplyBytesOf, IsReplyBegun, IsReplyReadFrom, IsFaultOfReplyBeats}
 use Rattle.tl_beats.specs.declared.beat.DBeat.{DBeat}
 use Rattle.tl_beats.specs.declared.beat.BeatFault.{BeatFault}
 use Rattle.tl_beats.specs.declared.beat.BeatFault.TheVariants.{NoBeat, Op, Size, Count, Changed, Mask, CorruptFlag}
@@ -48,12 +48,6 @@ no_bad_flag reply address beats first op b head spells same fails =
     found.2 (flag_same op reply.op first.denied reply.denied found.0.corrupt same (sym there.denied) lawful)
 
 -- ---- beats whose first beat has no fault
-
-pub record IsReplyBegun (beats : List DBeat) (first : DBeat) (op : ReplyOp) : Type 0 where
-  pub head : slice_get beats 0 ≡ Some first
-  pub code : reply_opcode_of op ≡ first.opcode
-  pub in_limit : first.size ≤ LARGEST_SIZE
-  pub count : length beats ≡ beat_count (reply_carries_bytes op) first.size
 
 -- no reply is spelled where a beat is at fault
 pub no_reply : (beats : List DBeat) (first : DBeat) (op : ReplyOp) (fault : BeatFault) → IsReplyBegun beats first op → IsFaultOfReplyBeats beats first op fault → (reply : Response) (address : ℕ) → SpellsReply reply address beats → ⊥

@@ -1,9 +1,10 @@
 -- What the steps of assembling know: this project's own words.
-use Rattle.std.specs.Prelude.{◌≡◌, ℕ, ◌+◌, ◌/◌, ◌%◌, ◌<◌, ◌⊎◌, Bool, false, List, length, Option, Some, slice_get, slice_index, IsTrue}
+use Rattle.std.specs.Prelude.{◌≡◌, ℕ, ◌+◌, ◌/◌, ◌%◌, ◌<◌, ◌≤◌, ◌⊎◌, Bool, false, List, length, Option, Some, slice_get, slice_index, IsTrue}
 use Rattle.tl_types.specs.List.{HoldsBelow, FailsFirstAt}
-use Rattle.tl_types.specs.Operation.{byte_count, reply_byte_count}
+use Rattle.tl_types.specs.Operation.{carries_bytes, byte_count, reply_carries_bytes, reply_byte_count}
+use Rattle.tl_types.specs.Wire.{IsCodeOf, reply_opcode_of}
 use Rattle.tl_types.specs.declared.operation.AskOp.{AskOp}
-use Rattle.tl_beats.specs.Beats.{lane_of, IsLawfulMask, StandsAt}
+use Rattle.tl_beats.specs.Beats.{lane_of, beat_count, IsLawfulMask, StandsAt}
 use Rattle.tl_beats.specs.Replies.{IsLawfulFlag}
 use Rattle.tl_beats.specs.Faults.{SameFields, SameReplyFields}
 use Rattle.tl_types.specs.declared.operation.ReplyOp.{ReplyOp}
@@ -11,7 +12,14 @@ use Rattle.tl_beats.specs.declared.beat.ABeat.{ABeat}
 use Rattle.tl_beats.specs.declared.beat.DBeat.{DBeat}
 use Rattle.tl_beats.specs.declared.beat.BeatFault.{BeatFault}
 use Rattle.tl_beats.specs.declared.beat.BeatFault.TheVariants.{NoBeat, Op, Size, Count, Changed, Mask, CorruptFlag}
-use Rattle.tl_types.specs.declared.limits.TheConstants.{BUS_BYTES}
+use Rattle.tl_types.specs.declared.limits.TheConstants.{BUS_BYTES, LARGEST_SIZE}
+
+-- beats whose first one has no fault
+pub record IsBegun (beats : List ABeat) (first : ABeat) (op : AskOp) : Type 0 where
+  pub head : slice_get beats 0 ≡ Some first
+  pub code : IsCodeOf op first.opcode first.param
+  pub in_limit : first.size ≤ LARGEST_SIZE
+  pub count : length beats ≡ beat_count (carries_bytes op) first.size
 
 -- a list has gained this many elements at its end, of which the k-th has the property `P k`, and kept the others
 pub record Gains {X : Type 0} (P : ℕ → X → Type 0) (count : ℕ) (old new : List X) : Type 0 where
@@ -56,6 +64,13 @@ IsFaultOfBeats beats first op (Changed b) = FailsFirstAt (SameFields first) beat
 IsFaultOfBeats beats first op (Mask b) =
     HoldsBelow (SameFields first) beats (length beats) × FailsFirstAt (HasLawfulMask op first) beats b
 IsFaultOfBeats beats first op (CorruptFlag b) = ⊥
+
+-- beats of a reply whose first one has no fault
+pub record IsReplyBegun (beats : List DBeat) (first : DBeat) (op : ReplyOp) : Type 0 where
+  pub head : slice_get beats 0 ≡ Some first
+  pub code : reply_opcode_of op ≡ first.opcode
+  pub in_limit : first.size ≤ LARGEST_SIZE
+  pub count : length beats ≡ beat_count (reply_carries_bytes op) first.size
 
 -- a byte of a reply stands at a lane, or is zero where the reply is denied
 pub record StandsInReply (denied : Bool) (lanes : List ℕ) (lane byte : ℕ) : Type 0 where

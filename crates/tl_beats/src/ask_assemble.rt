@@ -1,11 +1,11 @@
 //! Beats to requests.
-ghost use Rattle.std.specs.Prelude.{◌≡◌, ℕ, ◌+◌, ◌%◌, ◌<◌, ◌≤◌, ◌↔◌, length, Ok, IsTrue, MatchOption, OnOk, IfOk, IfErr};
+ghost use Rattle.std.specs.Prelude.{◌≡◌, ℕ, ◌+◌, ◌%◌, ◌<◌, ◌≤◌, ◌↔◌, [], length, Ok, IsTrue, IsOk, MatchOption, OnOk, OnErr, IfOk, IfErr};
 ghost use Rattle.tl_types.specs.List.{HoldsBelow, FailsFirstAt};
 ghost use Rattle.tl_types.specs.Operation.{carries_bytes};
 ghost use Rattle.tl_types.specs.Request.{Request, IsLawfulRequest};
 ghost use Rattle.tl_beats.specs.Beats.{beat_count, active_mask, IsLawfulMask, StandsAt, SpellsAsk};
 ghost use Rattle.tl_beats.specs.Faults.{SameFields, IsFirstBeatFault};
-ghost use Rattle.tl_beats.specs.Reading.{GainsLanes, AreFaultless, AreBytesOf, IsFaultOfBeats};
+ghost use Rattle.tl_beats.specs.Reading.{GainsLanes, AreFaultless, AreBytesOf, IsBegun, IsFaultOfBeats};
 
 use crate::beat::{ABeat, BeatFault};
 use crate::bus::{active_mask, beat_count, first_lane};
@@ -106,27 +106,54 @@ fn check_beats(beats: &[ABeat], first: &ABeat, op: AskOp) -> Result<(), BeatFaul
     Ok(())
 }
 
-/// The bytes that stand in the beats of a request.
-fn bytes_of_beats(beats: &[ABeat], first: &ABeat, op: AskOp) -> Bytes
+/// Gathers the bytes that stand in the beats of a request, where there are none yet.
+fn gather_bytes(beats: &[ABeat], first: &ABeat, op: AskOp, bytes: &mut Bytes)
     requires in_limit { first.now.size ≤ LARGEST_SIZE }
     requires count { length beats.now ≡ beat_count (carries_bytes op) first.now.size }
-    ensures { AreBytesOf beats.now first.now op result }
+    requires none { bytes.old ≡ [] }
+    ensures { AreBytesOf beats.now first.now op bytes.new }
 {
     let lane = first_lane(first.address, first.size);
     let count = op.byte_count(first.size).min(BUS_BYTES);
-    let mut bytes = Bytes::new();
     for beat in beats {
-        push_lanes(&mut bytes, beat, lane, count);
+        push_lanes(bytes, beat, lane, count);
     }
-    bytes
 }
 
-/// The request that beats spell, or the first fault that they have.
-pub fn assemble_ask(beats: &[ABeat]) -> Result<Ask, BeatFault>
-    ensures ok { IfOk result (λ ask. SpellsAsk ask beats.now) }
-    ensures all { (ask : Request) → IsLawfulRequest ask.op ask.size ask.bytes
-        → SpellsAsk ask beats.now → result ≡ Ok ask }
+/// Puts the request that carries the bytes of these beats, which have no fault, in the place of another.
+// a function of its own, since it holds room for the longest message
+fn fill_with_bytes(beats: &[ABeat], first: &ABeat, op: AskOp, ask: &mut Ask)
+    requires begun { IsBegun beats.now first.now op }
+    requires faultless { AreFaultless beats.now first.now op }
+    ensures lawful { IsLawfulRequest ask.new.op ask.new.size ask.new.bytes }
+    ensures spells { SpellsAsk ask.new beats.now }
+{
+    let mut bytes = Bytes::new();
+    gather_bytes(beats, first, op, &mut bytes);
+    ask.refill_from(op, first.size, first.source, first.address, &bytes);
+}
+
+/// Puts the request that these beats spell, which have no fault, in the place of another.
+fn fill_ask(beats: &[ABeat], first: &ABeat, op: AskOp, ask: &mut Ask)
+    requires begun { IsBegun beats.now first.now op }
+    requires faultless { AreFaultless beats.now first.now op }
+    ensures lawful { IsLawfulRequest ask.new.op ask.new.size ask.new.bytes }
+    ensures spells { SpellsAsk ask.new beats.now }
+{
+    if op.carries_bytes() {
+        fill_with_bytes(beats, first, op, ask);
+    } else {
+        ask.refill(op, first.size, first.source, first.address, &[]);
+    }
+}
+
+/// Puts the request that beats spell in the place of another, or names the first fault that they have.
+pub fn assemble_ask_into(beats: &[ABeat], ask: &mut Ask) -> Result<(), BeatFault>
+    ensures ok { OnOk result (SpellsAsk ask.new beats.now) }
+    ensures all { (request : Request) → IsLawfulRequest request.op request.size request.bytes
+        → SpellsAsk request beats.now → IsOk result × (ask.new ≡ request) }
     ensures fault { IfErr result (IsFirstBeatFault beats.now) }
+    ensures kept { OnErr result (ask.new ≡ ask.old) }
 {
     let first = beats.first().ok_or(BeatFault::NoBeat)?;
     let op = read_op(first.opcode, first.param).map_err(BeatFault::Op)?;
@@ -137,6 +164,18 @@ pub fn assemble_ask(beats: &[ABeat]) -> Result<Ask, BeatFault>
         return Err(BeatFault::Count);
     }
     check_beats(beats, first, op)?;
-    let bytes = bytes_of_beats(beats, first, op);
-    Ok(Ask::from_parts(op, first.size, first.source, first.address, bytes))
+    fill_ask(beats, first, op, ask);
+    Ok(())
+}
+
+/// The request that beats spell, or the first fault that they have.
+pub fn assemble_ask(beats: &[ABeat]) -> Result<Ask, BeatFault>
+    ensures ok { IfOk result (λ ask. SpellsAsk ask beats.now) }
+    ensures all { (ask : Request) → IsLawfulRequest ask.op ask.size ask.bytes
+        → SpellsAsk ask beats.now → result ≡ Ok ask }
+    ensures fault { IfErr result (IsFirstBeatFault beats.now) }
+{
+    let mut ask = Ask::blank();
+    assemble_ask_into(beats, &mut ask)?;
+    Ok(ask)
 }

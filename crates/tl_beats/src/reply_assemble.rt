@@ -1,16 +1,14 @@
 //! Beats to replies.
-ghost use Rattle.std.specs.Prelude.{◌≡◌, ◌+◌, ◌*◌, ◌/◌, ◌%◌, ◌^◌, ◌≤◌, ◌↔◌, ◌&&◌, Bool, length, take, drop, slice_get, Ok, Some, IsTrue, MatchOption, OnOk, IfOk, IfErr};
+ghost use Rattle.std.specs.Prelude.{◌≡◌, ◌+◌, ◌*◌, ◌/◌, ◌%◌, ◌^◌, ◌≤◌, ◌↔◌, ◌&&◌, Bool, false, length, Ok, IsTrue, IsOk, MatchOption, OnOk, OnErr, IfOk, IfErr};
 ghost use Rattle.tl_types.specs.List.{HoldsBelow, FailsFirstAt};
-ghost use Rattle.tl_types.specs.Operation.{reply_carries_bytes};
+ghost use Rattle.tl_types.specs.Operation.{reply_carries_bytes, reply_byte_count};
 ghost use Rattle.tl_types.specs.Response.{Response, IsLawfulResponse};
-ghost use Rattle.tl_beats.specs.Beats.{beat_count};
 ghost use Rattle.tl_beats.specs.Replies.{IsLawfulFlag, SpellsReply};
 ghost use Rattle.tl_beats.specs.Faults.{SameReplyFields, IsFirstReplyBeatFault};
-ghost use Rattle.tl_beats.specs.Reading.{AreFaultlessReply, AreLanesOf, AreReplyBytesOf, IsFaultOfReplyBeats};
+ghost use Rattle.tl_beats.specs.Reading.{AreFaultlessReply, AreLanesOf, IsReplyBegun, IsFaultOfReplyBeats};
 
 use crate::beat::{BeatFault, DBeat, MAX_BEATS};
 use crate::bus::{beat_count, first_lane};
-use arrayvec::ArrayVec;
 use tl_types::{BUS_BYTES, LARGEST_SIZE, MAX_BYTES, Reply, ReplyOp, read_reply_op};
 
 /// The opcode, size and source of a beat as one number. They lie side by side, so that they are read at once.
@@ -80,65 +78,77 @@ fn check_reply_beats(beats: &[DBeat], first: &DBeat, op: ReplyOp) -> Result<(), 
     Ok(())
 }
 
-/// The lanes of all beats, one beat after the other.
-fn lanes_of(beats: &[DBeat]) -> [u8; MAX_BYTES]
+/// Puts the lanes of all beats, one beat after the other, over others.
+fn put_lanes(beats: &[DBeat], lanes: &mut [u8; MAX_BYTES])
     requires { length beats.now ≤ MAX_BEATS }
-    ensures { AreLanesOf beats.now result }
+    ensures { AreLanesOf beats.now lanes.new }
 {
-    let mut lanes = [0; MAX_BYTES];
     for (b, beat) in beats.iter().enumerate() {
         let start = BUS_BYTES * b;
         lanes[start..start + BUS_BYTES].copy_from_slice(&beat.lanes);
     }
-    lanes
 }
 
-/// So many lanes from `first` on.
-fn part_of_lanes(lanes: &[u8; BUS_BYTES], first: usize, count: usize) -> ArrayVec<u8, MAX_BYTES>
-    requires { first + count ≤ BUS_BYTES }
-    ensures { result.items ≡ take count (drop first lanes.now) }
+/// Puts the reply of these beats, which have no fault, fill the bus and are not denied, in the place of another.
+// a function of its own, since it holds room for the longest message
+fn fill_wide(beats: &[DBeat], first: &DBeat, op: ReplyOp, address: u64, reply: &mut Reply)
+    requires begun { IsReplyBegun beats.now first.now op }
+    requires faultless { AreFaultlessReply beats.now first.now op }
+    requires given { first.now.denied ≡ false }
+    requires wide { BUS_BYTES ≤ reply_byte_count op first.now.size }
+    ensures lawful { IsLawfulResponse reply.new.op reply.new.size reply.new.denied reply.new.bytes }
+    ensures spells { SpellsReply reply.new address beats.now }
 {
-    ArrayVec::try_from(&lanes[first..first + count]).unwrap()
+    let mut lanes = [0; MAX_BYTES];
+    put_lanes(beats, &mut lanes);
+    let bytes = &lanes[..op.byte_count(first.size)];
+    reply.refill(op, first.size, first.source, first.denied, bytes);
 }
 
-/// The first so many of these bytes.
-fn leading(plain: [u8; MAX_BYTES], count: usize) -> ArrayVec<u8, MAX_BYTES>
-    ensures { result.items ≡ take count plain }
+/// Puts the denied reply of these beats, which have no fault, in the place of another: its bytes are zeros.
+fn fill_denied(beats: &[DBeat], first: &DBeat, op: ReplyOp, address: u64, reply: &mut Reply)
+    requires begun { IsReplyBegun beats.now first.now op }
+    requires faultless { AreFaultlessReply beats.now first.now op }
+    requires denied { IsTrue first.now.denied }
+    ensures lawful { IsLawfulResponse reply.new.op reply.new.size reply.new.denied reply.new.bytes }
+    ensures spells { SpellsReply reply.new address beats.now }
 {
-    let mut bytes = ArrayVec::from_array_in((), plain);
-    bytes.truncate(count);
-    bytes
+    let bytes = &[0; MAX_BYTES][..op.byte_count(first.size)];
+    reply.refill(op, first.size, first.source, first.denied, bytes);
 }
 
-/// The bytes that stand in the beats of a reply.
-fn bytes_of_beats(
-    beats: &[DBeat],
-    first: &DBeat,
-    op: ReplyOp,
-    address: u64,
-) -> ArrayVec<u8, MAX_BYTES>
-    requires head { slice_get beats.now 0 ≡ Some first.now }
-    requires in_limit { first.now.size ≤ LARGEST_SIZE }
-    requires count { length beats.now ≡ beat_count (reply_carries_bytes op) first.now.size }
-    ensures { AreReplyBytesOf beats.now first.now op address result.items }
+/// Puts the reply of these beats, which have no fault, in the place of another.
+fn fill_reply(beats: &[DBeat], first: &DBeat, op: ReplyOp, address: u64, reply: &mut Reply)
+    requires begun { IsReplyBegun beats.now first.now op }
+    requires faultless { AreFaultlessReply beats.now first.now op }
+    ensures lawful { IsLawfulResponse reply.new.op reply.new.size reply.new.denied reply.new.bytes }
+    ensures spells { SpellsReply reply.new address beats.now }
 {
     let count = op.byte_count(first.size);
     if first.denied {
-        return leading([0; MAX_BYTES], count);
-    }
-    if count < BUS_BYTES {
+        fill_denied(beats, first, op, address, reply);
+    } else if count < BUS_BYTES {
         let lane = first_lane(address, first.size);
-        return part_of_lanes(&first.lanes, lane, count);
+        let bytes = &first.lanes[lane..lane + count];
+        reply.refill(op, first.size, first.source, first.denied, bytes);
+    } else {
+        fill_wide(beats, first, op, address, reply);
     }
-    leading(lanes_of(beats), count)
 }
 
-/// The reply to a request at the address that beats spell, or the first fault that they have.
-pub fn assemble_reply(beats: &[DBeat], address: u64) -> Result<Reply, BeatFault>
-    ensures ok { IfOk result (λ reply. SpellsReply reply address beats.now) }
-    ensures all { (reply : Response) → IsLawfulResponse reply.op reply.size reply.denied reply.bytes
-        → SpellsReply reply address beats.now → result ≡ Ok reply }
+/// Puts the reply to a request at the address that beats spell in the place of another, or names the first fault that they
+/// have.
+pub fn assemble_reply_into(
+    beats: &[DBeat],
+    address: u64,
+    reply: &mut Reply,
+) -> Result<(), BeatFault>
+    ensures ok { OnOk result (SpellsReply reply.new address beats.now) }
+    ensures all { (response : Response)
+        → IsLawfulResponse response.op response.size response.denied response.bytes
+        → SpellsReply response address beats.now → IsOk result × (reply.new ≡ response) }
     ensures fault { IfErr result (IsFirstReplyBeatFault beats.now) }
+    ensures kept { OnErr result (reply.new ≡ reply.old) }
 {
     let first = beats.first().ok_or(BeatFault::NoBeat)?;
     let op = read_reply_op(first.opcode).map_err(BeatFault::Op)?;
@@ -149,6 +159,18 @@ pub fn assemble_reply(beats: &[DBeat], address: u64) -> Result<Reply, BeatFault>
         return Err(BeatFault::Count);
     }
     check_reply_beats(beats, first, op)?;
-    let bytes = bytes_of_beats(beats, first, op, address);
-    Ok(Reply::from_parts(op, first.size, first.source, first.denied, bytes))
+    fill_reply(beats, first, op, address, reply);
+    Ok(())
+}
+
+/// The reply to a request at the address that beats spell, or the first fault that they have.
+pub fn assemble_reply(beats: &[DBeat], address: u64) -> Result<Reply, BeatFault>
+    ensures ok { IfOk result (λ reply. SpellsReply reply address beats.now) }
+    ensures all { (reply : Response) → IsLawfulResponse reply.op reply.size reply.denied reply.bytes
+        → SpellsReply reply address beats.now → result ≡ Ok reply }
+    ensures fault { IfErr result (IsFirstReplyBeatFault beats.now) }
+{
+    let mut reply = Reply::blank();
+    assemble_reply_into(beats, address, &mut reply)?;
+    Ok(reply)
 }

@@ -16,7 +16,8 @@ use Rattle.tl_beats.specs.Told.{told_byte, no_beat}
 use Rattle.tl_beats.specs.declared.beat.DBeat.{DBeat}
 use Rattle.tl_beats.proofs.Codes.{same_reply_op}
 use Rattle.tl_beats.proofs.Only.{some_beat}
-use Rattle.tl_beats.proofs.ReplyReading.{IsReplyBegun as IsBegunAs, read_reply, reply_read_lawful, reply_read_spells}
+use Rattle.tl_beats.specs.Reading.{IsReplyBegun as IsBegunAs}
+use Rattle.tl_beats.proofs.ReplyReading.{read_reply, reply_read_lawful, reply_read_spells}
 use Rattle.tl_link.specs.Begun.{IsWholeReply}
 use Rattle.tl_link.specs.Laws.{IsReplySpelled}
 use Rattle.tl_link.proofs.Begun.{between_replies}

@@ -20,7 +20,8 @@ use Rattle.tl_beats.specs.Reading.{IsReadFrom}
 use Rattle.tl_beats.specs.declared.beat.ABeat.{ABeat}
 use Rattle.tl_beats.proofs.Codes.{same_op}
 use Rattle.tl_beats.proofs.Only.{some_beat}
-use Rattle.tl_beats.proofs.Reading.{IsBegun as IsBegunAs, read_request, read_lawful, read_spells}
+use Rattle.tl_beats.specs.Reading.{IsBegun as IsBegunAs}
+use Rattle.tl_beats.proofs.Reading.{read_request, read_lawful, read_spells}
 use Rattle.tl_link.specs.Message.{op_of, byte_at, bytes_of, ask_of}
 use Rattle.tl_link.specs.Begun.{IsWhole}
 

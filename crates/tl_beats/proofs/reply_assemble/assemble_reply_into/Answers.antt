@@ -1,9 +1,11 @@
-use Rattle.std.proofs.Common.{rules, arith, ◌≡◌, ◌∙◌, sym, ap, Ok, Some, slice_get}
+use Rattle.std.proofs.Common.{rules, arith, ◌≡◌, sym, Some, slice_get}
 use Rattle.tl_types.specs.Wire.{reply_opcode_of}
 use Rattle.std.proofs.lemmas.Result.{MatchResult-at_ok, err_from_is_err_and}
 use Rattle.tl_beats.specs.declared.beat.BeatFault.TheVariants.{Op}
-use Rattle.tl_beats.proofs.ReplyReading.{IsReplyBegun, no_reply, first_of_reply_beats, reply_read_from, read_reply, reply_read_lawful, reply_read_spells, reply_read_only}
-use Rattle.tl_beats.proofs.reply_assemble.assemble_reply.Goals as goal
+use Rattle.tl_beats.specs.Reading.{IsReplyBegun}
+use Rattle.tl_beats.proofs.ReplyOnly.{same_reply}
+use Rattle.tl_beats.proofs.ReplyReading.{no_reply, first_of_reply_beats}
+use Rattle.tl_beats.proofs.reply_assemble.assemble_reply_into.Goals as goal
 
 pub returns-in_err-op-clause-all : goal.returns-in_err-op-clause-all
 returns-in_err-op-clause-all c reply lawful spells =
@@ -13,7 +15,7 @@ returns-in_err-op-clause-all c reply lawful spells =
     let code : reply_opcode_of reply.op ≡ first.opcode = sym (spells.each 0 first head).fields.opcode in
     let named = c.read_reply_op.ensures.all reply.op code in
     let kept = MatchResult-at_ok _ (λ e. c.in_err-op.field-0.0 ≡ Op e) reply.op named c.in_err-op.ensures.cases in
-    cc kept
+    absurd (cc kept)
 
 pub returns-then-first-gt-LARGEST_SIZE-clause-all : goal.returns-then-first-gt-LARGEST_SIZE-clause-all
 returns-then-first-gt-LARGEST_SIZE-clause-all c reply lawful spells =
@@ -53,46 +55,14 @@ returns-in_err-check_reply_beats-clause-fault c =
     let exit = err_from_is_err_and c.from_residual-in_err-check_reply_beats.result c.from_residual-in_err-check_reply_beats.ensures.1 in
     rw (exit.1, exit.2) (first_of_reply_beats c.args.beats.now c.in_ok-first.first.now c.in_ok-op.op begun c.in_err-check_reply_beats.field-0.0 c.in_err-check_reply_beats.ensures.fault)
 
-pub from_parts-requires : goal.from_parts-requires
-from_parts-requires c =
-    let first = c.in_ok-first.first.now in
-    let op = c.in_ok-op.op in
-    let bytes = c.bytes_of_beats-bytes.result.items in
-    let read = reply_read_from c.args.beats.now first op c.args.address bytes c.in_ok-check_reply_beats.ensures.ok c.bytes_of_beats-bytes.ensures in
-    let begun : IsReplyBegun c.args.beats.now first op = record {
-      head = search rules;
-      code = search rules;
-      in_limit = c.if-first-gt-LARGEST_SIZE.false;
-      count = search rules;
-    } in
-    reply_read_lawful c.args.beats.now first op c.args.address begun bytes read
+pub fill_reply-requires-clause-begun : goal.fill_reply-requires-clause-begun
+fill_reply-requires-clause-begun c = record {
+  head = search rules;
+  code = search rules;
+  in_limit = c.if-first-gt-LARGEST_SIZE.false;
+  count = search rules;
+}
 
-pub returns-clause-ok : goal.returns-clause-ok
-returns-clause-ok c =
-    let first = c.in_ok-first.first.now in
-    let op = c.in_ok-op.op in
-    let bytes = c.bytes_of_beats-bytes.result.items in
-    let read = reply_read_from c.args.beats.now first op c.args.address bytes c.in_ok-check_reply_beats.ensures.ok c.bytes_of_beats-bytes.ensures in
-    let begun : IsReplyBegun c.args.beats.now first op = record {
-      head = search rules;
-      code = search rules;
-      in_limit = c.if-first-gt-LARGEST_SIZE.false;
-      count = search rules;
-    } in
-    let is : c.from_parts.result ≡ read_reply first op bytes = search rules in
-    rw is (reply_read_spells c.args.beats.now first op c.args.address begun bytes read)
-
+-- beats spell one reply at most
 pub returns-clause-all : goal.returns-clause-all
-returns-clause-all c reply lawful spells =
-    let first = c.in_ok-first.first.now in
-    let op = c.in_ok-op.op in
-    let bytes = c.bytes_of_beats-bytes.result.items in
-    let read = reply_read_from c.args.beats.now first op c.args.address bytes c.in_ok-check_reply_beats.ensures.ok c.bytes_of_beats-bytes.ensures in
-    let begun : IsReplyBegun c.args.beats.now first op = record {
-      head = search rules;
-      code = search rules;
-      in_limit = c.if-first-gt-LARGEST_SIZE.false;
-      count = search rules;
-    } in
-    let is : c.from_parts.result ≡ read_reply first op bytes = search rules in
-    ap Ok (is ∙ reply_read_only c.args.beats.now first op c.args.address begun bytes read reply lawful spells)
+returns-clause-all c response lawful spells = (search rules, same_reply c.fill_reply.new.reply response c.args.address c.args.beats.now c.fill_reply.ensures.lawful lawful c.fill_reply.ensures.spells spells)

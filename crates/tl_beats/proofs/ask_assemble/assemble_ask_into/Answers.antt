@@ -1,9 +1,11 @@
-use Rattle.std.proofs.Common.{rules, arith, ◌≡◌, ◌∙◌, ap, Ok, Some, slice_get}
+use Rattle.std.proofs.Common.{rules, arith, ◌≡◌, Some, slice_get}
 use Rattle.std.proofs.lemmas.Result.{MatchResult-at_ok, err_from_is_err_and}
 use Rattle.tl_beats.specs.declared.beat.BeatFault.TheVariants.{Op}
 use Rattle.tl_beats.proofs.Only.{code_of_spelled}
-use Rattle.tl_beats.proofs.Reading.{IsBegun, no_request, first_of_beats, read_from, read_request, read_lawful, read_spells, read_only}
-use Rattle.tl_beats.proofs.ask_assemble.assemble_ask.Goals as goal
+use Rattle.tl_beats.specs.Reading.{IsBegun}
+use Rattle.tl_beats.proofs.Only.{same_ask}
+use Rattle.tl_beats.proofs.Reading.{no_request, first_of_beats}
+use Rattle.tl_beats.proofs.ask_assemble.assemble_ask_into.Goals as goal
 
 pub returns-in_err-op-clause-all : goal.returns-in_err-op-clause-all
 returns-in_err-op-clause-all c ask lawful spells =
@@ -12,7 +14,7 @@ returns-in_err-op-clause-all c ask lawful spells =
     let head : slice_get beats 0 ≡ Some first = search rules in
     let named = c.read_op.ensures.all ask.op (code_of_spelled ask beats first head spells) in
     let kept = MatchResult-at_ok _ (λ e. c.in_err-op.field-0.0 ≡ Op e) ask.op named c.in_err-op.ensures.cases in
-    cc kept
+    absurd (cc kept)
 
 pub returns-then-first-gt-LARGEST_SIZE-clause-all : goal.returns-then-first-gt-LARGEST_SIZE-clause-all
 returns-then-first-gt-LARGEST_SIZE-clause-all c ask lawful spells =
@@ -51,46 +53,14 @@ returns-in_err-check_beats-clause-fault c =
     let exit = err_from_is_err_and c.from_residual-in_err-check_beats.result c.from_residual-in_err-check_beats.ensures.1 in
     rw (exit.1, exit.2) (first_of_beats c.args.beats.now c.in_ok-first.first.now c.in_ok-op.op begun c.in_err-check_beats.field-0.0 c.in_err-check_beats.ensures.fault)
 
-pub from_parts-requires : goal.from_parts-requires
-from_parts-requires c =
-    let first = c.in_ok-first.first.now in
-    let op = c.in_ok-op.op in
-    let bytes = c.bytes_of_beats-bytes.result in
-    let read = read_from c.args.beats.now first op bytes c.in_ok-check_beats.ensures.ok c.bytes_of_beats-bytes.ensures in
-    let begun : IsBegun c.args.beats.now first op = record {
-      head = search rules;
-      code = search rules;
-      in_limit = c.if-first-gt-LARGEST_SIZE.false;
-      count = search rules;
-    } in
-    read_lawful c.args.beats.now first op begun bytes read
+pub fill_ask-requires-clause-begun : goal.fill_ask-requires-clause-begun
+fill_ask-requires-clause-begun c = record {
+  head = search rules;
+  code = search rules;
+  in_limit = c.if-first-gt-LARGEST_SIZE.false;
+  count = search rules;
+}
 
-pub returns-clause-ok : goal.returns-clause-ok
-returns-clause-ok c =
-    let first = c.in_ok-first.first.now in
-    let op = c.in_ok-op.op in
-    let bytes = c.bytes_of_beats-bytes.result in
-    let read = read_from c.args.beats.now first op bytes c.in_ok-check_beats.ensures.ok c.bytes_of_beats-bytes.ensures in
-    let begun : IsBegun c.args.beats.now first op = record {
-      head = search rules;
-      code = search rules;
-      in_limit = c.if-first-gt-LARGEST_SIZE.false;
-      count = search rules;
-    } in
-    let is : c.from_parts.result ≡ read_request first op bytes = search rules in
-    rw is (read_spells c.args.beats.now first op begun bytes read)
-
+-- beats spell one request at most
 pub returns-clause-all : goal.returns-clause-all
-returns-clause-all c ask lawful spells =
-    let first = c.in_ok-first.first.now in
-    let op = c.in_ok-op.op in
-    let bytes = c.bytes_of_beats-bytes.result in
-    let read = read_from c.args.beats.now first op bytes c.in_ok-check_beats.ensures.ok c.bytes_of_beats-bytes.ensures in
-    let begun : IsBegun c.args.beats.now first op = record {
-      head = search rules;
-      code = search rules;
-      in_limit = c.if-first-gt-LARGEST_SIZE.false;
-      count = search rules;
-    } in
-    let is : c.from_parts.result ≡ read_request first op bytes = search rules in
-    ap Ok (is ∙ read_only c.args.beats.now first op begun bytes read ask lawful spells)
+returns-clause-all c request lawful spells = (search rules, same_ask c.fill_ask.new.ask request c.args.beats.now c.fill_ask.ensures.lawful lawful c.fill_ask.ensures.spells spells)

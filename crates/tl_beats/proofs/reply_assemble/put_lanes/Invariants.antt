@@ -1,6 +1,6 @@
 use Rattle.std.proofs.Common.{◌≡◌, ℕ, ◌/◌, ◌%◌, ◌<◌, slice_get, slice_index, Some}
 use Rattle.tl_beats.specs.declared.beat.DBeat.{DBeat}
-use Rattle.tl_beats.proofs.reply_assemble.lanes_of.Given as goal
+use Rattle.tl_beats.proofs.reply_assemble.put_lanes.Given as goal
 
 -- the lanes of the beats so far are there
 abbrev pub invariant-loop-b : goal.invariant-loop-b

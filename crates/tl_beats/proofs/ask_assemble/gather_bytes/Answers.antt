@@ -3,10 +3,10 @@ use Rattle.tl_types.specs.Operation.{carries_bytes, byte_count}
 use Rattle.tl_beats.specs.Beats.{low}
 use Rattle.tl_beats.proofs.Places.{first_fits, bytes_of_size}
 use Rattle.tl_beats.proofs.Reading.{bytes_none, bytes_more, bytes_all}
-use Rattle.tl_beats.proofs.ask_assemble.bytes_of_beats.Goals as goal
+use Rattle.tl_beats.proofs.ask_assemble.gather_bytes.Goals as goal
 
 pub loop-beat-init : goal.loop-beat-init
-loop-beat-init c = rw c.new-bytes.ensures (bytes_none c.args.beats.now c.args.first.now c.args.op)
+loop-beat-init c = rw c.requires.none (bytes_none c.args.beats.now c.args.first.now c.args.op)
 
 -- a beat has no more bytes than lanes from the first one on
 pub push_lanes-requires-clause-in_bus : goal.push_lanes-requires-clause-in_bus

@@ -1,5 +1,5 @@
 use Rattle.tl_beats.proofs.Reading.{AreBytesSoFar}
-use Rattle.tl_beats.proofs.ask_assemble.bytes_of_beats.Given as goal
+use Rattle.tl_beats.proofs.ask_assemble.gather_bytes.Given as goal
 
 -- the beats so far are read
 abbrev pub invariant-loop-beat : goal.invariant-loop-beat
