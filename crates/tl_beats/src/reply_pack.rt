@@ -47,13 +47,14 @@ fn whole_beat(reply: &Reply, blank: &DBeat, b: usize) -> DBeat
     ensures spells { (address : ℕ) → IsReplyBeatOf reply.now address b result }
     ensures clean { (address : ℕ) → IsCleanReply reply.now address result }
 {
-    DBeat {
-        lanes: word_from(reply.bytes(), BUS_BYTES * b),
-        ..*blank
-    }
+    let mut beat = *blank;
+    beat.lanes = word_from(reply.bytes(), BUS_BYTES * b);
+    beat
 }
 
 /// Puts the beats of a reply that fills the bus where none are.
+// not inlined: the blank beat then lies in memory, and is copied in two moves where it would else be field by field
+#[inline(never)]
 fn push_whole_beats(reply: &Reply, blank: &DBeat, beats: &mut ArrayVec<DBeat, MAX_BEATS>)
     requires blank { IsBlankReplyOf reply.now blank.now }
     requires wide { BUS_BYTES ≤ length reply.now.bytes }
