@@ -2,7 +2,9 @@
 use Rattle.std.proofs.Common.{◌≡◌, ℕ, true, List, [], ◌∷◌, sym, refl, ap, subst, ◌∙◌, Some, None}
 use Rattle.atomic_table.specs.Table.{Step, rest}
 use Rattle.tl_beats.specs.Told.{told_reply}
+use Rattle.tl_beats.specs.ToldAsk.{told_ask}
 use Rattle.tl_beats.proofs.Told.{told_is}
+use Rattle.tl_beats.proofs.ToldAsk.{told_ask_is}
 use Rattle.atomic_table.specs.Seated.{TableId}
 use Rattle.tl_types.specs.Request.{Request}
 use Rattle.tl_types.specs.Response.{Response}
@@ -48,6 +50,10 @@ brought_back m₀ m₁ m i berth letter has same e = e ∙ (λ t. (same t, (i, h
 -- a reply that beats spell is the one that they tell
 pub told_spelled : (r : SlotRecord) (address : ℕ) (reply : Response) → SpellsAnswer r address reply → SpellsAnswer r address (told_reply r.replies address)
 told_spelled r address reply s = subst (λ (x : Response). SpellsAnswer r address x) (sym (told_is reply address r.replies s.lawful s.beats)) s
+
+-- and so is a request that beats spell
+pub told_asked : (r : SlotRecord) (ask : Request) → Spells r ask → Spells r (told_ask r.beats)
+told_asked r ask s = subst (λ (x : Request). Spells r x) (sym (told_ask_is ask r.beats s.lawful s.beats)) s
 
 -- ---- the values of a turn
 

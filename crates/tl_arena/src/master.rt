@@ -12,6 +12,7 @@ use crate::plays::{Claims, Collects, Leaves, Releases, Sends};
 use crate::record::Berth;
 use crate::seats::MasterSeat;
 use crate::turn::{Claim, Served, Ticket};
+use std::snapshot::Snapshot;
 use tl_slots::{Phase, word_of};
 use tl_types::Ask;
 
@@ -111,7 +112,7 @@ impl Arena {
         let _ = master.order.pop_front();
         Ticket {
             slot,
-            ask: ask.copy(),
+            ask: Snapshot::of(ask),
             port,
             known: master.collected,
         }

@@ -92,8 +92,7 @@ impl Arena {
         let record = words
             .exchange(&mut port.seat, slot, Berth::empty())
             .into_record();
-        let ask = record.ask();
-        Some(Accepted { slot, ask, record })
+        Some(Accepted { slot, record })
     }
 
     /// Answers a request that was accepted. The reply is the port's memory's.
@@ -106,12 +105,9 @@ impl Arena {
         ensures event { IsAnswerStep port.old accepted port.new }
         ensures law { IsLawfulPort port.new }
     {
-        let Accepted {
-            slot,
-            ask,
-            mut record,
-        } = accepted;
-        record.answer(ask.address(), port.served, reply);
+        let Accepted { slot, mut record } = accepted;
+        let address = record.address();
+        record.answer(address, port.served, reply);
         let words = &self.table.shared;
         bring(&mut port.seat, &mut port.order, slot);
         let _ = words.exchange(&mut port.seat, slot, Berth::of(record));

@@ -4,6 +4,7 @@ ghost use Rattle.std.specs.Prelude.{◌≡◌, ℕ, IsSome, IfOk, slice_get};
 ghost use Rattle.std.specs.Prelude as std;
 ghost use Rattle.tl_types.specs.Request.{Request};
 ghost use Rattle.tl_types.specs.Response.{Response};
+ghost use Rattle.tl_beats.specs.Beats.{HasFieldsOf};
 ghost use Rattle.tl_beats.specs.Told.{told_reply};
 ghost use Rattle.tl_rule.specs.Record.{Spells, SpellsAnswer};
 
@@ -66,20 +67,44 @@ impl Record {
         pack_reply_into(reply, address, &mut self.replies);
     }
 
-    /// The request.
-    pub(crate) fn ask(&self) -> Ask
+    /// The first beat of the request.
+    fn first(&self) -> &ABeat
         requires { (ask : Request) × Spells self.now ask }
-        ensures { Spells self.now result }
+        ensures { (ask : Request) → Spells self.now ask → HasFieldsOf ask result.now }
     {
-        assemble_ask(&self.beats).unwrap()
+        &self.beats[0]
     }
 
-    /// The reply to the request, whose address this is.
-    pub(crate) fn reply(&self, address: u64) -> Reply
-        requires { (reply : Response) × SpellsAnswer self.now address reply }
-        ensures { result ≡ told_reply self.now.replies address }
+    /// The source of the request.
+    pub(crate) fn source(&self) -> u16
+        requires { (ask : Request) × Spells self.now ask }
+        ensures { (ask : Request) → Spells self.now ask → result ≡ ask.source }
     {
-        assemble_reply(&self.replies, address).unwrap()
+        self.first().source
+    }
+
+    /// The address of the request.
+    pub(crate) fn address(&self) -> u64
+        requires { (ask : Request) × Spells self.now ask }
+        ensures { (ask : Request) → Spells self.now ask → result ≡ ask.address }
+    {
+        self.first().address
+    }
+
+    /// Puts the request in the place of another.
+    pub(crate) fn read_ask(&self, ask: &mut Ask)
+        requires { (ask : Request) × Spells self.now ask }
+        ensures { Spells self.now ask.new }
+    {
+        *ask = assemble_ask(&self.beats).unwrap();
+    }
+
+    /// Puts the reply to the request, whose address this is, in the place of another.
+    pub(crate) fn read_reply(&self, address: u64, reply: &mut Reply)
+        requires { (reply : Response) × SpellsAnswer self.now address reply }
+        ensures { reply.new ≡ told_reply self.now.replies address }
+    {
+        *reply = assemble_reply(&self.replies, address).unwrap();
     }
 
     /// A byte of the reply, where there is one.

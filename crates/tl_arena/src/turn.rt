@@ -4,6 +4,7 @@ ghost use Rattle.tl_types.specs.Response.{IsLawfulResponse};
 
 use crate::record::Record;
 use std::marker::Model;
+use std::snapshot::Snapshot;
 use tl_types::{Ask, Reply};
 
 /// A slot that is to be filled, with its record. It has no `Drop`: it must be posted.
@@ -29,11 +30,11 @@ impl Claim {
     }
 }
 
-/// A request that was posted.
+/// A request that was posted. The record in its slot has the request: here contracts alone see it.
 #[derive(Drop)]
 pub struct Ticket {
     pub(crate) slot: usize,
-    pub(crate) ask: Ask,
+    pub(crate) ask: Snapshot<Ask>,
     pub(crate) port: usize,
     pub(crate) known: usize,
 }
@@ -45,7 +46,7 @@ impl Model for Ticket {
 
     ghost Value = { TicketView };
 
-    ghost view = { λ t. record { slot = t.slot; ask = t.ask; port = t.port; known = t.known } };
+    ghost view = { λ t. record { slot = t.slot; ask = t.ask.value; port = t.port; known = t.known } };
 
     ghost invariant = { λ t. t.port ≤ MAX_AGENT };
 }
@@ -62,21 +63,21 @@ impl Ticket {
 /// A reply that was collected, in the record of its slot. It has no `Drop`: its slot must be released.
 pub struct Served {
     pub(crate) slot: usize,
-    pub(crate) ask: Ask,
+    pub(crate) ask: Snapshot<Ask>,
     pub(crate) port: usize,
     pub(crate) record: Box<Record>,
 }
 
 impl Model for Served {
     ghost use Rattle.tl_beats.specs.Told.{told_reply};
-    ghost use Rattle.tl_rule.specs.Record.{SpellsAnswer};
+    ghost use Rattle.tl_rule.specs.Record.{Spells, SpellsAnswer};
     ghost use Rattle.tl_arena.specs.Views.{ServedView};
 
     ghost Value = { ServedView };
 
-    ghost view = { λ s. record { slot = s.slot; ask = s.ask; port = s.port; index = s.record.value.index; reply = told_reply s.record.value.replies s.ask.address } };
+    ghost view = { λ s. record { slot = s.slot; ask = s.ask.value; port = s.port; index = s.record.value.index; reply = told_reply s.record.value.replies s.ask.value.address } };
 
-    ghost invariant = { λ s. SpellsAnswer s.record.value s.ask.address (told_reply s.record.value.replies s.ask.address) };
+    ghost invariant = { λ s. Spells s.record.value s.ask.value × SpellsAnswer s.record.value s.ask.value.address (told_reply s.record.value.replies s.ask.value.address) };
 }
 
 impl Served {
@@ -87,25 +88,34 @@ impl Served {
         self.slot
     }
 
-    /// The request, with its wide source.
-    pub fn ask(&self) -> &Ask
-        ensures { result.now ≡ self.now.ask }
+    /// Puts the request, with its wide source, in the place of another.
+    pub fn read_ask(&self, ask: &mut Ask)
+        ensures { ask.new ≡ self.now.ask }
     {
-        &self.ask
+        self.record.read_ask(ask);
+    }
+
+    /// Puts the reply, with the wide source, in the place of another.
+    pub fn read_reply(&self, reply: &mut Reply)
+        ensures { reply.new ≡ self.now.reply }
+    {
+        self.record.read_reply(self.record.address(), reply);
     }
 
     /// The reply, with the wide source.
     pub fn reply(&self) -> Reply
         ensures { result ≡ self.now.reply }
     {
-        self.record.reply(self.ask.address())
+        let mut reply = Reply::blank();
+        self.read_reply(&mut reply);
+        reply
     }
 
     /// A byte of the reply, read where it lies.
     pub fn reply_byte(&self, place: usize) -> Option<u8>
         ensures { result ≡ slice_get self.now.reply.bytes place }
     {
-        self.record.reply_byte(self.ask.address(), place)
+        self.record.reply_byte(self.record.address(), place)
     }
 
     /// Whether the request was denied.
@@ -136,20 +146,20 @@ impl Served {
 #[derive(Drop)]
 pub struct Accepted {
     pub(crate) slot: usize,
-    pub(crate) ask: Ask,
     pub(crate) record: Box<Record>,
 }
 
 impl Model for Accepted {
     ghost use Rattle.std.specs.Prelude.{ℕ};
     ghost use Rattle.tl_types.specs.Request.{Request};
+    ghost use Rattle.tl_beats.specs.ToldAsk.{told_ask};
     ghost use Rattle.tl_rule.specs.Record.{Spells};
 
     ghost Value = { ℕ × Request };
 
-    ghost view = { λ a. (a.slot, a.ask) };
+    ghost view = { λ a. (a.slot, told_ask a.record.value.beats) };
 
-    ghost invariant = { λ a. Spells a.record.value a.ask };
+    ghost invariant = { λ a. Spells a.record.value (told_ask a.record.value.beats) };
 }
 
 impl Accepted {
@@ -160,10 +170,17 @@ impl Accepted {
         self.slot
     }
 
-    /// The request, with its wide source.
-    pub fn ask(&self) -> &Ask
-        ensures { result.now ≡ self.now.1 }
+    /// The wide source of the request.
+    pub fn source(&self) -> u16
+        ensures { result ≡ self.now.1.source }
     {
-        &self.ask
+        self.record.source()
+    }
+
+    /// Puts the request, with its wide source, in the place of another.
+    pub fn read_ask(&self, ask: &mut Ask)
+        ensures { ask.new ≡ self.now.1 }
+    {
+        self.record.read_ask(ask);
     }
 }

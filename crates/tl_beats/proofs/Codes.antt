@@ -1,44 +1,17 @@
 -- Numbers stand for one operation, and for one opcode of replies.
-use Rattle.std.proofs.Common.{◌≡◌, ◌∙◌, ℕ, suc, zero, ap, sym, refl}
+use Rattle.std.proofs.Common.{◌≡◌, ◌∙◌, ℕ, ap, sym, refl}
 use Rattle.tl_types.specs.Wire.{opcode_of, param_of, IsCodeOf, reply_opcode_of}
-use Rattle.tl_types.specs.declared.operation.Arith.{Arith}
 use Rattle.tl_types.specs.declared.operation.Arith.TheVariants.{Min, Max, MinU, MaxU, Add}
-use Rattle.tl_types.specs.declared.operation.Logic.{Logic}
 use Rattle.tl_types.specs.declared.operation.Logic.TheVariants.{Xor, Or, And, Swap}
-use Rattle.tl_types.specs.declared.operation.Hint.{Hint}
 use Rattle.tl_types.specs.declared.operation.Hint.TheVariants.{PrefetchRead, PrefetchWrite}
 use Rattle.tl_types.specs.declared.operation.AskOp.{AskOp}
 use Rattle.tl_types.specs.declared.operation.AskOp.TheVariants.{PutFull, PutPartial, Arithmetic, Logical, Get, Intent}
 use Rattle.tl_types.specs.declared.operation.ReplyOp.{ReplyOp}
 use Rattle.tl_beats.specs.Told.{reply_op_at}
+use Rattle.tl_beats.specs.ToldAsk.{op_at}
 use Rattle.tl_types.specs.declared.operation.ReplyOp.TheVariants.{AccessAck, AccessAckData, HintAck}
 
-abbrev arith_at : ℕ → Arith
-arith_at zero = Min
-arith_at (suc zero) = Max
-arith_at (suc (suc zero)) = MinU
-arith_at (suc (suc (suc zero))) = MaxU
-arith_at (suc (suc (suc (suc n)))) = Add
-
-abbrev logic_at : ℕ → Logic
-logic_at zero = Xor
-logic_at (suc zero) = Or
-logic_at (suc (suc zero)) = And
-logic_at (suc (suc (suc n))) = Swap
-
-abbrev hint_at : ℕ → Hint
-hint_at zero = PrefetchRead
-hint_at (suc n) = PrefetchWrite
-
-abbrev op_at : ℕ → ℕ → AskOp
-op_at zero param = PutFull
-op_at (suc zero) param = PutPartial
-op_at (suc (suc zero)) param = Arithmetic (arith_at param)
-op_at (suc (suc (suc zero))) param = Logical (logic_at param)
-op_at (suc (suc (suc (suc zero)))) param = Get
-op_at (suc (suc (suc (suc (suc n))))) param = Intent (hint_at param)
-
-op_at-code : (op : AskOp) → op_at (opcode_of op) (param_of op) ≡ op
+pub op_at-code : (op : AskOp) → op_at (opcode_of op) (param_of op) ≡ op
 op_at-code PutFull = refl
 op_at-code PutPartial = refl
 op_at-code (Arithmetic Min) = refl

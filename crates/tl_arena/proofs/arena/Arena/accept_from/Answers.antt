@@ -8,7 +8,7 @@ use Rattle.tl_slots.proofs.Words.{word-master}
 use Rattle.tl_rule.specs.declared.view.About.{About}
 use Rattle.tl_rule.specs.Views.{Owns}
 use Rattle.tl_slots.specs.declared.event.Event.TheVariants.{Accept}
-use Rattle.tl_rule.specs.Moves.{Seat, top, as_port, IsLawfulDesk}
+use Rattle.tl_rule.specs.Moves.{Seat, as_port, IsLawfulDesk}
 use Rattle.tl_rule.proofs.Seats.{accepts_at}
 use Rattle.tl_arena.specs.Views.{ArenaId, PortView}
 use Rattle.tl_arena.specs.Promises.{IsPortStep}
@@ -17,10 +17,11 @@ use Rattle.tl_types.specs.Request.{Request}
 use Rattle.tl_rule.specs.declared.view.View.{View}
 use Rattle.tl_rule.specs.Record.{SlotRecord, Berth, Spells}
 use Rattle.tl_rule.specs.Events.{IsEventOf}
-use Rattle.tl_rule.proofs.Facts.{spells_one}
 use Rattle.tl_arena.specs.Kept.{IsOwner, port_view}
 use Rattle.tl_arena.proofs.Keeping.{port_arena, port_recounted, accept_kept}
-use Rattle.tl_arena.proofs.Promised.{accepted, port_stepped, taken_record, taken_first, head_berth}
+use Rattle.tl_beats.specs.ToldAsk.{told_ask}
+use Rattle.tl_beats.proofs.ToldAsk.{told_ask_is}
+use Rattle.tl_arena.proofs.Promised.{accepted, told_asked, port_stepped, taken_record, taken_first, head_berth}
 use Rattle.tl_arena.proofs.arena.Arena.accept_from.Goals as goal
 
 pub compare_exchange-requires : goal.compare_exchange-requires
@@ -62,9 +63,11 @@ pub returns-clause-some : goal.returns-clause-some
 returns-clause-some c =
     let t = c.compare_exchange.ensures.2.0 c.if-compare_exchange-from.false in
     let x = c.exchange.ensures in
-    let letter : c.into_record-record.result.value ≡ t.letter = taken_record _ _ c.args.slot _ _ _ x.2 (ap (λ (y : Seat). y.1) t.seat) c.into_record-record.ensures in
-    let told = accepted _ c.port.inside.seat.me c.compare_exchange.new.seat.me t c.port.inside.seat.table_id c.exchange.new.seat.table_id c.exchange.new.seat.me.0 c.args.port.now c.args.slot c.ask-ask.result c.into_record-record.result.value
-    (x.0 ∙ c.compare_exchange.ensures.0) (ap (λ (y : Seat). y.0) x.3) c.port.view_is refl letter (subst (λ (l : SlotRecord). Spells l c.ask-ask.result) c.deref.ensures c.ask-ask.ensures) in
+    let held = c.into_record-record.result.value in
+    let letter : held ≡ t.letter = taken_record _ _ c.args.slot _ _ _ x.2 (ap (λ (y : Seat). y.1) t.seat) c.into_record-record.ensures in
+    let spells : Spells held (told_ask held.beats) = subst (λ (l : SlotRecord). Spells l (told_ask l.beats)) (sym letter) (told_asked t.letter t.ask t.spells) in
+    let told = accepted _ c.port.inside.seat.me c.compare_exchange.new.seat.me t c.port.inside.seat.table_id c.exchange.new.seat.table_id c.exchange.new.seat.me.0 c.args.port.now c.args.slot (told_ask held.beats) held
+    (x.0 ∙ c.compare_exchange.ensures.0) (ap (λ (y : Seat). y.0) x.3) c.port.view_is refl letter spells in
     (refl, told.0, told.1)
 
 pub returns-clause-event : goal.returns-clause-event
@@ -73,13 +76,14 @@ returns-clause-event c =
     let x = c.exchange.ensures in
     let me = c.port.inside.seat.me in
     let owner = c.word_of-from.result / 8 % 256 in
-    let letter : c.into_record-record.result.value ≡ t.letter = taken_record _ _ c.args.slot _ _ _ x.2 (ap (λ (y : Seat). y.1) t.seat) c.into_record-record.ensures in
-    let asks : t.ask ≡ c.ask-ask.result = spells_one t.letter t.ask c.ask-ask.result t.spells (subst (λ (l : SlotRecord). Spells l c.ask-ask.result) (c.deref.ensures ∙ letter) c.ask-ask.ensures) in
-    let owns : Owns (as_port me.0).about owner c.ask-ask.result.source = subst (λ (q : Request). Owns (as_port me.0).about owner q.source) asks t.owner in
+    let held = c.into_record-record.result.value in
+    let letter : held ≡ t.letter = taken_record _ _ c.args.slot _ _ _ x.2 (ap (λ (y : Seat). y.1) t.seat) c.into_record-record.ensures in
+    let asks : t.ask ≡ told_ask held.beats = sym (told_ask_is t.ask t.letter.beats t.spells.lawful t.spells.beats) ∙ ap (λ (l : SlotRecord). told_ask l.beats) (sym letter) in
+    let owns : Owns (as_port me.0).about owner (told_ask held.beats).source = subst (λ (q : Request). Owns (as_port me.0).about owner q.source) asks t.owner in
     let view = ap (λ (y : Seat). y.0) x.3 in
     record {
       owner = owner;
-      owns = subst (λ (u : PortView). Owns u.arena.about owner c.ask-ask.result.source) c.port.view_is owns;
+      owns = subst (λ (u : PortView). Owns u.arena.about owner (told_ask held.beats).source) c.port.view_is owns;
       step = subst (λ (u : PortView). IsPortStep (Accept c.args.slot owner u.number) c.args.port.now (port_view c.exchange.new.seat.table_id c.exchange.new.seat.me.0)) c.port.view_is
           (port_stepped (Accept c.args.slot owner (as_port me.0).number) c.port.inside.seat.table_id c.exchange.new.seat.table_id me c.exchange.new.seat.me.0 _ c.args.port.now _ c.port.invariant.is
           (view ∙ ap (λ (y : Seat). y.0) t.seat) c.port.view_is refl (subst (λ (y : View). IsEventOf (as_port me.0).about (Accept c.args.slot owner (as_port me.0).number) me.0 y) (sym view) t.event));
@@ -98,3 +102,9 @@ exchange-requires c =
       c.compare_exchange.ensures.0 ∙ arena.0,
       (Some t.letter, taken_first _ _ _ _ (ap (λ (y : Seat). y.1) t.seat)),
     )
+
+pub invariant_of-result : goal.invariant_of-result
+invariant_of-result c =
+    let t = c.compare_exchange.ensures.2.0 c.if-compare_exchange-from.false in
+    let letter : c.into_record-record.result.value ≡ t.letter = taken_record _ _ c.args.slot _ _ _ c.exchange.ensures.2 (ap (λ (y : Seat). y.1) t.seat) c.into_record-record.ensures in
+    subst (λ (l : SlotRecord). Spells l (told_ask l.beats)) (sym letter) (told_asked t.letter t.ask t.spells)

@@ -10,7 +10,7 @@ use Rattle.tl_rule.specs.Views.{Owns}
 use Rattle.tl_rule.specs.Moves.{as_master}
 use Rattle.tl_rule.specs.Moves as moves
 use Rattle.tl_rule.specs.Views as views
-use Rattle.tl_rule.proofs.Seats.{written, posts_at, told_sent}
+use Rattle.tl_rule.proofs.Seats.{posts_at, told_sent}
 use Rattle.tl_arena.specs.Views.{ArenaId, MasterView, in_hand, with_held}
 use Rattle.tl_arena.specs.Key.{about_in}
 use Rattle.tl_arena.specs.Kept.{master_view}

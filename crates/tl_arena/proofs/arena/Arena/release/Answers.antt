@@ -1,4 +1,4 @@
-use Rattle.std.proofs.Common.{arith, sym, ap, subst, refl, ◌∙◌, ◌≡◌, ◌∷◌, ◌-◌}
+use Rattle.std.proofs.Common.{arith, sym, ap, subst, refl, ◌∙◌, ◌≡◌, ◌-◌}
 use Rattle.std.specs.VecDeque.{deque_capacity}
 use Rattle.tl_rule.specs.declared.view.About.{About}
 use Rattle.tl_rule.specs.declared.view.Held.TheVariants.{Taken}
@@ -24,7 +24,7 @@ store-requires c =
     let arena = master_arena z me.0 c.args.master.now c.args.self.now c.self.inside.table.shared.table_id (about_in key) c.master.view_is c.requires.arena c.self.view_is in
     let slots = ap (λ (a : About). a.slots) arena.1 in
     let k = c.served.inside in
-    let served : ServedView = record { slot = k.slot; ask = k.ask; port = k.port; index = k.record.value.index; reply = told_reply k.record.value.replies k.ask.address } in
+    let served : ServedView = record { slot = k.slot; ask = k.ask.value; port = k.port; index = k.record.value.index; reply = told_reply k.record.value.replies k.ask.value.address } in
     let taken : views.in_hand (as_master me.0) i ≡ Taken k.port = subst (λ (v : MasterView). in_hand v i ≡ Taken k.port) (sym c.master.view_is) (subst (λ (x : ServedView). in_hand c.args.master.now x.slot ≡ Taken x.port) (sym c.served.view_is) c.requires.taken) in
     let lt = held_inside me c.master.inside.order.items (deque_capacity c.master.inside.order) c.master.inside.number c.master.inside.owned c.master.inside.collected m i (λ e. absurd (cc)) in
     let now = brought_back me c.bring.new.seat.me c.exchange.new.seat.me i _ k.record.value c.of.ensures c.bring.ensures.brought.view c.exchange.ensures.3 in (
@@ -40,7 +40,7 @@ invariant_of-master c =
     let order = c.master.inside.order in
     let me = c.master.inside.seat.me in
     let k = c.served.inside in
-    let served : ServedView = record { slot = k.slot; ask = k.ask; port = k.port; index = k.record.value.index; reply = told_reply k.record.value.replies k.ask.address } in
+    let served : ServedView = record { slot = k.slot; ask = k.ask.value; port = k.port; index = k.record.value.index; reply = told_reply k.record.value.replies k.ask.value.address } in
     let taken : views.in_hand (as_master me.0) i ≡ Taken k.port = subst (λ (v : MasterView). in_hand v i ≡ Taken k.port) (sym c.master.view_is) (subst (λ (x : ServedView). in_hand c.args.master.now x.slot ≡ Taken x.port) (sym c.served.view_is) c.requires.taken) in
     let now = brought_back me c.bring.new.seat.me c.exchange.new.seat.me i _ k.record.value c.of.ensures c.bring.ensures.brought.view c.exchange.ensures.3 in
     let told = told_released _ me c.exchange.new.seat.me c.store.new.seat.me i k.record.value (rest c.bring.new.seat.me.1) now c.store.ensures.2 in

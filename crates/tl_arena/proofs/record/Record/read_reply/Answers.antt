@@ -1,9 +1,9 @@
-use Rattle.std.proofs.Common.{◌≡◌, List, Ok, ap, sym, subst, ◌∙◌}
+use Rattle.std.proofs.Common.{◌≡◌, List, ap, sym, subst, ◌∙◌}
 use Rattle.tl_beats.specs.Replies.{SpellsReply}
 use Rattle.tl_beats.specs.declared.beat.DBeat.{DBeat}
 use Rattle.tl_beats.proofs.Told.{told_is}
 use Rattle.tl_rule.specs.Record.{SlotRecord}
-use Rattle.tl_arena.proofs.record.Record.reply.Goals as goal
+use Rattle.tl_arena.proofs.record.Record.read_reply.Goals as goal
 
 pub returns : goal.returns
 returns c =
