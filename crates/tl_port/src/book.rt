@@ -60,7 +60,8 @@ pub struct Book {
     journal: usize,
     history: Journal,
     flights: VecDeque<Accepted>,
-    /// The last reply that was given: room for the next one, which contracts don't see.
+    /// The last request that was served and its reply: room for the next ones, which contracts don't see.
+    ask: Ask,
     reply: Reply,
 }
 
@@ -106,6 +107,7 @@ impl Book {
             journal,
             history,
             flights,
+            ask: Ask::blank(),
             reply: Reply::blank(),
         })
     }
@@ -142,6 +144,7 @@ impl Book {
             &mut self.seat,
             &mut self.bank,
             &mut self.history,
+            &mut self.ask,
             &mut self.reply,
             accepted,
         );
@@ -183,7 +186,7 @@ impl Book {
     {
         let accepted = self.flights.get(place)?;
         Some(Flight {
-            source: accepted.ask().source(),
+            source: accepted.source(),
             slot: accepted.slot(),
         })
     }
@@ -249,17 +252,19 @@ fn take_posted(arena: &Arena, seat: &mut PortSeat, flights: &mut VecDeque<Accept
     ensures capacity { deque_capacity flights.new ≡ deque_capacity flights.old }
 {
     let accepted = arena.accept(seat)?;
-    let source = accepted.ask().source();
+    let source = accepted.source();
     flights.push_back_reserved(accepted);
     Some(source)
 }
 
-/// Answers a request by the bank, and puts it with its reply at the end of the history.
+/// Answers a request by the bank, and puts it with its reply at the end of the history. Both are read and written in the
+/// place of others.
 fn answer_by(
     arena: &Arena,
     seat: &mut PortSeat,
     bank: &mut Bank,
     history: &mut Journal,
+    ask: &mut Ask,
     answer: &mut Reply,
     accepted: Accepted,
 )
@@ -275,7 +280,7 @@ fn answer_by(
         ≡ history.old.items ++ (accepted.1, reply bank.old accepted.1) ∷ [] }
     ensures capacity { history.new.room ≡ history.old.room }
 {
-    let ask = accepted.ask();
+    accepted.read_ask(ask);
     bank.serve_into(ask, answer);
     history.push_reserved(ask.source(), ask, answer);
     arena.answer(seat, accepted, answer);
