@@ -5,4 +5,3 @@ pub mod Turns
 pub mod Starting
 pub mod Ending
 pub mod Busy
-pub mod Replies

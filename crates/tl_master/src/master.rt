@@ -1,23 +1,21 @@
 //! One master.
 ghost use Rattle.std.specs.Prelude.{◌≡◌, ℕ, ◌+◌, ◌<◌, ◌≤◌, [], ◌∷◌, ◌++◌, length, IfOk, IfErr, replicate, IfSome, IfNone, slice_get};
 ghost use Rattle.std.specs.Prelude as std;
-ghost use Rattle.tl_types.specs.Operation.{reply_op_of};
 ghost use Rattle.tl_rule.specs.declared.view.Held.TheVariants.{Filled, Sent};
 ghost use Rattle.tl_rule.specs.Views.{Owns};
 ghost use Rattle.tl_arena.specs.Views.{owned_of, in_hand, with_held};
 ghost use Rattle.tl_arena.specs.Promises.{IsUnsent, OwnsHistories};
-ghost use Rattle.tl_master.specs.Master.{new_state, count_of, out_of, ticket_at, IsInOrder, AreWidened, asks_of, of_source, asked, reply_to, IsNextOut};
+ghost use Rattle.tl_master.specs.Master.{new_state, count_of, out_of, ticket_at, IsInOrder, AreWidened, asks_of, of_source, asked, IsNextOut};
 ghost use Rattle.tl_master.specs.Steps.{Appends, IsPosted, Issues, Polls, AsksMore, AsksSame};
 
 use crate::source_set::SourceSet;
-use arrayvec::ArrayVec;
 use std::alloc::{AllocError, Global};
 use std::marker::Model;
 use thiserror::Error;
-use tl_arena::{Arena, Claim, MasterSeat, Served, Ticket};
+use tl_arena::{Arena, Claim, MasterSeat, Ticket};
 use tl_journal::{Place, Trace};
 use tl_map::{Map, Sources};
-use tl_types::{Ask, Entry, MAX_BYTES, Reply};
+use tl_types::{Ask, Entry, Reply};
 
 /// Where a request was posted: its slot, and the port that the map gives it.
 #[derive(Debug, Clone, Copy, PartialEq, Eq)]
@@ -61,7 +59,9 @@ pub struct Master {
     count: usize,
     limit: usize,
     trace: Trace,
-    /// The last reply that was collected: room for the next one, which contracts don't see.
+    /// The last request that was posted or whose reply was collected, and the last reply: room for the next ones, which
+    /// contracts don't see.
+    ask: Ask,
     reply: Reply,
 }
 
@@ -110,6 +110,7 @@ impl Master {
             count: 0,
             limit,
             trace,
+            ask: Ask::blank(),
             reply: Reply::blank(),
         })
     }
@@ -135,7 +136,8 @@ impl Master {
             return Err(IssueFault::NoSlot);
         };
         let wide = self.start + ask.source();
-        let (ticket, issued) = post_routed(arena, &mut self.seat, claim, map, ask, wide);
+        let (seat, posted) = (&mut self.seat, &mut self.ask);
+        let (ticket, issued) = post_routed(arena, seat, claim, map, ask, wide, posted);
         self.out[source] = Some(ticket);
         self.busy.insert(source);
         self.count += 1;
@@ -156,8 +158,15 @@ impl Master {
         let Some(ticket) = self.out[at].take() else {
             return Polled::Idle;
         };
-        let (trace, reply) = (&mut self.trace, &mut self.reply);
-        match collect_entry(arena, &mut self.seat, ticket, source, trace, reply) {
+        match collect_entry(
+            arena,
+            &mut self.seat,
+            ticket,
+            source,
+            &mut self.trace,
+            &mut self.ask,
+            &mut self.reply,
+        ) {
             Err(ticket) => {
                 self.out[at] = Some(ticket);
                 Polled::NotYet
@@ -240,6 +249,7 @@ impl Master {
             count: _,
             limit: _,
             trace,
+            ask: _,
             reply: _,
         } = self;
         arena.leave(seat);
@@ -247,7 +257,8 @@ impl Master {
     }
 }
 
-/// Posts a request from a wide source to the port that the map gives it.
+/// Posts a request from a wide source to the port that the map gives it. With that source it is put in the place of
+/// another.
 fn post_routed(
     arena: &Arena,
     seat: &mut MasterSeat,
@@ -255,6 +266,7 @@ fn post_routed(
     map: &Map,
     ask: &Ask,
     wide: u16,
+    posted: &mut Ask,
 ) -> (Ticket, Issued)
     requires arena { seat.old.arena ≡ arena.now }
     requires claim { in_hand seat.old claim ≡ Filled }
@@ -266,19 +278,22 @@ fn post_routed(
         ≡ with_held seat.old claim (Sent result.0.ask result.0.port result.0.known) }
 {
     let port = map.route(ask);
-    let ticket = arena.post(seat, claim, &ask.with_source(wide), port);
+    posted.refill_from(ask.op(), ask.size(), wide, ask.address(), ask.bytes());
+    let ticket = arena.post(seat, claim, posted, port);
     let slot = ticket.slot();
     (ticket, Issued { slot, port })
 }
 
-/// Collects the reply to what was posted, where it is there, into the place of another, puts its entry, with the master's
-/// own source, at the end of a trace that has room for it, and releases its slot. The answer is the entry's place.
+/// Collects the reply to what was posted, where it is there, puts its entry, with the master's own source, at the end of a
+/// trace that has room for it, and releases its slot. The answer is the entry's place. Request and reply are read in the
+/// place of others.
 fn collect_entry(
     arena: &Arena,
     seat: &mut MasterSeat,
     ticket: Ticket,
     source: u16,
     trace: &mut Trace,
+    ask: &mut Ask,
     reply: &mut Reply,
 ) -> Result<usize, Ticket>
     requires arena { seat.old.arena ≡ arena.now }
@@ -292,36 +307,16 @@ fn collect_entry(
         (λ back. (back ≡ ticket) × (seat.new ≡ seat.old) × (trace.new ≡ trace.old)) }
 {
     let served = arena.collect(seat, ticket)?;
-    read_reply(&served, source, reply);
+    served.read_ask(ask);
+    served.read_reply(reply);
     let place = trace.len();
     let at = Place {
         port: served.port(),
         index: served.index(),
     };
-    trace.push_reserved(source, served.ask(), reply, at);
+    trace.push_reserved(source, ask, reply, at);
     arena.release(seat, served);
     Ok(place)
-}
-
-/// Puts the reply that was collected, to the master's own source, in the place of another.
-fn read_reply(served: &Served, source: u16, reply: &mut Reply)
-    requires op { served.now.reply.op ≡ reply_op_of served.now.ask.op }
-    requires size { served.now.reply.size ≡ served.now.ask.size }
-    ensures { reply.new ≡ reply_to source served.now.reply }
-{
-    let ask = served.ask();
-    let denied = served.is_denied();
-    let mut bytes: ArrayVec<u8, MAX_BYTES> = ArrayVec::new();
-    while let Some(byte) = served.reply_byte(bytes.len()) {
-        bytes.push(byte);
-    }
-    reply.refill(
-        ask.op().reply_op(),
-        ask.size(),
-        source,
-        denied,
-        bytes.as_slice(),
-    );
 }
 
 /// Nothing out, for each of these sources.
