@@ -12,8 +12,8 @@ use arrayvec::ArrayVec;
 use std::alloc::{AllocError, Global};
 use std::marker::Model;
 use tl_beats::{
-    ABeat, DBeat, MAX_BEATS, assemble_ask, assemble_reply, pack_ask_into, pack_reply_into,
-    reply_byte,
+    ABeat, DBeat, MAX_BEATS, assemble_ask_into, assemble_reply_into, pack_ask_into,
+    pack_reply_into, reply_byte,
 };
 use tl_types::{Ask, Reply};
 
@@ -96,7 +96,7 @@ impl Record {
         requires { (ask : Request) × Spells self.now ask }
         ensures { Spells self.now ask.new }
     {
-        *ask = assemble_ask(&self.beats).unwrap();
+        assemble_ask_into(&self.beats, ask).unwrap();
     }
 
     /// Puts the reply to the request, whose address this is, in the place of another.
@@ -104,7 +104,7 @@ impl Record {
         requires { (reply : Response) × SpellsAnswer self.now address reply }
         ensures { reply.new ≡ told_reply self.now.replies address }
     {
-        *reply = assemble_reply(&self.replies, address).unwrap();
+        assemble_reply_into(&self.replies, address, reply).unwrap();
     }
 
     /// A byte of the reply, where there is one.
