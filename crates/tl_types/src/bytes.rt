@@ -4,6 +4,7 @@ ghost use Rattle.std.specs.Int.{bit_at};
 ghost use Rattle.tl_types.specs.Bytes.{IsMaskOf, bit_in, flag_bit, given_in, plain_of};
 
 use crate::limits::{BUS_BYTES, MAX_BYTES};
+use crate::room::refill_room;
 use arrayvec::ArrayVec;
 use std::marker::Model;
 use std::simd::prelude::*;
@@ -116,8 +117,7 @@ impl Bytes {
         requires { length plain.now ≤ MAX_BYTES }
         ensures { self.new ≡ map (λ byte. Some byte) plain.now }
     {
-        self.plain.clear();
-        self.plain.try_extend_from_slice(plain).unwrap();
+        refill_room(&mut self.plain, plain);
         self.masks = given_masks(plain.len());
     }
 
@@ -125,10 +125,7 @@ impl Bytes {
     pub fn refill_from(&mut self, other: &Bytes)
         ensures { self.new ≡ other.now }
     {
-        self.plain.clear();
-        self.plain
-            .try_extend_from_slice(other.plain.as_slice())
-            .unwrap();
+        refill_room(&mut self.plain, other.plain.as_slice());
         self.masks = other.masks;
     }
 
@@ -138,8 +135,7 @@ impl Bytes {
         requires flags { length plain.now ≤ length flags.now }
         ensures { self.new ≡ given_in (slice_index flags.now) plain.now }
     {
-        self.plain.clear();
-        self.plain.try_extend_from_slice(plain).unwrap();
+        refill_room(&mut self.plain, plain);
         clear_unset(self.plain.as_mut_slice(), flags);
         self.masks = flagged_masks(&flags[..plain.len()]);
     }

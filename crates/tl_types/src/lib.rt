@@ -18,6 +18,7 @@ mod limits;
 mod operation;
 mod reply;
 mod request;
+mod room;
 mod trace;
 mod wire;
 

@@ -6,6 +6,7 @@ ghost use Rattle.tl_types.specs.Response.{IsLawfulResponse, IsFirstReplyFault};
 
 use crate::limits::{BUS_BYTES, LARGEST_SIZE, MAX_BYTES};
 use crate::operation::ReplyOp;
+use crate::room::refill_room;
 use arrayvec::ArrayVec;
 use std::marker::Model;
 use thiserror::Error;
@@ -145,8 +146,7 @@ impl Reply {
           bytes = bytes.now;
         } }
     {
-        self.bytes.clear();
-        self.bytes.try_extend_from_slice(bytes).unwrap();
+        refill_room(&mut self.bytes, bytes);
         self.op = op;
         self.size = size;
         self.source = source;
@@ -235,9 +235,11 @@ fn refill_words(bytes: &mut ArrayVec<u8, MAX_BYTES>, words: &[u64])
     requires { length (bytes_of_words words.now) ≤ MAX_BYTES }
     ensures { bytes.new.items ≡ bytes_of_words words.now }
 {
-    bytes.clear();
-    let room = &ZEROS[..BUS_BYTES * words.len()];
-    bytes.try_extend_from_slice(room).unwrap();
+    let count = BUS_BYTES * words.len();
+    if bytes.len() != count {
+        bytes.clear();
+        bytes.try_extend_from_slice(&ZEROS[..count]).unwrap();
+    }
     write_words(bytes.as_mut_slice(), words);
 }
 

@@ -1,4 +1,4 @@
-use Rattle.std.proofs.Common.{◌≡◌, ◌∙◌, length, slice_index, ap, rules}
+use Rattle.std.proofs.Common.{◌≡◌, ◌∙◌, length, slice_index, ap}
 use Rattle.std.proofs.lemmas.List.{take_at}
 use Rattle.std.specs.List.{refill}
 use Rattle.tl_types.specs.Bytes.{given_in, plain_of}
@@ -6,11 +6,11 @@ use Rattle.tl_types.proofs.Masks.{length-cleared, kept_flagged, seen_flagged, fr
 use Rattle.tl_types.proofs.bytes.Bytes.refill_flagged.Goals as goal
 
 -- the bytes that are kept are the cleared ones
-items_are : (c : goal.After-self-2-1) → refill (length c.try_extend_from_slice.new.self.items) c.try_extend_from_slice.new.self.items c.clear_unset.new.bytes ≡ plain_of (given_in (slice_index c.args.flags.now) c.args.plain.now)
+items_are : (c : goal.After-self-2-1) → refill (length c.refill_room.new.room.items) c.refill_room.new.room.items c.clear_unset.new.bytes ≡ plain_of (given_in (slice_index c.args.flags.now) c.args.plain.now)
 items_are c =
     let flags = slice_index c.args.flags.now in
     let plain = c.args.plain.now in
-    let items : c.try_extend_from_slice.new.self.items ≡ plain = search rules in
+    let items = c.refill_room.ensures in
     let cleared : c.clear_unset.new.bytes ≡ plain_of (given_in flags plain) = c.clear_unset.ensures ∙ ap (λ bytes. plain_of (given_in flags bytes)) (c.as_mut_slice.ensures.value ∙ items) in
     rw (items, cleared) (take_at (plain_of (given_in flags plain)) _ (length plain) (length-cleared flags plain))
 
