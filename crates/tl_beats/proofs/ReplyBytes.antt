@@ -24,15 +24,15 @@ lane_in_wide address (suc zero) j wide = absurd (omega (arith, wide))
 lane_in_wide address (suc (suc zero)) j wide = absurd (omega (arith, wide))
 lane_in_wide address (suc (suc (suc n))) j wide = omega (arith, low-wide address n)
 
--- a byte of a smaller message stands so far past the first lane
-lane_in_narrow : (address size j : ℕ) → j < 2 ^ size → 2 ^ size < 8 → lane_of address size j ≡ low address size % 8 + j
+-- a byte of a message of one beat stands so far past the first lane
+lane_in_narrow : (address size j : ℕ) → j < 2 ^ size → 2 ^ size ≤ 8 → lane_of address size j ≡ low address size % 8 + j
 lane_in_narrow address size j below narrow = omega (arith, below, narrow, first_fits address size)
 
 carries_all : (carries : Bool) (size : ℕ) → 8 ≤ (if carries then 2 ^ size else 0) → 8 ≤ 2 ^ size
 carries_all true size wide = wide
 carries_all false size wide = absurd (omega (arith, wide))
 
-carries_within : (carries : Bool) (size j : ℕ) → j < (if carries then 2 ^ size else 0) → (if carries then 2 ^ size else 0) < 8 → (j < 2 ^ size) × (2 ^ size < 8)
+carries_within : (carries : Bool) (size j : ℕ) → j < (if carries then 2 ^ size else 0) → (if carries then 2 ^ size else 0) ≤ 8 → (j < 2 ^ size) × (2 ^ size ≤ 8)
 carries_within true size j below narrow = (below, narrow)
 carries_within false size j below narrow = absurd (omega (arith, below))
 
@@ -51,8 +51,8 @@ wide_bytes beats first op address lanes not_denied wide room are =
           stands_given first.denied beat.lanes (lane_of address first.size j) byte not_denied (ap (λ l. slice_index beat.lanes l) lane ∙ sym (are j beat found) ∙ here);
     }
 
--- the bytes of a smaller reply are some lanes of its one beat
-pub narrow_bytes : (beats : List DBeat) (first : DBeat) (op : ReplyOp) (address lane : ℕ) → slice_get beats 0 ≡ Some first → length first.lanes ≡ 8 → first.denied ≡ false → reply_byte_count op first.size < 8 → lane ≡ low address first.size % 8 → lane + reply_byte_count op first.size ≤ 8 → AreReplyBytesOf beats first op address (take (reply_byte_count op first.size) (drop lane first.lanes))
+-- the bytes of a reply of a word at most are some lanes of its one beat
+pub narrow_bytes : (beats : List DBeat) (first : DBeat) (op : ReplyOp) (address lane : ℕ) → slice_get beats 0 ≡ Some first → length first.lanes ≡ 8 → first.denied ≡ false → reply_byte_count op first.size ≤ 8 → lane ≡ low address first.size % 8 → lane + reply_byte_count op first.size ≤ 8 → AreReplyBytesOf beats first op address (take (reply_byte_count op first.size) (drop lane first.lanes))
 narrow_bytes beats first op address lane head eight not_denied narrow lane_is in_bus =
     let count = reply_byte_count op first.size in
     let part = take count (drop lane first.lanes) in

@@ -1,7 +1,7 @@
 //! Beats to requests.
 ghost use Rattle.std.specs.Prelude.{◌≡◌, ℕ, ◌+◌, ◌%◌, ◌<◌, ◌≤◌, ◌↔◌, [], length, Ok, IsTrue, IsOk, MatchOption, OnOk, OnErr, IfOk, IfErr};
 ghost use Rattle.tl_types.specs.List.{HoldsBelow, FailsFirstAt};
-ghost use Rattle.tl_types.specs.Operation.{carries_bytes};
+ghost use Rattle.tl_types.specs.Operation.{carries_bytes, byte_count};
 ghost use Rattle.tl_types.specs.Request.{Request, IsLawfulRequest};
 ghost use Rattle.tl_beats.specs.Beats.{beat_count, active_mask, IsLawfulMask, StandsAt, SpellsAsk};
 ghost use Rattle.tl_beats.specs.Faults.{SameFields, IsFirstBeatFault};
@@ -133,6 +133,19 @@ fn fill_with_bytes(beats: &[ABeat], first: &ABeat, op: AskOp, ask: &mut Ask)
     ask.refill_from(op, first.size, first.source, first.address, &bytes);
 }
 
+/// Puts the request that carries the word of the one beat, which has no fault and sets all lanes, in the place of another.
+// most puts are of a word: it is read from the lanes where they lie
+fn fill_word(beats: &[ABeat], first: &ABeat, op: AskOp, ask: &mut Ask)
+    requires begun { IsBegun beats.now first.now op }
+    requires faultless { AreFaultless beats.now first.now op }
+    requires word { byte_count op first.now.size ≡ BUS_BYTES }
+    requires set { first.now.mask ≡ 255 }
+    ensures lawful { IsLawfulRequest ask.new.op ask.new.size ask.new.bytes }
+    ensures spells { SpellsAsk ask.new beats.now }
+{
+    ask.refill_given(op, first.size, first.source, first.address, &first.lanes);
+}
+
 /// Puts the request that these beats spell, which have no fault, in the place of another.
 fn fill_ask(beats: &[ABeat], first: &ABeat, op: AskOp, ask: &mut Ask)
     requires begun { IsBegun beats.now first.now op }
@@ -140,10 +153,12 @@ fn fill_ask(beats: &[ABeat], first: &ABeat, op: AskOp, ask: &mut Ask)
     ensures lawful { IsLawfulRequest ask.new.op ask.new.size ask.new.bytes }
     ensures spells { SpellsAsk ask.new beats.now }
 {
-    if op.carries_bytes() {
-        fill_with_bytes(beats, first, op, ask);
-    } else {
+    if !op.carries_bytes() {
         ask.refill(op, first.size, first.source, first.address, &[]);
+    } else if op.byte_count(first.size) == BUS_BYTES && first.mask == u8::MAX {
+        fill_word(beats, first, op, ask);
+    } else {
+        fill_with_bytes(beats, first, op, ask);
     }
 }
 

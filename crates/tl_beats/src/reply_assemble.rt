@@ -89,7 +89,7 @@ fn put_lanes(beats: &[DBeat], lanes: &mut [u8; MAX_BYTES])
     }
 }
 
-/// Puts the reply of these beats, which have no fault, fill the bus and are not denied, in the place of another.
+/// Puts the reply of these beats, which have no fault, are whole words and not denied, in the place of another.
 // a function of its own, since it holds room for the longest message
 fn fill_wide(beats: &[DBeat], first: &DBeat, op: ReplyOp, address: u64, reply: &mut Reply)
     requires begun { IsReplyBegun beats.now first.now op }
@@ -127,7 +127,7 @@ fn fill_reply(beats: &[DBeat], first: &DBeat, op: ReplyOp, address: u64, reply: 
     let count = op.byte_count(first.size);
     if first.denied {
         fill_denied(beats, first, op, address, reply);
-    } else if count < BUS_BYTES {
+    } else if count <= BUS_BYTES {
         let lane = first_lane(address, first.size);
         let bytes = &first.lanes[lane..lane + count];
         reply.refill(op, first.size, first.source, first.denied, bytes);
