@@ -6,6 +6,7 @@ ghost use Rattle.tl_arena.specs.Promises.{memory_of};
 
 use tl_arena::{Accepted, Arena, PortSeat};
 use tl_ops::Bank;
+use tl_types::Ask;
 
 /// How often a shop passes over the slots before it gives up.
 const MOST_PASSES: usize = 1_000_000_000;
@@ -42,7 +43,9 @@ impl<'a> Shop<'a> {
         if self.seat.served() == usize::MAX {
             return false;
         }
-        let reply = self.memory.serve(accepted.ask());
+        let mut ask = Ask::blank();
+        accepted.read_ask(&mut ask);
+        let reply = self.memory.serve(&ask);
         self.arena.answer(&mut self.seat, accepted, &reply);
         true
     }

@@ -43,7 +43,8 @@ fn first_turn(
     assert!(rt; memory.accept(1).is_none());
     let ticket = first.wait_in_vain(rt, ticket);
     let accepted = memory.accept(0).expect(rt, "nothing is posted");
-    let seen = accepted.ask();
+    let mut seen = Ask::blank();
+    accepted.read_ask(&mut seen);
     assert!(rt; (seen.op(), seen.size()) == (AskOp::Get, 2));
     assert!(rt; (seen.source(), seen.address()) == (3, BASE));
     assert!(rt; memory.answer(accepted));
@@ -58,7 +59,7 @@ fn second_turn(rt: &impl Abort, second: &mut Client, memory: &mut Shop) {
     let ticket = second.send(&read(rt, 0), 0).expect(rt, "no slot");
     assert!(rt; ticket.slot() == 0);
     let accepted = memory.accept(0).expect(rt, "nothing is posted");
-    assert!(rt; accepted.ask().source() == 16);
+    assert!(rt; accepted.source() == 16);
     assert!(rt; memory.answer(accepted));
     let received = second.receive_now(rt, ticket);
     assert!(rt; (received.port, received.index) == (0, 1));

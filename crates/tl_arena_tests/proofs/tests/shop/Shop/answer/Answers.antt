@@ -19,4 +19,4 @@ pub invariant_of-self-clause-true_memory : goal.invariant_of-self-clause-true_me
 invariant_of-self-clause-true_memory c =
     let s = c.args.self.now in
     let f = c.args.accepted in
-    c.serve-reply.ensures.after ∙ (λ k. after (s.true_memory k) (c.ask.ensures k)) ∙ sym (served_memory s.seat f c.serve-reply.result) ∙ ap memory_of (sym c.answer.ensures.seat)
+    c.serve-reply.ensures.after ∙ (λ k. after (s.true_memory k) (c.read_ask.ensures k)) ∙ sym (served_memory s.seat f c.serve-reply.result) ∙ ap memory_of (sym c.answer.ensures.seat)
