@@ -135,7 +135,9 @@ impl<'a> Desk<'a> {
         }
         let accepted = self.taken.pop_front()?;
         let slot = accepted.slot();
-        let reply = self.memory.serve(accepted.ask());
+        let mut ask = Ask::blank();
+        accepted.read_ask(&mut ask);
+        let reply = self.memory.serve(&ask);
         self.arena.answer(&mut self.seat, accepted, &reply);
         Some(slot)
     }

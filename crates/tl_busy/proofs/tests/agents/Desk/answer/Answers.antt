@@ -28,7 +28,7 @@ invariant_of-self-2 c =
     let f = c.in_ok-accepted.accepted in
     record {
       here = ap (λ (u : PortView). u.arena) c.answer.ensures.seat ∙ s.here;
-      true_memory = c.serve-reply.ensures.after ∙ (λ k. after (s.true_memory k) (c.ask.ensures k))
+      true_memory = c.serve-reply.ensures.after ∙ (λ k. after (s.true_memory k) (c.read_ask.ensures k))
           ∙ sym (served_memory s.seat f c.serve-reply.result) ∙ ap memory_of (sym c.answer.ensures.seat);
       serving = sym (ap (λ (u : PortView). u.serving) c.answer.ensures.seat
           ∙ ap (drop_slot f.0) (sym s.serving ∙ c.in_ok-accepted.ensures.items) ∙ drop_first f c.pop_front.new.self.items);
