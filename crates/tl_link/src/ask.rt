@@ -7,7 +7,7 @@ ghost use Rattle.tl_link.specs.Begun.{IsWhole};
 
 use crate::fault::FormFault;
 use arrayvec::ArrayVec;
-use tl_beats::{ABeat, MAX_BEATS, assemble_ask, beat_count, is_lawful_mask, same_fields};
+use tl_beats::{ABeat, MAX_BEATS, assemble_ask_into, beat_count, is_lawful_mask, same_fields};
 use tl_types::{Ask, LARGEST_SIZE, read_op};
 
 /// How many beats the request has that a beat is part of.
@@ -19,22 +19,26 @@ pub fn ask_beats(beat: &ABeat) -> usize
     beat_count(beat.opcode < 4, beat.size)
 }
 
-/// The beats of a message so far.
-pub fn with_ask(begun: &[ABeat], beat: &ABeat) -> ArrayVec<ABeat, MAX_BEATS>
-    requires { length begun.now < MAX_BEATS }
-    ensures { result.items ≡ begun.now ++ beat.now ∷ [] }
+/// Puts the request that all beats of a message spell in the place of another.
+pub fn put_ask(message: &[ABeat], beat: &ABeat, ask: &mut Ask)
+    requires { IsWhole message.now beat.now }
+    ensures { ask.new ≡ ask_of beat.now message.now }
 {
-    let mut message: ArrayVec<ABeat, MAX_BEATS> = ArrayVec::try_from(begun).unwrap();
-    message.push(*beat);
-    message
+    assemble_ask_into(message, ask).unwrap();
 }
 
-/// The request that all beats of a message spell.
-pub fn whole_ask(message: &[ABeat], beat: &ABeat) -> Ask
-    requires { IsWhole message.now beat.now }
-    ensures { result ≡ ask_of beat.now message.now }
+/// Puts the request that this beat ends, behind those that have begun it, in the place of another.
+// apart from `put_ask`, so that a request of one beat pays for no room of a long one
+#[inline(never)]
+pub fn put_long_ask(begun: &[ABeat], beat: &ABeat, ask: &mut Ask)
+    requires room { length begun.now < MAX_BEATS }
+    requires whole { IsWhole (begun.now ++ beat.now ∷ []) beat.now }
+    ensures { ask.new ≡ ask_of beat.now (begun.now ++ beat.now ∷ []) }
 {
-    assemble_ask(message).unwrap()
+    let mut message: ArrayVec<ABeat, MAX_BEATS> = ArrayVec::new();
+    message.try_extend_from_slice(begun).unwrap();
+    message.push(*beat);
+    put_ask(&message, beat, ask);
 }
 
 /// Whether a beat has the fields of the message that is under way, if one is.

@@ -9,7 +9,9 @@ ghost use Rattle.tl_link.specs.Begun.{IsWholeReply};
 
 use crate::fault::FormFault;
 use arrayvec::ArrayVec;
-use tl_beats::{DBeat, MAX_BEATS, assemble_reply, beat_count, is_lawful_flag, same_reply_fields};
+use tl_beats::{
+    DBeat, MAX_BEATS, assemble_reply_into, beat_count, is_lawful_flag, same_reply_fields,
+};
 use tl_types::{LARGEST_SIZE, Reply, read_reply_op};
 
 /// How many beats the reply has that a beat is part of.
@@ -21,27 +23,32 @@ pub fn reply_beats(beat: &DBeat) -> usize
     beat_count(beat.opcode == 1, beat.size)
 }
 
-/// The beats of a message so far.
-pub fn with_reply(begun: &[DBeat], beat: &DBeat) -> ArrayVec<DBeat, MAX_BEATS>
-    requires { length begun.now < MAX_BEATS }
-    ensures { result.items ≡ begun.now ++ beat.now ∷ [] }
+/// Puts the reply to a request at an address that all beats of a message spell in the place of another.
+pub fn put_reply(message: &[DBeat], beat: &DBeat, address: u64, reply: &mut Reply)
+    requires { IsWholeReply message.now beat.now }
+    ensures spells { SpellsReply reply.new address message.now }
+    ensures lawful { IsLawfulResponse reply.new.op reply.new.size reply.new.denied reply.new.bytes }
+    ensures alone { (other : Response) → IsLawfulResponse other.op other.size other.denied other.bytes
+        → SpellsReply other address message.now → other ≡ reply.new }
 {
-    let mut message: ArrayVec<DBeat, MAX_BEATS> = ArrayVec::try_from(begun).unwrap();
-    message.push(*beat);
-    message
+    assemble_reply_into(message, address, reply).unwrap();
+    let _lawful = reply.bytes();
 }
 
-/// The reply to a request at an address that all beats of a message spell.
-pub fn whole_reply(message: &[DBeat], beat: &DBeat, address: u64) -> Reply
-    requires { IsWholeReply message.now beat.now }
-    ensures spells { SpellsReply result address message.now }
-    ensures lawful { IsLawfulResponse result.op result.size result.denied result.bytes }
+/// Puts the reply to a request at an address that this beat ends, behind those that have begun it, in the place of another.
+#[inline(never)]
+pub fn put_long_reply(begun: &[DBeat], beat: &DBeat, address: u64, reply: &mut Reply)
+    requires room { length begun.now < MAX_BEATS }
+    requires whole { IsWholeReply (begun.now ++ beat.now ∷ []) beat.now }
+    ensures spells { SpellsReply reply.new address (begun.now ++ beat.now ∷ []) }
+    ensures lawful { IsLawfulResponse reply.new.op reply.new.size reply.new.denied reply.new.bytes }
     ensures alone { (other : Response) → IsLawfulResponse other.op other.size other.denied other.bytes
-        → SpellsReply other address message.now → other ≡ result }
+        → SpellsReply other address (begun.now ++ beat.now ∷ []) → other ≡ reply.new }
 {
-    let reply = assemble_reply(message, address).unwrap();
-    let _lawful = reply.bytes();
-    reply
+    let mut message: ArrayVec<DBeat, MAX_BEATS> = ArrayVec::new();
+    message.try_extend_from_slice(begun).unwrap();
+    message.push(*beat);
+    put_reply(&message, beat, address, reply);
 }
 
 /// Whether a beat has the fields of the message that is under way, if one is.

@@ -7,9 +7,9 @@ ghost use Rattle.tl_link.specs.Message.{ask_of};
 ghost use Rattle.tl_link.specs.Past.{ends_ask, ends_reply, asks_after, replies_after, nothing_under};
 ghost use Rattle.tl_link.specs.Form.{FitsAsk, FitsReply, IsKnown, IsFirstAskFormFault, IsFirstReplyFormFault};
 
-use crate::ask::{ask_beats, ask_fault, whole_ask, with_ask};
+use crate::ask::{ask_beats, ask_fault, put_ask, put_long_ask};
 use crate::fault::FormFault;
-use crate::reply::{reply_beats, reply_fault, whole_reply, with_reply};
+use crate::reply::{put_long_reply, put_reply, reply_beats, reply_fault};
 use arrayvec::ArrayVec;
 use std::marker::Model;
 use tl_beats::{ABeat, DBeat, MAX_BEATS};
@@ -91,32 +91,34 @@ impl UnderWay {
         self.replying.len() + 1 == reply_beats(beat)
     }
 
-    /// The request that a beat ends.
-    pub fn ask(&self, beat: &ABeat) -> Ask
+    /// Puts the request that a beat ends in the place of another.
+    pub fn ask_into(&self, beat: &ABeat, ask: &mut Ask)
         requires fits { FitsAsk self.now.asking beat.now }
         requires ends { IsTrue (ends_ask self.now.asking beat.now) }
-        ensures { result ≡ ask_of beat.now (self.now.asking ++ beat.now ∷ []) }
+        ensures { ask.new ≡ ask_of beat.now (self.now.asking ++ beat.now ∷ []) }
     {
         // most requests are one beat: it alone is read, no longer message is copied
         if self.begins_ask() {
-            return whole_ask(&[*beat], beat);
+            put_ask(&[*beat], beat, ask);
+        } else {
+            put_long_ask(&self.asking, beat, ask);
         }
-        whole_ask(&with_ask(&self.asking, beat), beat)
     }
 
-    /// The reply, to a request at this address, that a beat ends.
-    pub fn reply(&self, beat: &DBeat, address: u64) -> Reply
+    /// Puts the reply, to a request at this address, that a beat ends in the place of another.
+    pub fn reply_into(&self, beat: &DBeat, address: u64, reply: &mut Reply)
         requires fits { FitsReply self.now.replying beat.now }
         requires ends { IsTrue (ends_reply self.now.replying beat.now) }
-        ensures spells { SpellsReply result address (self.now.replying ++ beat.now ∷ []) }
-        ensures lawful { IsLawfulResponse result.op result.size result.denied result.bytes }
+        ensures spells { SpellsReply reply.new address (self.now.replying ++ beat.now ∷ []) }
+        ensures lawful { IsLawfulResponse reply.new.op reply.new.size reply.new.denied reply.new.bytes }
         ensures alone { (other : Response) → IsLawfulResponse other.op other.size other.denied other.bytes
-            → SpellsReply other address (self.now.replying ++ beat.now ∷ []) → other ≡ result }
+            → SpellsReply other address (self.now.replying ++ beat.now ∷ []) → other ≡ reply.new }
     {
         if self.begins_reply() {
-            return whole_reply(&[*beat], beat, address);
+            put_reply(&[*beat], beat, address, reply);
+        } else {
+            put_long_reply(&self.replying, beat, address, reply);
         }
-        whole_reply(&with_reply(&self.replying, beat), beat, address)
     }
 
     /// A beat of channel A crosses.

@@ -5,3 +5,4 @@ pub mod Replying
 pub mod Keeping
 pub mod Beginning
 pub mod Earlier
+pub mod Served

@@ -19,7 +19,7 @@ use crate::fault::Reason;
 use crate::flight::Flight;
 use crate::watch::Watch;
 use tl_beats::ABeat;
-use tl_link::Link;
+use tl_link::{Link, UnderWay};
 use tl_types::Ask;
 
 /// The wide source of a beat, and the port of its request.
@@ -100,6 +100,23 @@ fn begins_placed(watch: &Watch, link: Link, beat: &ABeat) -> bool
     !watch.link(link).begins_ask() || is_placed(watch, link, beat)
 }
 
+/// Whether a master has sent the request that a beat ends behind those under way, and it has not crossed before.
+// apart from `ends_sent`, so that other beats pay for no room of a long request
+#[inline(never)]
+fn is_whole_sent(watch: &Watch, wide: u16, under: &UnderWay, beat: &ABeat) -> bool
+    requires wide { wide < WIDES }
+    requires fits { FitsAsk under.now.asking beat.now }
+    requires ends { IsTrue (ends_ask under.now.asking beat.now) }
+    ensures { IsTrue result
+        ↔ (IsAskedAs (flight_at watch.now.masters.flights wide).turn
+        (ask_of beat.now (under.now.asking ++ beat.now ∷ []))
+        × (crossing_at watch.now.crossings wide ≡ Waiting)) }
+{
+    let mut ask = Ask::blank();
+    under.ask_into(beat, &mut ask);
+    is_sent(watch, wide, &ask)
+}
+
 /// Whether a master has sent the request that a beat ends, where it ends one.
 fn ends_sent(watch: &Watch, link: Link, wide: u16, beat: &ABeat) -> bool
     requires known { HasLink watch.now.layout link }
@@ -112,7 +129,7 @@ fn ends_sent(watch: &Watch, link: Link, wide: u16, beat: &ABeat) -> bool
         (ask_of beat.now ((under_in watch.now link).asking ++ beat.now ∷ []))) }
 {
     let under = watch.link(link);
-    !is_second(watch, link) || !under.ends_ask(beat) || is_sent(watch, wide, &under.ask(beat))
+    !is_second(watch, link) || !under.ends_ask(beat) || is_whole_sent(watch, wide, under, beat)
 }
 
 /// Judges a beat of a request: its place, or the first fault that it has.

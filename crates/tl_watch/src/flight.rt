@@ -2,13 +2,19 @@
 //!
 //! A message is some 300 bytes long, and most beats need but a few of them. So what is in flight is kept in one place and written
 //! there: where it is nothing, what stands of a message is left as it is, and says nothing.
-ghost use Rattle.std.specs.Prelude.{◌≡◌, ◌↔◌, IsTrue, Some, None, option_map};
+ghost use Rattle.std.specs.Prelude.{◌≡◌, ◌↔◌, ◌++◌, ◌∷◌, [], IsTrue, Some, None, option_map};
+ghost use Rattle.tl_link.specs.Message.{ask_of};
+ghost use Rattle.tl_link.specs.Past.{ends_ask};
+ghost use Rattle.tl_link.specs.Form.{FitsAsk};
 ghost use Rattle.tl_watch.specs.Flight.Turn.{Idle, Asking, Asked};
 ghost use Rattle.tl_watch.specs.Flight.Crossing.{Waiting, Crossed, Given};
-ghost use Rattle.tl_watch.specs.Scene.{idle, asked, given};
+ghost use Rattle.tl_watch.specs.Scene.{idle, asked, given, slave_by, answer_by, flight_due};
 ghost use Rattle.tl_watch.specs.Faults.{IsInFlight};
 
+use crate::slave::Slave;
 use std::marker::Model;
+use tl_beats::ABeat;
+use tl_link::UnderWay;
 use tl_types::{Ask, AskOp, Bytes, Reply, ReplyOp};
 
 /// The reply that a request gets, the port that gives it, and the place of the request in the port's list.
@@ -158,21 +164,30 @@ impl Flight {
         self.is_due = false;
     }
 
-    /// This request has ended there.
-    pub fn end(&mut self, number: usize, ask: Ask)
-        ensures { self.new ≡ record { turn = Asked number ask; due = None } }
+    /// The request has ended there, by a beat behind those under way.
+    pub fn end(&mut self, number: usize, under: &UnderWay, beat: &ABeat)
+        requires fits { FitsAsk under.now.asking beat.now }
+        requires ends { IsTrue (ends_ask under.now.asking beat.now) }
+        ensures { let ask = ask_of beat.now (under.now.asking ++ beat.now ∷ []) in
+            self.new ≡ record { turn = Asked number ask; due = None } }
     {
+        under.ask_into(beat, &mut self.ask);
         self.stage = Stage::Ended(number);
-        self.ask = ask;
         self.is_due = false;
     }
 
-    /// This reply must come.
-    pub fn set_due(&mut self, answer: Answer)
-        ensures { self.new ≡ record self.old { due = Some answer } }
+    /// The slave of this port serves the request, if it has ended: what it answers must come.
+    pub fn serve(&mut self, port: usize, slave: &mut Slave)
+        ensures slave { slave.new ≡ slave_by slave.old (asked self.old.turn) }
+        ensures due { self.new ≡ flight_due self.old (answer_by port slave.old (asked self.old.turn)) }
     {
-        self.due = answer;
-        self.is_due = true;
+        match self.stage {
+            Stage::Nothing | Stage::Begun(_) => {}
+            Stage::Ended(_) => {
+                slave.serve_into(port, &self.ask, &mut self.due);
+                self.is_due = true;
+            }
+        }
     }
 
     /// Nothing is in flight any more.
@@ -230,7 +245,16 @@ impl Crossing {
     pub fn give(&mut self, answer: &Answer)
         ensures { self.new ≡ Given answer.now }
     {
-        self.answer = answer.copy();
+        let reply = &answer.reply;
+        self.answer.reply.refill(
+            reply.op(),
+            reply.size(),
+            reply.source(),
+            reply.denied(),
+            reply.bytes(),
+        );
+        self.answer.port = answer.port;
+        self.answer.index = answer.index;
         self.reach = Reach::Answered;
     }
 }

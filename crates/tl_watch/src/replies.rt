@@ -207,7 +207,8 @@ fn whole_fault(watch: &Watch, link: Link, wide: u16, port: usize, beat: &DBeat) 
     let Some(ask) = watch.flight(link, wide).asked() else {
         return None;
     };
-    let captured = under.reply(beat, ask.address());
+    let mut captured = Reply::blank();
+    under.reply_into(beat, ask.address(), &mut captured);
     end_fault(watch, link, wide, port, ask, beat.source, captured)
 }
 
@@ -231,7 +232,8 @@ fn ends_well(watch: &Watch, link: Link, wide: u16, port: usize, beat: &DBeat) ->
     let Some(ask) = watch.flight(link, wide).asked() else {
         return true;
     };
-    let captured = under.reply(beat, ask.address());
+    let mut captured = Reply::blank();
+    under.reply_into(beat, ask.address(), &mut captured);
     is_answered(watch, link, wide, port, ask, beat.source, &captured)
 }
 

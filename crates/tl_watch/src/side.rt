@@ -5,10 +5,11 @@ ghost use Rattle.tl_link.specs.Message.{ask_of};
 ghost use Rattle.tl_link.specs.Past.{nothing_under, ends_ask};
 ghost use Rattle.tl_link.specs.Form.{FitsAsk, FitsReply};
 ghost use Rattle.tl_watch.specs.Flight.Turn.{Asking, Asked};
-ghost use Rattle.tl_watch.specs.Scene.{idle};
+ghost use Rattle.tl_watch.specs.Scene.{idle, asked, slave_by, answer_by};
 ghost use Rattle.tl_watch.specs.View.{under_at, flight_at, side_crossed, side_with, side_due};
 
-use crate::flight::{Answer, Flight};
+use crate::flight::Flight;
+use crate::slave::Slave;
 use std::alloc::{AllocError, Global};
 use std::marker::Model;
 use tl_beats::{ABeat, DBeat};
@@ -139,9 +140,8 @@ impl Side {
             self.new
             ≡ side_with self.old number (A beat.now) wide (record { turn = Asked number ask; due = None }) }
     {
-        let ask = self.links[number].ask(beat);
+        self.flights[wide as usize].end(number, &self.links[number], beat);
         self.cross_ask(number, beat);
-        self.flights[wide as usize].end(number, ask);
     }
 
     /// A beat crosses a link that ends its reply, of this wide source.
@@ -155,11 +155,13 @@ impl Side {
         self.flights[wide as usize].clear();
     }
 
-    /// This is the reply that must come to what is in flight of a wide source.
-    pub fn set_due(&mut self, wide: u16, answer: Answer)
+    /// The slave of this port serves the request in flight of a wide source, if it has ended: what it answers must come.
+    pub fn serve(&mut self, wide: u16, port: usize, slave: &mut Slave)
         requires { wide < WIDES }
-        ensures { self.new ≡ side_due self.old wide (Some answer) }
+        ensures slave { slave.new ≡ slave_by slave.old (asked (flight_at self.old.flights wide).turn) }
+        ensures due { let ask = asked (flight_at self.old.flights wide).turn in
+            self.new ≡ side_due self.old wide (answer_by port slave.old ask) }
     {
-        self.flights[wide as usize].set_due(answer);
+        self.flights[wide as usize].serve(port, slave);
     }
 }

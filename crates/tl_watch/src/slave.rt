@@ -15,15 +15,15 @@ pub struct Slave {
 }
 
 impl Slave {
-    /// Serves a request, as the slave of this port.
-    pub fn serve(&mut self, port: usize, ask: &Ask) -> Answer
+    /// Serves a request, as the slave of this port, and puts the answer in the place of another.
+    pub fn serve_into(&mut self, port: usize, ask: &Ask, answer: &mut Answer)
         ensures served { self.new ≡ served_by self.old ask.now }
-        ensures answer { Some result ≡ answer_by port self.old (Some ask.now) }
+        ensures answer { Some answer.new ≡ answer_by port self.old (Some ask.now) }
     {
-        let index = self.served;
-        let reply = self.bank.serve(ask);
-        self.served = index.wrapping_add(1);
-        Answer { reply, port, index }
+        self.bank.serve_into(ask, &mut answer.reply);
+        answer.port = port;
+        answer.index = self.served;
+        self.served = self.served.wrapping_add(1);
     }
 
     /// The answer of the slave of this port to a request, which it does not serve.

@@ -346,19 +346,10 @@ impl Watch {
         requires port { port < length self.old.slaves }
         ensures { self.new ≡ with_answer self.old link wide port (asked (flight_in self.old link wide).turn) }
     {
+        let slave = &mut self.slaves[port];
         match link {
-            Link::Master(_) => {
-                if let Some(ask) = self.masters.flight(wide).asked() {
-                    let answer = self.slaves[port].serve(port, ask);
-                    self.masters.set_due(wide, answer);
-                }
-            }
-            Link::Port(_) => {
-                if let Some(ask) = self.ports.flight(wide).asked() {
-                    let answer = self.slaves[port].serve(port, ask);
-                    self.ports.set_due(wide, answer);
-                }
-            }
+            Link::Master(_) => self.masters.serve(wide, port, slave),
+            Link::Port(_) => self.ports.serve(wide, port, slave),
         }
     }
 
