@@ -11,9 +11,25 @@ pub fn refill_room(room: &mut ArrayVec<u8, MAX_BYTES>, bytes: &[u8])
     ensures { room.new.items ≡ bytes.now }
 {
     if room.len() == bytes.len() {
-        room.as_mut_slice().copy_from_slice(bytes);
+        write_over(room.as_mut_slice(), bytes);
     } else {
         room.clear();
         room.try_extend_from_slice(bytes).unwrap();
+    }
+}
+
+/// Writes bytes over as many others.
+// those of one word are moved in place, where a call would cost more than they do
+fn write_over(room: &mut [u8], bytes: &[u8])
+    requires { length room.old ≡ length bytes.now }
+    ensures { room.new ≡ bytes.now }
+{
+    match bytes.len() {
+        0 => {}
+        1 => room[..1].copy_from_slice(&bytes[..1]),
+        2 => room[..2].copy_from_slice(&bytes[..2]),
+        4 => room[..4].copy_from_slice(&bytes[..4]),
+        8 => room[..8].copy_from_slice(&bytes[..8]),
+        _ => room.copy_from_slice(bytes),
     }
 }
