@@ -2,13 +2,14 @@
 use Rattle.std.proofs.Common.{◌≡◌, ◌∙◌, ℕ, zero, suc, List, [], ◌∷◌, map, slice_get, unwrap_or, refl, ap, sym}
 use Rattle.tl_ops.specs.Store.{Store}
 use Rattle.tl_link.specs.Past.{nothing_under}
-use Rattle.tl_watch.specs.Flight.Crossing.{Waiting}
-use Rattle.tl_watch.specs.declared.slave.Slave.{Slave}
+use Rattle.tl_flight.specs.Flight.Crossing.{Waiting}
+use Rattle.tl_flight.specs.declared.slave.Slave.{Slave}
+use Rattle.tl_flight.specs.Flight.{idle}
+use Rattle.tl_flight.specs.Side.{under_at, flight_at}
 use Rattle.tl_watch.specs.Plan.{Plan, IsPlan, Side}
 use Rattle.tl_watch.specs.Plan.Side.{AtMasters, AtPorts}
-use Rattle.tl_watch.specs.Scene.{idle}
 use Rattle.tl_watch.specs.Past.{no_store}
-use Rattle.tl_watch.specs.View.{View, Keeps, side_in, under_at, flight_at, crossing_at, fresh_slave, slave_at}
+use Rattle.tl_watch.specs.View.{View, Keeps, side_in, crossing_at, fresh_slave, slave_at}
 
 slave_fresh : (banks : List Store) (port : ℕ) → slave_at (map fresh_slave banks) port ≡ fresh_slave (unwrap_or (slice_get banks port) no_store)
 slave_fresh [] port = refl

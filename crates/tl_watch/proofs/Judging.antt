@@ -14,16 +14,17 @@ use Rattle.tl_link.specs.declared.beat.Beat.TheVariants.{A, D}
 use Rattle.tl_link.specs.declared.fault.FormFault.{FormFault}
 use Rattle.tl_link.specs.declared.fault.FormFault.TheVariants.{Changed, Opcode, Size, Mask, CorruptFlag, UnknownData as UnknownLanes}
 use Rattle.tl_link.specs.Form.{FitsAsk, IsKnown, HasAskFormFault}
+use Rattle.tl_flight.specs.Flight.{asked, Turn}
+use Rattle.tl_flight.specs.Side.{flight_at}
+use Rattle.tl_flight.specs.Flight.Turn.{Idle, Asking, Asked}
 use Rattle.tl_watch.specs.declared.fault.Fault.{Fault}
 use Rattle.tl_watch.specs.declared.fault.Fault.TheVariants.{Form, NoSuchSource, SourceBusy, WrongPort, NoRequest, EarlyReply, WrongSize, WrongOpcode, UnknownData, NotSent, NotGiven, WrongReply}
 use Rattle.tl_watch.specs.Plan.{Layout, Plan, HasSource, IsWideAt, wide_of}
-use Rattle.tl_watch.specs.Scene.{Scene, asked}
+use Rattle.tl_watch.specs.Scene.{Scene}
 use Rattle.tl_watch.specs.Past.{port_in, port_of}
 use Rattle.tl_watch.specs.Allowed.{IsSent, BeginsFree, BeginsPlaced, EndsSent, IsAllowedAsk}
 use Rattle.tl_watch.specs.Faults.{HasAskFault, IsFirstAskFault, fault_rank}
-use Rattle.tl_watch.specs.View.{View, Suits, under_in, flight_in, flight_at, crossing_at, scene_in}
-use Rattle.tl_watch.specs.Flight.{Turn}
-use Rattle.tl_watch.specs.Flight.Turn.{Idle, Asking, Asked}
+use Rattle.tl_watch.specs.View.{View, Suits, under_in, flight_in, crossing_at, scene_in}
 use Rattle.tl_link.specs.Message.{ask_of}
 use Rattle.tl_link.specs.Past.{ends_ask}
 

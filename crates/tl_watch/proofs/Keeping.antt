@@ -13,20 +13,22 @@ use Rattle.tl_link.specs.declared.beat.Link.TheVariants.{Master, Port}
 use Rattle.tl_link.specs.declared.beat.Sighting.{Sighting}
 use Rattle.tl_link.specs.Message.{ask_of}
 use Rattle.tl_link.specs.Past.{under_after, nothing_under, ends_ask, ends_reply}
-use Rattle.tl_watch.specs.declared.flight.Answer.{Answer}
-use Rattle.tl_watch.specs.Flight.{Turn, Flight, Crossing}
-use Rattle.tl_watch.specs.Flight.Turn.{Asked}
-use Rattle.tl_watch.specs.Flight.Crossing.{Waiting, Crossed, Given}
-use Rattle.tl_watch.specs.declared.slave.Slave.{Slave}
-use Rattle.tl_watch.specs.declared.side.TheConstants.{WIDES}
+use Rattle.tl_flight.specs.declared.flight.Answer.{Answer}
+use Rattle.tl_flight.specs.Flight.{Turn, Flight, Crossing, idle, asked, flight_due}
+use Rattle.tl_flight.specs.Flight.Turn.{Asked}
+use Rattle.tl_flight.specs.Flight.Crossing.{Waiting, Crossed, Given}
+use Rattle.tl_flight.specs.declared.slave.Slave.{Slave}
+use Rattle.tl_flight.specs.declared.side.TheConstants.{WIDES}
+use Rattle.tl_flight.specs.Slave.{served_by, slave_by, answer_by}
+use Rattle.tl_flight.specs.Side.{under_at, flight_at, flights_due}
 use Rattle.tl_watch.specs.Plan.{Layout, Plan, Side, HasLink, IsWideAt, side_of, number_of, source_of, wide_of, is_link, is_of, is_at_acceptance}
 use Rattle.tl_watch.specs.Plan.Side.{AtMasters, AtPorts}
-use Rattle.tl_watch.specs.Scene.{Scene, idle, asked, ask_by, takes_effect, effect_by, effect, answering, flight_due, served_by, slave_by, answer_by, turn_by, flight_after, crossing_after, given_by}
+use Rattle.tl_watch.specs.Scene.{Scene, ask_by, takes_effect, effect_by, effect, answering, turn_by, flight_after, crossing_after, given_by}
 use Rattle.tl_watch.specs.Past.{State, port_in, port_of, found_in, scene_of, state_after, state, scene}
 use Rattle.tl_watch.specs.declared.fault.Fault.{Fault}
 use Rattle.tl_watch.specs.Allowed.{IsAllowedAsk, IsAllowedReply}
 use Rattle.tl_watch.specs.Lawful.{IsLawful, IsAllowed, IsAllowedBeat, IsFirstFaultOf, IsFirstFault}
-use Rattle.tl_watch.specs.View.{View, IsSized, Suits, Keeps, AreSame, state_in, side_in, under_at, flight_at, crossing_at, no_slave, slave_at, under_in, flight_in, scene_in, slaves_with, crossings_taken, crossings_given, effect_in, late_in, late_answer, flights_due, with_ask_at, with_ask, with_answer, with_late, with_part, with_end}
+use Rattle.tl_watch.specs.View.{View, IsSized, Suits, Keeps, AreSame, state_in, side_in, crossing_at, no_slave, slave_at, under_in, flight_in, scene_in, slaves_with, crossings_taken, crossings_given, effect_in, late_in, late_answer, with_ask_at, with_ask, with_answer, with_late, with_part, with_end}
 use Rattle.tl_watch.proofs.Judging.{wide_is, no_ask_fault}
 use Rattle.tl_watch.proofs.Replying.{no_reply_fault}
 

@@ -1,4 +1,3 @@
-pub mod Fresh
 pub mod Wides
 pub mod Judging
 pub mod Replying

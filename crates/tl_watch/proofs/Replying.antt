@@ -15,19 +15,21 @@ use Rattle.tl_link.specs.declared.fault.FormFault.{FormFault}
 use Rattle.tl_link.specs.declared.fault.FormFault.TheVariants.{Changed, Opcode, Size, Mask, CorruptFlag, UnknownData as UnknownLanes}
 use Rattle.tl_link.specs.Form.{FitsReply, HasReplyFormFault}
 use Rattle.tl_link.specs.Past.{ends_reply}
+use Rattle.tl_flight.specs.Flight.{Turn, asked, due_by}
+use Rattle.tl_flight.specs.Flight.Turn.{Idle, Asking, Asked}
+use Rattle.tl_flight.specs.declared.flight.Answer.{Answer}
+use Rattle.tl_flight.specs.Slave.{answer_by}
+use Rattle.tl_flight.specs.Side.{flight_at}
 use Rattle.tl_watch.specs.declared.fault.Fault.{Fault}
 use Rattle.tl_watch.specs.declared.fault.Fault.TheVariants.{Form, NoSuchSource, SourceBusy, WrongPort, NoRequest, EarlyReply, WrongSize, WrongOpcode, UnknownData, NotSent, NotGiven, WrongReply}
-use Rattle.tl_watch.specs.Flight.{Turn}
-use Rattle.tl_watch.specs.Flight.Turn.{Idle, Asking, Asked}
-use Rattle.tl_watch.specs.declared.flight.Answer.{Answer}
 use Rattle.tl_watch.specs.Plan.{Layout, Plan, HasSource, IsWideAt, number_of}
-use Rattle.tl_watch.specs.Scene.{Scene, asked, effect_by, answer_by, due_by, answering, is_given, must_by, must_come, seen, seen_reply, ended}
+use Rattle.tl_watch.specs.Scene.{Scene, effect_by, answering, is_given, must_by, must_come, seen, seen_reply, ended}
 use Rattle.tl_watch.specs.declared.seen.Seen.TheVariants.{Part}
 use Rattle.tl_watch.specs.declared.seen.Ended.TheVariants as ends
 use Rattle.tl_watch.specs.Past.{port_of}
 use Rattle.tl_watch.specs.Allowed.{OfAsked, IsAnswer, EndsWell, IsAllowedReply}
 use Rattle.tl_watch.specs.Faults.{HasAnswerFault, HasEndFault, EndsWith, HasReplyFault, IsFirstReplyFault, fault_rank}
-use Rattle.tl_watch.specs.View.{View, Suits, under_in, flight_in, flight_at, crossing_at, slave_at, scene_in, is_late_in, due_in, due_at, IsEndFault, IsEndWell}
+use Rattle.tl_watch.specs.View.{View, Suits, under_in, flight_in, crossing_at, slave_at, scene_in, is_late_in, due_in, due_at, IsEndFault, IsEndWell}
 use Rattle.tl_watch.proofs.Judging.{wide_is}
 
 -- ---- the reply that a beat ends

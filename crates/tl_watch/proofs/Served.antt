@@ -1,31 +1,17 @@
 -- What stands where a slave serves, or serves nothing.
-use Rattle.std.proofs.Common.{◌≡◌, ◌∙◌, ◌<◌, ℕ, suc, zero, List, [], ◌∷◌, length, Option, Some, None, slice_get, get_or, ap, sym, refl}
+use Rattle.std.proofs.Common.{◌≡◌, ◌∙◌, ◌<◌, ℕ, List, length, Option, Some, None, get_or, ap, sym, refl}
 use Rattle.std.proofs.lemmas.Option.{slice_get-get_or}
 use Rattle.std.specs.Prelude.{slice_set, unwrap_or}
 use Rattle.tl_types.specs.Request.{Request}
-use Rattle.tl_watch.specs.declared.flight.Answer.{Answer}
-use Rattle.tl_watch.specs.declared.slave.Slave.{Slave}
-use Rattle.tl_watch.specs.Flight.{Flight}
-use Rattle.tl_watch.specs.Scene.{idle, slave_by, flight_due}
-use Rattle.tl_watch.specs.View.{no_slave, slave_at, slaves_with, flight_at, flights_due}
-
--- what stands at a place, written there again, changes nothing
-set_own : {X : Type 0} (d : X) (xs : List X) (k : ℕ) → slice_set xs k (unwrap_or (slice_get xs k) d) ≡ xs
-set_own d [] k = refl
-set_own d (x ∷ xs) zero = refl
-set_own d (x ∷ xs) (suc k) = ap (λ l. x ∷ l) (set_own d xs k)
+use Rattle.tl_flight.specs.declared.slave.Slave.{Slave}
+use Rattle.tl_flight.specs.Slave.{slave_by}
+use Rattle.tl_flight.proofs.Served.{set_own}
+use Rattle.tl_watch.specs.View.{no_slave, slave_at, slaves_with}
 
 pub slaves_served : (slaves : List Slave) (port : ℕ) (ask : Option Request) → slice_set slaves port (slave_by (slave_at slaves port) ask) ≡ slaves_with slaves port ask
 slaves_served slaves port None = set_own no_slave slaves port
 slaves_served slaves port (Some ask) = refl
 
-pub flights_served : (flights : List Flight) (wide : ℕ) (due : Option Answer) → slice_set flights wide (flight_due (flight_at flights wide) due) ≡ flights_due flights wide due
-flights_served flights wide None = set_own idle flights wide
-flights_served flights wide (Some answer) = refl
-
 -- what is found at a place within a list stands there
 pub slave_found : (slaves : List Slave) (port : ℕ) (d : Slave) → port < length slaves → d ≡ get_or slaves port d → d ≡ slave_at slaves port
 slave_found slaves port d within is = is ∙ sym (ap (λ o. unwrap_or o no_slave) (slice_get-get_or slaves port d within))
-
-pub flight_found : (flights : List Flight) (wide : ℕ) (d : Flight) → wide < length flights → d ≡ get_or flights wide d → d ≡ flight_at flights wide
-flight_found flights wide d within is = is ∙ sym (ap (λ o. unwrap_or o idle) (slice_get-get_or flights wide d within))

@@ -15,9 +15,9 @@ use Rattle.tl_link.specs.declared.beat.Link.TheVariants.{Master, Port}
 use Rattle.tl_link.specs.Message.{ask_of}
 use Rattle.tl_link.specs.Past.{ends_ask, ends_reply}
 use Rattle.tl_link.specs.Form.{FitsAsk, FitsReply, IsKnown}
-use Rattle.tl_watch.specs.Flight.{Turn, Crossing}
-use Rattle.tl_watch.specs.Flight.Turn.{Idle, Asking, Asked}
-use Rattle.tl_watch.specs.Flight.Crossing.{Waiting}
+use Rattle.tl_flight.specs.Flight.{Turn, Crossing}
+use Rattle.tl_flight.specs.Flight.Turn.{Idle, Asking, Asked}
+use Rattle.tl_flight.specs.Flight.Crossing.{Waiting}
 use Rattle.tl_watch.specs.declared.links.Links.TheVariants.{Both}
 use Rattle.tl_watch.specs.Plan.{Layout, HasSource, number_of, are_both}
 use Rattle.tl_watch.specs.Scene.{Scene, must_come}

@@ -10,13 +10,13 @@ use Rattle.tl_beats.specs.declared.beat.DBeat.{DBeat}
 use Rattle.tl_link.specs.declared.beat.Link.{Link}
 use Rattle.tl_link.specs.Past.{ends_reply}
 use Rattle.tl_link.specs.Form.{HasAskFormFault, HasReplyFormFault, form_rank}
+use Rattle.tl_flight.specs.declared.flight.Answer.{Answer}
+use Rattle.tl_flight.specs.Flight.{Turn, IsInFlight}
+use Rattle.tl_flight.specs.Flight.Turn.{Asking}
 use Rattle.tl_watch.specs.declared.fault.Fault.{Fault}
 use Rattle.tl_watch.specs.declared.fault.Reason.{Reason}
 use Rattle.tl_watch.specs.declared.fault.Reason.TheVariants as reasons
 use Rattle.tl_watch.specs.declared.fault.Fault.TheVariants.{Form, NoSuchSource, SourceBusy, WrongPort, NoRequest, EarlyReply, WrongSize, WrongOpcode, UnknownData, NotSent, NotGiven, WrongReply}
-use Rattle.tl_watch.specs.Flight.{Turn}
-use Rattle.tl_watch.specs.Flight.Turn.{Idle, Asking, Asked}
-use Rattle.tl_watch.specs.declared.flight.Answer.{Answer}
 use Rattle.tl_watch.specs.Plan.{Layout, HasSource, number_of}
 use Rattle.tl_watch.specs.Scene.{Scene, is_given, must_come}
 use Rattle.tl_watch.specs.Allowed.{BeginsFree, BeginsPlaced, EndsSent, OfAsked, IsKnownReply}
@@ -35,12 +35,6 @@ HasAskFault layout link scene beat known UnknownData = ⊥
 HasAskFault layout link scene beat known NotSent = EndsSent layout link scene beat → ⊥
 HasAskFault layout link scene beat known NotGiven = ⊥
 HasAskFault layout link scene beat known (WrongReply expected captured) = ⊥
-
--- a request of the source is in flight at the link
-abbrev pub IsInFlight : ℕ → Turn → Type 0
-IsInFlight number Idle = ⊥
-IsInFlight number (Asking at) = at ≡ number
-IsInFlight number (Asked at ask) = at ≡ number
 
 -- a beat has this fault as an answer to what is in flight of its source at the link of this number
 abbrev pub HasAnswerFault : ℕ → Turn → DBeat → ℕ → Fault → Type 0

@@ -1,4 +1,3 @@
-pub mod Flight
 pub mod Plan
 pub mod Scene
 pub mod Past

@@ -8,13 +8,14 @@ use Rattle.tl_link.specs.declared.beat.Link.{Link}
 use Rattle.tl_link.specs.declared.beat.Link.TheVariants.{Master, Port}
 use Rattle.tl_link.specs.declared.beat.Sighting.{Sighting}
 use Rattle.tl_link.specs.Past.{Under, under_after, nothing_under}
-use Rattle.tl_watch.specs.Flight.{Turn, Flight, Crossing}
-use Rattle.tl_watch.specs.Flight.Turn.{Idle, Asking, Asked}
-use Rattle.tl_watch.specs.Flight.Crossing.{Waiting}
-use Rattle.tl_watch.specs.declared.slave.Slave.{Slave}
+use Rattle.tl_flight.specs.Flight.{Turn, Flight, Crossing, idle}
+use Rattle.tl_flight.specs.Flight.Turn.{Idle, Asking, Asked}
+use Rattle.tl_flight.specs.Flight.Crossing.{Waiting}
+use Rattle.tl_flight.specs.declared.slave.Slave.{Slave}
+use Rattle.tl_flight.specs.Slave.{slave_by}
 use Rattle.tl_watch.specs.Plan.{Plan, Side, side_of, number_of, source_of, wide_of, is_link, is_of}
 use Rattle.tl_watch.specs.Plan.Side.{AtMasters}
-use Rattle.tl_watch.specs.Scene.{Scene, idle, effect, answering, slave_by, flight_after, crossing_after}
+use Rattle.tl_watch.specs.Scene.{Scene, effect, answering, flight_after, crossing_after}
 
 -- the messages under way at each link, what is in flight of each wide source on each side, how far it has come across, and what
 -- each port's slave holds

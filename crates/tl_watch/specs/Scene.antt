@@ -1,9 +1,8 @@
 -- What a beat finds at its link and in its port, and what it makes of that: messages and their order by the chapters "Beats and
 -- bursts" and "TL-UL and TL-UH operations" of the TileLink specification; when a request takes effect is the system's own affair.
-use Rattle.std.specs.Prelude.{ℕ, ◌+◌, ◌%◌, ◌^◌, Bool, true, false, ◌&&◌, if◌then◌else◌, List, [], ◌∷◌, ◌++◌, Option, Some, None}
+use Rattle.std.specs.Prelude.{ℕ, Bool, true, false, ◌&&◌, if◌then◌else◌, List, [], ◌∷◌, ◌++◌, Option, Some, None}
 use Rattle.tl_types.specs.Request.{Request}
 use Rattle.tl_types.specs.declared.trace.Entry.{Entry}
-use Rattle.tl_ops.specs.Store.{after, reply}
 use Rattle.tl_beats.specs.declared.beat.ABeat.{ABeat}
 use Rattle.tl_beats.specs.declared.beat.DBeat.{DBeat}
 use Rattle.tl_link.specs.declared.beat.Beat.{Beat}
@@ -12,11 +11,12 @@ use Rattle.tl_link.specs.declared.beat.Link.{Link}
 use Rattle.tl_link.specs.declared.beat.Link.TheVariants.{Master, Port}
 use Rattle.tl_link.specs.Message.{ask_of}
 use Rattle.tl_link.specs.Past.{Under, ends_ask, ends_reply}
-use Rattle.tl_watch.specs.Flight.{Turn, Flight, Crossing}
-use Rattle.tl_watch.specs.Flight.Turn.{Idle, Asking, Asked}
-use Rattle.tl_watch.specs.declared.flight.Answer.{Answer}
-use Rattle.tl_watch.specs.Flight.Crossing.{Waiting, Crossed, Given}
-use Rattle.tl_watch.specs.declared.slave.Slave.{Slave}
+use Rattle.tl_flight.specs.declared.flight.Answer.{Answer}
+use Rattle.tl_flight.specs.declared.slave.Slave.{Slave}
+use Rattle.tl_flight.specs.Flight.{Turn, Flight, Crossing, idle, asked, flight_due}
+use Rattle.tl_flight.specs.Flight.Turn.{Idle, Asking, Asked}
+use Rattle.tl_flight.specs.Flight.Crossing.{Waiting, Crossed, Given}
+use Rattle.tl_flight.specs.Slave.{slave_by, answer_by}
 use Rattle.tl_watch.specs.declared.seen.Seen.{Seen}
 use Rattle.tl_watch.specs.declared.seen.Seen.TheVariants.{Part, WholeAsk, WholeReply}
 use Rattle.tl_watch.specs.declared.seen.Ended.{Ended}
@@ -32,9 +32,6 @@ pub record Scene : Type 0 where
   pub crossing : Crossing
   pub port : ℕ
   pub slave : Slave
-
-abbrev pub idle : Flight
-idle = record { turn = Idle; due = None }
 
 -- the request that a beat ends, if it ends one
 abbrev pub ask_by : List ABeat → ABeat → Option Request
@@ -58,12 +55,6 @@ effect layout link scene (A beat) =
     effect_by (is_at_acceptance layout.order && takes_effect layout link scene.port) (ask_by scene.under.asking beat)
 effect layout link scene (D beat) = None
 
--- the request in flight that has ended
-abbrev pub asked : Turn → Option Request
-asked Idle = None
-asked (Asking number) = None
-asked (Asked number ask) = Some ask
-
 -- no beat of a reply is under way
 abbrev pub begins_reply : List DBeat → Bool
 begins_reply [] = true
@@ -74,28 +65,7 @@ abbrev pub late_effect : Layout → Link → ℕ → List DBeat → Turn → Opt
 late_effect layout link port begun turn =
     effect_by (is_at_reply layout.order && takes_effect layout link port && begins_reply begun) (asked turn)
 
--- the slave after a request; how many it has served is counted modulo 2 ^ 64
-abbrev pub served_by : Slave → Request → Slave
-served_by slave ask = record { bank = after slave.bank ask; served = (slave.served + 1) % 2 ^ 64 }
-
-abbrev pub slave_by : Slave → Option Request → Slave
-slave_by slave None = slave
-slave_by slave (Some ask) = served_by slave ask
-
--- the reply that a request gets, which is the memory's there, with the port and the request's place in the port's list
-abbrev pub answer_by : ℕ → Slave → Option Request → Option Answer
-answer_by port slave None = None
-answer_by port slave (Some ask) = Some (record { reply = reply slave.bank ask; port = port; index = slave.served })
-
 -- ---- what a beat finds, once the request that it answers has taken effect
-
--- the reply that must come, if that is known now
-abbrev pub due_by : Option Answer → Option Answer → Option Answer
-due_by before None = before
-due_by before (Some answer) = Some answer
-
-abbrev pub flight_due : Flight → Option Answer → Flight
-flight_due flight answer = record flight { due = due_by flight.due answer }
 
 abbrev pub answering : Layout → Link → Scene → Beat → Scene
 answering layout link scene (A beat) = scene
@@ -135,13 +105,7 @@ crossing_after (Port p) scene (D beat) = if ends_reply scene.under.replying beat
 
 -- ---- the reply that must come
 
--- what the port gave
-abbrev pub given : Crossing → Option Answer
-given Waiting = None
-given Crossed = None
-given (Given answer) = Some answer
-
--- the same, for this source
+-- what the port gave, for this source
 abbrev pub given_to : ℕ → Crossing → Option Answer
 given_to source Waiting = None
 given_to source Crossed = None

@@ -2,6 +2,7 @@
 use Rattle.std.specs.Prelude.{◌≡◌, ℕ, ◌+◌, Bool, true, false, ◌&&◌, List, [], ◌∷◌, ◌++◌, IsTrue, IsSomeAnd, length, Option, Some, None, slice_get, slice_set, unwrap_or}
 use Rattle.tl_types.specs.Request.{Request}
 use Rattle.tl_types.specs.Response.{Response, IsLawfulResponse}
+use Rattle.tl_ops.specs.Store.{Store}
 use Rattle.tl_beats.specs.Replies.{SpellsReply}
 use Rattle.tl_beats.specs.declared.beat.ABeat.{ABeat}
 use Rattle.tl_beats.specs.declared.beat.DBeat.{DBeat}
@@ -10,25 +11,21 @@ use Rattle.tl_link.specs.declared.beat.Beat.TheVariants.{A, D}
 use Rattle.tl_link.specs.declared.beat.Link.{Link}
 use Rattle.tl_link.specs.declared.beat.Link.TheVariants.{Master, Port}
 use Rattle.tl_link.specs.declared.beat.Sighting.{Sighting}
-use Rattle.tl_link.specs.Past.{Under, under_after, nothing_under, ends_ask, ends_reply}
+use Rattle.tl_link.specs.Past.{Under, ends_ask, ends_reply}
+use Rattle.tl_flight.specs.declared.flight.Answer.{Answer}
+use Rattle.tl_flight.specs.declared.side.TheConstants.{WIDES}
+use Rattle.tl_flight.specs.declared.slave.Slave.{Slave}
+use Rattle.tl_flight.specs.Flight.{Flight, Crossing, idle, due_by}
+use Rattle.tl_flight.specs.Flight.Crossing.{Waiting, Crossed, Given}
+use Rattle.tl_flight.specs.Side.{SideView, under_at, flight_at, side_crossed, side_with, side_due}
+use Rattle.tl_flight.specs.Slave.{served_by, answer_by}
 use Rattle.tl_watch.specs.declared.fault.Fault.{Fault}
-use Rattle.tl_watch.specs.declared.flight.Answer.{Answer}
-use Rattle.tl_watch.specs.Flight.{Flight, Crossing}
-use Rattle.tl_watch.specs.Flight.Crossing.{Waiting, Crossed, Given}
-use Rattle.tl_ops.specs.Store.{Store}
-use Rattle.tl_watch.specs.declared.slave.Slave.{Slave}
-use Rattle.tl_watch.specs.declared.side.TheConstants.{WIDES}
 use Rattle.tl_watch.specs.Plan.{Layout, Plan, IsPlan, Side, side_of, number_of, is_at_acceptance, is_at_reply}
 use Rattle.tl_watch.specs.Plan.Side.{AtMasters, AtPorts}
-use Rattle.tl_watch.specs.Scene.{Scene, idle, is_given, must_by, ask_by, takes_effect, begins_reply, effect_by, late_effect, due_by, flight_due, served_by, answer_by, turn_by}
+use Rattle.tl_watch.specs.Scene.{Scene, is_given, must_by, ask_by, takes_effect, begins_reply, effect_by, late_effect, turn_by}
 use Rattle.tl_watch.specs.Past.{State, no_store, port_of, scene_of, state}
 use Rattle.tl_watch.specs.Faults.{HasEndFault}
 use Rattle.tl_watch.specs.Lawful.{IsLawful}
-
--- one side: the messages under way at each of its links, and what is in flight of each wide source
-pub record SideView : Type 0 where
-  pub links : List Under
-  pub flights : List Flight
 
 pub record View : Type 0 where
   pub layout : Layout
@@ -45,12 +42,6 @@ pub record IsSized (view : View) : Type 0 where
   pub slaves : length view.slaves ≡ length view.layout.ranges + 1
 
 -- ---- what stands at a place, and something for places that are not there
-
-abbrev pub under_at : List Under → ℕ → Under
-under_at links number = unwrap_or (slice_get links number) nothing_under
-
-abbrev pub flight_at : List Flight → ℕ → Flight
-flight_at flights wide = unwrap_or (slice_get flights wide) idle
 
 abbrev pub crossing_at : List Crossing → ℕ → Crossing
 crossing_at crossings wide = unwrap_or (slice_get crossings wide) Waiting
@@ -154,16 +145,6 @@ pub record Keeps (plan : Plan) (past : List Sighting) (view : View) : Type 0 whe
 
 -- ---- steps
 
-abbrev pub side_crossed : SideView → ℕ → Beat → SideView
-side_crossed side number beat =
-    record { links = slice_set side.links number (under_after (under_at side.links number) beat); flights = side.flights }
-
-abbrev pub side_with : SideView → ℕ → Beat → ℕ → Flight → SideView
-side_with side number beat wide flight = record {
-  links = slice_set side.links number (under_after (under_at side.links number) beat);
-  flights = slice_set side.flights wide flight;
-}
-
 abbrev pub slaves_with : List Slave → ℕ → Option Request → List Slave
 slaves_with slaves port None = slaves
 slaves_with slaves port (Some ask) = slice_set slaves port (served_by (slave_at slaves port) ask)
@@ -205,14 +186,6 @@ abbrev pub with_ask : View → Link → ℕ → ℕ → ABeat → View
 with_ask view link wide port beat =
     let ask = ask_by (under_in view link).asking beat in
     with_ask_at (with_served view link port ask) link wide beat (asked_flight view link port ask)
-
--- what is in flight of a wide source, with the reply that must come
-abbrev pub flights_due : List Flight → ℕ → Option Answer → List Flight
-flights_due flights wide None = flights
-flights_due flights wide (Some answer) = slice_set flights wide (flight_due (flight_at flights wide) (Some answer))
-
-abbrev pub side_due : SideView → ℕ → Option Answer → SideView
-side_due side wide answer = record side { flights = flights_due side.flights wide answer }
 
 abbrev pub with_due : View → Link → ℕ → Option Answer → View
 with_due view (Master m) wide answer = record view { masters = side_due view.masters wide answer }

@@ -5,20 +5,21 @@ ghost use Rattle.tl_types.specs.declared.limits.TheConstants.{LARGEST_SIZE};
 ghost use Rattle.tl_link.specs.Message.{ask_of};
 ghost use Rattle.tl_link.specs.Past.{ends_ask};
 ghost use Rattle.tl_link.specs.Form.{FitsAsk};
-ghost use Rattle.tl_watch.specs.Flight.{Turn as Flying};
-ghost use Rattle.tl_watch.specs.Flight.Turn.{Idle};
-ghost use Rattle.tl_watch.specs.Flight.Crossing.{Waiting};
-ghost use Rattle.tl_watch.specs.declared.side.TheConstants.{WIDES};
+ghost use Rattle.tl_flight.specs.Flight.{Turn as Flying};
+ghost use Rattle.tl_flight.specs.Flight.Turn.{Idle};
+ghost use Rattle.tl_flight.specs.Flight.Crossing.{Waiting};
+ghost use Rattle.tl_flight.specs.declared.side.TheConstants.{WIDES};
+ghost use Rattle.tl_flight.specs.Side.{flight_at};
 ghost use Rattle.tl_watch.specs.Plan.{Plan, HasLink, IsWideAt};
 ghost use Rattle.tl_watch.specs.Past.{port_of};
 ghost use Rattle.tl_watch.specs.Allowed.{is_second, IsAskedAs, IsSent, IsPlaced, BeginsFree, BeginsPlaced, EndsSent, IsAllowedAsk};
 ghost use Rattle.tl_watch.specs.Faults.{IsFirstAskFault, fault_of};
-ghost use Rattle.tl_watch.specs.View.{Suits, under_in, flight_in, flight_at, crossing_at, scene_in};
+ghost use Rattle.tl_watch.specs.View.{Suits, under_in, flight_in, crossing_at, scene_in};
 
 use crate::fault::Reason;
-use crate::flight::Flight;
 use crate::watch::Watch;
 use tl_beats::ABeat;
+use tl_flight::Flight;
 use tl_link::{Link, UnderWay};
 use tl_types::Ask;
 

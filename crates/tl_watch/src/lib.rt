@@ -7,22 +7,20 @@
 //! An `Ok` says what the beat ends ([`Seen`]). [`Watch::take`] takes a lawful beat too, and makes neither the fault nor the reply.
 //!
 //! What is lawful is said beat by beat (`specs/Allowed.antt`) by what the beat finds: the messages under way at its link, what
-//! is in flight of its source, how far that has come across, and its port's slave (`specs/Scene.antt`, `specs/Past.antt`). A
-//! request takes effect with its last beat, or with the first beat of its reply ([`Order`]). No step takes memory.
+//! is in flight of its source, how far that has come across, and its port's slave (`specs/Scene.antt`, `specs/Past.antt`); what is
+//! kept of these is `tl_flight`'s. A request takes effect with its last beat, or with the first beat of its reply ([`Order`]). No
+//! step takes memory.
 //!
 //! Read on in `docs/MODEL.md`, "Traces of others".
 #![tactic(auto)]
 
 mod asks;
 mod fault;
-mod flight;
 pub mod laws;
 mod links;
 mod order;
 mod replies;
 mod seen;
-mod side;
-mod slave;
 mod watch;
 
 pub use fault::Fault;

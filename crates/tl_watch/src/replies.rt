@@ -8,10 +8,11 @@ ghost use Rattle.tl_beats.specs.Replies.{SpellsReply};
 ghost use Rattle.tl_link.specs.declared.beat.Beat.TheVariants.{D};
 ghost use Rattle.tl_link.specs.Past.{ends_reply};
 ghost use Rattle.tl_link.specs.Form.{FitsReply};
-ghost use Rattle.tl_watch.specs.Flight.Turn.{Asked};
-ghost use Rattle.tl_watch.specs.declared.side.TheConstants.{WIDES};
+ghost use Rattle.tl_flight.specs.Flight.Turn.{Asked};
+ghost use Rattle.tl_flight.specs.declared.side.TheConstants.{WIDES};
+ghost use Rattle.tl_flight.specs.Flight.{asked};
 ghost use Rattle.tl_watch.specs.Plan.{Plan, HasLink, IsWideAt, number_of};
-ghost use Rattle.tl_watch.specs.Scene.{asked, is_given, given_to, seen_reply, entry_of};
+ghost use Rattle.tl_watch.specs.Scene.{is_given, given_to, seen_reply, entry_of};
 ghost use Rattle.tl_watch.specs.Past.{port_of};
 ghost use Rattle.tl_watch.specs.Allowed.{OfAsked, IsKnownReply, IsAnswer, IsAllowedReply};
 ghost use Rattle.tl_watch.specs.Faults.{HasAnswerFault, HasEndFault, IsFirstReplyFault, fault_of, fault_rank};
@@ -19,10 +20,10 @@ ghost use Rattle.tl_watch.specs.View.{Suits, under_in, flight_in, scene_in, must
 
 use crate::asks::Place;
 use crate::fault::{Fault, Reason};
-use crate::flight::{Answer, Crossing, Flight};
 use crate::seen::Seen;
 use crate::watch::Watch;
 use tl_beats::{DBeat, active_mask};
+use tl_flight::{Answer, Crossing, Flight};
 use tl_link::Link;
 use tl_types::{Ask, Entry, Reply, reply_opcode};
 

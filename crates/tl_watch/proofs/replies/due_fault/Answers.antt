@@ -1,8 +1,8 @@
 use Rattle.std.proofs.Common.{◌≡◌, ◌∙◌, true, false, Option, Some, None, inr, refl, ap, sym, subst}
 use Rattle.std.specs.Prelude.{IsSomeAnd, option_map}
+use Rattle.tl_flight.specs.declared.flight.Answer.{Answer}
+use Rattle.tl_flight.specs.Flight.{Flight}
 use Rattle.tl_watch.specs.declared.fault.Fault.TheVariants.{NotGiven, WrongReply}
-use Rattle.tl_watch.specs.declared.flight.Answer.{Answer}
-use Rattle.tl_watch.specs.Flight.{Flight}
 use Rattle.tl_watch.specs.Faults.{HasEndFault}
 use Rattle.tl_watch.specs.View.{flight_in, is_late_in, due_in}
 use Rattle.tl_watch.proofs.Replying.{due_late, due_kept_before}

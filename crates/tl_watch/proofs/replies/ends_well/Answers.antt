@@ -3,9 +3,9 @@ use Rattle.std.specs.Prelude.{IsTrue, option_map}
 use Rattle.tl_types.specs.Request.{Request}
 use Rattle.tl_beats.specs.Replies.{SpellsReply}
 use Rattle.tl_link.specs.Past.{ends_reply}
+use Rattle.tl_flight.specs.Flight.{Flight, asked}
 use Rattle.tl_watch.specs.declared.fault.Fault.{Fault}
-use Rattle.tl_watch.specs.Flight.{Flight}
-use Rattle.tl_watch.specs.Scene.{asked, is_given}
+use Rattle.tl_watch.specs.Scene.{is_given}
 use Rattle.tl_watch.specs.View.{under_in, flight_in, must_in, IsEndFault, IsEndWell}
 use Rattle.tl_watch.proofs.Replying.{whole_wrong, whole_right}
 use Rattle.tl_watch.proofs.replies.ends_well.Goals as goal

@@ -1,7 +1,7 @@
 use Rattle.std.proofs.Common.{◌≡◌, ◌∙◌, true, false, Option, Some, ap, sym, subst}
 use Rattle.std.specs.Prelude.{◌↔◌, IsTrue, IsSomeAnd, option_map}
-use Rattle.tl_watch.specs.declared.flight.Answer.{Answer}
-use Rattle.tl_watch.specs.Flight.{Flight}
+use Rattle.tl_flight.specs.declared.flight.Answer.{Answer}
+use Rattle.tl_flight.specs.Flight.{Flight}
 use Rattle.tl_watch.specs.View.{flight_in, is_late_in, due_in}
 use Rattle.tl_watch.proofs.Replying.{due_late, due_kept_before}
 use Rattle.tl_watch.proofs.replies.is_due.Goals as goal

@@ -1,9 +1,9 @@
 use Rattle.std.proofs.Common.{◌≡◌, ◌∙◌, Some, ap, sym}
 use Rattle.std.specs.Prelude.{option_map}
+use Rattle.tl_flight.specs.Flight.{Flight, asked}
+use Rattle.tl_flight.specs.Flight.Turn.{Asked}
 use Rattle.tl_watch.specs.declared.seen.Seen.TheVariants.{WholeReply}
-use Rattle.tl_watch.specs.Flight.{Flight}
-use Rattle.tl_watch.specs.Flight.Turn.{Asked}
-use Rattle.tl_watch.specs.Scene.{asked, seen_reply}
+use Rattle.tl_watch.specs.Scene.{seen_reply}
 use Rattle.tl_watch.specs.View.{flight_in, due_at}
 use Rattle.tl_watch.proofs.Judging.{asked_is}
 use Rattle.tl_watch.proofs.Replying.{due_here}

@@ -1,5 +1,5 @@
 use Rattle.std.proofs.Common.{◌≡◌, ℕ, vec_len}
-use Rattle.tl_watch.specs.Flight.Crossing.{Waiting}
+use Rattle.tl_flight.specs.Flight.Crossing.{Waiting}
 use Rattle.tl_watch.specs.View.{crossing_at}
 use Rattle.tl_watch.proofs.watch.fresh_crossings.Given as goal
 

@@ -1,7 +1,6 @@
 use Rattle.std.proofs.Common.{arith, ◌≡◌, ◌∙◌, ◌<◌, length, Some, ap, sym}
 use Rattle.std.specs.Prelude.{option_map}
-use Rattle.tl_watch.specs.Flight.{Flight}
-use Rattle.tl_watch.specs.Scene.{asked}
+use Rattle.tl_flight.specs.Flight.{Flight, asked}
 use Rattle.tl_watch.specs.View.{flight_in}
 use Rattle.tl_watch.proofs.Judging.{port_asked}
 use Rattle.tl_watch.proofs.watch.Watch.port_in_flight.Goals as goal

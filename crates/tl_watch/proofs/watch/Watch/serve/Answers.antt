@@ -1,6 +1,8 @@
 use Rattle.std.proofs.Common.{rules, ◌≡◌, ◌<◌, length, refl}
-use Rattle.tl_watch.specs.Scene.{asked, answer_by, slave_by}
-use Rattle.tl_watch.specs.View.{slave_at, flight_at, side_due}
+use Rattle.tl_flight.specs.Flight.{asked}
+use Rattle.tl_flight.specs.Slave.{answer_by, slave_by}
+use Rattle.tl_flight.specs.Side.{flight_at, side_due}
+use Rattle.tl_watch.specs.View.{slave_at}
 use Rattle.tl_watch.proofs.Served.{slaves_served, slave_found}
 use Rattle.tl_watch.proofs.watch.Watch.serve.Goals as goal
 

@@ -6,10 +6,10 @@ ghost use Rattle.std.specs.Prelude.{◌≡◌, ◌↔◌, ◌++◌, ◌∷◌, [
 ghost use Rattle.tl_link.specs.Message.{ask_of};
 ghost use Rattle.tl_link.specs.Past.{ends_ask};
 ghost use Rattle.tl_link.specs.Form.{FitsAsk};
-ghost use Rattle.tl_watch.specs.Flight.Turn.{Idle, Asking, Asked};
-ghost use Rattle.tl_watch.specs.Flight.Crossing.{Waiting, Crossed, Given};
-ghost use Rattle.tl_watch.specs.Scene.{idle, asked, given, slave_by, answer_by, flight_due};
-ghost use Rattle.tl_watch.specs.Faults.{IsInFlight};
+ghost use Rattle.tl_flight.specs.Flight.Turn.{Idle, Asking, Asked};
+ghost use Rattle.tl_flight.specs.Flight.Crossing.{Waiting, Crossed, Given};
+ghost use Rattle.tl_flight.specs.Flight.{idle, asked, given, flight_due, IsInFlight};
+ghost use Rattle.tl_flight.specs.Slave.{slave_by, answer_by};
 
 use crate::slave::Slave;
 use std::marker::Model;
@@ -67,7 +67,7 @@ pub struct Crossing {
 }
 
 impl Model for Flight {
-    ghost use Rattle.tl_watch.specs.Flight.{Flight, turn_kept, due_kept};
+    ghost use Rattle.tl_flight.specs.Flight.{Flight, turn_kept, due_kept};
 
     ghost Value = { Flight };
 
@@ -75,7 +75,7 @@ impl Model for Flight {
 }
 
 impl Model for Crossing {
-    ghost use Rattle.tl_watch.specs.Flight.{Crossing, crossing_kept};
+    ghost use Rattle.tl_flight.specs.Flight.{Crossing, crossing_kept};
 
     ghost Value = { Crossing };
 

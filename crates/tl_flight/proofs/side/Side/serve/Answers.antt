@@ -1,8 +1,9 @@
 use Rattle.std.proofs.Common.{rules, ◌≡◌, ◌<◌, length, refl}
-use Rattle.tl_watch.specs.Scene.{asked, answer_by, flight_due}
-use Rattle.tl_watch.specs.View.{flight_at}
-use Rattle.tl_watch.proofs.Served.{flights_served, flight_found}
-use Rattle.tl_watch.proofs.side.Side.serve.Goals as goal
+use Rattle.tl_flight.specs.Flight.{asked, flight_due}
+use Rattle.tl_flight.specs.Slave.{answer_by}
+use Rattle.tl_flight.specs.Side.{flight_at}
+use Rattle.tl_flight.proofs.Served.{flights_served, flight_found}
+use Rattle.tl_flight.proofs.side.Side.serve.Goals as goal
 
 pub returns-clause-slave : goal.returns-clause-slave
 returns-clause-slave c =

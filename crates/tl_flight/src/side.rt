@@ -4,9 +4,10 @@ ghost use Rattle.tl_link.specs.declared.beat.Beat.TheVariants.{A, D};
 ghost use Rattle.tl_link.specs.Message.{ask_of};
 ghost use Rattle.tl_link.specs.Past.{nothing_under, ends_ask};
 ghost use Rattle.tl_link.specs.Form.{FitsAsk, FitsReply};
-ghost use Rattle.tl_watch.specs.Flight.Turn.{Asking, Asked};
-ghost use Rattle.tl_watch.specs.Scene.{idle, asked, slave_by, answer_by};
-ghost use Rattle.tl_watch.specs.View.{under_at, flight_at, side_crossed, side_with, side_due};
+ghost use Rattle.tl_flight.specs.Flight.Turn.{Asking, Asked};
+ghost use Rattle.tl_flight.specs.Flight.{idle, asked};
+ghost use Rattle.tl_flight.specs.Slave.{slave_by, answer_by};
+ghost use Rattle.tl_flight.specs.Side.{under_at, flight_at, side_crossed, side_with, side_due};
 
 use crate::flight::Flight;
 use crate::slave::Slave;
@@ -29,8 +30,8 @@ pub struct Side {
 
 impl Model for Side {
     ghost use Rattle.std.specs.Prelude.{◌≡◌, length};
-    ghost use Rattle.tl_watch.specs.View.{SideView};
-    ghost use Rattle.tl_watch.specs.declared.side.TheConstants.{WIDES};
+    ghost use Rattle.tl_flight.specs.Side.{SideView};
+    ghost use Rattle.tl_flight.specs.declared.side.TheConstants.{WIDES};
 
     ghost Value = { SideView };
 

@@ -1,6 +1,6 @@
 //! A port's slave, as the judge keeps it.
 ghost use Rattle.std.specs.Prelude.{◌≡◌, Some};
-ghost use Rattle.tl_watch.specs.Scene.{served_by, answer_by};
+ghost use Rattle.tl_flight.specs.Slave.{served_by, answer_by};
 
 use crate::flight::Answer;
 use tl_ops::Bank;

@@ -1,9 +1,8 @@
 use Rattle.std.proofs.Common.{arith, ◌≡◌, ◌∙◌, List, [], ◌∷◌, ◌++◌, ap, sym, subst}
-use Rattle.tl_watch.specs.Flight.{Flight}
-use Rattle.tl_watch.specs.Scene.{idle}
-use Rattle.tl_watch.specs.View.{flight_at}
-use Rattle.tl_watch.proofs.Fresh.{fresh_more}
-use Rattle.tl_watch.proofs.side.fresh_flights.Goals as goal
+use Rattle.tl_flight.specs.Flight.{Flight, idle}
+use Rattle.tl_flight.specs.Side.{flight_at}
+use Rattle.tl_flight.proofs.Fresh.{fresh_more}
+use Rattle.tl_flight.proofs.side.fresh_flights.Goals as goal
 
 pub loop-wide-preserved : goal.loop-wide-preserved
 loop-wide-preserved c =
