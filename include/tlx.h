@@ -4,11 +4,11 @@
  * `_read` call has put into a handle is given back by the `_free` call, once. The fields of a handle are the library's: never read,
  * write or copy them. A handle is used by one thread at a time; several handles may be used by several threads at once. The library
  * starts no thread, takes no lock, writes nothing and keeps no pointer that it is given. Only the calls that make what a handle holds
- * (tlx_system_read, tlx_model_make, tlx_judge_make) take memory, by malloc and free; no call may be made from a signal handler.
+ * (tlx_system_read, tlx_model_make, tlx_judge_make) take memory, by malloc, realloc and free; no call may be made from a signal handler.
  *
- * Each call but those that count answers a fault, TLX_OK (0) where there is none; its faults are listed in the order in which they are
- * tried. A call that answers another fault has changed nothing of what a handle holds, unless it says so. A null pointer is TLX_NULL,
- * found by the inline functions below.
+ * Each call that reads, makes, serves or judges answers a fault, TLX_OK (0) where there is none; its faults are listed in the order in
+ * which they are tried. A call that answers another fault has changed nothing of what a handle holds, unless it says so. A null pointer is
+ * TLX_NULL, found by the inline functions below.
  *
  * What the caller must not do: hand over a pointer that is neither null nor at its type's value (a handle before its first use is
  * all zero), two pointers to memory that overlaps, or a length that is more than the memory there.
@@ -37,8 +37,8 @@ enum tlx_fault {
   TLX_EMPTY = 2,          /* the handle holds nothing */
   TLX_FULL = 3,           /* the handle holds something already: free it first */
   TLX_MEMORY = 4,         /* memory was refused */
-  TLX_BAD_ARGUMENT = 5,   /* a number that has no meaning where it stands: side, channel, links, order, a flag that is neither 0 nor 1 */
-  /* of a script (tlx_system_read) */
+  TLX_BAD_ARGUMENT = 5,   /* a number that has no meaning where it stands: links, order; of a beat side, channel, `denied`, `corrupt` */
+  /* of a script (tlx_system_read, which has their order) */
   TLX_NOT_TOML = 10,
   TLX_MISSING = 11,       /* a key is missing */
   TLX_WRONG_TYPE = 12,    /* a value has another type than its key wants */
@@ -85,8 +85,8 @@ struct tlx_system { void *at; uint8_t live; };
 struct tlx_model { void *at; uint8_t live; };
 struct tlx_judge { void *at; uint8_t live; };
 
-/* A request on channel A. `bytes[k]` goes to `address + k`, for k below 2^size; none is read of a get or a prefetch. `set[k]` is 1
- * where the byte is set and 0 where it is left unset, and is read of a partial put (opcode 1) alone. */
+/* A request on channel A. `bytes[k]` goes to `address + k`, for k below 2^size; none is read of a get or a prefetch. `set[k]` is 0
+ * where the byte is left unset, and any other number where it is set; it is read of a partial put (opcode 1) alone. */
 struct tlx_request {
   uint64_t address;
   uint16_t source; /* the master's own */
@@ -109,7 +109,8 @@ struct tlx_answer {
   uint8_t bytes[TLX_ROOM];
 };
 
-/* A beat that crossed a link, valid and ready. `param`, `address` and `mask` are read of channel A alone, `denied` and `corrupt` of D.
+/* A beat that crossed a link, valid and ready. `param`, `address` and `mask` are read of channel A alone, `denied` and `corrupt` of D
+ * alone, where another number than 0 and 1 is TLX_BAD_ARGUMENT.
  * Bit k of `known` says that lane k was seen; what is not known of a get or of a reply without bytes does not matter.
  * `line` and `time` are the caller's own and stand in the text of a fault. */
 struct tlx_beat {
@@ -159,11 +160,14 @@ static inline size_t tlx_fault_text(uint32_t fault, char *text, size_t room) {
 }
 
 /* Reads the system that the bytes of a script describe into an empty handle, and writes the text of a fault of the script (which also
- * names the key, master or port) into `text`, an empty one if there is none. `text` may be null.
- * Faults: TLX_NULL, TLX_FULL, TLX_MEMORY, and those of a script. */
+ * names the key, master or port) into `text`, an empty one if there is none, or no memory for it. `text` may be null.
+ * Faults: TLX_NULL, TLX_FULL, TLX_TOO_LONG, TLX_NOT_TOML; then key by key, in the order that docs/FORMATS.md has, TLX_MISSING,
+ * TLX_WRONG_TYPE, TLX_OUT_OF_RANGE; then TLX_BAD_PORTS, TLX_BAD_SOURCES, TLX_BAD_OPERATION. Behind TLX_TOO_LONG, TLX_MEMORY may come at
+ * any point. */
 static inline uint32_t tlx_system_read(struct tlx_system *system, const void *script, size_t length, char *text, size_t room) {
   char none;
   size_t written;
+  if (text && room) *text = 0;
   if (!system || !script) return (uint32_t)TLX_NULL;
   if (!text || !room) { text = &none; room = 1; }
   return tlx_system_read_at(system, (const uint8_t *)script, length, text, room, &written);

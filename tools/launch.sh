@@ -1,4 +1,5 @@
-# What the launchers of the programs share: ./tlx and ./tlcheck read this with `top` set to the repository's folder.
+# What the launchers of the programs share: ./tlx and ./tlcheck read this with `top` set to the repository's folder, and so do
+# tools/install and tools/library.sh.
 #
 # Only a proved crate is built, so the first run of a program proves and builds it (tools/build); later runs start at once.
 # A launcher has statuses beside the program's own 0 to 5: 66 where FILE can't be read, 69 where the toolchain `rt` is missing, 70
@@ -10,9 +11,9 @@ fail() {
   exit "$2"
 }
 
-# A program is up to date where no source is newer.
+# What is built, a program or the library, is up to date where no source is newer.
 is_fresh() {
-  [ -x "$1" ] && [ -z "$(find "$top"/crates/*/src "$top"/crates/*/specs "$top"/crates/*/proofs "$top/crates.txt" -type f -newer "$1" -print -quit)" ]
+  [ -f "$1" ] && [ -z "$(find "$top"/crates/*/src "$top"/crates/*/specs "$top"/crates/*/proofs "$top/crates.txt" -type f -newer "$1" -print -quit)" ]
 }
 
 # What is answered without the program, so also before it is built: the name of the program, and its words.
@@ -28,4 +29,11 @@ make_program() {
   is_fresh "$top/crates/$1/out/$1" && return
   command -v rt >/dev/null || fail "$1" 69 'the toolchain `rt` is not on this machine, and the program is not built yet'
   "$top/tools/build" "$1" || exit 70
+}
+
+# The same of the library of C.
+make_library() {
+  is_fresh "$top/crates/tl_c/out/libtl_c.a" && return
+  command -v rt >/dev/null || fail tlx 69 'the toolchain `rt` is not on this machine, and the library is not built yet'
+  (cd "$top/crates/tl_c" && rt lib) >&2 || exit 70
 }

@@ -1,9 +1,11 @@
-/* Walks every call of the library with right and wrong arguments, and judges the captures beside by calls. Its argument is the folder of the
- * examples; it ends in 'N passed, M failed'. What it expects was worked out by hand, or is the captures' own verdict. */
+/* Walks every call of the library with right and wrong arguments, refuses each request for memory in turn, and judges the captures beside
+ * by calls. Its argument is the folder of the examples; it ends in 'N passed, M failed'. What it expects was worked out by hand, or is the
+ * captures' own verdict. It is linked with --wrap for malloc, realloc and free. */
 #include "tlx.h"
 
 #include <dirent.h>
 #include <inttypes.h>
+#include <malloc.h>
 #include <stdio.h>
 #include <stdlib.h>
 #include <string.h>
@@ -20,6 +22,104 @@ static void tell(const char *name, int is_so) {
     failed++;
     fprintf(stderr, "examples/c: %s is not as it was worked out\n", name);
   }
+}
+
+/* ---- memory: the library's calls of malloc, realloc and free come here */
+
+void *__real_malloc(size_t size);
+void *__real_realloc(void *old, size_t size);
+void __real_free(void *old);
+void *__wrap_malloc(size_t size);
+void *__wrap_realloc(void *old, size_t size);
+void __wrap_free(void *old);
+
+static size_t requests;  /* for memory */
+static size_t refused;   /* the number of the request that is refused, from 1 on; 0 refuses none */
+static int asked_less;   /* the request that was refused was for no more than the block has */
+static long blocks;      /* that were taken and not given back */
+
+static int is_refused(int asks_less) {
+  if (++requests != refused) return 0;
+  asked_less = asks_less;
+  return 1;
+}
+
+void *__wrap_malloc(size_t size) {
+  void *made = is_refused(0) ? NULL : __real_malloc(size);
+  blocks += made != NULL;
+  return made;
+}
+
+void *__wrap_realloc(void *old, size_t size) {
+  void *made = is_refused(old && size <= malloc_usable_size(old)) ? NULL : __real_realloc(old, size);
+  blocks += !old && made;
+  return made;
+}
+
+void __wrap_free(void *old) {
+  blocks -= old != NULL;
+  __real_free(old);
+}
+
+/* ---- the words of faults, those of a beat as docs/CAPTURE.md has them; the compiler complains of a fault without a case */
+
+static const char *words_of(enum tlx_fault fault) {
+  switch (fault) {
+    case TLX_OK: return "no fault";
+    case TLX_NULL: return "null pointer";
+    case TLX_EMPTY: return "empty handle";
+    case TLX_FULL: return "full handle";
+    case TLX_MEMORY: return "memory refused";
+    case TLX_BAD_ARGUMENT: return "bad argument";
+    case TLX_NOT_TOML: return "script: not TOML";
+    case TLX_MISSING: return "script: missing key";
+    case TLX_WRONG_TYPE: return "script: wrong type";
+    case TLX_OUT_OF_RANGE: return "script: out of range";
+    case TLX_BAD_OPERATION: return "script: bad operation";
+    case TLX_BAD_PORTS: return "script: bad ports";
+    case TLX_BAD_SOURCES: return "script: bad sources";
+    case TLX_TOO_LONG: return "script: longer than 1048576 bytes";
+    case TLX_NO_OPERATION: return "no such operation";
+    case TLX_SIZE: return "size over the limit";
+    case TLX_NO_MASTER: return "no such master";
+    case TLX_NO_SOURCE: return "no such source";
+    case TLX_UNCOUNTABLE: return "the port has served as many requests as can be counted";
+    case TLX_NO_BYTE: return "no byte at this address";
+    case TLX_NO_LINK: return "no such link";
+    case TLX_FIELD_CHANGED: return "field changed";
+    case TLX_UNKNOWN_OPCODE: return "unknown opcode";
+    case TLX_SIZE_OUT_OF_RANGE: return "size out of range";
+    case TLX_WRONG_MASK: return "wrong mask";
+    case TLX_WRONG_CORRUPT_FLAG: return "wrong corrupt flag";
+    case TLX_UNKNOWN_LANES: return "unknown data";
+    case TLX_NO_SUCH_SOURCE: return "no such source";
+    case TLX_SOURCE_IN_FLIGHT: return "source in flight";
+    case TLX_WRONG_PORT: return "not this port's address";
+    case TLX_NO_REQUEST: return "reply without request";
+    case TLX_EARLY_REPLY: return "reply before its request ended";
+    case TLX_WRONG_SIZE: return "size of another request";
+    case TLX_WRONG_OPCODE: return "opcode of another operation";
+    case TLX_UNKNOWN_DATA: return "unknown data";
+    case TLX_NOT_SENT: return "no master sent this request";
+    case TLX_NOT_GIVEN: return "the port gave no such reply";
+    case TLX_WRONG_REPLY: return "wrong reply";
+  }
+  return "unknown fault";
+}
+
+static void check_words(void) {
+  char text[128];
+  for (uint32_t number = 0; number < 256; number++) {
+    const char *words = words_of((enum tlx_fault)number);
+    int is_so = tlx_fault_text(number, text, sizeof text) == strlen(words) && !strcmp(text, words);
+    if (strcmp(words, "unknown fault") || !is_so) tell(words, is_so);
+  }
+  tell("the words of no fault's number", tlx_fault_text(UINT32_MAX, text, sizeof text) == 13 && !strcmp(text, "unknown fault"));
+  tell("words that are cut off", tlx_fault_text(TLX_EMPTY, text, 4) == 3 && !strcmp(text, "emp"));
+  tell("words into one byte", tlx_fault_text(TLX_EMPTY, text, 1) == 0 && !text[0]);
+  tell("words into nothing", tlx_fault_text(TLX_EMPTY, 0, 9) == 0 && tlx_fault_text(TLX_EMPTY, text, 0) == 0);
+  tell("the largest size", tlx_largest_size() == 8);
+  tell("words take no memory", requests == 0);
 }
 
 /* The bytes of a file, with a zero behind them. */
@@ -125,13 +225,26 @@ static size_t read_rows(char *text, struct row *rows) {
   return count;
 }
 
+static uint64_t met; /* the faults of a beat that a capture had: a bit each, by its number */
+
+/* The line of a beat's fault has the words of that fault, behind the channel; unknown data is another fault on each channel. */
+static int has_words(const char *line, const struct tlx_beat *beat, uint32_t fault) {
+  char words[128];
+  int is_request = beat->channel == TLX_A;
+  snprintf(words, sizeof words, " %c: %s", is_request ? 'A' : 'D', words_of((enum tlx_fault)fault));
+  met |= UINT64_C(1) << fault;
+  return strstr(line, words) && fault != (is_request ? TLX_UNKNOWN_DATA : TLX_UNKNOWN_LANES);
+}
+
 /* The verdict over rows that cross in this order, as tlcheck tells it. */
 static void judge_rows(struct tlx_judge *judge, const struct row *rows, size_t count, uint8_t links, char *verdict, size_t room) {
   for (size_t k = 0; k < count; k++) {
     const struct tlx_beat *beat = &rows[k].beat;
     int watched = links == TLX_BOTH_LINKS || (links == TLX_MASTER_LINKS) == (beat->side == TLX_MASTER);
-    if (watched && tlx_judge_step(judge, beat) != TLX_OK) {
+    uint32_t fault = watched ? tlx_judge_step(judge, beat) : TLX_OK;
+    if (fault != TLX_OK) {
       tlx_judge_text(judge, verdict, room);
+      if (!has_words(verdict, beat, fault)) verdict[0] = 0;
       return;
     }
   }
@@ -158,8 +271,9 @@ static void check_capture(const char *folder, const char *script, size_t length,
   size_t count = read_rows(text, rows);
   tlx_system_read(&system, script, length, 0, 0);
   int made = tlx_judge_make(&judge, &system, links, order) == TLX_OK;
+  size_t before = requests;
   judge_rows(&judge, rows, count, links, verdict, sizeof verdict);
-  tell(name, made && !strcmp(verdict, last));
+  tell(name, made && !strcmp(verdict, last) && requests == before);
   if (strcmp(verdict, last)) fprintf(stderr, "  %s  %s", verdict, last);
   tlx_judge_free(&judge);
 }
@@ -173,9 +287,10 @@ static void check_captures(const char *folder, const char *script, size_t length
       *end = 0;
       check_capture(folder, script, length, names[k]->d_name);
     }
-    free(names[k]);
+    __real_free(names[k]);
   }
-  if (count >= 0) free(names);
+  if (count >= 0) __real_free(names);
+  tell("each fault of a beat", met == (UINT64_C(1) << (TLX_WRONG_REPLY + 1)) - (UINT64_C(1) << TLX_FIELD_CHANGED));
 }
 
 /* ---- the calls */
@@ -186,27 +301,49 @@ static const char SYSTEM[] =
     "[[port]]\nkind = \"ram\"\nbase = 0x2000\nlength = 64\n"
     "[[master]]\nsources = 2\nops = []\n";
 
-static void check_faults(void) {
-  char text[64];
-  tell("the words of a fault", tlx_fault_text(TLX_EMPTY, text, sizeof text) == 12 && !strcmp(text, "empty handle"));
-  tell("the words of no fault's number", tlx_fault_text(99, text, sizeof text) == 13 && !strcmp(text, "unknown fault"));
-  tell("words that are cut off", tlx_fault_text(TLX_EMPTY, text, 4) == 3 && !strcmp(text, "emp"));
-  tell("words into one byte", tlx_fault_text(TLX_EMPTY, text, 1) == 0 && !text[0]);
-  tell("words into nothing", tlx_fault_text(TLX_EMPTY, 0, 9) == 0 && tlx_fault_text(TLX_EMPTY, text, 0) == 0);
-  tell("the largest size", tlx_largest_size() == 8);
+/* Scripts with faults, most with a later one as well, which is not told. */
+#define MASTER(sources, operation) "[[master]]\nsources = " sources "\nops = [\"" operation "\"]\n"
+#define PORT(base, length) "[[port]]\nkind = \"ram\"\nbase = " base "\nlength = " length "\n"
+static const struct { const char *script; uint32_t fault; const char *text; } SCRIPTS[] = {
+    {"slots = 257\n=", TLX_NOT_TOML, "script: not TOML"},
+    {"slots = 1 # \xff", TLX_NOT_TOML, "script: not TOML"},
+    {"", TLX_MISSING, "script: missing slots"},
+    {"port = 1", TLX_MISSING, "script: missing slots"},
+    {"slots = \"4\"\nport = 1", TLX_WRONG_TYPE, "script: wrong type of slots"},
+    {"slots = 257\nport = 1", TLX_OUT_OF_RANGE, "script: slots out of range"},
+    {"slots = 1\n" PORT("0x1000", "0"), TLX_MISSING, "script: missing master"},
+    {"slots = 1\n" PORT("0x1000", "0") MASTER("257", "get"), TLX_BAD_PORTS, "script: port 0: empty range"},
+    {"slots = 1\n" PORT("0x1000", "64") PORT("0x103f", "1") MASTER("0", "get"), TLX_BAD_PORTS, "script: ports 0 and 1 overlap"},
+    {"slots = 1\n" MASTER("257", "get"), TLX_BAD_SOURCES, "script: too many masters or sources"},
+    {"slots = 1\n" MASTER("0", "get"), TLX_BAD_SOURCES, "script: master 0: no source"},
+    {"slots = 1\n" MASTER("1", "1 get 0x1000 2"), TLX_BAD_OPERATION, "script: master 0 operation 0: bad operation"},
+};
+
+static void check_scripts(void) {
+  static char longest[(1 << 20) + 1];
+  struct tlx_system system = {0};
+  char text[128];
+  for (size_t k = 0; k < sizeof SCRIPTS / sizeof *SCRIPTS; k++)
+    tell(SCRIPTS[k].text, tlx_system_read(&system, SCRIPTS[k].script, strlen(SCRIPTS[k].script), text, sizeof text) == SCRIPTS[k].fault &&
+         !strcmp(text, SCRIPTS[k].text));
+  memset(longest, '#', sizeof longest);
+  tell("a script too long", tlx_system_read(&system, longest, sizeof longest, text, sizeof text) == TLX_TOO_LONG &&
+       !strcmp(text, "script: longer than 1048576 bytes"));
+  tell("a script as long as it may be", tlx_system_read(&system, longest, sizeof longest - 1, text, sizeof text) == TLX_MISSING);
+  tell("a text that is cut off", tlx_system_read(&system, "slots = 257", 11, text, 8) == TLX_OUT_OF_RANGE && !strcmp(text, "script:"));
 }
 
 static void check_systems(void) {
   struct tlx_system system = {0};
   char text[128];
-  tell("a null system", tlx_system_read(0, SYSTEM, strlen(SYSTEM), 0, 0) == TLX_NULL);
-  tell("a null script", tlx_system_read(&system, 0, 0, 0, 0) == TLX_NULL);
-  tell("a script that is not TOML", tlx_system_read(&system, "=", 1, text, sizeof text) == TLX_NOT_TOML && !strcmp(text, "script: not TOML"));
-  tell("a script with no key", tlx_system_read(&system, "", 0, text, sizeof text) == TLX_MISSING && !strcmp(text, "script: missing slots"));
-  tell("a value of a wrong type", tlx_system_read(&system, "slots = \"a\"", 11, text, sizeof text) == TLX_WRONG_TYPE && !strcmp(text, "script: wrong type of slots"));
-  tell("a value out of range", tlx_system_read(&system, "slots = 257", 11, text, 8) == TLX_OUT_OF_RANGE && !strcmp(text, "script:"));
+  memset(text, 'a', sizeof text);
+  tell("a null system", tlx_system_read(0, SYSTEM, strlen(SYSTEM), text, sizeof text) == TLX_NULL && !text[0] && text[1] == 'a');
+  memset(text, 'a', sizeof text);
+  tell("a null script", tlx_system_read(&system, 0, 0, text, sizeof text) == TLX_NULL && !text[0]);
+  tell("no text", tlx_system_read(0, SYSTEM, strlen(SYSTEM), 0, 9) == TLX_NULL && tlx_system_read(&system, 0, 0, text, 0) == TLX_NULL);
   tell("a system", tlx_system_read(&system, SYSTEM, strlen(SYSTEM), text, sizeof text) == TLX_OK && !text[0]);
-  tell("a second system in one handle", tlx_system_read(&system, SYSTEM, strlen(SYSTEM), 0, 0) == TLX_FULL);
+  memset(text, 'a', sizeof text);
+  tell("a second system in one handle", tlx_system_read(&system, SYSTEM, strlen(SYSTEM), text, sizeof text) == TLX_FULL && !text[0]);
   tlx_system_free(&system);
   tlx_system_free(&system);
   tlx_system_free(0);
@@ -228,12 +365,14 @@ static void check_serving(struct tlx_model *model) {
   static const uint8_t zeros[TLX_ROOM];
   struct tlx_answer answer, before;
   struct tlx_request ask = request(4, 0, 2, 1, 0x1000);
+  size_t so_far = requests;
   memset(&answer, 0xa5, sizeof answer);
   tell("a get", tlx_model_serve(model, 0, &ask, &answer) == TLX_OK && answer.port == 0 && answer.place == 0 && answer.count == 4 &&
        answer.opcode == 1 && answer.size == 2 && answer.source == 1 && !answer.denied && !memcmp(answer.bytes, "\x00\x11\x22\x33\xa5", 5));
   ask = request(1, 0, 2, 0, 0x1000);
   memcpy(ask.bytes, "\xaa\xbb\xcc\xdd", 4);
-  ask.set[1] = ask.set[3] = 1;
+  ask.set[1] = 1;
+  ask.set[3] = 255;
   tell("a partial put", tlx_model_serve(model, 0, &ask, &answer) == TLX_OK && answer.place == 1 && answer.opcode == 0 && answer.count == 0);
   uint8_t byte = 7;
   tell("a byte that was left unset", tlx_model_byte(model, 0x1002, &byte) == TLX_OK && byte == 0x22);
@@ -263,6 +402,8 @@ static void check_serving(struct tlx_model *model) {
   tell("a size too large", tlx_model_serve(model, 0, &ask, &answer) == TLX_SIZE);
   tell("null arguments", tlx_model_serve(model, 0, 0, &answer) == TLX_NULL && tlx_model_serve(model, 0, &ask, 0) == TLX_NULL &&
        tlx_model_serve(0, 0, &ask, &answer) == TLX_NULL && tlx_model_byte(model, 0, 0) == TLX_NULL && tlx_model_byte(0, 0, &byte) == TLX_NULL);
+  tell("the same model", tlx_model_masters(model) == 1 && tlx_model_ports(model) == 3);
+  tell("a model in use takes no memory", requests == so_far);
 }
 
 static void check_models(void) {
@@ -291,6 +432,7 @@ static void check_models(void) {
 static void check_steps(struct tlx_judge *judge) {
   struct tlx_beat beat = {0};
   char text[2048];
+  size_t before = requests;
   beat.opcode = 4;
   beat.size = 2;
   beat.source = 1;
@@ -324,6 +466,39 @@ static void check_steps(struct tlx_judge *judge) {
   tell("the right reply after it", tlx_judge_step(judge, &beat) == TLX_OK && tlx_judge_answered(judge) == 1 && tlx_judge_in_flight(judge) == 0);
   tell("a reply more", tlx_judge_step(judge, &beat) == TLX_NO_REQUEST);
   tell("null beats", tlx_judge_step(judge, 0) == TLX_NULL && tlx_judge_step(0, &beat) == TLX_NULL && tlx_judge_text(judge, 0, 1) == 0);
+  tell("a judge in use takes no memory", requests == before);
+}
+
+/* A get of 256 bytes that is answered ff, where zeros must come: its fault has the longest line, for which there is room. */
+static void check_longest_line(void) {
+  static const char LONG[] = "slots = 1\n[[port]]\nkind = \"ram\"\nbase = 0\nlength = 256\n[[master]]\nsources = 1\nops = []\n";
+  struct tlx_system system = {0};
+  struct tlx_judge judge = {0};
+  struct tlx_beat beat = {0};
+  char text[2048], expected[2048];
+  tlx_system_read(&system, LONG, strlen(LONG), 0, 0);
+  int is_well = tlx_judge_make(&judge, &system, TLX_MASTER_LINKS, TLX_ACCEPT_ORDER) == TLX_OK;
+  size_t before = requests;
+  beat.line = beat.time = UINT64_MAX;
+  beat.opcode = 4;
+  beat.size = 8;
+  beat.mask = 0xff;
+  is_well &= tlx_judge_step(&judge, &beat) == TLX_OK;
+  beat.channel = TLX_D;
+  beat.opcode = 1;
+  beat.known = 0xff;
+  memset(beat.lanes, 0xff, sizeof beat.lanes);
+  for (int number = 0; number < 31; number++) is_well &= tlx_judge_step(&judge, &beat) == TLX_OK;
+  is_well &= tlx_judge_step(&judge, &beat) == TLX_WRONG_REPLY;
+  char zeros[513], ones[513];
+  memset(zeros, '0', 512);
+  memset(ones, 'f', 512);
+  zeros[512] = ones[512] = 0;
+  snprintf(expected, sizeof expected, "unlawful: line %" PRIu64 ", time %" PRIu64 ", m0 D: wrong reply: expected AccessAckData %s, captured AccessAckData %s\n",
+           UINT64_MAX, UINT64_MAX, zeros, ones);
+  tell("the longest line", is_well && tlx_judge_text(&judge, text, sizeof text) == strlen(expected) && !strcmp(text, expected) && strlen(text) < 1600 &&
+       requests == before);
+  tlx_judge_free(&judge);
 }
 
 static void check_judges(void) {
@@ -345,16 +520,106 @@ static void check_judges(void) {
   tlx_system_free(&system);
 }
 
+/* ---- calls that are refused memory */
+
+struct handles {
+  struct tlx_system system;
+  struct tlx_model model;
+  struct tlx_judge judge;
+};
+
+typedef uint32_t call(struct handles *handles, const char *script);
+
+static uint32_t read_system(struct handles *handles, const char *script) {
+  return tlx_system_read(&handles->system, script, strlen(script), 0, 0);
+}
+
+static uint32_t make_model(struct handles *handles, const char *script) {
+  (void)script;
+  return tlx_model_make(&handles->model, &handles->system);
+}
+
+static uint32_t make_judge(struct handles *handles, const char *script) {
+  (void)script;
+  return tlx_judge_make(&handles->judge, &handles->system, TLX_BOTH_LINKS, TLX_ACCEPT_ORDER);
+}
+
+static int are_empty(struct handles *handles) {
+  struct tlx_model none = {0};
+  struct tlx_beat beat = {0};
+  return tlx_model_make(&none, &handles->system) == TLX_EMPTY && tlx_model_ports(&handles->model) == 0 &&
+         tlx_judge_step(&handles->judge, &beat) == TLX_EMPTY;
+}
+
+/* Refuses each request of a call in turn: it must say so, hold nothing and have given back all, also what was prepared for it. A request
+ * that gives up room of a block may be refused, and the block stays as it is. */
+static void refuse_each(const char *name, call *prepare, call *asked, const char *script) {
+  int is_well = 1, was_refused = 1;
+  size_t number = 0;
+  while (was_refused) {
+    struct handles handles = {0};
+    long before = blocks;
+    if (prepare) is_well &= prepare(&handles, script) == TLX_OK;
+    requests = 0;
+    asked_less = 0;
+    refused = ++number;
+    uint32_t fault = asked(&handles, script);
+    was_refused = requests >= number;
+    refused = 0;
+    is_well &= fault == (was_refused && !asked_less ? TLX_MEMORY : TLX_OK);
+    if (fault == TLX_MEMORY) is_well &= blocks == before && are_empty(&handles);
+    tlx_system_free(&handles.system);
+    tlx_model_free(&handles.model);
+    tlx_judge_free(&handles.judge);
+    is_well &= blocks == before;
+  }
+  tell(name, is_well && number > 1);
+}
+
+/* Refuses each request of a call that reads a script with a fault: want of memory is told, or the fault, whose text is left out. */
+static void refuse_text(void) {
+  struct tlx_system system = {0};
+  char text[128];
+  uint32_t fault = TLX_MEMORY;
+  size_t number = 0, without_text = 0;
+  int is_well = 1;
+  long before = blocks;
+  do {
+    requests = 0;
+    refused = ++number;
+    fault = tlx_system_read(&system, "slots = 257", 11, text, sizeof text);
+    if (fault == TLX_OUT_OF_RANGE && requests >= number) without_text++;
+    is_well &= fault == TLX_MEMORY || (fault == TLX_OUT_OF_RANGE && !text[0] == (requests >= number));
+  } while (requests >= number);
+  refused = 0;
+  tell("a fault without memory for its text", is_well && without_text > 0 && number > without_text + 1 && blocks == before);
+}
+
+static void check_memory(const char *script) {
+  static const char OPERATIONS[] =
+      "slots = 1\n" PORT("0x1000", "64") MASTER("2", "0 putfull 0x1000 2 11223344\", \"wait\", \"1 putpart 0x1000 2 --556677")
+      MASTER("1", "0 get 0x1000 2");
+  refuse_each("a system that is refused memory", NULL, read_system, script);
+  refuse_each("one with operations", NULL, read_system, OPERATIONS);
+  refuse_each("a model that is refused memory", read_system, make_model, script);
+  refuse_each("a judge that is refused memory", read_system, make_judge, script);
+  refuse_text();
+}
+
 int main(int count, char **words) {
   static char script[MOST_TEXT];
   char folder[1024];
-  check_faults();
+  check_words();
+  check_scripts();
   check_systems();
   check_models();
   check_judges();
+  check_longest_line();
   snprintf(folder, sizeof folder, "%s/captures", count > 1 ? words[1] : "..");
   size_t length = read_file(folder, "system.toml", script);
   check_captures(folder, script, length);
+  check_memory(script);
+  tell("all memory was given back", blocks == 0);
   printf("%d passed, %d failed\n", passed, failed);
   return failed != 0;
 }

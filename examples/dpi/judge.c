@@ -131,6 +131,13 @@ void tl_judge_reply(int judge, const char *link, unsigned long long time, unsign
   beat->corrupt = corrupt;
 }
 
+/* A beat of which another field than its lanes is unknown: no beat can be made of it. */
+void tl_judge_unknown(int judge, const char *link, unsigned long long time, const char *channel) {
+  struct watch *watch = watch_of(judge);
+  if (!watch || watch->text[0]) return;
+  snprintf(watch->text, MOST_TEXT, "judge: link %s, channel %s, time %llu: a field is unknown\n", link, channel, time);
+}
+
 /* A beat's turn within its cycle: A of the masters' links, A of the ports', D of the ports', D of the masters'. */
 static int turn_of(const struct tlx_beat *beat) {
   if (beat->channel == TLX_A) return beat->side == TLX_MASTER ? 0 : 1;
