@@ -10,7 +10,7 @@ use Rattle.tl_script.specs.System.{System, resets}
 use Rattle.tl_script.specs.declared.fault.ScriptFault.{ScriptFault}
 use Rattle.tl_types.specs.Request.{Request}
 use Rattle.tl_watch.specs.Lawful.{IsFirstFault, IsLawful, what_is_seen}
-use Rattle.tl_watch.specs.Plan.{IsPlan, Plan}
+use Rattle.tl_watch.specs.Plan.{IsPlan, Layout, Plan}
 use Rattle.tl_watch.specs.View.{Keeps}
 use Rattle.tl_watch.specs.declared.fault.Fault.{Fault}
 use Rattle.tl_watch.specs.declared.links.Links.{Links}
@@ -19,6 +19,7 @@ use Rattle.tl_watch.specs.declared.order.Order.{Order}
 use Rattle.tl_watch.specs.declared.order.Order.TheVariants.{Accept, Reply}
 use Rattle.tl_c.specs.Numbers.{beat_number, script_number, serve_number}
 use Rattle.tl_c.specs.Wire.{IsAnswerOf, IsAskOf}
+use Rattle.tl_c.specs.declared.fault.TheConstants.{MEMORY, OK}
 use Rattle.tl_c.specs.declared.held.Held.{Held}
 use Rattle.tl_c.specs.declared.held.Held.TheVariants as held
 use Rattle.tl_c.specs.declared.held.Judge.{Judge}
@@ -59,7 +60,7 @@ IsJudge = HoldsJudge (λ _. ⊤)
 
 -- the number is that of the script's first fault, or of want of memory or a full handle
 abbrev pub IsScriptAnswer : List ℕ → ℕ → Type 0
-IsScriptAnswer script number = 4 < number → (fault : ScriptFault) × (number ≡ script_number fault) × IsFirstScriptFault script fault
+IsScriptAnswer script number = MEMORY < number → (fault : ScriptFault) × (number ≡ script_number fault) × IsFirstScriptFault script fault
 
 -- ---- models
 
@@ -85,10 +86,10 @@ pub record IsRefusedBy (old : CrossbarState) (master : ℕ) (wire : WireAsk) (nu
 
 -- the judge was shown this, after these beats by this plan, and has answered this number
 pub record IsStep (plan : Plan) (past : List Sighting) (shown : Sighting) (old : Judge) (number : ℕ) (new : Judge) : Type 0 where
-  pub lawful : number ≡ 0 ↔ IsLawful plan (shown ∷ past)
-  pub keeps : number ≡ 0 → Keeps plan (shown ∷ past) new.watch
-  pub requests : number ≡ 0 → new.requests ≡ one_more (is_counted plan.layout.links shown.link && is_whole_ask (what_is_seen plan past shown)) old.requests
-  pub answered : number ≡ 0 → new.answered ≡ one_more (is_counted plan.layout.links shown.link && is_whole_reply (what_is_seen plan past shown)) old.answered
+  pub lawful : number ≡ OK ↔ IsLawful plan (shown ∷ past)
+  pub keeps : number ≡ OK → Keeps plan (shown ∷ past) new.watch
+  pub requests : number ≡ OK → new.requests ≡ one_more (is_counted plan.layout.links shown.link && is_whole_ask (what_is_seen plan past shown)) old.requests
+  pub answered : number ≡ OK → new.answered ≡ one_more (is_counted plan.layout.links shown.link && is_whole_reply (what_is_seen plan past shown)) old.answered
 
 -- the number is that of the first fault of the beat that is shown
 pub record IsFaultOfBeat (plan : Plan) (past : List Sighting) (shown : Sighting) (number : ℕ) : Type 0 where
@@ -96,10 +97,27 @@ pub record IsFaultOfBeat (plan : Plan) (past : List Sighting) (shown : Sighting)
   pub number_is : number ≡ beat_number fault
   pub first : IsFirstFault plan past shown fault
 
--- a judge of this system before any beat: it keeps no beat by each plan of the system, and has counted none
+-- after a fault the judge is as it was, but for its text
+pub record KeepsAllButText (old new : Judge) : Type 0 where
+  pub watch : new.watch ≡ old.watch
+  pub requests : new.requests ≡ old.requests
+  pub answered : new.answered ≡ old.answered
+
+-- the links that are watched, and the order, sources and ranges by which beats are judged
+abbrev pub layout_of : Links → Order → System → Layout
+layout_of links order system = record { links = links; order = order; counts = system.counts; ranges = system.ranges }
+
+-- this is a plan of the system
+pub record IsPlanOf (links : Links) (order : Order) (system : System) (plan : Plan) : Type 0 where
+  pub lawful : IsPlan plan
+  pub layout : plan.layout ≡ layout_of links order system
+  pub resets : plan.resets ≡ resets system
+
+-- a judge of this system before any beat: it keeps no beat by each plan of the system, of which there is one, and has counted none
 pub record BeginsBy (links : Links) (order : Order) (system : System) (judge : Judge) : Type 0 where
-  pub keeps : (plan : Plan) → IsPlan plan → plan.layout ≡ record { links = links; order = order; counts = system.counts; ranges = system.ranges }
-      → plan.resets ≡ resets system → Keeps plan [] judge.watch
+  pub layout : judge.watch.layout ≡ layout_of links order system
+  pub some : (plan : Plan) × IsPlanOf links order system plan
+  pub keeps : (plan : Plan) → IsPlanOf links order system plan → Keeps plan [] judge.watch
   pub requests : judge.requests ≡ 0
   pub answered : judge.answered ≡ 0
 

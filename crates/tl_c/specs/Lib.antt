@@ -2,3 +2,4 @@ pub mod Handle
 pub mod Numbers
 pub mod Wire
 pub mod Calls
+pub mod Text

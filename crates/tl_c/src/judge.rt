@@ -1,13 +1,12 @@
 //! Judges of beats.
-ghost use Rattle.std.specs.Prelude.{◌≡◌, ◌≢◌, ◌<◌, ◌≤◌, ◌↔◌, ◌++◌, ◌∷◌, ◌&&◌, ◌⊎◌, ℕ, List, [], IfOk, IsSome, None, Some, length, map};
-ghost use Rattle.tl_c.specs.Calls.{BeginsAs, BeginsBy, HoldsJudge, HoldsSystem, IsFaultOfBeat, IsJudge, IsStep, IsSystem, links_of, order_of};
+ghost use Rattle.std.specs.Prelude.{◌≡◌, ◌≢◌, ◌<◌, ◌≤◌, ◌↔◌, ◌&&◌, ◌⊎◌, ℕ, List, IfOk, IsSome, None, Some};
+ghost use Rattle.tl_c.specs.Calls.{BeginsAs, BeginsBy, HoldsJudge, HoldsSystem, IsFaultOfBeat, IsJudge, IsStep, IsSystem, KeepsAllButText, links_of, order_of};
+ghost use Rattle.tl_c.specs.Text.{IsTextOf, IsWritten};
 ghost use Rattle.tl_c.specs.Wire.{shown_by};
 ghost use Rattle.tl_c.specs.declared.held.Judge.{Judge};
 ghost use Rattle.tl_c.specs.declared.held.Held.TheVariants as held;
 ghost use Rattle.tl_judge.specs.Count.{ends_a_reply, ends_an_ask, is_counted, one_more};
 ghost use Rattle.tl_link.specs.declared.beat.Sighting.{Sighting};
-ghost use Rattle.tl_ops.specs.Store.{Store};
-ghost use Rattle.tl_script.specs.System.{error_store, store_of};
 ghost use Rattle.tl_watch.specs.Plan.{HasLink, IsWatched, Plan};
 ghost use Rattle.tl_watch.specs.View.{Keeps};
 
@@ -21,27 +20,12 @@ use std::alloc::Global;
 use tl_capture::Row;
 use tl_judge::{Unlawful, push_unlawful};
 use tl_link::{Link, Sighting};
-use tl_ops::{Bank, Kind};
-use tl_script::{Device, System};
+use tl_script::{System, banks_of};
 use tl_types::Memory;
 use tl_watch::{Ended, Links, Order, Watch};
 
 /// The room that a judge reserves for the line of a fault.
 const LINE_ROOM: usize = 2048;
-
-/// What the slaves of these devices hold at reset, and the error port's behind them.
-fn banks_of(alloc: Global, devices: &[Device]) -> Result<Vec<Bank>, Memory>
-    ensures { IfOk result (λ banks. banks.items ≡ map store_of devices.now ++ error_store ∷ []) }
-{
-    let mut banks = Vec::with_capacity(alloc, devices.len() + 1)?;
-    for device in devices {
-        let bank = Bank::new(alloc, device.kind, device.base, &device.reset).map_err(|_| Memory)?;
-        banks.push(bank)?;
-    }
-    let error_port = Bank::new(alloc, Kind::NoDevice, 0, &[]).map_err(|_| Memory)?;
-    banks.push(error_port)?;
-    Ok(banks)
-}
 
 /// The judge of a system, before any beat.
 fn judge_of(alloc: Global, system: System, links: Links, order: Order) -> Result<Judge, Memory>
@@ -167,7 +151,7 @@ fn judge_fault(judge: &mut Judge, line: u64, time: u64, sighting: Sighting) -> u
     ensures fault { (plan : Plan) (past : List Sighting) → Keeps plan past judge.old.watch → NO_LINK < result
         → IsFaultOfBeat plan past sighting result }
     ensures above { result ≢ OK → NO_LINK < result }
-    ensures err { result ≢ OK → judge.new.watch ≡ judge.old.watch }
+    ensures err { result ≢ OK → KeepsAllButText judge.old judge.new }
 {
     match judge.watch.step(&sighting) {
         Ok(seen) => {
@@ -196,7 +180,8 @@ fn step(judge: &mut Judge, line: u64, time: u64, sighting: Sighting) -> u32
     ensures link { result ≡ NO_LINK ↔ ((HasLink judge.old.watch.layout sighting.link
         × IsWatched judge.old.watch.layout.links sighting.link) → ⊥) }
     ensures first { result ≢ OK → NO_LINK ≤ result }
-    ensures err { result ≢ OK → judge.new.watch ≡ judge.old.watch }
+    ensures err { result ≢ OK → KeepsAllButText judge.old judge.new }
+    ensures unseen { result ≡ NO_LINK → judge.new ≡ judge.old }
 {
     if !judge.watch.watches(sighting.link) {
         return NO_LINK;
@@ -220,7 +205,10 @@ pub extern "C" fn tlx_judge_step_at(alloc: Global, judge: &mut Handle, beat: &Wi
     ensures fault { (plan : Plan) (past : List Sighting) (j : Judge) (shown : Sighting) → judge.old.value ≡ Some (held.Judge j) → shown_by beat.now ≡ Some shown
         → Keeps plan past j.watch → NO_LINK < result → IsFaultOfBeat plan past shown result }
     ensures first { result ≢ OK → result ≢ EMPTY → result ≢ BAD_ARGUMENT → NO_LINK ≤ result }
-    ensures err { result ≢ OK → HoldsJudge (λ old. HoldsJudge (λ new. new.watch ≡ old.watch) judge.new.value) judge.old.value ⊎ (judge.new.value ≡ judge.old.value) }
+    ensures err { result ≢ OK
+        → HoldsJudge (λ old. HoldsJudge (KeepsAllButText old) judge.new.value) judge.old.value
+        ⊎ (judge.new.value ≡ judge.old.value) }
+    ensures unseen { result ≢ OK → result ≤ NO_LINK → judge.new.value ≡ judge.old.value }
 {
     let Some(sighting) = sighting_of(beat) else {
         return BAD_ARGUMENT;
@@ -239,6 +227,10 @@ pub extern "C" fn tlx_judge_step_at(alloc: Global, judge: &mut Handle, beat: &Wi
 /// `tlx_judge_text_at` of the header: the line of the last fault.
 #[unsafe(no_mangle)]
 pub extern "C" fn tlx_judge_text_at(alloc: Global, judge: &mut Handle, room: &mut [u8]) -> usize
+    ensures text { (j : Judge) → judge.old.value ≡ Some (held.Judge j)
+        → IsTextOf j.text.items room.old room.new result }
+    ensures written { IsWritten room.old room.new result }
+    ensures empty { (IsJudge judge.old.value → ⊥) → result ≡ 0 }
     ensures same { judge.new.value ≡ judge.old.value }
 {
     let Some(held) = take(alloc, judge) else {

@@ -1,5 +1,5 @@
 //! Models of crossbars.
-ghost use Rattle.std.specs.Prelude.{◌≡◌, ◌≢◌, ◌<◌, ◌≤◌, ◌↔◌, ◌⊎◌, ℕ, IsSomeAnd, None, Some, length, slice_get};
+ghost use Rattle.std.specs.Prelude.{◌≡◌, ◌≢◌, ◌<◌, ◌≤◌, ◌↔◌, ◌⊎◌, ℕ, IsSomeAnd, None, Some, drop, length, slice_get};
 ghost use Rattle.tl_c.specs.Calls.{HoldsModel, HoldsSystem, IsModel, IsSystem, IsRefusedBy, IsServedBy};
 ghost use Rattle.tl_c.specs.Wire.{IsTooLarge, NamesNone};
 ghost use Rattle.tl_c.specs.declared.held.Held.TheVariants.{Model};
@@ -56,6 +56,7 @@ fn serve(model: &mut Server, master: usize, wire: &WireAsk, answer: &mut WireAns
     ensures first { result ≢ OK → NO_OPERATION ≤ result }
     ensures err { result ≢ OK → model.new ≡ model.old }
     ensures quiet { result ≢ OK → answer.new ≡ answer.old }
+    ensures behind { drop answer.new.count answer.new.bytes ≡ drop answer.new.count answer.old.bytes }
 {
     let read = read_ask(wire, &mut model.ask);
     if read != OK {
@@ -89,6 +90,7 @@ pub extern "C" fn tlx_model_serve_at(
     ensures first { result ≢ OK → result ≢ EMPTY → NO_OPERATION ≤ result }
     ensures err { result ≢ OK → model.new.value ≡ model.old.value }
     ensures quiet { result ≢ OK → answer.new ≡ answer.old }
+    ensures behind { drop answer.new.count answer.new.bytes ≡ drop answer.new.count answer.old.bytes }
 {
     let Some(mut held) = take(alloc, model) else {
         return EMPTY;

@@ -2,6 +2,7 @@
 ghost use Rattle.std.specs.Prelude.{◌≡◌, ◌≢◌, ◌≤◌, ◌↔◌, IfNone, IfSome, IsTrue, None, Some};
 ghost use Rattle.tl_c.specs.Calls.{HoldsSystem, IsScriptAnswer, IsSystem};
 ghost use Rattle.tl_c.specs.Handle.{unboxed};
+ghost use Rattle.tl_c.specs.Text.{IsWritten};
 ghost use Rattle.tl_c.specs.declared.held.Held.TheVariants as held;
 ghost use Rattle.tl_script.specs.Script.{Spells};
 
@@ -68,7 +69,9 @@ pub(crate) fn hold(alloc: Global, handle: &mut Handle, held: Held) -> u32
 }
 
 /// Writes the line of a script's fault, or nothing if there is no memory for it.
-fn put_fault(alloc: Global, room: &mut [u8], fault: ScriptFault) -> usize {
+fn put_fault(alloc: Global, room: &mut [u8], fault: ScriptFault) -> usize
+    ensures { IsWritten room.old room.new result }
+{
     match format!(in alloc; "{fault}") {
         Ok(line) => put_text(room, line.as_bytes()),
         Err(_) => put_text(room, b""),
@@ -89,6 +92,8 @@ pub extern "C" fn tlx_system_read_at(
     ensures full { result ≡ FULL ↔ (system.old.value ≢ None) }
     ensures err { result ≢ OK → system.new.value ≡ system.old.value }
     ensures first { result ≢ OK → FULL ≤ result }
+    ensures written { IsWritten room.old room.new written.new }
+    ensures none { result ≤ FULL → written.new ≡ 0 }
 {
     *written = put_text(room, b"");
     if is_full(alloc, system) {

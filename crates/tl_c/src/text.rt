@@ -1,12 +1,12 @@
 //! Texts in a caller's buffer.
-ghost use Rattle.std.specs.Prelude.{◌≡◌, ◌≤◌, ◌<◌, length};
+ghost use Rattle.tl_c.specs.Text.{IsTextOf, IsWritten};
 
 use crate::fault::words;
 
 /// Writes as much of a text as fits, and a zero byte behind it: how many bytes of the text were written.
 pub(crate) fn put_text(room: &mut [u8], text: &[u8]) -> usize
-    ensures same { length room.new ≡ length room.old }
-    ensures all { result ≤ length text.now }
+    ensures text { IsTextOf text.now room.old room.new result }
+    ensures written { IsWritten room.old room.new result }
 {
     if room.is_empty() {
         return 0;
@@ -20,7 +20,7 @@ pub(crate) fn put_text(room: &mut [u8], text: &[u8]) -> usize
 /// `tlx_fault_text_at` of the header: the words of a fault's number.
 #[unsafe(no_mangle)]
 pub extern "C" fn tlx_fault_text_at(fault: u32, room: &mut [u8]) -> usize
-    ensures { length room.new ≡ length room.old }
+    ensures { IsWritten room.old room.new result }
 {
     put_text(room, words(fault).as_bytes())
 }

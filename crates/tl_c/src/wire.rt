@@ -1,5 +1,5 @@
 //! The structs of the header, and what they stand for.
-ghost use Rattle.std.specs.Prelude.{◌≡◌, ◌≢◌, ◌≤◌, ◌↔◌};
+ghost use Rattle.std.specs.Prelude.{◌≡◌, ◌≢◌, ◌≤◌, ◌↔◌, drop};
 ghost use Rattle.tl_types.specs.Wire.{IsCodeOf};
 ghost use Rattle.tl_c.specs.Wire.{IsAnswerOf, IsAskOf, IsTooLarge, NamesNone, beat_of, flag_of, link_of, reply_beat, shown_by};
 
@@ -93,7 +93,8 @@ fn fill_ask(wire: &WireAsk, op: AskOp, ask: &mut Ask)
 
 /// Puts a reply with its port and place into a struct. Behind its bytes the struct stays as it was: a short reply pays for no long one.
 pub(crate) fn put_answer(wire: &mut WireAnswer, port: usize, place: usize, reply: &Reply)
-    ensures { IsAnswerOf wire.new port place reply.now }
+    ensures answer { IsAnswerOf wire.new port place reply.now }
+    ensures behind { drop wire.new.count wire.new.bytes ≡ drop wire.new.count wire.old.bytes }
 {
     let bytes = reply.bytes();
     let count = bytes.len();

@@ -1,5 +1,5 @@
 //! Requests and their replies, kept compactly.
-ghost use Rattle.std.specs.Prelude.{◌≡◌, ◌<◌, ◌≤◌, ◌==◌, ◌++◌, ◌∷◌, [], length, slice_get, IfOk, OnErr, OnOk, Some};
+ghost use Rattle.std.specs.Prelude.{◌≡◌, ◌+◌, ◌<◌, ◌≤◌, ◌==◌, ◌++◌, ◌∷◌, [], length, max, slice_get, IfOk, OnErr, OnOk, Some};
 ghost use Rattle.tl_journal.specs.Headers.{IsEntryIn, ask_in, reply_in};
 
 use crate::pools::Pools;
@@ -95,7 +95,8 @@ impl Journal {
     /// Makes room for one more entry, where there is none.
     fn reserve_one(&mut self) -> Result<(), AllocError>
         ensures items { self.new.items ≡ self.old.items }
-        ensures room { OnOk result (length self.old.items < self.new.room) }
+        ensures room { OnOk result (self.new.room ≡ max self.old.room (length self.old.items + 1)) }
+        ensures err { OnErr result (self.new.room ≡ self.old.room) }
     {
         if self.headers.len() < self.room {
             return Ok(());
@@ -106,11 +107,12 @@ impl Journal {
         Ok(())
     }
 
-    /// Appends a request and its reply, each with this source, and makes room for them first.
+    /// Appends a request and its reply, each with this source, and makes room for them first where there is none.
     pub fn push(&mut self, source: u16, ask: &Ask, reply: &Reply) -> Result<(), AllocError>
         ensures ok { OnOk result (self.new.items ≡ self.old.items
             ++ (record ask.now { source = source }, record reply.now { source = source }) ∷ []) }
-        ensures err { OnErr result (self.new.items ≡ self.old.items) }
+        ensures room { OnOk result (self.new.room ≡ max self.old.room (length self.new.items)) }
+        ensures err { OnErr result (self.new ≡ self.old) }
     {
         self.reserve_one()?;
         self.push_reserved(source, ask, reply);

@@ -68,6 +68,7 @@ impl Pools {
     pub fn keep(&mut self, op: AskOp, bytes: &Bytes) -> Result<usize, AllocError>
         ensures ok { IfOk result (IsKept (may_leave_unset op) bytes.now self.old self.new) }
         ensures err { OnErr result (HasSameBytes self.old self.new) }
+        ensures room { KeepsRoom self.old self.new }
     {
         if op.may_leave_unset() {
             self.reserve(0, bytes.len())?;

@@ -1,5 +1,7 @@
 //! The entries of a trace, kept compactly.
-ghost use Rattle.std.specs.Prelude.{◌≡◌, ◌<◌, ◌≤◌, ◌==◌, ◌++◌, ◌∷◌, [], length, slice_get, IfOk, Some};
+ghost use Rattle.std.specs.Prelude.{◌≡◌, ◌<◌, ◌≤◌, ◌==◌, ◌++◌, ◌∷◌, [], length, slice_get, IfOk, Some, false};
+ghost use Rattle.tl_types.specs.declared.operation.AskOp.TheVariants.{Get};
+ghost use Rattle.tl_types.specs.declared.operation.ReplyOp.TheVariants.{AccessAck};
 ghost use Rattle.tl_journal.specs.Trace.{entry_of};
 
 use crate::journal::Journal;
@@ -92,8 +94,16 @@ impl Trace {
     }
 }
 
-/// An entry of a get: room for entries that are read one after the other.
-pub fn blank_entry() -> Entry {
+/// An entry of a get of one byte at address 0 from source 0 and of its acknowledgement, as if it were the first that port 0 served:
+/// room for entries that are read one after the other.
+pub fn blank_entry() -> Entry
+    ensures { result ≡ record {
+      ask = record { op = Get; size = 0; source = 0; address = 0; bytes = [] };
+      reply = record { op = AccessAck; size = 0; source = 0; denied = false; bytes = [] };
+      port = 0;
+      index = 0;
+    } }
+{
     Entry {
         ask: Ask::blank(),
         reply: Reply::blank(),

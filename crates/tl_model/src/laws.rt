@@ -1,9 +1,10 @@
-//! Laws about the definitions: what calls in a row come to.
-ghost use Rattle.std.specs.Prelude.{◌≡◌, ℕ, List, Some, length, slice_get, take};
+//! Laws: what calls in a row come to, by the definitions, and the limit in its number.
+ghost use Rattle.std.specs.Prelude.{◌≡◌, ◌+◌, ◌^◌, ℕ, List, Some, length, slice_get, take};
 ghost use Rattle.tl_ops.specs.Store.{Store};
 ghost use Rattle.tl_script.specs.System.{System, resets};
 ghost use Rattle.tl_model.specs.Crossbar.{CrossbarState, PortState, at_reset, fresh};
 ghost use Rattle.tl_model.specs.Calls.{AreServed, Call, IsAnswerOf, after_all, asks_at};
+ghost use Rattle.tl_model.specs.declared.port.TheConstants.{MOST_SERVED};
 
 /// Each port is the one before the calls, once it has served those requests in turn that came to it.
 pub fn calls_in_a_row()
@@ -24,4 +25,10 @@ pub fn answers_in_a_row()
 pub fn ports_at_reset()
     ensures { (s : System) (port : ℕ) (store : Store) → slice_get (resets s) port ≡ Some store
         → slice_get (at_reset s).ports port ≡ Some (fresh store) }
+{}
+
+/// The most requests that a port counts are as many as a number of 64 bits can count. Contracts name the constant, so without this law
+/// a wrong constant would change what they promise.
+pub fn limits_in_numbers()
+    ensures served { MOST_SERVED + 1 ≡ 2 ^ 64 }
 {}

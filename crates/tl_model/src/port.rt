@@ -6,8 +6,8 @@ ghost use Rattle.tl_model.specs.Crossbar.{fresh};
 ghost use Rattle.tl_model.specs.Ports.{state_of};
 
 use std::alloc::Global;
-use tl_ops::{Bank, Kind};
-use tl_script::Device;
+use tl_ops::Bank;
+use tl_script::{Device, banks_of};
 use tl_types::{Ask, Memory, Reply};
 
 /// The most requests that a port counts.
@@ -33,24 +33,15 @@ impl Port {
     }
 }
 
-/// A slave port at reset.
-fn port_of(alloc: Global, kind: Kind, base: u64, reset: &[u8]) -> Result<Port, Memory>
-    ensures { IfOk result (λ port. state_of port
-        ≡ fresh (record { kind = kind; base = base; bytes = reset.now })) }
-{
-    let bank = Bank::new(alloc, kind, base, reset).map_err(|_| Memory)?;
-    Ok(Port { bank, served: 0 })
-}
-
 /// The slave ports of these devices at reset, and the error port behind them.
 pub(crate) fn ports_of(alloc: Global, devices: &[Device]) -> Result<Vec<Port>, Memory>
     ensures { IfOk result (λ ports. map state_of ports.items
         ≡ map fresh (map store_of devices.now ++ error_store ∷ [])) }
 {
-    let mut ports = Vec::with_capacity(alloc, devices.len() + 1)?;
-    for device in devices {
-        ports.push(port_of(alloc, device.kind, device.base, &device.reset)?)?;
+    let banks = banks_of(alloc, devices)?;
+    let mut ports = Vec::with_capacity(alloc, banks.len())?;
+    for bank in banks {
+        ports.push(Port { bank, served: 0 })?;
     }
-    ports.push(port_of(alloc, Kind::NoDevice, 0, &[])?)?;
     Ok(ports)
 }

@@ -12,6 +12,7 @@
 
 mod draft;
 mod fault;
+pub mod laws;
 mod machine;
 mod records;
 mod source;

@@ -32,4 +32,4 @@ pub use operation::{Job, read_operation};
 pub use operations::Operations;
 pub use print::{push_entry, push_reply, push_trace, push_traces, write_trace};
 pub use script::{SCRIPT_LIMIT, read_system};
-pub use system::{Crossbar, Device, MAX_JOBS, System};
+pub use system::{Crossbar, Device, MAX_JOBS, System, banks_of};

@@ -1,11 +1,13 @@
 //! Systems: the slaves, masters and operations that a script describes.
-ghost use Rattle.std.specs.Prelude.{◌≡◌, map};
-ghost use Rattle.tl_script.specs.System.{IsLawfulSystem, store_of, described};
+ghost use Rattle.std.specs.Prelude.{◌≡◌, ◌++◌, ◌∷◌, [], IfOk, map};
+ghost use Rattle.tl_script.specs.System.{IsLawfulSystem, error_store, store_of, described};
 
 use crate::operations::Operations;
+use std::alloc::Global;
 use std::marker::Model;
 use tl_map::{Map, Sources};
-use tl_ops::Kind;
+use tl_ops::{Bank, Kind};
+use tl_types::Memory;
 
 /// The most operations of a master, waits counted.
 pub const MAX_JOBS: usize = 4096;
@@ -117,4 +119,18 @@ impl System {
             map: self.map,
         }
     }
+}
+
+/// What the slaves of these devices hold at reset, and the error port's behind them.
+pub fn banks_of(alloc: Global, devices: &[Device]) -> Result<Vec<Bank>, Memory>
+    ensures { IfOk result (λ banks. banks.items ≡ map store_of devices.now ++ error_store ∷ []) }
+{
+    let mut banks = Vec::with_capacity(alloc, devices.len() + 1)?;
+    for device in devices {
+        let bank = Bank::new(alloc, device.kind, device.base, &device.reset).map_err(|_| Memory)?;
+        banks.push(bank)?;
+    }
+    let error_port = Bank::new(alloc, Kind::NoDevice, 0, &[]).map_err(|_| Memory)?;
+    banks.push(error_port)?;
+    Ok(banks)
 }

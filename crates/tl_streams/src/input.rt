@@ -1,7 +1,8 @@
 //! The input of a program: a script, and the system that it spells.
-ghost use Rattle.std.specs.Prelude.{◌≡◌, IfOk, Err};
+ghost use Rattle.std.specs.Prelude.{◌≡◌, ◌+◌, IfOk, Err};
 ghost use Rattle.tl_script.specs.declared.fault.ScriptFault.{ScriptFault};
 ghost use Rattle.tl_streams.specs.Input.{GivesSystem, HasScriptFault, of_read, of_script};
+ghost use Rattle.tl_streams.specs.Streams.{TakesUpTo};
 
 use crate::limited::LimitedReader;
 use crate::streams::{ReadFault, read_up_to};
@@ -55,6 +56,10 @@ pub fn read_whole_system<R: Read>(
         (R.remaining reader.new.reader.now)) }
     ensures script { (fault : ScriptFault) → result ≡ Err (InputFault.Script fault)
         → HasScriptFault (R.remaining reader.old.reader.now) (R.remaining reader.new.reader.now) fault }
+
+    // No more is taken than makes a script too long, whether a fault comes of it or not.
+    ensures taken { TakesUpTo (SCRIPT_LIMIT + 1) (R.remaining reader.old.reader.now)
+        (R.remaining reader.new.reader.now) }
 {
     let script = read_up_to(alloc, reader, SCRIPT_LIMIT + 1)?;
     let system = read_system(alloc, &script)?;

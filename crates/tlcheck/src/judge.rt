@@ -1,32 +1,15 @@
 //! The judge of a system's captures.
-ghost use Rattle.std.specs.Prelude.{◌≡◌, ◌++◌, ◌∷◌, [], ◌≤◌, IfOk, map};
+ghost use Rattle.std.specs.Prelude.{◌≡◌, [], ◌≤◌, IfOk};
 ghost use Rattle.tl_judge.specs.View.{Judges, is_traced};
-ghost use Rattle.tl_ops.specs.Store.{Store};
-ghost use Rattle.tl_script.specs.System.{error_store, store_of};
 ghost use Rattle.tlcheck.specs.Engine.{ByThePlan, sizes_of};
 
 use crate::terms::Terms;
 use std::alloc::Global;
 use tl_judge::Judge;
-use tl_ops::{Bank, Kind};
-use tl_script::{Device, System};
+use tl_script::{System, banks_of};
 use tl_types::{MAX_MASTERS, MAX_PORTS, Memory};
 use tl_verdict::Sizes;
 use tl_watch::Watch;
-
-/// What the slaves of these devices hold at reset, and the error port's behind them.
-fn banks_of(alloc: Global, devices: &[Device]) -> Result<Vec<Bank>, Memory>
-    ensures { IfOk result (λ banks. banks.items ≡ map store_of devices.now ++ error_store ∷ []) }
-{
-    let mut banks = Vec::with_capacity(alloc, devices.len() + 1)?;
-    for device in devices {
-        let bank = Bank::new(alloc, device.kind, device.base, &device.reset).map_err(|_| Memory)?;
-        banks.push(bank)?;
-    }
-    let error_port = Bank::new(alloc, Kind::NoDevice, 0, &[]).map_err(|_| Memory)?;
-    banks.push(error_port)?;
-    Ok(banks)
-}
 
 /// How many masters a system has, and how many ports that have a link.
 pub fn sizes_of(system: &System) -> Sizes

@@ -1,0 +1,23 @@
+//! The numbers of the header, on functions that do nothing but carry the law.
+ghost use Rattle.std.specs.Prelude.{◌≡◌};
+ghost use Rattle.tl_c.specs.declared.fault.TheConstants.{OK, EMPTY, FULL, MEMORY, BAD_ARGUMENT, NO_OPERATION, SIZE, NO_BYTE, NO_LINK};
+ghost use Rattle.tl_c.specs.declared.wire.TheConstants.{ROOM};
+
+/// The faults in the numbers of `enum tlx_fault`; those that are told of scripts, requests and beats are in `specs/Numbers.antt`. Contracts
+/// name the constants, so without this law a wrong one would change what they promise.
+pub fn faults_in_numbers()
+    ensures ok { OK ≡ 0 }
+    ensures empty { EMPTY ≡ 2 }
+    ensures full { FULL ≡ 3 }
+    ensures memory { MEMORY ≡ 4 }
+    ensures bad_argument { BAD_ARGUMENT ≡ 5 }
+    ensures no_operation { NO_OPERATION ≡ 20 }
+    ensures size { SIZE ≡ 21 }
+    ensures no_byte { NO_BYTE ≡ 25 }
+    ensures no_link { NO_LINK ≡ 30 }
+{}
+
+/// The room of a message's bytes in the structs, `TLX_ROOM`.
+pub fn room_in_numbers()
+    ensures { ROOM ≡ 256 }
+{}
