@@ -1,9 +1,9 @@
 -- The entries of requests and replies with their places.
-use Rattle.std.proofs.Common.{◌≡◌, ℕ, zero, suc, List, [], ◌∷◌, ◌++◌, length, Some, slice_get, refl, ap, arith}
+use Rattle.std.proofs.Common.{◌≡◌, ℕ, zero, suc, List, [], ◌∷◌, ◌++◌, length, Some, IsSomeAnd, slice_get, refl, ap, arith}
 use Rattle.tl_types.specs.Request.{Request}
 use Rattle.tl_types.specs.Response.{Response}
 use Rattle.tl_types.specs.declared.trace.Entry.{Entry}
-use Rattle.tl_journal.specs.Trace.{entries_of, entry_of}
+use Rattle.tl_journal.specs.Trace.{entries_of, entry_of, place_of}
 use Rattle.tl_journal.specs.declared.trace.Place.{Place}
 
 pub length-entries_of : (pairs : List (Request × Response)) (places : List Place) → length places ≡ length pairs → length (entries_of pairs places) ≡ length pairs
@@ -27,3 +27,11 @@ slice_get-entries_of (first ∷ pairs) (other ∷ places) zero pair place here t
     let at : other ≡ place = cc in
     rw (same, at) refl
 slice_get-entries_of (first ∷ pairs) (other ∷ places) (suc k) pair place here there = slice_get-entries_of pairs places k pair place here there
+
+pub place_of-entries_of : (pairs : List (Request × Response)) (places : List Place) (k : ℕ) (place : Place) → length places ≡ length pairs → slice_get places k ≡ Some place
+    → IsSomeAnd (slice_get (entries_of pairs places) k) (λ entry. place ≡ place_of entry)
+place_of-entries_of [] [] k place counted there = absurd (cc)
+place_of-entries_of [] (other ∷ places) k place counted there = absurd (omega (arith, counted))
+place_of-entries_of (first ∷ pairs) [] k place counted there = absurd (cc)
+place_of-entries_of (first ∷ pairs) (other ∷ places) zero place counted there = let same : place ≡ other = cc in same
+place_of-entries_of (first ∷ pairs) (other ∷ places) (suc k) place counted there = place_of-entries_of pairs places k place (omega (arith, counted)) there

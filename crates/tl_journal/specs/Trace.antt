@@ -20,6 +20,10 @@ entries_in traces = map (λ (trace : TraceView). trace.items) traces
 abbrev pub entry_of : Request → Response → Place → Entry
 entry_of ask reply place = record { ask = ask; reply = reply; port = place.port; index = place.index }
 
+-- where an entry was served
+abbrev pub place_of : Entry → Place
+place_of entry = record { port = entry.port; index = entry.index }
+
 -- the entries of requests and replies, each with its place
 abbrev pub entries_of : List (Request × Response) → List Place → List Entry
 entries_of (pair ∷ pairs) (place ∷ places) = entry_of pair.0 pair.1 place ∷ entries_of pairs places

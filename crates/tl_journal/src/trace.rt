@@ -1,8 +1,8 @@
 //! The entries of a trace, kept compactly.
-ghost use Rattle.std.specs.Prelude.{◌≡◌, ◌<◌, ◌≤◌, ◌==◌, ◌++◌, ◌∷◌, [], length, slice_get, IfOk, Some, false};
+ghost use Rattle.std.specs.Prelude.{◌≡◌, ◌<◌, ◌≤◌, ◌==◌, ◌++◌, ◌∷◌, [], length, slice_get, IfOk, IsSomeAnd, Some, false};
 ghost use Rattle.tl_types.specs.declared.operation.AskOp.TheVariants.{Get};
 ghost use Rattle.tl_types.specs.declared.operation.ReplyOp.TheVariants.{AccessAck};
-ghost use Rattle.tl_journal.specs.Trace.{entry_of};
+ghost use Rattle.tl_journal.specs.Trace.{entry_of, place_of};
 
 use crate::journal::Journal;
 use std::alloc::{AllocError, Global};
@@ -70,6 +70,14 @@ impl Trace {
     {
         self.journal.push_reserved(source, ask, reply);
         self.places.push_reserved(place);
+    }
+
+    /// Where the entry at a place was served.
+    pub fn served_at(&self, place: usize) -> Place
+        requires { place < length self.now.items }
+        ensures { IsSomeAnd (slice_get self.now.items place) (λ entry. result ≡ place_of entry) }
+    {
+        self.places[place]
     }
 
     /// The entry at a place.

@@ -1,5 +1,5 @@
 //! One master.
-ghost use Rattle.std.specs.Prelude.{◌≡◌, ℕ, ◌+◌, ◌<◌, ◌≤◌, [], ◌∷◌, ◌++◌, length, IfOk, IfErr, replicate, IfSome, IfNone, slice_get};
+ghost use Rattle.std.specs.Prelude.{◌≡◌, ℕ, ◌+◌, ◌<◌, ◌≤◌, [], ◌∷◌, ◌++◌, length, IfOk, IfErr, replicate, IfSome, IfNone, IsSomeAnd, slice_get};
 ghost use Rattle.std.specs.Prelude as std;
 ghost use Rattle.tl_rule.specs.declared.view.Held.TheVariants.{Filled, Sent};
 ghost use Rattle.tl_rule.specs.Views.{Owns};
@@ -222,6 +222,18 @@ impl Master {
             return None;
         }
         Some(self.trace.get(place))
+    }
+
+    /// The port that served the entry at a place of the trace.
+    pub fn port_at(&self, place: usize) -> Option<usize>
+        ensures some { IfSome result (λ port. IsSomeAnd (slice_get self.now.trace place)
+            (λ entry. port ≡ entry.port)) }
+        ensures none { IfNone result (length self.now.trace ≤ place) }
+    {
+        if place >= self.trace.len() {
+            return None;
+        }
+        Some(self.trace.served_at(place).port)
     }
 
     /// The master's number.

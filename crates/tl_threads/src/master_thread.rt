@@ -33,8 +33,8 @@ fn look_at<N: ArenaName, G: Gate>(shared: &Shared<'_, N, G>, master: &mut Master
     ensures { IsSame master.old master.new }
 {
     if let Polled::Done(place) = master.poll(shared.arena, source) {
-        if let Some(entry) = master.entry(place) {
-            shared.gate.collected(master.number(), entry.port);
+        if let Some(port) = master.port_at(place) {
+            shared.gate.collected(master.number(), port);
         }
     }
 }
