@@ -1,6 +1,6 @@
-//! What a run needs before its threads start: banks, books, masters and bells.
-ghost use Rattle.std.specs.Prelude.{◌≡◌, ◌+◌, ◌*◌, ◌^◌, ◌<◌, ◌≤◌, ◌∷◌, ◌++◌, [], ℕ, All, IfOk, OnOk, Some, vec_len, length, map, slice_get};
-ghost use Rattle.tl_script.specs.System.{store_of, error_store, sends};
+//! What a run needs before its threads start: books, masters and bells.
+ghost use Rattle.std.specs.Prelude.{◌≡◌, ◌+◌, ◌*◌, ◌^◌, ◌<◌, ◌≤◌, ℕ, All, IfOk, OnOk, Some, vec_len, length, map, slice_get};
+ghost use Rattle.tl_script.specs.System.{sends};
 ghost use Rattle.tl_arena.specs.Views.{AreNewMasters, AreNewPorts};
 ghost use Rattle.tl_threads.specs.Trace.{IsIdle};
 ghost use Rattle.tl_types.specs.declared.limits.TheConstants.{MAX_MASTERS, MAX_WORKERS};
@@ -17,36 +17,10 @@ use std::alloc::Global;
 use tl_arena::{Arena, MasterSeat, PortSeat};
 use tl_map::Map;
 use tl_master::Master;
-use tl_ops::{Bank, Kind};
+use tl_ops::Bank;
 use tl_port::Book;
-use tl_script::{Device, Operations, System};
+use tl_script::{Operations, System};
 use tl_types::{Ask, Memory};
-
-/// The bank of each of these devices at reset, and behind them that of the error port.
-pub(crate) fn banks_of(alloc: Global, devices: &[Device]) -> Result<Vec<Bank>, Memory>
-    ensures { IfOk result (λ banks. banks.items ≡ map store_of devices.now ++ error_store ∷ []) }
-{
-    let mut banks = Vec::with_capacity(alloc, devices.len() + 1)?;
-    for device in devices {
-        banks.push(bank_of(alloc, device)?)?;
-    }
-    banks.push(error_bank(alloc)?)?;
-    Ok(banks)
-}
-
-/// The bank of a device at reset.
-fn bank_of(alloc: Global, device: &Device) -> Result<Bank, Memory>
-    ensures { IfOk result (λ bank. bank ≡ store_of device.now) }
-{
-    Bank::new(alloc, device.kind, device.base, &device.reset).map_err(|_| Memory)
-}
-
-/// The bank of the error port.
-fn error_bank(alloc: Global) -> Result<Bank, Memory>
-    ensures { IfOk result (λ bank. bank ≡ error_store) }
-{
-    Bank::new(alloc, Kind::NoDevice, 0, &[]).map_err(|_| Memory)
-}
 
 /// Adds to each port's count the requests of these operations that go there.
 fn count_sends(map: &Map, jobs: &Operations, counts: &mut [usize])

@@ -8,14 +8,14 @@ ghost use Rattle.tl_threads.specs.Run.{IsThreadedRun};
 use crate::fault::ThreadFault;
 use crate::gate::Gate;
 use crate::named::{ThreadedRun, run_named};
-use crate::setup::{banks_of, books_of, journals_of, threads_of};
+use crate::setup::{books_of, journals_of, threads_of};
 use std::alloc::Global;
 use std::marker::Brand;
 use std::sync::Wait;
 use std::thread::Threads;
 use tl_arena::{Arena, ArenaFault, Made};
 use tl_ops::Bank;
-use tl_script::System;
+use tl_script::{System, banks_of};
 use tl_types::{MAX_WORKERS, Memory};
 
 /// A new arena for the masters of a system and for ports with these banks.

@@ -1,5 +1,5 @@
 -- What an engine reads, and what it writes for that. This project's own.
-use Rattle.std.specs.Prelude.{◌≡◌, ◌≢◌, ℕ, Bool, List, ◌++◌, length, Option, Result, Err, OnOk, IfErr}
+use Rattle.std.specs.Prelude.{◌≡◌, ◌≢◌, ℕ, Bool, List, ◌+◌, ◌++◌, length, Option, Result, Err, OnOk, IfErr}
 use Rattle.std.specs.Io.KnownBytes.{Appends, Keeps}
 use Rattle.tl_types.specs.declared.trace.Entry.{Entry}
 use Rattle.tl_arena.specs.declared.account.Held.{Held}
@@ -11,9 +11,10 @@ use Rattle.tl_audit.specs.declared.fault.AuditFault.TheVariants as audit
 use Rattle.tl_script.specs.History.{account_text}
 use Rattle.tl_script.specs.System.{System}
 use Rattle.tl_script.specs.declared.fault.ScriptFault.{ScriptFault}
+use Rattle.tl_script.specs.declared.script.TheConstants.{SCRIPT_LIMIT}
 use Rattle.tl_serial.specs.Text.{run_text}
 use Rattle.tl_streams.specs.Input.{GivesSystem, HasScriptFault}
-use Rattle.tl_streams.specs.Streams.{AppendsPart}
+use Rattle.tl_streams.specs.Streams.{AppendsPart, TakesUpTo}
 use Rattle.tl_threads.specs.Run.{IsThreadedRun}
 use Rattle.tlx.specs.declared.fault.RunFault.{RunFault}
 use Rattle.tlx.specs.declared.fault.RunFault.TheVariants as run
@@ -76,6 +77,8 @@ pub record IsAnswered (IsText : System → List ℕ → Type 0) (HasFault : Syst
   pub script : (fault : ScriptFault) → result ≡ Err (run.Script fault) → HasScriptFault read_old read_new fault
   -- a fault of an audit is one of a run
   pub audit : (fault : AuditFault) → result ≡ Err (run.Audit fault) → FailsAudit HasFault read_old read_new fault
+  -- no more is read than makes a script too long, whether a fault comes of it or not
+  pub taken : TakesUpTo (SCRIPT_LIMIT + 1) read_old read_new
   -- nothing is written but by an Ok or before a failed write
   pub quiet : IfErr result (λ fault. fault ≢ run.Write → Keeps written_old written_new)
   -- and that leaves a front of such a text

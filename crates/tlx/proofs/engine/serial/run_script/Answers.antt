@@ -10,6 +10,7 @@ returns-in_err-write_all-clause-answered g c =
       ok = search rules;
       script = search rules;
       audit = search rules;
+      taken = c.in_ok-system.ensures.taken;
       quiet = search rules;
       part = at_err _ c.from_residual-in_err-write_all.result (λ e is. record {
         system = c.in_ok-system.system;
