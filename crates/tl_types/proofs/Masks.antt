@@ -1,6 +1,6 @@
 -- Masks of words that are built whole: for bytes that are all given, and by flags.
 use Rattle.std.proofs.Common.{◌≡◌, ◌==◌, ℕ, zero, suc, ◌+◌, ◌-◌, ◌*◌, ◌/◌, ◌%◌, ◌^◌, ◌<◌, ◌≤◌, ◌⊎◌, inl, inr, List, [], ◌∷◌, ◌++◌, length, take, drop, set, get_or, slice_index, Some, unwrap_or, replicate, min, not, cond, false, bit_or, refl, ap, sym, ◌∙◌, arith, map}
-use Rattle.std.proofs.lemmas.List.{append_assoc, drop_more, get_or-append_right, get_or-drop, get_or-take, length-map, length-take, length-take-le, set_at, take_more}
+use Rattle.std.proofs.lemmas.List.{append_assoc, drop_more, get_or-append_right, get_or-drop, get_or-take, length-map, length-take, length-take-le, set_at, take_all, take_more}
 use Rattle.std.proofs.lemmas.Nat.{or_shifted, pow-add, shl_whole}
 use Rattle.std.proofs.lemmas.Simd.{bit_mask_l}
 use lib.Lanes.{mask_l}
@@ -60,6 +60,13 @@ first_end masks count within first =
     let grown = first_grow masks (count / 8) (count % 8) within (omega arith) first in
     (λ place h. grown.0 place (omega (arith, e, h)), λ place h. grown.1 place (omega (arith, e, h)))
 
+-- one word at most has one mask
+pub first_one : (count ones : ℕ) → ones ≡ 255 → count ≤ 8 → AreFirst (set (replicate MAX_WORDS 0) 0 (ones / 2 ^ (8 - count))) count
+first_one count ones is fits =
+    let e : 8 * 0 + count ≡ count = omega arith in
+    let grown = first_grow (replicate MAX_WORDS 0) 0 count (omega arith) fits none_first in
+    rw is (λ place h. grown.0 place (omega (arith, e, h)), λ place h. grown.1 place (omega (arith, e, h)))
+
 pub seen_first : (plain masks : List ℕ) → ((place : ℕ) → place < length plain → bit_in masks place ≡ 1) → given_in (bit_in masks) plain ≡ map (λ byte. Some byte) plain
 seen_first plain masks ones = given_in-all (bit_in masks) plain ones
 
@@ -99,6 +106,13 @@ all_flagged masks flags n all flagged place = go (cases_lt place n)
     go : (place < n) ⊎ (n ≤ place) → bit_in masks place ≡ flag_bit (slice_index flags place)
     go (inl below) = flagged.0 place below
     go (inr past) = flagged.1 place past ∙ ap flag_bit (sym (slice_index-past flags place (omega (arith, all, past))))
+
+-- the flags of one word at most have one mask
+pub flagged_one : (flags : List ℕ) (mask : ℕ) → length flags ≤ 8 → ((k : ℕ) → bit_at mask k ≡ flag_bit (slice_index flags k)) → (place : ℕ) → bit_in (set (replicate MAX_WORDS 0) 0 mask) place ≡ flag_bit (slice_index flags place)
+flagged_one flags mask short bits =
+    let whole : take (length flags) flags ≡ flags = take_all (length flags) flags (omega arith) in
+    let same : (k : ℕ) → bit_at mask k ≡ flag_bit (slice_index (take (length flags) flags) k) = λ k. bits k ∙ ap (λ fs. flag_bit (slice_index fs k)) (sym whole) in
+    all_flagged (set (replicate MAX_WORDS 0) 0 mask) flags 8 short (flagged_more (replicate MAX_WORDS 0) flags 0 mask (length flags) (omega arith) (omega (arith, short)) same (none_flagged flags))
 
 -- the bit of a flag among the lanes that are not zero
 pub bit_of_flags : (flags : List ℕ) (k : ℕ) → bit_at (mask_l (map (λ flag. not (flag == 0)) flags)) k ≡ flag_bit (slice_index flags k)

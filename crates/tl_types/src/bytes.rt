@@ -202,7 +202,26 @@ impl Bytes {
 }
 
 /// The masks of so many bytes that are all given.
+// one word's bytes, the common case, have one mask at a place that is known: no loop and no division
 fn given_masks(count: usize) -> [u8; MAX_WORDS]
+    requires { count ≤ MAX_BYTES }
+    ensures counted { length result ≡ MAX_WORDS }
+    ensures small { (word : ℕ) → slice_index result word < 2 ^ BUS_BYTES }
+    ensures given { (place : ℕ) → place < count → bit_in result place ≡ 1 }
+    ensures past { (place : ℕ) → count ≤ place → bit_in result place ≡ 0 }
+{
+    if count > BUS_BYTES {
+        return given_words(count);
+    }
+    let mut masks = [0; MAX_WORDS];
+    masks[0] = (u16::from(u8::MAX) >> (BUS_BYTES - count)) as u8;
+    masks
+}
+
+/// The masks of so many bytes that are all given, word by word.
+// it stands apart, so that what a short message needs is small enough to stand in its callers
+#[inline(never)]
+fn given_words(count: usize) -> [u8; MAX_WORDS]
     requires { count ≤ MAX_BYTES }
     ensures counted { length result ≡ MAX_WORDS }
     ensures small { (word : ℕ) → slice_index result word < 2 ^ BUS_BYTES }
@@ -232,6 +251,23 @@ fn clear_unset(bytes: &mut [u8], flags: &[u8])
 
 /// The masks of as many bytes as there are flags: one is left unset where its flag is zero.
 fn flagged_masks(flags: &[u8]) -> [u8; MAX_WORDS]
+    requires { length flags.now ≤ MAX_BYTES }
+    ensures counted { length result ≡ MAX_WORDS }
+    ensures small { (word : ℕ) → slice_index result word < 2 ^ BUS_BYTES }
+    ensures bits { (place : ℕ) → bit_in result place ≡ flag_bit (slice_index flags.now place) }
+{
+    if flags.len() > BUS_BYTES {
+        return flagged_words(flags);
+    }
+    let mut masks = [0; MAX_WORDS];
+    masks[0] = flag_mask(flags);
+    masks
+}
+
+/// The masks of as many bytes as there are flags, word by word.
+// it stands apart as `given_words` does
+#[inline(never)]
+fn flagged_words(flags: &[u8]) -> [u8; MAX_WORDS]
     requires { length flags.now ≤ MAX_BYTES }
     ensures counted { length result ≡ MAX_WORDS }
     ensures small { (word : ℕ) → slice_index result word < 2 ^ BUS_BYTES }

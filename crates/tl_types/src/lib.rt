@@ -5,8 +5,9 @@
 //! `Response` of `specs/`, so that two messages are equal where these fields are. The tables between operations and
 //! the opcodes and parameters of the wires are in `wire`, proved in both directions.
 //!
-//! This crate also has what all others share: the limits, the entries of traces, the fault [`Memory`], the pattern
-//! of "the first fault that applies" (`specs/Fault.antt`), and lemmas on lists (`proofs/Lists.antt`).
+//! This crate also has what all others share: the limits, the entries of traces, the fault [`Memory`], a copy of bytes
+//! that costs little where they are few ([`write_over`]), the pattern of "the first fault that applies"
+//! (`specs/Fault.antt`), and lemmas on lists (`proofs/Lists.antt`).
 //!
 //! Read on in `docs/MODEL.md`, "Messages".
 #![tactic(auto)]
@@ -30,5 +31,6 @@ pub use limits::{
 pub use operation::{Arith, AskOp, Hint, Logic, ReplyOp, width};
 pub use reply::{Reply, ReplyFault};
 pub use request::{Ask, AskFault};
+pub use room::write_over;
 pub use trace::Entry;
 pub use wire::{OpFault, opcode, param, read_op, read_reply_op, reply_opcode};

@@ -6,6 +6,7 @@ use arrayvec::ArrayVec;
 
 /// Puts these bytes in the place of those that there were.
 // as many as before are written over them: `clear` would blank what was there first
+#[inline]
 pub fn refill_room(room: &mut ArrayVec<u8, MAX_BYTES>, bytes: &[u8])
     requires { length bytes.now ≤ MAX_BYTES }
     ensures { room.new.items ≡ bytes.now }
@@ -13,14 +14,25 @@ pub fn refill_room(room: &mut ArrayVec<u8, MAX_BYTES>, bytes: &[u8])
     if room.len() == bytes.len() {
         write_over(room.as_mut_slice(), bytes);
     } else {
-        room.clear();
-        room.try_extend_from_slice(bytes).unwrap();
+        replace(room, bytes);
     }
+}
+
+/// Takes away the bytes that there were, and appends these.
+// a length that changes is rare: it stands apart, so that the rest is small enough to stand in its callers
+#[inline(never)]
+fn replace(room: &mut ArrayVec<u8, MAX_BYTES>, bytes: &[u8])
+    requires { length bytes.now ≤ MAX_BYTES }
+    ensures { room.new.items ≡ bytes.now }
+{
+    room.clear();
+    room.try_extend_from_slice(bytes).unwrap();
 }
 
 /// Writes bytes over as many others.
 // those of one word are moved in place, where a call would cost more than they do
-fn write_over(room: &mut [u8], bytes: &[u8])
+#[inline]
+pub fn write_over(room: &mut [u8], bytes: &[u8])
     requires { length room.old ≡ length bytes.now }
     ensures { room.new ≡ bytes.now }
 {

@@ -1,12 +1,12 @@
 use Rattle.std.proofs.Common.{◌≡◌, ◌*◌, ◌<◌, ℕ, length, slice_index}
 use Rattle.tl_types.specs.declared.bytes.TheConstants.{MAX_WORDS}
-use Rattle.tl_types.proofs.Masks.{AreFlagged}
-use Rattle.tl_types.proofs.bytes.flagged_masks.Given as goal
+use Rattle.tl_types.proofs.Masks.{AreFirst}
+use Rattle.tl_types.proofs.bytes.given_words.Given as goal
 
--- the words so far have the bits of their flags, and the others none
+-- the words so far are all ones
 abbrev pub invariant-loop-word : goal.invariant-loop-word
 invariant-loop-word l = record {
-  flagged : AreFlagged l.masks l.flags (8 * l.word);
+  first : AreFirst l.masks (8 * l.word);
   counted : length l.masks ≡ MAX_WORDS;
   small : (word : ℕ) → slice_index l.masks word < 256;
 }
