@@ -1,16 +1,16 @@
 -- Masks of words that are built whole: for bytes that are all given, and by flags.
-use Rattle.std.proofs.Common.{◌≡◌, ◌==◌, ℕ, zero, suc, ◌+◌, ◌-◌, ◌*◌, ◌/◌, ◌%◌, ◌^◌, ◌<◌, ◌≤◌, ◌⊎◌, inl, inr, List, [], ◌∷◌, ◌++◌, length, take, drop, set, get_or, slice_index, Some, unwrap_or, replicate, min, not, cond, false, bit_or, refl, ap, sym, ◌∙◌, arith, map}
+use Rattle.std.proofs.Common.{◌≡◌, ◌==◌, ℕ, zero, suc, ◌+◌, ◌-◌, ◌*◌, ◌/◌, ◌%◌, ◌^◌, ◌<◌, ◌≤◌, ◌⊎◌, inl, inr, List, [], ◌∷◌, ◌++◌, length, take, drop, set, get_or, slice_index, Some, unwrap_or, replicate, min, not, cond, false, bit_or, refl, ap, sym, subst, ◌∙◌, arith, map}
 use Rattle.std.proofs.lemmas.List.{append_assoc, drop_more, get_or-append_right, get_or-drop, get_or-take, length-map, length-take, length-take-le, set_at, take_all, take_more}
 use Rattle.std.proofs.lemmas.Nat.{or_shifted, pow-add, shl_whole}
-use Rattle.std.proofs.lemmas.Simd.{bit_mask_l}
-use lib.Lanes.{mask_l}
+use Rattle.std.proofs.lemmas.Simd.{bit_mask_l, put_chunk_whole}
+use lib.Lanes.{mask_l, put_chunk, sel_l, zip2}
 use Rattle.std.proofs.lemmas.Bool.{cases_lt}
 use Rattle.std.proofs.lemmas.Bool.Decides.{nat_tests}
 use Rattle.std.specs.Int.{bit_at}
 use Rattle.std.proofs.lemmas.Nat.Bits.{bit_at-suc, bit_at_lowest, bit_at_ones, bit_at_ones_above}
 use Rattle.tl_types.specs.Bytes.{flag_bit, given_byte, given_in, plain_of, bit_in, AreKept}
 use Rattle.tl_types.specs.declared.bytes.TheConstants.{MAX_WORDS}
-use Rattle.tl_types.proofs.Given.{length-given_in, bit_in-blank, bit_in-set_here, bit_in-set_there, given_in-all, ones_are, slice_index-past}
+use Rattle.tl_types.proofs.Given.{length-given_in, given_in-same, bit_in-blank, bit_in-set_here, bit_in-set_there, given_in-all, ones_are, slice_index-past}
 
 flag_bit-lt : (flag : ℕ) → flag_bit flag < 2
 flag_bit-lt zero = omega arith
@@ -179,6 +179,32 @@ cleared_to flags old bytes k byte so_far within is =
     let there : slice_index bytes k ≡ slice_index old k = ap (λ xs. slice_index xs k) so_far ∙ replaced_at new old k long within in
     let made : byte ≡ slice_index new k = is ∙ ap (λ b. unwrap_or (given_byte (flags k) b) 0) there ∙ sym (cleared_at flags old k within) in
     rw (made, so_far) (replaced_more new old k long within)
+
+-- the lanes of bytes, zero where that of a flag is
+lane_cleared : (flag byte : ℕ) → cond (flag == 0) 0 byte ≡ unwrap_or (given_byte flag byte) 0
+lane_cleared zero byte = refl
+lane_cleared (suc flag) byte = grind (arith, nat_tests)
+
+pub lanes_cleared : (flags plain : List ℕ) → length flags ≡ length plain → sel_l (zip2 (λ x y. x == y) flags (replicate (length plain) 0)) (replicate (length plain) 0) plain ≡ plain_of (given_in (slice_index flags) plain)
+lanes_cleared [] [] same = refl
+lanes_cleared [] (byte ∷ plain) same = absurd (omega (arith, same))
+lanes_cleared (flag ∷ flags) [] same = absurd (omega (arith, same))
+lanes_cleared (flag ∷ flags) (byte ∷ plain) same =
+    let rest = lanes_cleared flags plain (omega (arith, same)) in
+    rw (lane_cleared flag byte, rest) refl
+
+-- a word is cleared by its lanes
+pub word_cleared : (flags plain : List ℕ) → length plain ≡ 8 → 8 ≤ length flags
+    → put_chunk 0 plain (sel_l (zip2 (λ x y. x == y) (take 8 flags) (replicate 8 0)) (replicate 8 0) (take 8 plain)) ≡ plain_of (given_in (slice_index flags) plain)
+word_cleared flags plain word enough =
+    let new = plain_of (given_in (slice_index flags) plain) in
+    let lanes = lanes_cleared (take 8 flags) plain (omega (arith, length-take 8 flags, word, enough)) in
+    let of_word : sel_l (zip2 (λ x y. x == y) (take 8 flags) (replicate 8 0)) (replicate 8 0) plain ≡ plain_of (given_in (slice_index (take 8 flags)) plain) =
+    subst (λ n. sel_l (zip2 (λ x y. x == y) (take 8 flags) (replicate n 0)) (replicate n 0) plain ≡ plain_of (given_in (slice_index (take 8 flags)) plain)) word lanes in
+    let seen = given_in-same (slice_index (take 8 flags)) (slice_index flags) plain (λ k h. get_or-take 8 flags k 0 (omega (arith, h, word))) in
+    ap (λ xs. put_chunk 0 plain (sel_l (zip2 (λ x y. x == y) (take 8 flags) (replicate 8 0)) (replicate 8 0) xs)) (take_all 8 plain (omega (arith, word)))
+    ∙ ap (put_chunk 0 plain) (of_word ∙ ap plain_of seen)
+    ∙ put_chunk_whole plain new (sym (length-cleared (slice_index flags) plain))
 
 -- ---- cleared bytes with the bits of their flags
 

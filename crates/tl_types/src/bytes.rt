@@ -240,13 +240,31 @@ fn given_words(count: usize) -> [u8; MAX_WORDS]
 }
 
 /// Puts zero in the place of each byte whose flag is zero.
+// the bytes of a whole word are looked at side by side
 fn clear_unset(bytes: &mut [u8], flags: &[u8])
     requires { length bytes.old ≤ length flags.now }
     ensures { bytes.new ≡ plain_of (given_in (slice_index flags.now) bytes.old) }
 {
+    if bytes.len() == BUS_BYTES {
+        clear_word(bytes, flags);
+        return;
+    }
     for place in 0..bytes.len() {
         bytes[place] = if flags[place] == 0 { 0 } else { bytes[place] };
     }
+}
+
+/// Puts zero in the place of each byte of a word whose flag is zero.
+fn clear_word(bytes: &mut [u8], flags: &[u8])
+    requires word { length bytes.old ≡ BUS_BYTES }
+    requires flags { BUS_BYTES ≤ length flags.now }
+    ensures { bytes.new ≡ plain_of (given_in (slice_index flags.now) bytes.old) }
+{
+    let none = u8x8::splat(0);
+    let unset = u8x8::from_slice(flags).simd_eq(none);
+    unset
+        .select(none, u8x8::from_slice(bytes))
+        .copy_to_slice(bytes);
 }
 
 /// The masks of as many bytes as there are flags: one is left unset where its flag is zero.
