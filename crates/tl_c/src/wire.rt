@@ -6,7 +6,7 @@ ghost use Rattle.tl_c.specs.Wire.{IsAnswerOf, IsAskOf, IsTooLarge, NamesNone, be
 use crate::fault::{NO_OPERATION, OK, SIZE};
 use tl_beats::{ABeat, DBeat};
 use tl_link::{Beat, Link, Sighting};
-use tl_types::{Ask, AskOp, BUS_BYTES, LARGEST_SIZE, Reply, read_op, reply_opcode};
+use tl_types::{Ask, AskOp, BUS_BYTES, LARGEST_SIZE, Reply, read_op, reply_opcode, write_over};
 
 /// The room of a message's bytes in the header's structs.
 pub const ROOM: usize = 256;
@@ -105,7 +105,7 @@ pub(crate) fn put_answer(wire: &mut WireAnswer, port: usize, place: usize, reply
     wire.opcode = reply_opcode(reply.op());
     wire.size = reply.size();
     wire.denied = reply.denied() as u8;
-    wire.bytes[..count].copy_from_slice(bytes);
+    write_over(&mut wire.bytes[..count], bytes);
 }
 
 /// The flag that a number stands for.
