@@ -48,6 +48,8 @@ fn ask_beat(ask: &Ask, blank: &ABeat, first: usize, b: usize) -> ABeat
 }
 
 /// The beats that spell a request, with zeros on the lanes that carry nothing.
+// not inlined: where it is, its result is blanked and moved once more
+#[inline(never)]
 pub fn pack_ask(ask: &Ask) -> ArrayVec<ABeat, MAX_BEATS>
     ensures spells { SpellsAsk ask.now result.items }
     ensures clean { All (λ beat. IsClean ask.now beat) result.items }

@@ -71,6 +71,8 @@ fn push_whole_beats(reply: &Reply, blank: &DBeat, beats: &mut ArrayVec<DBeat, MA
 /// The beats that spell a reply to a request at the address, with zeros on the lanes that carry nothing.
 ///
 /// They are marked corrupt where they carry the bytes of a denied reply.
+// not inlined: where it is, its result is blanked and moved once more
+#[inline(never)]
 pub fn pack_reply(reply: &Reply, address: u64) -> ArrayVec<DBeat, MAX_BEATS>
     ensures spells { SpellsReply reply.now address result.items }
     ensures clean { All (λ beat. IsCleanReply reply.now address beat) result.items }
