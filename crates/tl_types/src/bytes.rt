@@ -86,10 +86,9 @@ impl Bytes {
         requires { length plain.now ≤ MAX_BYTES }
         ensures { result ≡ map (λ byte. Some byte) plain.now }
     {
-        Bytes {
-            plain: ArrayVec::try_from(plain).unwrap(),
-            masks: given_masks(plain.len()),
-        }
+        let mut bytes = Bytes::new();
+        bytes.refill_given(plain);
+        bytes
     }
 
     /// Takes all bytes away.
@@ -118,7 +117,7 @@ impl Bytes {
         ensures { self.new ≡ map (λ byte. Some byte) plain.now }
     {
         refill_room(&mut self.plain, plain);
-        self.masks = given_masks(plain.len());
+        put_given_masks(&mut self.masks, plain.len());
     }
 
     /// Puts a copy of other bytes in the place of those that there were.
@@ -137,7 +136,7 @@ impl Bytes {
     {
         refill_room(&mut self.plain, plain);
         clear_unset(self.plain.as_mut_slice(), flags);
-        self.masks = flagged_masks(&flags[..plain.len()]);
+        put_flagged_masks(&mut self.masks, &flags[..plain.len()]);
     }
 
     /// How many bytes there are, those that are left unset among them.
@@ -201,21 +200,22 @@ impl Bytes {
     }
 }
 
-/// The masks of so many bytes that are all given.
-// one word's bytes, the common case, have one mask at a place that is known: no loop and no division
-fn given_masks(count: usize) -> [u8; MAX_WORDS]
+/// Puts the masks of so many bytes that are all given in the place of others.
+// where they lie: made aside and moved, they take longer than a short message's bytes. Those of one word, the common case, have one
+// mask at a place that is known: no loop and no division
+fn put_given_masks(masks: &mut [u8; MAX_WORDS], count: usize)
     requires { count ≤ MAX_BYTES }
-    ensures counted { length result ≡ MAX_WORDS }
-    ensures small { (word : ℕ) → slice_index result word < 2 ^ BUS_BYTES }
-    ensures given { (place : ℕ) → place < count → bit_in result place ≡ 1 }
-    ensures past { (place : ℕ) → count ≤ place → bit_in result place ≡ 0 }
+    ensures counted { length masks.new ≡ MAX_WORDS }
+    ensures small { (word : ℕ) → slice_index masks.new word < 2 ^ BUS_BYTES }
+    ensures given { (place : ℕ) → place < count → bit_in masks.new place ≡ 1 }
+    ensures past { (place : ℕ) → count ≤ place → bit_in masks.new place ≡ 0 }
 {
     if count > BUS_BYTES {
-        return given_words(count);
+        *masks = given_words(count);
+        return;
     }
-    let mut masks = [0; MAX_WORDS];
+    *masks = [0; MAX_WORDS];
     masks[0] = (u16::from(u8::MAX) >> (BUS_BYTES - count)) as u8;
-    masks
 }
 
 /// The masks of so many bytes that are all given, word by word.
@@ -267,19 +267,19 @@ fn clear_word(bytes: &mut [u8], flags: &[u8])
         .copy_to_slice(bytes);
 }
 
-/// The masks of as many bytes as there are flags: one is left unset where its flag is zero.
-fn flagged_masks(flags: &[u8]) -> [u8; MAX_WORDS]
+/// Puts the masks of as many bytes as there are flags in the place of others: one is left unset where its flag is zero.
+fn put_flagged_masks(masks: &mut [u8; MAX_WORDS], flags: &[u8])
     requires { length flags.now ≤ MAX_BYTES }
-    ensures counted { length result ≡ MAX_WORDS }
-    ensures small { (word : ℕ) → slice_index result word < 2 ^ BUS_BYTES }
-    ensures bits { (place : ℕ) → bit_in result place ≡ flag_bit (slice_index flags.now place) }
+    ensures counted { length masks.new ≡ MAX_WORDS }
+    ensures small { (word : ℕ) → slice_index masks.new word < 2 ^ BUS_BYTES }
+    ensures bits { (place : ℕ) → bit_in masks.new place ≡ flag_bit (slice_index flags.now place) }
 {
     if flags.len() > BUS_BYTES {
-        return flagged_words(flags);
+        *masks = flagged_words(flags);
+        return;
     }
-    let mut masks = [0; MAX_WORDS];
+    *masks = [0; MAX_WORDS];
     masks[0] = flag_mask(flags);
-    masks
 }
 
 /// The masks of as many bytes as there are flags, word by word.

@@ -6,7 +6,7 @@ use Rattle.tl_types.proofs.Masks.{length-cleared, kept_flagged, seen_flagged, fr
 use Rattle.tl_types.proofs.bytes.Bytes.refill_flagged.Goals as goal
 
 -- the bytes that are kept are the cleared ones
-items_are : (c : goal.After-self-2-1) → refill (length c.refill_room.new.room.items) c.refill_room.new.room.items c.clear_unset.new.bytes ≡ plain_of (given_in (slice_index c.args.flags.now) c.args.plain.now)
+items_are : (c : goal.After-put_flagged_masks) → refill (length c.refill_room.new.room.items) c.refill_room.new.room.items c.clear_unset.new.bytes ≡ plain_of (given_in (slice_index c.args.flags.now) c.args.plain.now)
 items_are c =
     let flags = slice_index c.args.flags.now in
     let plain = c.args.plain.now in
@@ -16,12 +16,12 @@ items_are c =
 
 pub invariant_of-self : goal.invariant_of-self
 invariant_of-self c =
-    let masks = c.flagged_masks-self-inside in
-    rw (items_are c) (kept_flagged c.args.plain.now masks.result c.args.flags.now masks.ensures.counted masks.ensures.small c.requires.flags masks.ensures.bits)
+    let masks = c.put_flagged_masks in
+    rw (items_are c) (kept_flagged c.args.plain.now masks.new.masks c.args.flags.now masks.ensures.counted masks.ensures.small c.requires.flags masks.ensures.bits)
 
 pub returns : goal.returns
 returns c =
     let flags = c.args.flags.now in
     let plain = c.args.plain.now in
-    let masks = c.flagged_masks-self-inside in
-    rw (items_are c) (seen_flagged _ (slice_index flags) plain (front_bits plain masks.result flags masks.ensures.bits))
+    let masks = c.put_flagged_masks in
+    rw (items_are c) (seen_flagged _ (slice_index flags) plain (front_bits plain masks.new.masks flags masks.ensures.bits))

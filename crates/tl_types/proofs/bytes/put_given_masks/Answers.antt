@@ -2,7 +2,7 @@ use Rattle.std.proofs.Common.{◌-◌, ◌/◌, ◌^◌, ◌<◌, replicate, ari
 use Rattle.tl_types.specs.declared.bytes.TheConstants.{MAX_WORDS}
 use Rattle.tl_types.proofs.Given.{small_set, small_ones, kept_none}
 use Rattle.tl_types.proofs.Masks.{first_one}
-use Rattle.tl_types.proofs.bytes.given_masks.Goals as goal
+use Rattle.tl_types.proofs.bytes.put_given_masks.Goals as goal
 
 pub returns-clause-small : goal.returns-clause-small
 returns-clause-small c =
