@@ -1,5 +1,6 @@
 pub mod Chosen
 pub mod Closing
+pub mod Crossing
 pub mod Dealt
 pub mod Keeping
 pub mod Promised

@@ -112,7 +112,7 @@ impl Arena {
         let _ = master.order.pop_front();
         Ticket {
             slot,
-            ask: ask.copy(),
+            ask: Snapshot::of(ask),
             port,
             known: master.collected,
         }
@@ -146,7 +146,7 @@ impl Arena {
         let berth = words.exchange(&mut master.seat, slot, Berth::empty());
         Ok(Served {
             slot,
-            ask: Snapshot::of(&ask),
+            ask,
             port,
             record: berth.into_record(),
         })

@@ -30,11 +30,11 @@ impl Claim {
     }
 }
 
-/// A request that was posted.
+/// A request that was posted. The record in its slot has the request: here contracts alone see it.
 #[derive(Drop)]
 pub struct Ticket {
     pub(crate) slot: usize,
-    pub(crate) ask: Ask,
+    pub(crate) ask: Snapshot<Ask>,
     pub(crate) port: usize,
     pub(crate) known: usize,
 }
@@ -46,7 +46,7 @@ impl Model for Ticket {
 
     ghost Value = { TicketView };
 
-    ghost view = { λ t. record { slot = t.slot; ask = t.ask; port = t.port; known = t.known } };
+    ghost view = { λ t. record { slot = t.slot; ask = t.ask.value; port = t.port; known = t.known } };
 
     ghost invariant = { λ t. t.port ≤ MAX_AGENT };
 }

@@ -1,4 +1,5 @@
 pub mod Bits
+pub mod Crossing
 pub mod Hands
 pub mod Keeping
 pub mod Turns

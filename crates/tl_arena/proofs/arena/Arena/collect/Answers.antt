@@ -30,12 +30,12 @@ compare_exchange-requires c =
     let me = c.master.inside.seat.me in
     let arena = master_arena c.master.inside.seat.table_id me.0 c.args.master.now c.args.self.now c.self.inside.table.shared.table_id (about_in key) c.master.view_is c.requires.arena c.self.view_is in
     let slots = ap (λ (a : About). a.slots) arena.1 in
-    let ticket : TicketView = record { slot = t.slot; ask = t.ask; port = t.port; known = t.known } in
+    let ticket : TicketView = record { slot = t.slot; ask = t.ask.value; port = t.port; known = t.known } in
     let sent = sent_in (master_view c.master.inside.seat.table_id me.0) c.args.master.now ticket c.args.ticket c.master.view_is c.ticket.view_is c.requires.ticket in
     let lt = held_inside me c.master.inside.order.items (deque_capacity c.master.inside.order) c.master.inside.number c.master.inside.owned c.master.inside.collected m t.slot (λ z. absurd (cc)) in (
       arena.0,
       omega arith,
-      collects_at (about_in key) _ _ me t.slot _ _ none t.ask t.port t.known m.is sent
+      collects_at (about_in key) _ _ me t.slot _ _ none t.ask.value t.port t.known m.is sent
           (c.word_of-from.ensures ∙ ap (λ (k : ℕ). word (Answered k t.port)) (sym m.numbered)) (c.word_of-new.ensures ∙ ap (λ (k : ℕ). word (Taking k t.port)) (sym m.numbered)),
     )
 
@@ -68,18 +68,17 @@ returns-clause-ok c =
     let me = c.master.inside.seat.me in
     let z = c.master.inside.seat.table_id in
     let x = c.exchange-berth.ensures in
-    let ticket : TicketView = record { slot = k.slot; ask = k.ask; port = k.port; known = k.known } in
+    let ticket : TicketView = record { slot = k.slot; ask = k.ask.value; port = k.port; known = k.known } in
     let sent = sent_in (master_view z me.0) c.args.master.now ticket c.args.ticket c.master.view_is c.ticket.view_is c.requires.ticket in
     let held = c.into_record.result.value in
     let letter : held ≡ t.letter = taken_record _ _ k.slot _ _ _ x.2 (ap (λ (y : Seat). y.1) t.seat) c.into_record.ensures in
-    let asks : t.ask ≡ k.ask = (let y = t.was in cc) in
-    let spells : SpellsAnswer held k.ask.address (told_reply held.replies k.ask.address) = subst (λ (l : SlotRecord). SpellsAnswer l k.ask.address (told_reply l.replies k.ask.address)) (sym letter) (told_spelled t.letter k.ask.address t.reply (subst (λ (q : Request). SpellsAnswer t.letter q.address t.reply) asks t.answer)) in
-    let told = collected _ me c.compare_exchange.new.seat.me t z c.exchange-berth.new.seat.table_id c.exchange-berth.new.seat.me.0 ticket held.index (told_reply held.replies k.ask.address) held
+    let asks : t.ask ≡ k.ask.value = (let y = t.was in cc) in
+    let spells : SpellsAnswer held k.ask.value.address (told_reply held.replies k.ask.value.address) = subst (λ (l : SlotRecord). SpellsAnswer l k.ask.value.address (told_reply l.replies k.ask.value.address)) (sym letter) (told_spelled t.letter k.ask.value.address t.reply (subst (λ (q : Request). SpellsAnswer t.letter q.address t.reply) asks t.answer)) in
+    let told = collected _ me c.compare_exchange.new.seat.me t z c.exchange-berth.new.seat.table_id c.exchange-berth.new.seat.me.0 ticket held.index (told_reply held.replies k.ask.value.address) held
     (x.0 ∙ c.compare_exchange.ensures.0) (ap (λ (y : Seat). y.0) x.3) refl sent letter refl spells in
-    let served : Request → ServedView = λ q. record { slot = k.slot; ask = q; port = k.port; index = held.index; reply = told_reply held.replies q.address } in
+    let served : ServedView = record { slot = k.slot; ask = k.ask.value; port = k.port; index = held.index; reply = told_reply held.replies k.ask.value.address } in
     let seat = master_view c.exchange-berth.new.seat.table_id c.exchange-berth.new.seat.me.0 in
-    let seen = subst (λ (v : MasterView). IsCollected v c.args.ticket (served k.ask) seat) c.master.view_is (subst (λ (u : TicketView). IsCollected (master_view z me.0) u (served k.ask) seat) c.ticket.view_is told) in
-    subst (λ (q : Request). IsCollected c.args.master.now c.args.ticket (served q) seat) (sym c.of.ensures) seen
+    subst (λ (v : MasterView). IsCollected v c.args.ticket served seat) c.master.view_is (subst (λ (u : TicketView). IsCollected (master_view z me.0) u served seat) c.ticket.view_is told)
 
 pub into_record-requires : goal.into_record-requires
 into_record-requires c =
@@ -100,11 +99,11 @@ invariant_of-result c =
     let t = c.compare_exchange.ensures.2.0 c.if-compare_exchange-from.false in
     let k = c.ticket.inside in
     let me = c.master.inside.seat.me in
-    let ticket : TicketView = record { slot = k.slot; ask = k.ask; port = k.port; known = k.known } in
+    let ticket : TicketView = record { slot = k.slot; ask = k.ask.value; port = k.port; known = k.known } in
     let sent = sent_in (master_view c.master.inside.seat.table_id me.0) c.args.master.now ticket c.args.ticket c.master.view_is c.ticket.view_is c.requires.ticket in
     let held = c.into_record.result.value in
     let letter : held ≡ t.letter = taken_record _ _ k.slot _ _ _ c.exchange-berth.ensures.2 (ap (λ (y : Seat). y.1) t.seat) c.into_record.ensures in
-    let asks : t.ask ≡ k.ask = (let y = t.was in cc) in
-    let spells : Spells held k.ask = subst (λ (l : SlotRecord). Spells l k.ask) (sym letter) (subst (λ (q : Request). Spells t.letter q) asks t.spells) in
-    let answers : SpellsAnswer held k.ask.address (told_reply held.replies k.ask.address) = subst (λ (l : SlotRecord). SpellsAnswer l k.ask.address (told_reply l.replies k.ask.address)) (sym letter) (told_spelled t.letter k.ask.address t.reply (subst (λ (q : Request). SpellsAnswer t.letter q.address t.reply) asks t.answer)) in
-    subst (λ (q : Request). Spells held q × SpellsAnswer held q.address (told_reply held.replies q.address)) (sym c.of.ensures) (spells, answers)
+    let asks : t.ask ≡ k.ask.value = (let y = t.was in cc) in
+    let spells : Spells held k.ask.value = subst (λ (l : SlotRecord). Spells l k.ask.value) (sym letter) (subst (λ (q : Request). Spells t.letter q) asks t.spells) in
+    let answers : SpellsAnswer held k.ask.value.address (told_reply held.replies k.ask.value.address) = subst (λ (l : SlotRecord). SpellsAnswer l k.ask.value.address (told_reply l.replies k.ask.value.address)) (sym letter) (told_spelled t.letter k.ask.value.address t.reply (subst (λ (q : Request). SpellsAnswer t.letter q.address t.reply) asks t.answer)) in
+    (spells, answers)
