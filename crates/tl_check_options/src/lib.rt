@@ -12,7 +12,5 @@
 
 pub mod laws;
 mod options;
-#[cfg(test)]
-mod tests;
 
 pub use options::{Options, options_status, read_options};

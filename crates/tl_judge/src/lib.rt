@@ -16,8 +16,6 @@ mod judge;
 pub mod laws;
 mod stop;
 mod tally;
-#[cfg(test)]
-mod tests;
 mod text;
 mod trace;
 

@@ -14,8 +14,6 @@ mod fault;
 mod header;
 mod out;
 mod rows;
-#[cfg(test)]
-mod tests;
 
 pub use capture::judge_capture;
 pub use fault::{CaptureFault, Verdict};

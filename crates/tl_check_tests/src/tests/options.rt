@@ -1,5 +1,5 @@
 //! The command line, row by row.
-use crate::{Options, options_status, read_options};
+use tl_check_options::{Options, options_status, read_options};
 use tl_watch::{Links, Order};
 
 #[test]

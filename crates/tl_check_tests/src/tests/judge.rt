@@ -2,19 +2,19 @@
 //!
 //! Port 0 has 64 bytes of memory at 0x1000 that begin with 00 11 22 33, port 1 registers at 0x2000 with 01 02 03 04. Wide
 //! sources 0 to 3 are master 0's, 4 to 6 master 1's.
-use super::*;
 use csv::ByteRecord;
-use std::alloc::{AllocError, Global};
-use std::test::Fail;
+use std::alloc::Global;
+use std::process::Abort;
 use tl_beats::DBeat;
 use tl_capture::{Row, RowFault, read_row};
+use tl_judge::{Judge, Refusal, Stop, Unlawful, push_lawful, push_unlawful};
 use tl_link::{Beat, FormFault, Link, Sighting};
 use tl_map::{Map, Range, Sources};
 use tl_ops::{Bank, Kind};
 use tl_types::{MAX_MASTERS, MAX_PORTS};
 use tl_watch::{Fault, Links, Order, Watch};
 
-fn judge(alloc: Global, links: Links, trace: bool) -> Result<Judge, Fail> {
+fn judge(rt: &impl Abort, alloc: Global, links: Links, trace: bool) -> Judge {
     let ranges = [
         Range {
             base: 0x1000,
@@ -32,25 +32,26 @@ fn judge(alloc: Global, links: Links, trace: bool) -> Result<Judge, Fail> {
     let mut regs = [0; 16];
     regs[..4].copy_from_slice(&[1, 2, 3, 4]);
     let mut banks = Vec::new(alloc);
-    banks.push(Bank::new(alloc, Kind::Ram, 0x1000, &ram)?)?;
-    banks.push(Bank::new(alloc, Kind::Regs, 0x2000, &regs)?)?;
-    banks.push(Bank::new(alloc, Kind::NoDevice, 0, &[])?)?;
-    let map = Map::new(alloc, &ranges)?;
-    let sources = Sources::new(alloc, &[4, 3])?;
-    if banks.len() != map.ports() {
-        return Err(Fail::from("a bank for each port"));
-    }
-    let watch = Watch::new(alloc, links, Order::Accept, map, sources, banks)?;
-    Ok(Judge::new(watch, trace))
+    let bank = Bank::new(alloc, Kind::Ram, 0x1000, &ram).expect(rt, "a bank");
+    banks.push(bank).expect(rt, "memory");
+    let bank = Bank::new(alloc, Kind::Regs, 0x2000, &regs).expect(rt, "a bank");
+    banks.push(bank).expect(rt, "memory");
+    let bank = Bank::new(alloc, Kind::NoDevice, 0, &[]).expect(rt, "a bank");
+    banks.push(bank).expect(rt, "memory");
+    let map = Map::new(alloc, &ranges).expect(rt, "a map");
+    let sources = Sources::new(alloc, &[4, 3]).expect(rt, "sources");
+    assert!(rt; banks.len() == map.ports(), "a bank for each port");
+    let watch = Watch::new(alloc, links, Order::Accept, map, sources, banks);
+    Judge::new(watch.expect(rt, "memory"), trace)
 }
 
 /// The row of this line, which has no quotes.
-fn read(alloc: Global, line: u64, text: &str) -> Result<Result<Row, RowFault>, AllocError> {
+fn read(rt: &impl Abort, alloc: Global, line: u64, text: &str) -> Result<Row, RowFault> {
     let mut columns = ByteRecord::new(alloc);
     for word in text.split(',') {
-        columns.push_field(word.as_bytes())?;
+        columns.push_field(word.as_bytes()).expect(rt, "memory");
     }
-    Ok(read_row(2, 2, line, &columns))
+    read_row(2, 2, line, &columns)
 }
 
 /// Takes a row, where some system has its link.
@@ -64,61 +65,63 @@ fn take(judge: &mut Judge, row: Row, text: &mut Vec<u8>) -> Result<(), Stop> {
 
 /// Reads a row and takes it, if it is one.
 fn read_and_take(
+    rt: &impl Abort,
     alloc: Global,
     judge: &mut Judge,
     line: u64,
     columns: &str,
     text: &mut Vec<u8>,
-) -> Result<Result<(), Stop>, AllocError> {
-    match read(alloc, line, columns)? {
-        Ok(row) => Ok(take(judge, row, text)),
-        Err(fault) => Ok(Err(Stop::Row(fault))),
+) -> Result<(), Stop> {
+    match read(rt, alloc, line, columns) {
+        Ok(row) => take(judge, row, text),
+        Err(fault) => Err(Stop::Row(fault)),
+    }
+}
+
+/// Writes what is said of a row of this line at which a capture ends.
+fn push_stop(rt: &impl Abort, alloc: Global, text: &mut Vec<u8>, line: u64, stop: Stop) {
+    match stop {
+        Stop::Row(fault) => {
+            let line = format!(in alloc; "line {line}: {fault}\n").expect(rt, "memory");
+            text.extend_from_slice(line.as_bytes()).expect(rt, "memory");
+        }
+        Stop::Beat(found) => push_unlawful(text, &found).expect(rt, "memory"),
+        Stop::Memory => panic!(rt; "memory refused"),
+    }
+}
+
+/// Writes what is said of a capture that was read to its end.
+fn push_end(rt: &impl Abort, judge: Judge, text: &mut Vec<u8>) {
+    match judge.end(text) {
+        Ok(counts) => push_lawful(text, &counts).expect(rt, "memory"),
+        Err(Refusal::Unlawful(found)) => push_unlawful(text, &found).expect(rt, "memory"),
+        Err(Refusal::Memory) => panic!(rt; "memory refused"),
     }
 }
 
 /// What is written of a capture with these rows behind its header.
-fn verdict(alloc: Global, links: Links, trace: bool, rows: &[&str]) -> Result<Vec<u8>, Fail> {
-    let mut judge = judge(alloc, links, trace)?;
+fn verdict(rt: &impl Abort, alloc: Global, links: Links, trace: bool, rows: &[&str]) -> Vec<u8> {
+    let mut judge = judge(rt, alloc, links, trace);
     let mut text = Vec::new(alloc);
     let mut line = 1u64;
     for columns in rows {
         line = line.wrapping_add(1);
-        match read_and_take(alloc, &mut judge, line, columns, &mut text)? {
-            Ok(()) => {}
-            Err(Stop::Row(fault)) => {
-                let line = format!(in alloc; "line {line}: {fault}\n")?;
-                text.extend_from_slice(line.as_bytes())?;
-                return Ok(text);
-            }
-            Err(Stop::Beat(found)) => {
-                push_unlawful(&mut text, &found)?;
-                return Ok(text);
-            }
-            Err(Stop::Memory) => return Err(Fail::from("memory refused")),
+        let taken = read_and_take(rt, alloc, &mut judge, line, columns, &mut text);
+        if let Err(stop) = taken {
+            push_stop(rt, alloc, &mut text, line, stop);
+            return text;
         }
     }
-    match judge.end(&mut text) {
-        Ok(counts) => push_lawful(&mut text, &counts)?,
-        Err(Refusal::Unlawful(found)) => push_unlawful(&mut text, &found)?,
-        Err(Refusal::Memory) => return Err(Fail::from("memory refused")),
-    }
-    Ok(text)
+    push_end(rt, judge, &mut text);
+    text
 }
 
-/// Whether the verdicts on some captures are these.
-fn are_verdicts(
-    alloc: Global,
-    links: Links,
-    trace: bool,
-    captures: &[(&[&str], &str)],
-) -> Result<bool, Fail> {
+/// Looks at the verdicts on some captures.
+fn look(rt: &impl Abort, alloc: Global, links: Links, trace: bool, captures: &[(&[&str], &str)]) {
     for (rows, line) in captures {
-        let text = verdict(alloc, links, trace, rows)?;
-        if text.as_slice() != line.as_bytes() {
-            return Ok(false);
-        }
+        let text = verdict(rt, alloc, links, trace, rows);
+        assert!(rt; text.as_slice() == line.as_bytes(), "{line}");
     }
-    Ok(true)
 }
 
 const ASK: &str = "10,m0,A,4,0,2,3,1000,0f,,,";
@@ -132,7 +135,7 @@ const REPLY: &str = "13,m0,D,1,,2,3,,,xxxxxxxx33221100,0,0";
 const WRONG_REPLY: &str = "12,p0,D,1,,2,3,,,xxxxxxxx33221101,0,0";
 
 #[test]
-fn both_sides_are_watched(rt: HostRuntime) -> Result<(), Fail> {
+fn both_sides_are_watched(rt: HostRuntime) {
     let wrong = "unlawful: line 4, time 12, p0 D: wrong reply: expected AccessAckData 00112233, \
          captured AccessAckData 01112233\n";
     let captures: [(&[&str], &str); 8] = [
@@ -163,22 +166,15 @@ fn both_sides_are_watched(rt: HostRuntime) -> Result<(), Fail> {
             "unlawful: line 3, time 7, m1 A: no such source\n",
         ),
     ];
-    assert!(rt;
-        are_verdicts(rt.alloc(), Links::Both, false, &captures)?,
-        "both"
-    );
-    Ok(())
+    look(&rt, rt.alloc(), Links::Both, false, &captures);
 }
 
 #[test]
-fn one_side_is_watched(rt: HostRuntime) -> Result<(), Fail> {
+fn one_side_is_watched(rt: HostRuntime) {
     // the rows of the other side are counted, and not judged
     let rows: &[&str] = &[ASK, ASK_AT_PORT, WRONG_REPLY, REPLY];
     let masters: [(&[&str], &str); 1] = [(rows, "lawful: 4 rows, 1 requests, 1 answered\n")];
-    assert!(rt;
-        are_verdicts(rt.alloc(), Links::Masters, false, &masters)?,
-        "masters"
-    );
+    look(&rt, rt.alloc(), Links::Masters, false, &masters);
     let ports: [(&[&str], &str); 2] = [
         (
             &[ASK_AT_PORT, REPLY_AT_PORT, REPLY],
@@ -189,15 +185,11 @@ fn one_side_is_watched(rt: HostRuntime) -> Result<(), Fail> {
             "lawful: 2 rows, 1 requests, 0 answered\n",
         ),
     ];
-    assert!(rt;
-        are_verdicts(rt.alloc(), Links::Ports, false, &ports)?,
-        "ports"
-    );
-    Ok(())
+    look(&rt, rt.alloc(), Links::Ports, false, &ports);
 }
 
 #[test]
-fn replies_are_told_as_they_end(rt: HostRuntime) -> Result<(), Fail> {
+fn replies_are_told_as_they_end(rt: HostRuntime) {
     let again = "14,m0,A,4,0,2,3,1000,0f,,,";
     let both: [(&[&str], &str); 5] = [
         (
@@ -238,12 +230,11 @@ fn replies_are_told_as_they_end(rt: HostRuntime) -> Result<(), Fail> {
              line 7: two beats at one time\n",
         ),
     ];
-    assert!(rt; are_verdicts(rt.alloc(), Links::Both, true, &both)?, "both");
-    Ok(())
+    look(&rt, rt.alloc(), Links::Both, true, &both);
 }
 
 #[test]
-fn replies_are_told_at_one_side(rt: HostRuntime) -> Result<(), Fail> {
+fn replies_are_told_at_one_side(rt: HostRuntime) {
     // of one time those of master 0 come first, whatever the order of the rows
     let masters: [(&[&str], &str); 1] = [(
         &[
@@ -256,10 +247,7 @@ fn replies_are_told_at_one_side(rt: HostRuntime) -> Result<(), Fail> {
          m1 s1 get 0x2000 2 -> AccessAckData 01020304 p1 #0\n\
          lawful: 4 rows, 2 requests, 2 answered\n",
     )];
-    assert!(rt;
-        are_verdicts(rt.alloc(), Links::Masters, true, &masters)?,
-        "masters"
-    );
+    look(&rt, rt.alloc(), Links::Masters, true, &masters);
     // wide source 6 is source 2 of master 1
     let ports: [(&[&str], &str); 1] = [(
         &[
@@ -269,15 +257,11 @@ fn replies_are_told_at_one_side(rt: HostRuntime) -> Result<(), Fail> {
         "m1 s2 get 0x1000 2 -> AccessAckData 00112233 p0 #0\n\
          lawful: 2 rows, 1 requests, 1 answered\n",
     )];
-    assert!(rt;
-        are_verdicts(rt.alloc(), Links::Ports, true, &ports)?,
-        "ports"
-    );
-    Ok(())
+    look(&rt, rt.alloc(), Links::Ports, true, &ports);
 }
 
 #[test]
-fn kinds_are_spelled(rt: HostRuntime) -> Result<(), Fail> {
+fn kinds_are_spelled(rt: HostRuntime) {
     let captures: [(&[&str], &str); 5] = [
         (&["1,m0,B"], "line 2: wrong count of columns\n"),
         (&["1,m0,B,4,0,2,3,1000,0f,,,"], "line 2: no such channel\n"),
@@ -288,15 +272,11 @@ fn kinds_are_spelled(rt: HostRuntime) -> Result<(), Fail> {
         ),
         (&["1s,m0,A,4,0,2,3,1000,0f,,,"], "line 2: bad number\n"),
     ];
-    assert!(rt;
-        are_verdicts(rt.alloc(), Links::Both, false, &captures)?,
-        "kinds"
-    );
-    Ok(())
+    look(&rt, rt.alloc(), Links::Both, false, &captures);
 }
 
 /// The verdict on a beat of port 14 on line 7 at time 9, with this fault.
-fn named(alloc: Global, fault: Fault) -> Result<Vec<u8>, Fail> {
+fn named(rt: &impl Abort, alloc: Global, fault: Fault) -> Vec<u8> {
     let row = Row {
         line: 7,
         time: 9,
@@ -307,12 +287,12 @@ fn named(alloc: Global, fault: Fault) -> Result<Vec<u8>, Fail> {
         },
     };
     let mut text = Vec::new(alloc);
-    push_unlawful(&mut text, &Unlawful { row, fault })?;
-    Ok(text)
+    push_unlawful(&mut text, &Unlawful { row, fault }).expect(rt, "memory");
+    text
 }
 
 #[test]
-fn faults_are_spelled(rt: HostRuntime) -> Result<(), Fail> {
+fn faults_are_spelled(rt: HostRuntime) {
     let faults = [
         (Fault::Form(FormFault::Changed), "field changed"),
         (Fault::Form(FormFault::Mask), "wrong mask"),
@@ -321,11 +301,11 @@ fn faults_are_spelled(rt: HostRuntime) -> Result<(), Fail> {
         (Fault::NotGiven, "the port gave no such reply"),
     ];
     for (fault, words) in faults {
-        let line = format!(in rt.alloc(); "unlawful: line 7, time 9, p14 D: {words}\n")?;
-        let shown = format!(in rt.alloc(); "{fault}")?;
+        let line = format!(in rt.alloc(); "unlawful: line 7, time 9, p14 D: {words}\n");
+        let line = line.expect(&rt, "memory");
+        let shown = format!(in rt.alloc(); "{fault}").expect(&rt, "memory");
         assert!(rt; shown.as_str() == words, "{words}");
-        let text = named(rt.alloc(), fault)?;
+        let text = named(&rt, rt.alloc(), fault);
         assert!(rt; text.as_slice() == line.as_bytes(), "{line}");
     }
-    Ok(())
 }

@@ -3,7 +3,6 @@
 //! Port 0 has 64 bytes of memory at 0x1000, all zero but byte 1, which is 0x11. Wide sources 0 to 3 are master 0's.
 ghost use Rattle.std.specs.Prelude.{None};
 
-use super::*;
 use std::alloc::Global;
 use std::io;
 use std::io::{ErrorKind, Read, Write};
@@ -13,6 +12,7 @@ use tl_judge::Judge;
 use tl_map::{Map, Range, Sources};
 use tl_ops::{Bank, Kind};
 use tl_streams::LimitedWriter;
+use tl_verdict::{CaptureFault, Sizes, Verdict, judge_capture};
 use tl_watch::{Links, Order, Watch};
 
 const SIZES: Sizes = Sizes {

@@ -1,0 +1,3 @@
+mod judge;
+mod options;
+mod verdict;
