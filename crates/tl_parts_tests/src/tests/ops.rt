@@ -34,10 +34,10 @@ const HINT: ReplyOp = ReplyOp::HintAck;
 fn serve(rt: &impl Abort, bank: &mut Bank, turn: &Turn) {
     let (op, size, address, bytes, reply_op, denied, read) = *turn;
     let ask = whole(rt, op, size, address, bytes);
-    assert_eq!(rt; bank.is_legal(&ask), !denied);
+    assert!(rt; bank.is_legal(&ask) == !denied);
     let reply = bank.serve(&ask);
-    assert_eq!(rt; (reply.op(), reply.denied()), (reply_op, denied));
-    assert_eq!(rt; reply.bytes(), read);
+    assert!(rt; (reply.op(), reply.denied()) == (reply_op, denied));
+    assert!(rt; reply.bytes() == read);
 }
 
 /// A bank serves one request after the other.
@@ -92,10 +92,10 @@ fn try_atomic(rt: &impl Abort, alloc: Global, atomic: &Atomic) {
     let (op, old, operand, new) = *atomic;
     let mut bank = bank_of(rt, alloc, Kind::Ram, 0x1000, &old);
     let reply = bank.serve(&whole(rt, op, 2, 0x1000, &operand));
-    assert_eq!(rt; (reply.op(), reply.denied()), (DATA, false));
-    assert_eq!(rt; reply.bytes(), old.as_slice());
+    assert!(rt; (reply.op(), reply.denied()) == (DATA, false));
+    assert!(rt; reply.bytes() == old.as_slice());
     for (address, byte) in (0x1000..).zip(&new) {
-        assert_eq!(rt; bank.byte(address), Some(*byte));
+        assert!(rt; bank.byte(address) == Some(*byte));
     }
 }
 
@@ -129,7 +129,7 @@ fn an_add_of_eight_bytes_wraps(rt: HostRuntime) {
 fn put_part(rt: &impl Abort, bank: &mut Bank, bytes: &[Option<u8>; 4]) {
     let ask = Ask::new(AskOp::PutPartial, 2, 0, 0x1000, bytes).expect(rt, "a request");
     let reply = bank.serve(&ask);
-    assert_eq!(rt; (reply.op(), reply.denied()), (ACK, false));
+    assert!(rt; (reply.op(), reply.denied()) == (ACK, false));
 }
 
 #[test]
@@ -144,7 +144,7 @@ fn a_partial_put_leaves_unset_bytes(rt: HostRuntime) {
     put_part(&rt, &mut bank, &[None; 4]);
     put_part(&rt, &mut bank, &[Some(0xaa), None, Some(0xcc), None]);
     let left = bank.serve(&whole(&rt, AskOp::Get, 2, 0x1000, &[]));
-    assert_eq!(rt; left.bytes(), [0xaa, 0x22, 0xcc, 0x44].as_slice());
+    assert!(rt; left.bytes() == [0xaa, 0x22, 0xcc, 0x44].as_slice());
 }
 
 #[test]
@@ -155,16 +155,16 @@ fn a_full_line_is_put_and_got(rt: HostRuntime) {
         line[k] = k as u8;
     }
     let put = bank.serve(&whole(&rt, AskOp::PutFull, 8, 0x1000, &line));
-    assert_eq!(rt; (put.op(), put.denied()), (ACK, false));
+    assert!(rt; (put.op(), put.denied()) == (ACK, false));
     let got = bank.serve(&whole(&rt, AskOp::Get, 8, 0x1000, &[]));
-    assert_eq!(rt; got.bytes(), line.as_slice());
+    assert!(rt; got.bytes() == line.as_slice());
     // an atomic of a whole line is denied, and changes nothing
     let swap = AskOp::Logical(Logic::Swap);
     let denial = bank.serve(&whole(&rt, swap, 8, 0x1000, &[0x11; 256]));
-    assert_eq!(rt; (denial.op(), denial.denied()), (DATA, true));
-    assert_eq!(rt; denial.bytes(), [0; 256].as_slice());
+    assert!(rt; (denial.op(), denial.denied()) == (DATA, true));
+    assert!(rt; denial.bytes() == [0; 256].as_slice());
     let again = bank.serve(&whole(&rt, AskOp::Get, 8, 0x1000, &[]));
-    assert_eq!(rt; again.bytes(), line.as_slice());
+    assert!(rt; again.bytes() == line.as_slice());
 }
 
 const AT_ROM: [Turn; 3] = [
@@ -304,10 +304,7 @@ fn windows_end_with_the_bank(rt: HostRuntime) {
     let last = bank_of(&rt, rt.alloc(), Kind::Ram, u64::MAX - 7, &[0; 8]);
     assert!(rt; may_get(&rt, &last, 3, u64::MAX - 7));
     assert!(rt; !may_get(&rt, &last, 4, u64::MAX - 15));
-    assert_eq!(rt;
-        (last.byte(u64::MAX), last.byte(u64::MAX - 8)),
-        (Some(0), None)
-    );
+    assert!(rt; (last.byte(u64::MAX), last.byte(u64::MAX - 8)) == (Some(0), None));
 }
 
 /// Where a bank begins and how long it is, and its fault with its text.
@@ -339,9 +336,9 @@ fn refuse(rt: &impl Abort, alloc: Global, refusal: &Refusal) {
     let (base, length, fault, text) = *refusal;
     let reset = Vec::from_elem(alloc, 0u8, length).expect(rt, "memory");
     let made = Bank::new(alloc, Kind::Ram, base, reset.as_slice());
-    assert_eq!(rt; made.err(), Some(fault));
+    assert!(rt; made.err() == Some(fault));
     let told = format!(in alloc; "{fault}").expect(rt, "memory");
-    assert_eq!(rt; told.as_str(), text);
+    assert!(rt; told.as_str() == text);
 }
 
 #[test]
@@ -355,11 +352,10 @@ fn banks_are_refused_by_their_first_fault(rt: HostRuntime) {
 fn a_bank_may_be_longest_or_end_with_the_address_space(rt: HostRuntime) {
     let long = Vec::from_elem(rt.alloc(), 0u8, MAX_LENGTH).expect(&rt, "memory");
     let longest = bank_of(&rt, rt.alloc(), Kind::Rom, 0, long.as_slice());
-    assert_eq!(rt; longest.len(), MAX_LENGTH);
+    assert!(rt; longest.len() == MAX_LENGTH);
     let bank = bank_of(&rt, rt.alloc(), Kind::Rom, u64::MAX, &[0]);
-    assert_eq!(rt;
-        (bank.kind(), bank.base(), bank.len(), bank.is_empty()),
-        (Kind::Rom, u64::MAX, 1, false)
+    assert!(rt;
+        (bank.kind(), bank.base(), bank.len(), bank.is_empty()) == (Kind::Rom, u64::MAX, 1, false)
     );
 }
 
@@ -374,8 +370,8 @@ const WITHIN_A_WORD: [Turn; 4] = [
 fn a_bank_may_begin_and_end_within_a_word(rt: HostRuntime) {
     let mut bank = bank_of(&rt, rt.alloc(), Kind::Ram, 0x1006, &[1, 2, 3, 4]);
     serve_all(&rt, &mut bank, &WITHIN_A_WORD);
-    assert_eq!(rt; (bank.byte(0x1005), bank.byte(0x100a)), (None, None));
-    assert_eq!(rt; bank.byte(0x1009), Some(4));
+    assert!(rt; (bank.byte(0x1005), bank.byte(0x100a)) == (None, None));
+    assert!(rt; bank.byte(0x1009) == Some(4));
 }
 
 /// How many bytes the plain memory of a test has room for.
@@ -442,7 +438,7 @@ fn put_beside(rt: &impl Abort, bank: &mut Bank, plain: &mut Plain, size: u8, add
     if legal {
         put_all(plain, address, &given);
     }
-    assert_eq!(rt; bank.serve(&ask).denied(), !legal);
+    assert!(rt; bank.serve(&ask).denied() == !legal);
 }
 
 /// Puts the bytes that are set.
@@ -462,7 +458,7 @@ fn xor_beside(rt: &impl Abort, bank: &mut Bank, plain: &mut Plain, size: u8, add
     if legal {
         turn_round(plain, address, ones.len());
     }
-    assert_eq!(rt; bank.serve(&ask).denied(), !legal);
+    assert!(rt; bank.serve(&ask).denied() == !legal);
 }
 
 /// Turns the bits of so many bytes round.
@@ -479,10 +475,10 @@ fn get_beside(rt: &impl Abort, bank: &mut Bank, plain: &Plain, size: u8, address
     let ask = whole(rt, AskOp::Get, size, address, &[]);
     let legal = stands(plain, &ask);
     let reply = bank.serve(&ask);
-    assert_eq!(rt; reply.denied(), !legal);
+    assert!(rt; reply.denied() == !legal);
     for (at, byte) in (address..).zip(reply.bytes()) {
         let due = if legal { plain.byte(at) } else { Some(0) };
-        assert_eq!(rt; Some(*byte), due);
+        assert!(rt; Some(*byte) == due);
     }
 }
 

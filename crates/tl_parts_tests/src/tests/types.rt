@@ -29,12 +29,12 @@ fn requests_are_refused_by_their_first_fault(rt: HostRuntime) {
     ];
     for (size, bytes, fault, text) in rows {
         let made = Ask::new(AskOp::PutFull, size, 0, 0, bytes);
-        assert_eq!(rt; made.err(), Some(fault));
-        assert_eq!(rt;
+        assert!(rt; made.err() == Some(fault));
+        assert!(rt;
             format!(in rt.alloc(); "{fault}")
                 .expect(&rt, "memory")
-                .as_str(),
-            text
+                .as_str()
+                == text
         );
     }
     assert!(rt; Ask::new(AskOp::PutPartial, 1, 0, 0, &hole).is_ok());
@@ -59,12 +59,12 @@ fn replies_are_refused_by_their_first_fault(rt: HostRuntime) {
     ];
     for (size, fault, text) in rows {
         let made = Reply::new(ReplyOp::AccessAckData, size, 0, true, &dirty);
-        assert_eq!(rt; made.err(), Some(fault));
-        assert_eq!(rt;
+        assert!(rt; made.err() == Some(fault));
+        assert!(rt;
             format!(in rt.alloc(); "{fault}")
                 .expect(&rt, "memory")
-                .as_str(),
-            text
+                .as_str()
+                == text
         );
     }
     assert!(rt; Reply::new(ReplyOp::AccessAckData, 1, 0, false, &dirty).is_ok());
@@ -76,24 +76,20 @@ fn copies_differ_in_the_source_alone(rt: HostRuntime) {
     let ask = Ask::new(AskOp::PutPartial, 1, 3, 0x1000, &[Some(7), None])
         .expect(&rt, "a request")
         .with_source(12);
-    assert_eq!(rt;
-        (ask.op(), ask.size(), ask.source(), ask.address()),
-        (AskOp::PutPartial, 1, 12, 0x1000)
+    assert!(rt;
+        (ask.op(), ask.size(), ask.source(), ask.address()) == (AskOp::PutPartial, 1, 12, 0x1000)
     );
     let again = ask.copy();
-    assert_eq!(rt; again.bytes().len(), 2);
-    assert_eq!(rt;
-        (again.bytes().get(0), again.bytes().get(1)),
-        (Some(7), None)
-    );
+    assert!(rt; again.bytes().len() == 2);
+    assert!(rt; (again.bytes().get(0), again.bytes().get(1)) == (Some(7), None));
     let reply = Reply::new(ReplyOp::AccessAckData, 0, 12, false, &[7])
         .expect(&rt, "a reply")
         .with_source(3);
-    assert_eq!(rt;
-        (reply.op(), reply.size(), reply.source(), reply.denied()),
-        (ReplyOp::AccessAckData, 0, 3, false)
+    assert!(rt;
+        (reply.op(), reply.size(), reply.source(), reply.denied())
+            == (ReplyOp::AccessAckData, 0, 3, false)
     );
-    assert_eq!(rt; reply.copy().bytes(), [7].as_slice());
+    assert!(rt; reply.copy().bytes() == [7].as_slice());
 }
 
 /// The table of channel A: each operation with its opcode and parameter.
@@ -117,8 +113,8 @@ const OPERATIONS: [(AskOp, u8, u8); 14] = [
 #[test]
 fn opcodes_are_those_of_the_standard(rt: HostRuntime) {
     for (op, number, parameter) in OPERATIONS {
-        assert_eq!(rt; (opcode(&op), param(&op)), (number, parameter));
-        assert_eq!(rt; read_op(number, parameter), Ok(op));
+        assert!(rt; (opcode(&op), param(&op)) == (number, parameter));
+        assert!(rt; read_op(number, parameter) == Ok(op));
     }
     let refused = [
         (6, 0, OpFault::Cached, "a cached operation"),
@@ -127,12 +123,12 @@ fn opcodes_are_those_of_the_standard(rt: HostRuntime) {
         (4, 1, OpFault::UnknownParam, "no such parameter"),
     ];
     for (number, parameter, fault, text) in refused {
-        assert_eq!(rt; read_op(number, parameter), Err(fault));
-        assert_eq!(rt;
+        assert!(rt; read_op(number, parameter) == Err(fault));
+        assert!(rt;
             format!(in rt.alloc(); "{fault}")
                 .expect(&rt, "memory")
-                .as_str(),
-            text
+                .as_str()
+                == text
         );
     }
     for (op, number) in [
@@ -140,8 +136,8 @@ fn opcodes_are_those_of_the_standard(rt: HostRuntime) {
         (ReplyOp::AccessAckData, 1),
         (ReplyOp::HintAck, 2),
     ] {
-        assert_eq!(rt; reply_opcode(op), number);
-        assert_eq!(rt; read_reply_op(number), Ok(op));
+        assert!(rt; reply_opcode(op) == number);
+        assert!(rt; read_reply_op(number) == Ok(op));
     }
-    assert_eq!(rt; read_reply_op(3), Err(OpFault::UnknownOpcode));
+    assert!(rt; read_reply_op(3) == Err(OpFault::UnknownOpcode));
 }
