@@ -37,3 +37,23 @@ make_library() {
   command -v rt >/dev/null || fail tlx 69 'the toolchain `rt` is not on this machine, and the library is not built yet'
   (cd "$top/crates/tl_c" && rt lib) >&2 || exit 70
 }
+
+# Runs a program before any proof: the name of the program, and its words, in which files stand by their full paths. The toolchain
+# compiles it with checks in place of proofs, each time anew, and ends a run after 600 seconds or 1 MiB of output.
+try_program() {
+  command -v rt >/dev/null || fail "$1" 69 'the toolchain `rt` is not on this machine'
+  echo "$1 (launcher): nothing of this run is proved yet; ./$1 without --try proves the program and then runs it" >&2
+  local said status
+  said=$(mktemp)
+  (cd "$top/crates/$1" && exec rt try --seconds 600 -- "${@:2}") 2>"$said"
+  status=$?
+  if ! grep -q '^run=ended ' "$said"; then
+    cat "$said" >&2
+    rm -f "$said"
+    fail "$1" 70 'the program did not run to its end'
+  fi
+  # the last lines are the toolchain's own
+  sed -E '/^(checked: ended|races: |run=ended) ?/d' "$said" >&2
+  rm -f "$said"
+  exit "$status"
+}
