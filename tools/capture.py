@@ -12,14 +12,11 @@ import subprocess
 import sys
 import tomllib
 
-TOP = os.path.dirname(os.path.dirname(os.path.abspath(__file__)))
-PROGRAM = os.environ.get("TLX", os.path.join(TOP, "crates", "tlx", "out", "tlx"))
-HEADER = "time,link,channel,opcode,param,size,source,address,mask,data,denied,corrupt"
+sys.dont_write_bytecode = True
+sys.path.insert(0, os.path.dirname(os.path.realpath(__file__)))
+from common import HEADER, OPERATIONS, REPLIES, TLX  # noqa: E402
+
 LANES = 8
-# the opcode and parameter of each operation, and the opcode of each reply
-OPERATIONS = {"putfull": (0, 0), "putpart": (1, 0), "min": (2, 0), "max": (2, 1), "minu": (2, 2), "maxu": (2, 3), "add": (2, 4),
-              "xor": (3, 0), "or": (3, 1), "and": (3, 2), "swap": (3, 3), "get": (4, 0), "prefetchr": (5, 0), "prefetchw": (5, 1)}
-REPLIES = {"AccessAck": 0, "AccessAckData": 1, "HintAck": 2}
 LINE = re.compile(r"m(\d+) s(\d+) (\w+) 0x([0-9a-f]+) (\d)(?: ([0-9a-f-]+))? -> (\w+)( denied)?(?: ([0-9a-f]+))? p(\d+) #\d+")
 
 
@@ -84,7 +81,7 @@ def rows_of(line, firsts, ports):
 def capture_of(script):
     """The rows of the capture of a script's serial run, with their times, and the lines of its trace."""
     system = tomllib.loads(script)
-    run = subprocess.run([PROGRAM, "--serial"], input=script, capture_output=True, text=True, check=True)
+    run = subprocess.run([TLX, "--serial"], input=script, capture_output=True, text=True, check=True)
     lines = run.stdout.splitlines()
     firsts = widths([master["sources"] for master in system["master"]])
     ports = len(system.get("port", []))

@@ -1,0 +1,29 @@
+"""What the tools share: where the programs lie, the limits and words of scripts, the codes of messages, and the columns of a capture."""
+
+import os
+
+TOP = os.path.dirname(os.path.dirname(os.path.abspath(__file__)))
+# The built programs; the environment names others.
+TLX = os.environ.get("TLX", os.path.join(TOP, "crates", "tlx", "out", "tlx"))
+TLCHECK = os.environ.get("TLCHECK", os.path.join(TOP, "crates", "tlcheck", "out", "tlcheck"))
+# How long a run of a program may take.
+SECONDS = 60
+
+LONGEST_SCRIPT = 1_048_576
+LARGEST_SIZE = 8
+KINDS = ("ram", "rom", "regs", "w1c")
+# The keys of a script: of the document, of a port and of a master.
+KEYS = {"": ("slots", "port", "master"), "port": ("kind", "base", "length", "reset"), "master": ("sources", "ops")}
+
+# The opcode and the parameter of each operation on channel A, and the opcode of each reply on channel D.
+OPERATIONS = {"putfull": (0, 0), "putpart": (1, 0), "min": (2, 0), "max": (2, 1), "minu": (2, 2), "maxu": (2, 3), "add": (2, 4),
+              "xor": (3, 0), "or": (3, 1), "and": (3, 2), "swap": (3, 3), "get": (4, 0), "prefetchr": (5, 0), "prefetchw": (5, 1)}
+REPLIES = {"AccessAck": 0, "AccessAckData": 1, "HintAck": 2}
+
+# The columns of a capture.
+HEADER = "time,link,channel,opcode,param,size,source,address,mask,data,denied,corrupt"
+
+
+def carries_data(name):
+    """Whether requests of this operation carry bytes: the two puts and the atomics do."""
+    return OPERATIONS[name][0] < 4
