@@ -4,7 +4,7 @@ use Rattle.std.proofs.lemmas.Bool.{cases_eq}
 use Rattle.std.proofs.lemmas.Option.{slice_get_within, slice_get-get_or}
 use Rattle.std.proofs.lemmas.List.Elements.{Contains-push, Contains-push_cases, Contains-append_left, Contains-get_or}
 use Rattle.std.proofs.lemmas.List.Quantifiers.{all_pairs_push}
-use Rattle.tl_arena.specs.declared.account.Held.{Held}
+use Rattle.tl_arena.specs.declared.account.HeldSlot.{HeldSlot}
 use Rattle.tl_arena.specs.Account.{IsRisingBy, IsHeldWord, IsHeld}
 
 -- of the things with numbers below n just those with this property were chosen, in rising order
@@ -65,16 +65,16 @@ places_all words xs wanted n c all = chosen_all (λ (i : ℕ). i) (Here words wa
 abbrev pub HoldsJust : ℕ → Option ℕ → Type 0
 HoldsJust word holder = (m : ℕ) → (holder ≡ Some m) ↔ IsHeldWord word m
 
-pub held_taken : (words : List ℕ) (xs ys : List Held) (n master : ℕ) → Chosen (λ (h : Held). h.slot) (IsHeld words) n xs → n < length words → HoldsJust (get_or words n 0) (Some master)
-    → ys ≡ xs ++ record { slot = n; master = master } ∷ [] → Chosen (λ (h : Held). h.slot) (IsHeld words) (n + 1) ys
-held_taken words xs ys n master c lt one is = let word = get_or words n 0 in let at = slice_get-get_or words n 0 lt in subst (λ (zs : List Held). Chosen (λ (h : Held). h.slot) (IsHeld words) (n + 1) zs) (sym is)
-    (chosen_more (λ (h : Held). h.slot) (IsHeld words) n xs (record { slot = n; master = master }) c refl (record { found = word; at = at; of = (one master).0 refl })
+pub held_taken : (words : List ℕ) (xs ys : List HeldSlot) (n master : ℕ) → Chosen (λ (h : HeldSlot). h.slot) (IsHeld words) n xs → n < length words → HoldsJust (get_or words n 0) (Some master)
+    → ys ≡ xs ++ record { slot = n; master = master } ∷ [] → Chosen (λ (h : HeldSlot). h.slot) (IsHeld words) (n + 1) ys
+held_taken words xs ys n master c lt one is = let word = get_or words n 0 in let at = slice_get-get_or words n 0 lt in subst (λ (zs : List HeldSlot). Chosen (λ (h : HeldSlot). h.slot) (IsHeld words) (n + 1) zs) (sym is)
+    (chosen_more (λ (h : HeldSlot). h.slot) (IsHeld words) n xs (record { slot = n; master = master }) c refl (record { found = word; at = at; of = (one master).0 refl })
     (λ y e p. let same : p.found ≡ word = one_some p.found word (sym p.at ∙ ap (λ (k : ℕ). slice_get words k) e ∙ at) in
     let m : master ≡ y.master = one_some master y.master ((one y.master).1 (subst (λ (w : ℕ). IsHeldWord w y.master) same p.of)) in (λ t. record { slot = e t; master = sym m t })))
 
-pub held_skipped : (words : List ℕ) (xs : List Held) (n : ℕ) → Chosen (λ (h : Held). h.slot) (IsHeld words) n xs → n < length words → HoldsJust (get_or words n 0) None → Chosen (λ (h : Held). h.slot) (IsHeld words) (n + 1) xs
-held_skipped words xs n c lt none = let word = get_or words n 0 in let at = slice_get-get_or words n 0 lt in chosen_skip (λ (h : Held). h.slot) (IsHeld words) n xs c
+pub held_skipped : (words : List ℕ) (xs : List HeldSlot) (n : ℕ) → Chosen (λ (h : HeldSlot). h.slot) (IsHeld words) n xs → n < length words → HoldsJust (get_or words n 0) None → Chosen (λ (h : HeldSlot). h.slot) (IsHeld words) (n + 1) xs
+held_skipped words xs n c lt none = let word = get_or words n 0 in let at = slice_get-get_or words n 0 lt in chosen_skip (λ (h : HeldSlot). h.slot) (IsHeld words) n xs c
     (λ x e p. let same : p.found ≡ word = one_some p.found word (sym p.at ∙ ap (λ (k : ℕ). slice_get words k) e ∙ at) in let e = (none x.master).1 (subst (λ (w : ℕ). IsHeldWord w x.master) same p.of) in absurd cc)
 
-pub held_all : (words : List ℕ) (xs : List Held) (n : ℕ) → Chosen (λ (h : Held). h.slot) (IsHeld words) n xs → length words ≤ n → (h : Held) → Contains xs h ↔ IsHeld words h
-held_all words xs n c all = chosen_all (λ (h : Held). h.slot) (IsHeld words) n xs c (λ h p. let lt = slice_get_within words h.slot p.found p.at in omega arith)
+pub held_all : (words : List ℕ) (xs : List HeldSlot) (n : ℕ) → Chosen (λ (h : HeldSlot). h.slot) (IsHeld words) n xs → length words ≤ n → (h : HeldSlot) → Contains xs h ↔ IsHeld words h
+held_all words xs n c all = chosen_all (λ (h : HeldSlot). h.slot) (IsHeld words) n xs c (λ h p. let lt = slice_get_within words h.slot p.found p.at in omega arith)

@@ -17,7 +17,7 @@ use Rattle.tl_rule.specs.Laws.{AreArenaWords}
 use Rattle.tl_rule.proofs.Facts.{free_names_none}
 use Rattle.tl_rule.proofs.Tables.{at_get}
 use Rattle.tl_rule.proofs.FitsLaws.{words_law, free_or}
-use Rattle.tl_arena.specs.declared.account.Held.{Held}
+use Rattle.tl_arena.specs.declared.account.HeldSlot.{HeldSlot}
 use Rattle.tl_arena.specs.Account.{IsAccountOf, IsClosing}
 
 -- a word of slots and leave words, by its place
@@ -28,7 +28,7 @@ left_word : (slots leaves : List ℕ) (n m : ℕ) → length slots ≡ n → get
 left_word slots leaves n m long = ap (λ (k : ℕ). get_or (slots ++ leaves) (k + m) 0) (sym long) ∙ get_or-append-add slots leaves m 0
 
 module _ (a : About) (slots leaves : List ℕ) (W : AreArenaWords a (slots ++ leaves)) (many_slots : length slots ≡ a.slots) (many_leaves : length leaves ≡ a.masters)
-    (free : List ℕ) (held : List Held) (left : List ℕ) (account : IsAccountOf slots leaves free held left) where
+    (free : List ℕ) (held : List HeldSlot) (left : List ℕ) (account : IsAccountOf slots leaves free held left) where
   -- the word of a slot codes a phase
   codes : (i : ℕ) → i < a.slots → (f : Phase) × IsWordOf f (get_or slots i 0)
   codes i lt = let t = W.phases i lt in (t.0, subst (λ (w : ℕ). IsWordOf t.0 w) (slot_word slots leaves i (omega (arith, lt, many_slots))) t.1)
@@ -43,18 +43,18 @@ module _ (a : About) (slots leaves : List ℕ) (W : AreArenaWords a (slots ++ le
       (free_or t.0)
 
   -- a held slot, with the phase that its word codes
-  record HeldAt (h : Held) : Type 0 where
+  record HeldAt (h : HeldSlot) : Type 0 where
     inside : h.slot < a.slots
     phase : Phase
     codes : IsWordOf phase (get_or (slots ++ leaves) h.slot 0)
     names : Names phase h.master
 
-  held_at : (h : Held) → Contains held h → HeldAt h
+  held_at : (h : HeldSlot) → Contains held h → HeldAt h
   held_at h c = let t = (account.held_just h).0 c in let lt = slice_get_within slots h.slot t.found t.at in
       let word_is : get_or (slots ++ leaves) h.slot 0 ≡ t.found = slot_word slots leaves h.slot lt ∙ get_or_from_slice_get slots h.slot t.found 0 t.at in
       record { inside = omega (arith, lt, many_slots); phase = t.of.phase; codes = subst (λ (w : ℕ). IsWordOf t.of.phase w) (sym word_is) t.of.codes; names = t.of.names }
 
-  apart : (h : Held) → Contains held h → Contains free h.slot → ⊥
+  apart : (h : HeldSlot) → Contains held h → Contains free h.slot → ⊥
   apart h c d = let t = (account.held_just h).0 c in let at = (account.free_just h.slot).0 d in
       let same : t.found ≡ word Free = one_found (t.at) at in
       let f_is : t.of.phase ≡ Free = one_phase t.of.phase Free t.found t.of.codes (record { fits = record { owner = tt; port = tt }; is = same }) in
@@ -64,20 +64,20 @@ module _ (a : About) (slots leaves : List ℕ) (W : AreArenaWords a (slots ++ le
       one_found p q = cc
 
   -- the leave word of a master that holds a slot is 0
-  stays : (h : Held) → Contains held h → (h.master < a.masters) × (get_or leaves h.master 0 ≡ 0)
+  stays : (h : HeldSlot) → Contains held h → (h.master < a.masters) × (get_or leaves h.master 0 ≡ 0)
   stays h c = let t = held_at h c in let o = W.owners_stay h.slot h.master t.phase t.inside t.codes t.names in (o.0, sym (left_word slots leaves a.slots h.master many_slots) ∙ o.1)
 
-  present : (h : Held) → Contains held h → Contains left h.master → ⊥
+  present : (h : HeldSlot) → Contains held h → Contains left h.master → ⊥
   present h c l = let one = get_or_from_slice_get leaves h.master 1 0 ((account.left_just h.master).0 l) in let zero = (stays h c).1 in absurd (omega arith)
 
-  none_held : (hs : List Held) → ((h : Held) → Contains hs h → ⊥) → hs ≡ []
+  none_held : (hs : List HeldSlot) → ((h : HeldSlot) → Contains hs h → ⊥) → hs ≡ []
   none_held [] none = refl
   none_held (h ∷ hs) none = absurd (none h (0, omega (arith), refl))
 
   all_free : ((m : ℕ) → m < a.masters → Contains left m) → held ≡ []
   all_free all = none_held held (λ h c. present h c (all h.master (stays h c).0))
 
-pub closing : (a : About) (s : State Berth View) (slots leaves : List ℕ) (free : List ℕ) (held : List Held) (left : List ℕ) → Fits a s → s.words ≡ slots ++ leaves → length slots ≡ a.slots → length leaves ≡ a.masters
+pub closing : (a : About) (s : State Berth View) (slots leaves : List ℕ) (free : List ℕ) (held : List HeldSlot) (left : List ℕ) → Fits a s → s.words ≡ slots ++ leaves → length slots ≡ a.slots → length leaves ≡ a.masters
     → IsAccountOf slots leaves free held left → IsClosing a free held left
 closing a s slots leaves free held left F words many_slots many_leaves account = let W = subst (AreArenaWords a) words (words_law a s F) in record {
   table = s;

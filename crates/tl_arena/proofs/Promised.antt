@@ -21,7 +21,7 @@ use Rattle.tl_rule.specs.declared.view.View.TheVariants.{Port}
 use Rattle.tl_rule.specs.Events.{IsEventOf}
 use Rattle.tl_rule.specs.Moves.{is_port, as_port}
 use Rattle.tl_rule.proofs.Facts.{port_seat_is}
-use Rattle.tl_arena.specs.Views.{MasterView, PortView, TicketView, ServedView, in_hand, with_accepted, desk_of}
+use Rattle.tl_arena.specs.Views.{MasterView, PortView, TicketView, ServedView, hand_at, with_accepted, desk_of}
 use Rattle.tl_arena.specs.Promises.{IsCollected, IsPortStep}
 use Rattle.tl_arena.specs.Kept.{master_view, port_view}
 
@@ -58,8 +58,8 @@ told_asked r ask s = subst (λ (x : Request). Spells r x) (sym (told_ask_is ask 
 -- ---- the values of a turn
 
 -- what the hand has of a ticket's slot
-pub sent_in : (v w : MasterView) (t u : TicketView) → v ≡ w → t ≡ u → in_hand w u.slot ≡ Sent u.ask u.port u.known → in_hand v t.slot ≡ Sent t.ask t.port t.known
-sent_in v w t u e f h = subst (λ (x : MasterView). in_hand x t.slot ≡ Sent t.ask t.port t.known) (sym e) (subst (λ (x : TicketView). in_hand w x.slot ≡ Sent x.ask x.port x.known) (sym f) h)
+pub sent_in : (v w : MasterView) (t u : TicketView) → v ≡ w → t ≡ u → hand_at w u.slot ≡ Sent u.ask u.port u.known → hand_at v t.slot ≡ Sent t.ask t.port t.known
+sent_in v w t u e f h = subst (λ (x : MasterView). hand_at x t.slot ≡ Sent t.ask t.port t.known) (sym e) (subst (λ (x : TicketView). hand_at w x.slot ≡ Sent x.ask x.port x.known) (sym f) h)
 
 -- what is served at the slot of a request that was accepted
 pub served_in : (v w : PortView) (f g : ℕ × Request) → v ≡ w → f ≡ g → ask_at w.serving g.0 ≡ Some g.1 → ask_at v.serving f.0 ≡ Some f.1

@@ -9,7 +9,7 @@ use Rattle.tl_rule.specs.Rule.{Fits, Names}
 use Rattle.tl_rule.specs.declared.view.About.{About}
 use Rattle.tl_rule.specs.declared.view.View.{View}
 use Rattle.tl_rule.specs.Record.{Berth}
-use Rattle.tl_arena.specs.declared.account.Held.{Held}
+use Rattle.tl_arena.specs.declared.account.HeldSlot.{HeldSlot}
 
 -- things stand in rising order of their numbers, so each number stands once
 abbrev pub IsRisingBy : {X : Type 0} → (X → ℕ) → List X → Type 0
@@ -25,7 +25,7 @@ pub record IsHeldWord (found master : ℕ) : Type 0 where
 abbrev pub IsFree : List ℕ → ℕ → Type 0
 IsFree slots i = slice_get slots i ≡ Some (word Free)
 
-pub record IsHeld (slots : List ℕ) (held : Held) : Type 0 where
+pub record IsHeld (slots : List ℕ) (held : HeldSlot) : Type 0 where
   pub found : ℕ
   pub at : slice_get slots held.slot ≡ Some found
   pub of : IsHeldWord found held.master
@@ -35,16 +35,16 @@ HasLeft leaves m = slice_get leaves m ≡ Some 1
 
 -- the account of slots with these words and of masters with these leave words: the free slots, the held ones with their
 -- masters, and the masters that have left, each once and in rising order
-pub record IsAccountOf (slots leaves : List ℕ) (free : List ℕ) (held : List Held) (left : List ℕ) : Type 0 where
+pub record IsAccountOf (slots leaves : List ℕ) (free : List ℕ) (held : List HeldSlot) (left : List ℕ) : Type 0 where
   pub free_just : (i : ℕ) → Contains free i ↔ IsFree slots i
-  pub held_just : (h : Held) → Contains held h ↔ IsHeld slots h
+  pub held_just : (h : HeldSlot) → Contains held h ↔ IsHeld slots h
   pub left_just : (m : ℕ) → Contains left m ↔ HasLeft leaves m
   pub free_rising : IsRisingBy (λ (i : ℕ). i) free
-  pub held_rising : IsRisingBy (λ (h : Held). h.slot) held
+  pub held_rising : IsRisingBy (λ (h : HeldSlot). h.slot) held
   pub left_rising : IsRisingBy (λ (m : ℕ). m) left
 
 -- the account of an arena at its end is that of the words of a table that fits
-pub record IsClosing (about : About) (free : List ℕ) (held : List Held) (left : List ℕ) : Type 0 where
+pub record IsClosing (about : About) (free : List ℕ) (held : List HeldSlot) (left : List ℕ) : Type 0 where
   pub table : State Berth View
   pub fits : Fits about table
   pub slots : List ℕ
@@ -56,8 +56,8 @@ pub record IsClosing (about : About) (free : List ℕ) (held : List Held) (left 
   -- each slot is free or held
   pub each : (i : ℕ) → i < about.slots → Contains free i ⊎ ((m : ℕ) × Contains held (record { slot = i; master = m }))
   -- and not both
-  pub apart : (h : Held) → Contains held h → Contains free h.slot → ⊥
+  pub apart : (h : HeldSlot) → Contains held h → Contains free h.slot → ⊥
   -- no held slot's master has left
-  pub present : (h : Held) → Contains held h → Contains left h.master → ⊥
+  pub present : (h : HeldSlot) → Contains held h → Contains left h.master → ⊥
   -- so where all have left nothing is held
   pub all_free : ((m : ℕ) → m < about.masters → Contains left m) → held ≡ []

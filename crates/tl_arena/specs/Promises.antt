@@ -14,11 +14,11 @@ use Rattle.tl_rule.specs.Events.{IsEventOf}
 use Rattle.tl_rule.specs.Views.{Owns, reset_of, Above, gone_hands}
 use Rattle.tl_rule.specs.Seen.{IsOfMasters, SeenFit, JustOwn, IsPlaceOf, at_port, sent_at}
 use Rattle.tl_rule.specs.Moves.{IsLawfulDesk, OwnsAll}
-use Rattle.tl_arena.specs.Views.{MasterView, PortView, TicketView, ServedView, in_hand, with_collected, entry_of, hands_of, desk_of}
+use Rattle.tl_arena.specs.Views.{MasterView, PortView, TicketView, ServedView, hand_at, with_collected, entry_of, hands_of, desk_of}
 
 -- the source is of no request that the seat has sent and not collected
-abbrev pub IsUnsent : MasterView → ℕ → Type 0
-IsUnsent v source = (i p known : ℕ) (ask : Request) → in_hand v i ≡ Sent ask p known → source ≢ ask.source
+abbrev pub IsIdleSource : MasterView → ℕ → Type 0
+IsIdleSource v source = (i p known : ℕ) (ask : Request) → hand_at v i ≡ Sent ask p known → source ≢ ask.source
 
 -- what is so of every port's seat: no slot and no source is served twice, its list is true of its memory, and what it has
 -- served and serves are requests of masters alone

@@ -62,8 +62,8 @@ abbrev pub hands_of : MasterView → Hands
 hands_of v = record { number = v.number; about = v.arena.about; hand = v.hand; got = v.got; left = false }
 
 -- what the hand has of the slot
-abbrev pub in_hand : MasterView → ℕ → Held
-in_hand v i = slice_index_or v.hand i Nothing
+abbrev pub hand_at : MasterView → ℕ → Held
+hand_at v i = slice_index_or v.hand i Nothing
 
 -- how many slots it owns
 abbrev pub owned_of : MasterView → ℕ

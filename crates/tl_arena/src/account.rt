@@ -1,6 +1,6 @@
 //! The account of an arena: which slots are free, which are held and by whom, and which masters have left.
 ghost use Rattle.std.specs.Prelude.{◌≡◌, ◌↔◌, ℕ, Some, IfOk, Contains, slice_get};
-ghost use Rattle.tl_arena.specs.declared.account.Held.{Held};
+ghost use Rattle.tl_arena.specs.declared.account.HeldSlot.{HeldSlot};
 ghost use Rattle.tl_arena.specs.Account.{IsRisingBy, IsHeldWord, IsFree, IsHeld, HasLeft, IsAccountOf};
 
 use std::alloc::{AllocError, Global};
@@ -8,7 +8,7 @@ use tl_slots::{Phase, phase_of, word_of};
 
 /// A slot that a master holds.
 #[derive(Debug, Clone, Copy, PartialEq, Eq)]
-pub struct Held {
+pub struct HeldSlot {
     pub slot: usize,
     pub master: usize,
 }
@@ -17,7 +17,7 @@ pub struct Held {
 #[derive(Debug, Drop)]
 pub struct Account {
     pub free: Vec<usize>,
-    pub held: Vec<Held>,
+    pub held: Vec<HeldSlot>,
     pub left: Vec<usize>,
 }
 
@@ -53,14 +53,14 @@ fn places_of(alloc: Global, words: &[u64], wanted: u64) -> Result<Vec<usize>, Al
 }
 
 /// The slots whose words name masters, with these.
-fn held_slots(alloc: Global, words: &[u64]) -> Result<Vec<Held>, AllocError>
-    ensures just { IfOk result (λ held. (h : Held) → Contains held.items h ↔ IsHeld words.now h) }
-    ensures rising { IfOk result (λ held. IsRisingBy (λ (h : Held). h.slot) held.items) }
+fn held_slots(alloc: Global, words: &[u64]) -> Result<Vec<HeldSlot>, AllocError>
+    ensures just { IfOk result (λ held. (h : HeldSlot) → Contains held.items h ↔ IsHeld words.now h) }
+    ensures rising { IfOk result (λ held. IsRisingBy (λ (h : HeldSlot). h.slot) held.items) }
 {
     let mut held = Vec::new(alloc);
     for (slot, word) in words.iter().enumerate() {
         if let Some(master) = holder(*word) {
-            held.push(Held { slot, master })?;
+            held.push(HeldSlot { slot, master })?;
         }
     }
     Ok(held)

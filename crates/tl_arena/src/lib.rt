@@ -26,7 +26,7 @@ mod record;
 mod seats;
 mod turn;
 
-pub use account::{Account, Held};
+pub use account::{Account, HeldSlot};
 pub use arena::{Arena, ArenaFault, ArenaName, Made};
 pub use seats::{MasterSeat, PortSeat};
 pub use turn::{Accepted, Claim, Served, Ticket};

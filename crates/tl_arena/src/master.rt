@@ -3,8 +3,8 @@ ghost use Rattle.std.specs.Prelude.{◌≡◌, ◌<◌, ◌≤◌, length, true,
 ghost use Rattle.tl_slots.specs.declared.event.Event.TheVariants as event;
 ghost use Rattle.tl_rule.specs.declared.view.Held.TheVariants.{Nothing, Filled, Sent, Taken};
 ghost use Rattle.tl_rule.specs.Views.{Owns};
-ghost use Rattle.tl_arena.specs.Views.{in_hand, owned_of, with_held};
-ghost use Rattle.tl_arena.specs.Promises.{IsUnsent, IsCollected, OwnsHistories, IsMasterStep, IsLeaveStep};
+ghost use Rattle.tl_arena.specs.Views.{hand_at, owned_of, with_held};
+ghost use Rattle.tl_arena.specs.Promises.{IsIdleSource, IsCollected, OwnsHistories, IsMasterStep, IsLeaveStep};
 
 use crate::arena::Arena;
 use crate::carried::bring;
@@ -28,7 +28,7 @@ impl Arena {
     pub fn claim(&self, master: &mut MasterSeat) -> Option<Claim>
         requires arena { master.old.arena ≡ self.now }
         ensures some { IfSome result
-            (λ i. (i < length master.old.hand) × (in_hand master.old i ≡ Nothing)
+            (λ i. (i < length master.old.hand) × (hand_at master.old i ≡ Nothing)
             × (master.new ≡ with_held master.old i Filled)) }
         ensures event { IfSome result
             (λ i. IsMasterStep (event.Claim i master.old.number) master.old master.new) }
@@ -46,7 +46,7 @@ impl Arena {
         requires arena { master.old.arena ≡ self.now }
         requires slots { end ≤ self.now.about.slots }
         ensures some { IfSome result
-            (λ i. (i < length master.old.hand) × (in_hand master.old i ≡ Nothing)
+            (λ i. (i < length master.old.hand) × (hand_at master.old i ≡ Nothing)
             × (master.new ≡ with_held master.old i Filled)) }
         ensures event { IfSome result
             (λ i. IsMasterStep (event.Claim i master.old.number) master.old master.new) }
@@ -65,7 +65,7 @@ impl Arena {
         requires arena { master.old.arena ≡ self.now }
         requires slot { slot < self.now.about.slots }
         ensures some { IfSome result
-            (λ i. (i < length master.old.hand) × (in_hand master.old i ≡ Nothing)
+            (λ i. (i < length master.old.hand) × (hand_at master.old i ≡ Nothing)
             × (master.new ≡ with_held master.old i Filled)) }
         ensures event { IfSome result
             (λ i. IsMasterStep (event.Claim i master.old.number) master.old master.new) }
@@ -91,9 +91,9 @@ impl Arena {
     /// Posts a request of the master's own source to a port.
     pub fn post(&self, master: &mut MasterSeat, claim: Claim, ask: &Ask, port: usize) -> Ticket
         requires arena { master.old.arena ≡ self.now }
-        requires claim { in_hand master.old claim ≡ Filled }
+        requires claim { hand_at master.old claim ≡ Filled }
         requires source { Owns self.now.about master.old.number ask.now.source }
-        requires unsent { IsUnsent master.old ask.now.source }
+        requires unsent { IsIdleSource master.old ask.now.source }
         requires port { port < self.now.about.ports }
         ensures ticket { result
             ≡ record { slot = claim; ask = ask.now; port = port; known = length master.old.got } }
@@ -121,7 +121,7 @@ impl Arena {
     /// Collects the reply to what was posted, where it is there.
     pub fn collect(&self, master: &mut MasterSeat, ticket: Ticket) -> Result<Served, Ticket>
         requires arena { master.old.arena ≡ self.now }
-        requires ticket { in_hand master.old ticket.slot
+        requires ticket { hand_at master.old ticket.slot
             ≡ Sent ticket.ask ticket.port ticket.known }
         requires room { length master.old.got < usize.MAX }
         ensures ok { IfOk result (λ s. IsCollected master.old ticket s master.new) }
@@ -155,7 +155,7 @@ impl Arena {
     /// Frees the slot of a reply that was collected.
     pub fn release(&self, master: &mut MasterSeat, served: Served)
         requires arena { master.old.arena ≡ self.now }
-        requires taken { in_hand master.old served.slot ≡ Taken served.port }
+        requires taken { hand_at master.old served.slot ≡ Taken served.port }
         ensures seat { master.new ≡ with_held master.old served.slot Nothing }
         ensures event { IsMasterStep
             (event.Release served.slot master.old.number served.port) master.old master.new }

@@ -6,17 +6,17 @@ use Rattle.tl_rule.specs.declared.view.Held.{Held}
 use Rattle.tl_rule.specs.declared.view.Held.TheVariants.{Nothing, Filled, Sent, Taken}
 use Rattle.tl_rule.specs.Carried.{is_held}
 use Rattle.tl_rule.proofs.Carried.{bit, held_set}
-use Rattle.tl_arena.specs.Views.{MasterView, TicketView, in_hand, with_held, owned_of}
+use Rattle.tl_arena.specs.Views.{MasterView, TicketView, hand_at, with_held, owned_of}
 use Rattle.tl_master.specs.Master.{ticket_at, out_of}
 use Rattle.tl_master.specs.Steps.{with_posted}
 
 -- ---- hands
 
 module _ (v : MasterView) (i : ℕ) (x : Held) where
-  pub held_here : i < length v.hand → in_hand (with_held v i x) i ≡ x
+  pub held_here : i < length v.hand → hand_at (with_held v i x) i ≡ x
   held_here lt = get_or-set_same v.hand i x Nothing lt
 
-  pub held_else : (j : ℕ) → j ≢ i → in_hand (with_held v i x) j ≡ in_hand v j
+  pub held_else : (j : ℕ) → j ≢ i → hand_at (with_held v i x) j ≡ hand_at v j
   held_else j ne = get_or-set_other v.hand i j x Nothing ne
 
 -- a slot more: it was not in the hand, was claimed, and has what was posted
@@ -27,13 +27,13 @@ module _ (v : MasterView) (t : TicketView) (lt : t.slot < length v.hand) where
   long : t.slot < length (set v.hand t.slot Filled)
   long = let same = length-set v.hand t.slot Filled in omega arith
 
-  pub posted_here : in_hand (with_posted v t) t.slot ≡ Sent t.ask t.port t.known
+  pub posted_here : hand_at (with_posted v t) t.slot ≡ Sent t.ask t.port t.known
   posted_here = get_or-set_same (set v.hand t.slot Filled) t.slot (Sent t.ask t.port t.known) Nothing long
 
-  pub posted_else : (j : ℕ) → j ≢ t.slot → in_hand (with_posted v t) j ≡ in_hand v j
+  pub posted_else : (j : ℕ) → j ≢ t.slot → hand_at (with_posted v t) j ≡ hand_at v j
   posted_else j ne = get_or-set_other (set v.hand t.slot Filled) t.slot j (Sent t.ask t.port t.known) Nothing ne ∙ get_or-set_other v.hand t.slot j Filled Nothing ne
 
-  pub posted_owned : in_hand v t.slot ≡ Nothing → owned_of (with_posted v t) ≡ owned_of v + 1
+  pub posted_owned : hand_at v t.slot ≡ Nothing → owned_of (with_posted v t) ≡ owned_of v + 1
   posted_owned free =
       let first = held_set v.hand [] t.slot Filled lt in
       let none : bit (is_held (get_or v.hand t.slot Nothing)) ≡ 0 = ap (λ (h : Held). bit (is_held h)) free in

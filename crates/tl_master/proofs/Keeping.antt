@@ -13,8 +13,8 @@ use Rattle.tl_rule.specs.declared.view.Held.{Held}
 use Rattle.tl_rule.specs.declared.view.Held.TheVariants.{Nothing, Filled, Sent, Taken}
 use Rattle.tl_rule.specs.Carried.{is_held}
 use Rattle.tl_rule.proofs.Facts.{in_hand_of}
-use Rattle.tl_arena.specs.Views.{MasterView, TicketView, ServedView, in_hand, with_held, entry_of, owned_of}
-use Rattle.tl_arena.specs.Promises.{IsCollected, IsUnsent}
+use Rattle.tl_arena.specs.Views.{MasterView, TicketView, ServedView, hand_at, with_held, entry_of, owned_of}
+use Rattle.tl_arena.specs.Promises.{IsCollected, IsIdleSource}
 use Rattle.tl_master.specs.Master.{MasterState, count_of, ticket_at, ask_from, reply_to, entry_from, IsInOrder}
 use Rattle.tl_master.specs.Steps.{with_out, with_entry}
 use Rattle.tl_master.specs.Kept.{IsKeptMaster, IsOut, IsOfSource, widened}
@@ -32,7 +32,7 @@ module _ (m : MasterState) (start count : ℕ) (kept : IsKeptMaster m start coun
   one_source s z t u first second same =
       let a = kept.out_sent s t first in
       let b = kept.out_sent z u second in
-      let there : in_hand m.seat t.slot ≡ Sent u.ask u.port u.known = ap (λ (i : ℕ). in_hand m.seat i) same ∙ b.sent in
+      let there : hand_at m.seat t.slot ≡ Sent u.ask u.port u.known = ap (λ (i : ℕ). hand_at m.seat i) same ∙ b.sent in
       let ask = ap (λ (q : Request). q.source) (same_ask t.ask u.ask t.port u.port t.known u.known (sym a.sent ∙ there)) in
       let mine = a.ask_source in
       let other = b.ask_source in
@@ -43,14 +43,14 @@ module _ (m : MasterState) (start count : ℕ) (kept : IsKeptMaster m start coun
   got_at j e at = ap (λ (es : List Entry). slice_get es j) kept.got ∙ (slice_get-map (widened start) m.trace j ∙ ap (λ (o : Option Entry). option_map (widened start) o) at)
 
   -- a source with nothing out may be posted
-  pub unsent : (s i : ℕ) → ticket_at m.out s ≡ None → in_hand m.seat i ≡ Nothing → i < length m.seat.hand → IsUnsent (with_held m.seat i Filled) (start + s)
+  pub unsent : (s i : ℕ) → ticket_at m.out s ≡ None → hand_at m.seat i ≡ Nothing → i < length m.seat.hand → IsIdleSource (with_held m.seat i Filled) (start + s)
   unsent s i idle free lt j p known ask sent same = dite (ℕ_discrete j i)
-      (λ e. let here : in_hand (with_held m.seat i Filled) j ≡ Filled = ap (λ (k : ℕ). in_hand (with_held m.seat i Filled) k) e ∙ get_or-set_same m.seat.hand i Filled Nothing lt in absurd (let clash : Filled ≡ Sent ask p known = sym here ∙ sent in cc))
+      (λ e. let here : hand_at (with_held m.seat i Filled) j ≡ Filled = ap (λ (k : ℕ). hand_at (with_held m.seat i Filled) k) e ∙ get_or-set_same m.seat.hand i Filled Nothing lt in absurd (let clash : Filled ≡ Sent ask p known = sym here ∙ sent in cc))
       (λ ne.
-      let was : in_hand m.seat j ≡ Sent ask p known = sym (get_or-set_other m.seat.hand i j Filled Nothing ne) ∙ sent in
+      let was : hand_at m.seat j ≡ Sent ask p known = sym (get_or-set_other m.seat.hand i j Filled Nothing ne) ∙ sent in
       let of_it = kept.sent_out j p known ask was in
       let out = kept.out_sent of_it.source of_it.ticket of_it.out in
-      let there : in_hand m.seat j ≡ Sent of_it.ticket.ask of_it.ticket.port of_it.ticket.known = ap (λ (k : ℕ). in_hand m.seat k) (sym of_it.here) ∙ out.sent in
+      let there : hand_at m.seat j ≡ Sent of_it.ticket.ask of_it.ticket.port of_it.ticket.known = ap (λ (k : ℕ). hand_at m.seat k) (sym of_it.here) ∙ out.sent in
       let one = ap (λ (q : Request). q.source) (same_ask ask of_it.ticket.ask p of_it.ticket.port known of_it.ticket.known (sym was ∙ there)) in
       let mine = out.ask_source in
       let source : s ≡ of_it.source = omega arith in
@@ -58,7 +58,7 @@ module _ (m : MasterState) (start count : ℕ) (kept : IsKeptMaster m start coun
 
 -- ---- a request more
 
-pub sends_kept : (m : MasterState) (start count s : ℕ) (t : TicketView) → IsKeptMaster m start count → s < length m.out → ticket_at m.out s ≡ None → in_hand m.seat t.slot ≡ Nothing
+pub sends_kept : (m : MasterState) (start count s : ℕ) (t : TicketView) → IsKeptMaster m start count → s < length m.out → ticket_at m.out s ≡ None → hand_at m.seat t.slot ≡ Nothing
     → t.slot < length m.seat.hand → t.ask.source ≡ start + s → t.known ≡ length m.trace → length m.trace + count ≢ m.limit → IsKeptMaster (with_out m s t) start (count + 1)
 sends_kept m start count s t kept within idle free lt source known room =
     let n : MasterState = with_out m s t in
@@ -100,10 +100,10 @@ sends_kept m start count s t kept within idle free lt source known room =
           subst (λ (w : TicketView). IsOut n start z w) same (record { sent = posted_here m.seat t lt; ask_source = source ∙ ap (λ (k : ℕ). start + k) (sym e); since = λ j d after at. subst (λ (k : ℕ). d.ask.source ≢ k) (sym e) (late j d after at) }))
           (λ ne.
           let was = kept.out_sent z u (sym (else z ne) ∙ is) in
-          let other : u.slot ≢ t.slot = (λ same. let clash : Nothing ≡ Sent u.ask u.port u.known = sym free ∙ (ap (λ (i : ℕ). in_hand m.seat i) (sym same) ∙ was.sent) in absurd (cc)) in
+          let other : u.slot ≢ t.slot = (λ same. let clash : Nothing ≡ Sent u.ask u.port u.known = sym free ∙ (ap (λ (i : ℕ). hand_at m.seat i) (sym same) ∙ was.sent) in absurd (cc)) in
           record { sent = posted_else m.seat t lt u.slot other ∙ was.sent; ask_source = was.ask_source; since = was.since })
 
-      still_out : (i p since : ℕ) (ask : Request) → in_hand n.seat i ≡ Sent ask p since → IsOfSource n i
+      still_out : (i p since : ℕ) (ask : Request) → hand_at n.seat i ≡ Sent ask p since → IsOfSource n i
       still_out i p since ask is = dite (ℕ_discrete i t.slot)
           (λ e. record { source = s; ticket = t; out = here; here = sym e })
           (λ ne.
@@ -181,23 +181,23 @@ collects_kept m start count s t r v kept is got =
       back = widened_back start s (entry_of r) source (reply ∙ source)
 
       slot_in : r.slot < length m.seat.hand
-      slot_in = in_hand_of m.seat.hand r.slot (λ none. let there = sent.sent in let same = got.slot in absurd (let clash : Nothing ≡ Sent t.ask t.port t.known = sym none ∙ (ap (λ (i : ℕ). in_hand m.seat i) same ∙ there) in cc))
+      slot_in = in_hand_of m.seat.hand r.slot (λ none. let there = sent.sent in let same = got.slot in absurd (let clash : Nothing ≡ Sent t.ask t.port t.known = sym none ∙ (ap (λ (i : ℕ). hand_at m.seat i) same ∙ there) in cc))
 
       hand : (with_held v r.slot Nothing).hand ≡ slice_set (slice_set m.seat.hand r.slot (Taken r.port)) r.slot Nothing
       hand = ap (λ (w : MasterView). slice_set w.hand r.slot Nothing) got.seat
 
       released : owned_of (with_held v r.slot Nothing) + 1 ≡ owned_of m.seat
       released =
-          let held : is_held (get_or m.seat.hand r.slot Nothing) ≡ true = ap is_held (ap (λ (i : ℕ). in_hand m.seat i) got.slot ∙ sent.sent) in
+          let held : is_held (get_or m.seat.hand r.slot Nothing) ≡ true = ap is_held (ap (λ (i : ℕ). hand_at m.seat i) got.slot ∙ sent.sent) in
           let count = released_owned m.seat.hand r.slot r.port slot_in held in
           let same = ap (λ (h : List Held). count_by is_held h) hand in
           omega arith
 
-      in_hand_else : (i : ℕ) → i ≢ r.slot → in_hand n.seat i ≡ in_hand m.seat i
-      in_hand_else i ne = ap (λ (h : List Held). get_or h i Nothing) hand ∙ (get_or-set_other (slice_set m.seat.hand r.slot (Taken r.port)) r.slot i Nothing Nothing ne ∙ get_or-set_other m.seat.hand r.slot i (Taken r.port) Nothing ne)
+      hand_at_else : (i : ℕ) → i ≢ r.slot → hand_at n.seat i ≡ hand_at m.seat i
+      hand_at_else i ne = ap (λ (h : List Held). get_or h i Nothing) hand ∙ (get_or-set_other (slice_set m.seat.hand r.slot (Taken r.port)) r.slot i Nothing Nothing ne ∙ get_or-set_other m.seat.hand r.slot i (Taken r.port) Nothing ne)
 
-      in_hand_here : in_hand n.seat r.slot ≡ Nothing
-      in_hand_here = ap (λ (h : List Held). get_or h r.slot Nothing) hand ∙ get_or-set_same (slice_set m.seat.hand r.slot (Taken r.port)) r.slot Nothing Nothing (let lt = slot_in in let same = length-set m.seat.hand r.slot (Taken r.port) in omega arith)
+      hand_at_here : hand_at n.seat r.slot ≡ Nothing
+      hand_at_here = ap (λ (h : List Held). get_or h r.slot Nothing) hand ∙ get_or-set_same (slice_set m.seat.hand r.slot (Taken r.port)) r.slot Nothing Nothing (let lt = slot_in in let same = length-set m.seat.hand r.slot (Taken r.port) in omega arith)
 
       none_here : ticket_at n.out s ≡ None
       none_here = get_or-set_same m.out s None None (source_known m.out s t is)
@@ -212,15 +212,15 @@ collects_kept m start count s t r v kept is got =
           let was = kept.out_sent z u was_at in
           let other : u.slot ≢ r.slot = (λ same. ne (one_source m start count kept z s u t was_at is (same ∙ got.slot))) in
           record {
-            sent = in_hand_else u.slot other ∙ was.sent;
+            sent = hand_at_else u.slot other ∙ was.sent;
             ask_source = was.ask_source;
             since = λ j e after there. ⊎_elim (λ (old : slice_get m.trace j ≡ Some e). was.since j e after old) (λ (last : (j ≡ length m.trace) × (mine ≡ e)). λ same. ne (sym (ap (λ (x : Entry). x.ask.source) last.1 ∙ same))) (slice_get-push m.trace mine e j there);
           }
 
-      still_out : (i p since : ℕ) (ask : Request) → in_hand n.seat i ≡ Sent ask p since → IsOfSource n i
+      still_out : (i p since : ℕ) (ask : Request) → hand_at n.seat i ≡ Sent ask p since → IsOfSource n i
       still_out i p since ask at =
-          let ne : i ≢ r.slot = (λ e. let clash : Nothing ≡ Sent ask p since = sym in_hand_here ∙ (ap (λ (k : ℕ). in_hand n.seat k) (sym e) ∙ at) in absurd (cc)) in
-          let was = kept.sent_out i p since ask (sym (in_hand_else i ne) ∙ at) in
+          let ne : i ≢ r.slot = (λ e. let clash : Nothing ≡ Sent ask p since = sym hand_at_here ∙ (ap (λ (k : ℕ). hand_at n.seat k) (sym e) ∙ at) in absurd (cc)) in
+          let was = kept.sent_out i p since ask (sym (hand_at_else i ne) ∙ at) in
           let other : was.source ≢ s = (λ e. let same : t ≡ was.ticket = (let both : Some t ≡ Some was.ticket = sym is ∙ (ap (λ (k : ℕ). ticket_at m.out k) (sym e) ∙ was.out) in cc) in ne (sym was.here ∙ (ap (λ (x : TicketView). x.slot) (sym same) ∙ sym got.slot))) in
           record { source = was.source; ticket = was.ticket; out = else was.source other ∙ was.out; here = was.here }
 

@@ -5,7 +5,7 @@ use Rattle.tl_types.specs.declared.trace.Entry.{Entry}
 use Rattle.tl_map.specs.Block.{IsWide}
 use Rattle.tl_rule.specs.declared.view.Held.TheVariants.{Nothing}
 use Rattle.tl_rule.proofs.Carried.{none_held}
-use Rattle.tl_arena.specs.Views.{MasterView, TicketView, in_hand, owned_of}
+use Rattle.tl_arena.specs.Views.{MasterView, TicketView, hand_at, owned_of}
 use Rattle.tl_master.specs.Master.{MasterState, count_of, ticket_at, out_of}
 use Rattle.tl_master.specs.Kept.{IsKeptMaster}
 
@@ -54,7 +54,7 @@ new_kept m start count owned got out trace sources wide fits =
       owned = owned;
       room = rw trace (omega arith);
       out_sent = λ s t is. absurd (let none = ap (λ (o : List (Option TicketView)). ticket_at o s) out ∙ none_at count s in cc);
-      sent_out = λ i p known ask is. absurd (let none : in_hand m.seat i ≡ Nothing = none_held m.seat.hand owned i in cc);
+      sent_out = λ i p known ask is. absurd (let none : hand_at m.seat i ≡ Nothing = none_held m.seat.hand owned i in cc);
       order = λ j k d e before at_j at_k source port. absurd (no_entry j d at_j);
     }
 

@@ -3,7 +3,7 @@ use Rattle.std.proofs.Common.{◌≡◌, ◌≢◌, ℕ, ◌+◌, ◌-◌, ◌<�
 use Rattle.std.proofs.lemmas.List.{length-map}
 use Rattle.tl_types.specs.declared.trace.Entry.{Entry}
 use Rattle.tl_rule.specs.declared.view.Held.TheVariants.{Nothing, Filled, Sent}
-use Rattle.tl_arena.specs.Views.{MasterView, TicketView, in_hand, with_held, entry_of}
+use Rattle.tl_arena.specs.Views.{MasterView, TicketView, hand_at, with_held, entry_of}
 use Rattle.tl_master.specs.Master.{MasterState, ticket_at, entry_from}
 use Rattle.tl_master.specs.Steps.{with_posted, with_out, with_entry, IsReply}
 use Rattle.tl_master.specs.Kept.{IsKeptMaster, widened}
@@ -32,7 +32,7 @@ collects_on m n start count s t e kept was reply out trace limit =
     subst (λ (x : MasterState). IsKeptMaster x start (count - 1)) (sym is) (collects_kept m start count s t r reply.taken kept was reply.collected)
 
 pub sends_on : (m n : MasterState) (start count s i : ℕ) (t : TicketView) (v : MasterView) → IsKeptMaster m start count → s < length m.out → ticket_at m.out s ≡ None → length m.trace + count ≢ m.limit
-    → i < length m.seat.hand → in_hand m.seat i ≡ Nothing → v ≡ with_held m.seat i Filled → t.slot ≡ i → t.ask.source ≡ start + s → t.known ≡ length v.got
+    → i < length m.seat.hand → hand_at m.seat i ≡ Nothing → v ≡ with_held m.seat i Filled → t.slot ≡ i → t.ask.source ≡ start + s → t.known ≡ length v.got
     → n.seat ≡ with_held v i (Sent t.ask t.port t.known) → n.out ≡ slice_set m.out s (Some t) → n.trace ≡ m.trace → n.limit ≡ m.limit → IsKeptMaster n start (count + 1)
 sends_on m n start count s i t v kept within idle room lt free claimed from source known seat out trace limit =
     let posted : n.seat ≡ with_posted m.seat t = seat
@@ -40,4 +40,4 @@ sends_on m n start count s i t v kept within idle room lt free claimed from sour
     let is : n ≡ with_out m s t = same_state n.seat _ n.out _ n.trace _ n.limit _ posted out trace limit in
     let many : t.known ≡ length m.trace = known ∙ (ap (λ (w : MasterView). length w.got) claimed ∙ (ap (λ (es : List Entry). length es) kept.got ∙ length-map m.trace (widened start))) in
     subst (λ (x : MasterState). IsKeptMaster x start (count + 1)) (sym is)
-    (sends_kept m start count s t kept within idle (ap (λ (k : ℕ). in_hand m.seat k) from ∙ free) (subst (λ (k : ℕ). k < length m.seat.hand) (sym from) lt) source many room)
+    (sends_kept m start count s t kept within idle (ap (λ (k : ℕ). hand_at m.seat k) from ∙ free) (subst (λ (k : ℕ). k < length m.seat.hand) (sym from) lt) source many room)

@@ -4,7 +4,7 @@ use Rattle.tl_types.specs.Request.{Request}
 use Rattle.tl_types.specs.declared.trace.Entry.{Entry}
 use Rattle.tl_map.specs.Block.{IsWide}
 use Rattle.tl_rule.specs.declared.view.Held.TheVariants.{Sent}
-use Rattle.tl_arena.specs.Views.{TicketView, in_hand, owned_of}
+use Rattle.tl_arena.specs.Views.{TicketView, hand_at, owned_of}
 use Rattle.tl_master.specs.Master.{MasterState, count_of, ticket_at, out_of, entry_from, IsInOrder}
 
 -- the entry with its source widened, where the master's wide sources start here
@@ -13,7 +13,7 @@ widened start e = entry_from (start + e.ask.source) e
 
 -- what is out for the source was sent from the ticket's slot, and no reply for it was collected since
 pub record IsOut (m : MasterState) (start source : ℕ) (t : TicketView) : Type 0 where
-  pub sent : in_hand m.seat t.slot ≡ Sent t.ask t.port t.known
+  pub sent : hand_at m.seat t.slot ≡ Sent t.ask t.port t.known
   pub ask_source : t.ask.source ≡ start + source
   pub since : (j : ℕ) (e : Entry) → t.known ≤ j → slice_get m.trace j ≡ Some e → e.ask.source ≢ source
 
@@ -37,5 +37,5 @@ pub record IsKeptMaster (m : MasterState) (start count : ℕ) : Type 0 where
   pub owned : owned_of m.seat ≡ count
   pub room : length m.trace + count ≤ m.limit
   pub out_sent : (source : ℕ) (t : TicketView) → ticket_at m.out source ≡ Some t → IsOut m start source t
-  pub sent_out : (i p known : ℕ) (ask : Request) → in_hand m.seat i ≡ Sent ask p known → IsOfSource m i
+  pub sent_out : (i p known : ℕ) (ask : Request) → hand_at m.seat i ≡ Sent ask p known → IsOfSource m i
   pub order : IsInOrder m.trace

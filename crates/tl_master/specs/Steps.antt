@@ -7,7 +7,7 @@ use Rattle.tl_map.specs.declared.map.Range.{Range}
 use Rattle.tl_map.specs.Map.{Routes}
 use Rattle.tl_map.specs.Block.{IsWide}
 use Rattle.tl_rule.specs.declared.view.Held.TheVariants.{Nothing, Filled, Sent}
-use Rattle.tl_arena.specs.Views.{MasterView, TicketView, ServedView, in_hand, with_held, entry_of}
+use Rattle.tl_arena.specs.Views.{MasterView, TicketView, ServedView, hand_at, with_held, entry_of}
 use Rattle.tl_arena.specs.Promises.{IsCollected}
 use Rattle.tl_master.specs.declared.master.Issued.{Issued}
 use Rattle.tl_master.specs.declared.master.IssueFault.{IssueFault}
@@ -43,7 +43,7 @@ pub record Sends (ranges : List Range) (m : MasterState) (q : Request) (issued :
   pub ticket : TicketView
   pub wide : ℕ
   pub widened : IsWide m.seat.arena.about.counts m.seat.number q.source wide
-  pub free : in_hand m.seat ticket.slot ≡ Nothing
+  pub free : hand_at m.seat ticket.slot ≡ Nothing
   pub posted : IsPosted ranges q wide m.seat ticket.slot ticket issued
   pub master : n ≡ with_out m q.source ticket
 

@@ -3,8 +3,8 @@ ghost use Rattle.std.specs.Prelude.{◌≡◌, ℕ, ◌+◌, ◌<◌, ◌≤◌,
 ghost use Rattle.std.specs.Prelude as std;
 ghost use Rattle.tl_rule.specs.declared.view.Held.TheVariants.{Filled, Sent};
 ghost use Rattle.tl_rule.specs.Views.{Owns};
-ghost use Rattle.tl_arena.specs.Views.{owned_of, in_hand, with_held};
-ghost use Rattle.tl_arena.specs.Promises.{IsUnsent, OwnsHistories};
+ghost use Rattle.tl_arena.specs.Views.{owned_of, hand_at, with_held};
+ghost use Rattle.tl_arena.specs.Promises.{IsIdleSource, OwnsHistories};
 ghost use Rattle.tl_master.specs.Master.{new_state, count_of, out_of, ticket_at, IsInOrder, AreWidened, asks_of, of_source, asked, IsNextOut};
 ghost use Rattle.tl_master.specs.Steps.{Appends, IsPosted, Issues, Polls, AsksMore, AsksSame};
 
@@ -281,9 +281,9 @@ fn post_routed(
     posted: &mut Ask,
 ) -> (Ticket, Issued)
     requires arena { seat.old.arena ≡ arena.now }
-    requires claim { in_hand seat.old claim ≡ Filled }
+    requires claim { hand_at seat.old claim ≡ Filled }
     requires source { Owns arena.now.about seat.old.number wide }
-    requires unsent { IsUnsent seat.old wide }
+    requires unsent { IsIdleSource seat.old wide }
     requires ports { length map.now + 1 ≤ arena.now.about.ports }
     ensures posted { IsPosted map.now ask.now wide seat.old claim result.0 result.1 }
     ensures seat { seat.new
@@ -309,7 +309,7 @@ fn collect_entry(
     reply: &mut Reply,
 ) -> Result<usize, Ticket>
     requires arena { seat.old.arena ≡ arena.now }
-    requires ticket { in_hand seat.old ticket.slot ≡ Sent ticket.ask ticket.port ticket.known }
+    requires ticket { hand_at seat.old ticket.slot ≡ Sent ticket.ask ticket.port ticket.known }
     requires count { length seat.old.got < usize.MAX }
     requires room { length trace.old.items < trace.old.room }
     ensures ok { IfOk result (λ place.

@@ -9,7 +9,7 @@ use Rattle.tl_script.specs.declared.operation.Job.{Job}
 use Rattle.tl_script.specs.System.{System, IsLawfulSystem, resets, error_store, range_of}
 use Rattle.tl_arena.specs.Views.{ArenaId, about_of}
 use Rattle.tl_arena.specs.Account.{IsClosing}
-use Rattle.tl_arena.specs.declared.account.Held.{Held}
+use Rattle.tl_arena.specs.declared.account.HeldSlot.{HeldSlot}
 use Rattle.tl_port.specs.Book.{BookView}
 use Rattle.tl_threads.specs.Trace.{IsTrace}
 use Rattle.tl_threads.specs.Run.{IsBookOf, AreTraces, AreBooks, IsThreadedRun}
@@ -41,7 +41,7 @@ traces_of a ranges jobs ts many all = record {
 pub books_are : (a : ArenaId) (ports : ℕ) (bs : List BookView) → length bs ≡ ports → AreFrom (IsBookOf a) 0 bs → AreBooks a ports bs
 books_are a ports bs many all = record { many = many; each = λ p b is. let e : 0 + p ≡ p = omega arith in subst (λ (n : ℕ). IsBookOf a n b) e (all p b is) }
 
-pub threaded : (s : System) (a : ArenaId) (ts : List TraceView) (bs : List BookView) (free : List ℕ) (held : List Held) (left : List ℕ) → a.about ≡ about_of s.slots s.counts (resets s)
+pub threaded : (s : System) (a : ArenaId) (ts : List TraceView) (bs : List BookView) (free : List ℕ) (held : List HeldSlot) (left : List ℕ) → a.about ≡ about_of s.slots s.counts (resets s)
     → length ts ≡ length s.jobs → AreFrom (IsTraceOf a s.ranges s.jobs) 0 ts → length bs ≡ length s.ranges + 1 → AreFrom (IsBookOf a) 0 bs → IsClosing a.about free held left
     → IsThreadedRun s (entries_in ts) bs free held left
 threaded s a ts bs free held left about many traces ports books account = record {

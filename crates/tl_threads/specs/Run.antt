@@ -6,7 +6,7 @@ use Rattle.tl_script.specs.declared.operation.Job.{Job}
 use Rattle.tl_script.specs.System.{System, resets}
 use Rattle.tl_arena.specs.Views.{ArenaId, about_of}
 use Rattle.tl_arena.specs.Account.{IsClosing}
-use Rattle.tl_arena.specs.declared.account.Held.{Held}
+use Rattle.tl_arena.specs.declared.account.HeldSlot.{HeldSlot}
 use Rattle.tl_port.specs.Book.{BookView, IsLawfulBook}
 use Rattle.tl_threads.specs.Trace.{IsTrace}
 
@@ -27,7 +27,7 @@ pub record AreBooks (arena : ArenaId) (ports : ℕ) (books : List BookView) : Ty
   pub each : (p : ℕ) (book : BookView) → slice_get books p ≡ Some book → IsBookOf arena p book
 
 -- the traces, the books and the account are those of a run of the system over one arena
-pub record IsThreadedRun (s : System) (traces : List (List Entry)) (books : List BookView) (free : List ℕ) (held : List Held) (left : List ℕ) : Type 0 where
+pub record IsThreadedRun (s : System) (traces : List (List Entry)) (books : List BookView) (free : List ℕ) (held : List HeldSlot) (left : List ℕ) : Type 0 where
   pub arena : ArenaId
   pub about : arena.about ≡ about_of s.slots s.counts (resets s)
   pub traces_are : AreTraces arena s.ranges s.jobs traces

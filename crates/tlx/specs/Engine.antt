@@ -2,7 +2,7 @@
 use Rattle.std.specs.Prelude.{◌≡◌, ◌≢◌, ℕ, Bool, List, ◌+◌, ◌++◌, length, Option, Result, Err, OnOk, IfErr}
 use Rattle.std.specs.Io.KnownBytes.{Appends, Keeps}
 use Rattle.tl_types.specs.declared.trace.Entry.{Entry}
-use Rattle.tl_arena.specs.declared.account.Held.{Held}
+use Rattle.tl_arena.specs.declared.account.HeldSlot.{HeldSlot}
 use Rattle.tl_port.specs.Book.{BookView}
 use Rattle.tl_audit.specs.Agrees.{Agrees, HasAuditFault}
 use Rattle.tl_audit.specs.Reader.{histories_of}
@@ -25,7 +25,7 @@ pub record IsThreadedText (history : Bool) (system : System) (text : List ℕ) :
   pub traces : List (List Entry)
   pub books : List BookView
   pub free : List ℕ
-  pub held : List Held
+  pub held : List HeldSlot
   pub left : List ℕ
   pub run : IsThreadedRun system traces books free held left
   pub agrees : Agrees system.counts traces (histories_of books)
@@ -36,7 +36,7 @@ pub record HasThreadedFault (system : System) (fault : AuditFault) : Type 0 wher
   pub traces : List (List Entry)
   pub books : List BookView
   pub free : List ℕ
-  pub held : List Held
+  pub held : List HeldSlot
   pub left : List ℕ
   pub run : IsThreadedRun system traces books free held left
   pub has : HasAuditFault system.counts traces (histories_of books) fault

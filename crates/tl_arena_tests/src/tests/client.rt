@@ -2,8 +2,8 @@
 ghost use Rattle.std.specs.Prelude.{◌≡◌, ◌<◌, IfSome, IfNone, IfErr};
 ghost use Rattle.tl_rule.specs.declared.view.Held.TheVariants.{Filled, Sent, Nothing};
 ghost use Rattle.tl_rule.specs.Views.{Owns};
-ghost use Rattle.tl_arena.specs.Views.{in_hand};
-ghost use Rattle.tl_arena.specs.Promises.{IsUnsent};
+ghost use Rattle.tl_arena.specs.Views.{hand_at};
+ghost use Rattle.tl_arena.specs.Promises.{IsIdleSource};
 
 use std::process::Abort;
 use tl_arena::{Arena, Claim, MasterSeat, Ticket};
@@ -36,10 +36,10 @@ impl<'a> Client<'a> {
     /// A slot for a request of the client's own source to a port, with the request as it will be posted, if nothing is
     /// out.
     pub(super) fn claim(&mut self, ask: &Ask, port: usize) -> Option<(Claim, Ask)>
-        ensures claimed { IfSome result (λ c. in_hand self.new.seat c.0 ≡ Filled) }
+        ensures claimed { IfSome result (λ c. hand_at self.new.seat c.0 ≡ Filled) }
         ensures source { IfSome result
             (λ c. Owns self.new.seat.arena.about self.new.seat.number c.1.source) }
-        ensures unsent { IfSome result (λ c. IsUnsent self.new.seat c.1.source) }
+        ensures unsent { IfSome result (λ c. IsIdleSource self.new.seat c.1.source) }
         ensures port { IfSome result (λ _. port < self.new.seat.arena.about.ports) }
         ensures none { IfNone result (self.new.seat ≡ self.old.seat) }
     {
@@ -53,11 +53,11 @@ impl<'a> Client<'a> {
 
     /// Posts the request.
     pub(super) fn post(&mut self, claim: Claim, ask: &Ask, port: usize) -> Ticket
-        requires claim { in_hand self.old.seat claim ≡ Filled }
+        requires claim { hand_at self.old.seat claim ≡ Filled }
         requires source { Owns self.old.seat.arena.about self.old.seat.number ask.now.source }
-        requires unsent { IsUnsent self.old.seat ask.now.source }
+        requires unsent { IsIdleSource self.old.seat ask.now.source }
         requires port { port < self.old.seat.arena.about.ports }
-        ensures { in_hand self.new.seat result.slot ≡ Sent result.ask result.port result.known }
+        ensures { hand_at self.new.seat result.slot ≡ Sent result.ask result.port result.known }
     {
         self.arena.post(&mut self.seat, claim, ask, port)
     }
@@ -65,7 +65,7 @@ impl<'a> Client<'a> {
     /// Posts a request of the client's own source, if it has a free slot and nothing is out.
     pub(super) fn send(&mut self, ask: &Ask, port: usize) -> Option<Ticket>
         ensures some { IfSome result
-            (λ t. in_hand self.new.seat t.slot ≡ Sent t.ask t.port t.known) }
+            (λ t. hand_at self.new.seat t.slot ≡ Sent t.ask t.port t.known) }
         ensures none { IfNone result (self.new.seat ≡ self.old.seat) }
     {
         let (claim, ask) = self.claim(ask, port)?;
@@ -74,7 +74,7 @@ impl<'a> Client<'a> {
 
     /// The reply, if it is there, whose slot is then released.
     pub(super) fn receive(&mut self, ticket: Ticket) -> Result<Received, Ticket>
-        requires { in_hand self.old.seat ticket.slot ≡ Sent ticket.ask ticket.port ticket.known }
+        requires { hand_at self.old.seat ticket.slot ≡ Sent ticket.ask ticket.port ticket.known }
         ensures err { IfErr result (λ t. (t ≡ ticket) × (self.new.seat ≡ self.old.seat)) }
     {
         if self.seat.collected() == usize::MAX {
@@ -97,7 +97,7 @@ impl<'a> Client<'a> {
 
     /// Looks for a reply that is not there yet: the ticket comes back.
     pub(super) fn wait_in_vain(&mut self, rt: &impl Abort, ticket: Ticket) -> Ticket
-        requires { in_hand self.old.seat ticket.slot ≡ Sent ticket.ask ticket.port ticket.known }
+        requires { hand_at self.old.seat ticket.slot ≡ Sent ticket.ask ticket.port ticket.known }
         ensures same { result ≡ ticket }
         ensures seat { self.new.seat ≡ self.old.seat }
     {
@@ -109,7 +109,7 @@ impl<'a> Client<'a> {
 
     /// The reply, which is there.
     pub(super) fn receive_now(&mut self, rt: &impl Abort, ticket: Ticket) -> Received
-        requires { in_hand self.old.seat ticket.slot ≡ Sent ticket.ask ticket.port ticket.known }
+        requires { hand_at self.old.seat ticket.slot ≡ Sent ticket.ask ticket.port ticket.known }
     {
         match self.receive(ticket) {
             Ok(received) => received,

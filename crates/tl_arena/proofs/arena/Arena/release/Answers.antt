@@ -6,7 +6,7 @@ use Rattle.atomic_table.specs.Table.{rest}
 use Rattle.tl_rule.specs.Moves.{as_master}
 use Rattle.tl_rule.specs.Views as views
 use Rattle.tl_rule.proofs.Seats.{releases_at, told_released}
-use Rattle.tl_arena.specs.Views.{MasterView, ServedView, in_hand}
+use Rattle.tl_arena.specs.Views.{MasterView, ServedView, hand_at}
 use Rattle.tl_arena.specs.Key.{about_in}
 use Rattle.tl_arena.proofs.Keeping.{master_arena, held_inside, master_recounted, owns_some, release_kept}
 use Rattle.tl_beats.specs.Told.{told_reply}
@@ -25,7 +25,7 @@ store-requires c =
     let slots = ap (λ (a : About). a.slots) arena.1 in
     let k = c.served.inside in
     let served : ServedView = record { slot = k.slot; ask = k.ask.value; port = k.port; index = k.record.value.index; reply = told_reply k.record.value.replies k.ask.value.address } in
-    let taken : views.in_hand (as_master me.0) i ≡ Taken k.port = subst (λ (v : MasterView). in_hand v i ≡ Taken k.port) (sym c.master.view_is) (subst (λ (x : ServedView). in_hand c.args.master.now x.slot ≡ Taken x.port) (sym c.served.view_is) c.requires.taken) in
+    let taken : views.in_hand (as_master me.0) i ≡ Taken k.port = subst (λ (v : MasterView). hand_at v i ≡ Taken k.port) (sym c.master.view_is) (subst (λ (x : ServedView). hand_at c.args.master.now x.slot ≡ Taken x.port) (sym c.served.view_is) c.requires.taken) in
     let lt = held_inside me c.master.inside.order.items (deque_capacity c.master.inside.order) c.master.inside.number c.master.inside.owned c.master.inside.collected m i (λ e. absurd (cc)) in
     let now = brought_back me c.bring.new.seat.me c.exchange.new.seat.me i _ k.record.value c.of.ensures c.bring.ensures.brought.view c.exchange.ensures.3 in (
       c.exchange.ensures.0 ∙ c.bring.ensures.table ∙ arena.0,
@@ -41,7 +41,7 @@ invariant_of-master c =
     let me = c.master.inside.seat.me in
     let k = c.served.inside in
     let served : ServedView = record { slot = k.slot; ask = k.ask.value; port = k.port; index = k.record.value.index; reply = told_reply k.record.value.replies k.ask.value.address } in
-    let taken : views.in_hand (as_master me.0) i ≡ Taken k.port = subst (λ (v : MasterView). in_hand v i ≡ Taken k.port) (sym c.master.view_is) (subst (λ (x : ServedView). in_hand c.args.master.now x.slot ≡ Taken x.port) (sym c.served.view_is) c.requires.taken) in
+    let taken : views.in_hand (as_master me.0) i ≡ Taken k.port = subst (λ (v : MasterView). hand_at v i ≡ Taken k.port) (sym c.master.view_is) (subst (λ (x : ServedView). hand_at c.args.master.now x.slot ≡ Taken x.port) (sym c.served.view_is) c.requires.taken) in
     let now = brought_back me c.bring.new.seat.me c.exchange.new.seat.me i _ k.record.value c.of.ensures c.bring.ensures.brought.view c.exchange.ensures.3 in
     let told = told_released _ me c.exchange.new.seat.me c.store.new.seat.me i k.record.value (rest c.bring.new.seat.me.1) now c.store.ensures.2 in
     let some = owns_some me order.items (deque_capacity order) c.master.inside.number c.master.inside.owned c.master.inside.collected m i k.port taken in
