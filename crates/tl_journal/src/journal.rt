@@ -1,5 +1,5 @@
 //! Requests and their replies, kept compactly.
-ghost use Rattle.std.specs.Prelude.{◌≡◌, ◌+◌, ◌<◌, ◌≤◌, ◌==◌, ◌++◌, ◌∷◌, [], length, max, slice_get, IfOk, OnErr, OnOk, Some};
+ghost use Rattle.std.specs.Prelude.{◌≡◌, ◌+◌, ◌<◌, ◌≤◌, ◌==◌, ◌++◌, ◌∷◌, [], length, max, slice_get, IfOk, IsOk, OnErr, OnOk, Some};
 ghost use Rattle.tl_journal.specs.Headers.{IsEntryIn, ask_in, reply_in};
 
 use crate::pools::Pools;
@@ -97,6 +97,7 @@ impl Journal {
         ensures items { self.new.items ≡ self.old.items }
         ensures room { OnOk result (self.new.room ≡ max self.old.room (length self.old.items + 1)) }
         ensures err { OnErr result (self.new.room ≡ self.old.room) }
+        ensures succeeds { length self.old.items < self.old.room → IsOk result }
     {
         if self.headers.len() < self.room {
             return Ok(());
@@ -107,12 +108,14 @@ impl Journal {
         Ok(())
     }
 
-    /// Appends a request and its reply, each with this source, and makes room for them first where there is none.
+    /// Appends a request and its reply, each with this source, and makes room for them first where there is none: it fails only
+    /// then.
     pub fn push(&mut self, source: u16, ask: &Ask, reply: &Reply) -> Result<(), AllocError>
         ensures ok { OnOk result (self.new.items ≡ self.old.items
             ++ (record ask.now { source = source }, record reply.now { source = source }) ∷ []) }
         ensures room { OnOk result (self.new.room ≡ max self.old.room (length self.new.items)) }
         ensures err { OnErr result (self.new ≡ self.old) }
+        ensures succeeds { length self.old.items < self.old.room → IsOk result }
     {
         self.reserve_one()?;
         self.push_reserved(source, ask, reply);

@@ -1,3 +1,4 @@
 pub mod NumberLemmas
 pub mod WordLemmas
 pub mod NameLemmas
+pub mod TextLemmas

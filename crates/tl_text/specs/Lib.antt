@@ -1,3 +1,4 @@
 pub mod Name
 pub mod Number
+pub mod Text
 pub mod Word

@@ -1,6 +1,7 @@
 //! Numbers as lines print them.
-ghost use Rattle.std.specs.Prelude.{◌≡◌, ◌<◌, ◌++◌, false, OnOk};
+ghost use Rattle.std.specs.Prelude.{◌≡◌, ◌<◌, ◌++◌, false, OnErr, OnOk};
 ghost use Rattle.std.specs.Fmt.{decimal, digit_glyph, digits};
+ghost use Rattle.tl_text.specs.Text.{BeginsWith};
 
 use itoa::Buffer;
 use std::alloc::AllocError;
@@ -21,15 +22,19 @@ pub fn hex_digit(digit: u8) -> u8
 }
 
 /// Appends a number in decimal digits.
+#[tactic(auto, using(crate::proofs::TextLemmas::begins))]
 pub fn push_decimal(text: &mut Vec<u8>, number: u64) -> Result<(), AllocError>
-    ensures { OnOk result (text.new.items ≡ text.old.items ++ decimal number) }
+    ensures ok { OnOk result (text.new.items ≡ text.old.items ++ decimal number) }
+    ensures err { OnErr result (BeginsWith text.old.items text.new.items) }
 {
     text.extend_from_slice(Buffer::new().format(number).as_bytes())
 }
 
 /// Appends some characters and a number in decimal digits.
+#[tactic(auto, using(crate::proofs::TextLemmas::begins))]
 pub fn push_field(text: &mut Vec<u8>, label: &[u8], number: u64) -> Result<(), AllocError>
-    ensures { OnOk result (text.new.items ≡ text.old.items ++ label.now ++ decimal number) }
+    ensures ok { OnOk result (text.new.items ≡ text.old.items ++ label.now ++ decimal number) }
+    ensures err { OnErr result (BeginsWith text.old.items text.new.items) }
 {
     text.extend_from_slice(label)?;
     push_decimal(text, number)
@@ -37,7 +42,8 @@ pub fn push_field(text: &mut Vec<u8>, label: &[u8], number: u64) -> Result<(), A
 
 /// Appends a number in hexadecimal digits.
 pub fn push_hex(text: &mut Vec<u8>, number: u64) -> Result<(), AllocError>
-    ensures { OnOk result (text.new.items ≡ text.old.items ++ digits 16 false number) }
+    ensures ok { OnOk result (text.new.items ≡ text.old.items ++ digits 16 false number) }
+    ensures err { OnErr result (BeginsWith text.old.items text.new.items) }
 {
     let mut digits = [0; MOST_DIGITS];
     let mut first = MOST_DIGITS - 1;
