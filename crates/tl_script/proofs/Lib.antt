@@ -7,3 +7,5 @@ pub mod Systems
 pub mod Printed
 pub mod Pooled
 pub mod Lines
+pub mod Banks
+pub mod Plain

@@ -3,6 +3,7 @@ use Rattle.std.specs.Prelude.{◌≡◌, ℕ, ◌<◌, ◌≤◌, List, [], ◌�
 use Rattle.std.specs.List.{filter_map}
 use Rattle.tl_types.specs.Request.{Request}
 use Rattle.tl_types.specs.declared.limits.TheConstants.{MAX_SLOTS}
+use Rattle.tl_ops.specs.Bank.{IsLawfulBank}
 use Rattle.tl_ops.specs.Store.{Store}
 use Rattle.tl_ops.specs.declared.kind.Kind.TheVariants.{NoDevice}
 use Rattle.tl_ops.specs.declared.bank.TheConstants.{MAX_LENGTH}
@@ -24,6 +25,10 @@ pub record System : Type 0 where
 -- the slave that a device is at reset
 abbrev pub store_of : Device → Store
 store_of device = record { kind = device.kind; base = device.base; bytes = device.reset.items }
+
+-- the device's bytes make a lawful bank
+abbrev pub IsLawfulDevice : Device → Type 0
+IsLawfulDevice device = IsLawfulBank device.base device.reset.items
 
 -- the system of these parts
 abbrev pub described : ℕ → List Device → List ℕ → List Range → List (List Job) → System

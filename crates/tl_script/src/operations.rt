@@ -50,7 +50,7 @@ impl Model for Operations {
 
 impl Operations {
     /// No operations, with room for so many.
-    pub fn with_capacity(alloc: Global, operations: usize) -> Result<Operations, AllocError>
+    pub(crate) fn with_capacity(alloc: Global, operations: usize) -> Result<Operations, AllocError>
         ensures { IfOk result (λ made. made ≡ []) }
     {
         let headers = Vec::with_capacity(alloc, operations)?;

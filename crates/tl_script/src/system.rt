@@ -1,12 +1,12 @@
 //! Systems: the slaves, masters and operations that a script describes.
-ghost use Rattle.std.specs.Prelude.{◌≡◌, ◌++◌, ◌∷◌, [], IfOk, map};
-ghost use Rattle.tl_script.specs.System.{IsLawfulSystem, error_store, store_of, described};
+ghost use Rattle.std.specs.Prelude.{◌≡◌, ◌++◌, ◌∷◌, [], All, IfOk, map};
+ghost use Rattle.tl_script.specs.System.{IsLawfulDevice, IsLawfulSystem, error_store, store_of, described};
 
 use crate::operations::Operations;
 use std::alloc::Global;
 use std::marker::Model;
 use tl_map::{Map, Sources};
-use tl_ops::{Bank, Kind};
+use tl_ops::{Bank, BankFault, Kind};
 use tl_types::Memory;
 
 /// The most operations of a master, waits counted.
@@ -80,7 +80,9 @@ impl System {
     pub fn devices(&self) -> &[Device]
         ensures value { map store_of result.now ≡ self.now.stores }
         ensures lawful { IsLawfulSystem self.now }
+        ensures banks { All IsLawfulDevice result.now }
     {
+        let _lawful = self.map.ports();
         &self.devices
     }
 
@@ -112,7 +114,9 @@ impl System {
         ensures sources { result.sources ≡ self.counts }
         ensures map { result.map ≡ self.ranges }
         ensures lawful { IsLawfulSystem self }
+        ensures banks { All IsLawfulDevice result.devices.items }
     {
+        let _lawful = self.map.ports();
         Crossbar {
             devices: self.devices,
             sources: self.sources,
@@ -121,14 +125,27 @@ impl System {
     }
 }
 
-/// What the slaves of these devices hold at reset, and the error port's behind them.
+/// What the slave of this device holds at reset.
+fn bank_of(alloc: Global, device: &Device) -> Result<Bank, Memory>
+    requires { IsLawfulDevice device.now }
+    ensures { IfOk result (λ bank. bank ≡ store_of device.now) }
+{
+    match Bank::new(alloc, device.kind, device.base, &device.reset) {
+        Ok(bank) => Ok(bank),
+        Err(BankFault::Memory) => Err(Memory),
+        Err(BankFault::TooLong | BankFault::PastEnd) => unreachable!(),
+    }
+}
+
+/// What the slaves of these devices hold at reset, and the error port's behind them. Only memory can be refused, since each device
+/// makes a lawful bank.
 pub fn banks_of(alloc: Global, devices: &[Device]) -> Result<Vec<Bank>, Memory>
+    requires { All IsLawfulDevice devices.now }
     ensures { IfOk result (λ banks. banks.items ≡ map store_of devices.now ++ error_store ∷ []) }
 {
     let mut banks = Vec::with_capacity(alloc, devices.len() + 1)?;
     for device in devices {
-        let bank = Bank::new(alloc, device.kind, device.base, &device.reset).map_err(|_| Memory)?;
-        banks.push(bank)?;
+        banks.push(bank_of(alloc, device)?)?;
     }
     let error_port = Bank::new(alloc, Kind::NoDevice, 0, &[]).map_err(|_| Memory)?;
     banks.push(error_port)?;

@@ -1,5 +1,5 @@
 //! Numbers as lines print them.
-ghost use Rattle.std.specs.Prelude.{◌≡◌, ◌<◌, ◌++◌, false, OnErr, OnOk};
+ghost use Rattle.std.specs.Prelude.{◌≡◌, ◌<◌, ◌≤◌, ◌+◌, ◌++◌, false, length, vec_capacity, OnErr, OnOk};
 ghost use Rattle.std.specs.Fmt.{decimal, digit_glyph, digits};
 ghost use Rattle.tl_text.specs.Text.{BeginsWith};
 
@@ -26,6 +26,9 @@ pub fn hex_digit(digit: u8) -> u8
 pub fn push_decimal(text: &mut Vec<u8>, number: u64) -> Result<(), AllocError>
     ensures ok { OnOk result (text.new.items ≡ text.old.items ++ decimal number) }
     ensures err { OnErr result (BeginsWith text.old.items text.new.items) }
+    ensures room { vec_capacity text.old ≤ vec_capacity text.new }
+    ensures full { OnErr result (vec_capacity text.old
+        < length text.old.items + length (decimal number)) }
 {
     text.extend_from_slice(Buffer::new().format(number).as_bytes())
 }
@@ -35,6 +38,9 @@ pub fn push_decimal(text: &mut Vec<u8>, number: u64) -> Result<(), AllocError>
 pub fn push_field(text: &mut Vec<u8>, label: &[u8], number: u64) -> Result<(), AllocError>
     ensures ok { OnOk result (text.new.items ≡ text.old.items ++ label.now ++ decimal number) }
     ensures err { OnErr result (BeginsWith text.old.items text.new.items) }
+    ensures room { vec_capacity text.old ≤ vec_capacity text.new }
+    ensures full { OnErr result (vec_capacity text.old
+        < length text.old.items + length label.now + length (decimal number)) }
 {
     text.extend_from_slice(label)?;
     push_decimal(text, number)

@@ -1,9 +1,9 @@
 //! tlcheck: judges whether a captured trace of a TileLink crossbar is lawful.
 //!
 //! SYSTEM is a script as `tlx` reads it, and says what the crossbar is; CAPTURE has a row for each beat that crossed one of its links.
-//! Standard output is one line, the verdict: lawful, with counts, or the first row that makes the capture unlawful, and why. A
-//! fault is one line on standard error, and then nothing was written, save for a failed write; a command line that is refused is
-//! told by clap's text.
+//! Standard output ends with one line, the verdict: lawful, with counts, or the first row that makes the capture unlawful, and why. It is
+//! all that is written, save that with `--trace` a line for each reply stands before it. A fault is one line on standard error; then
+//! nothing was written, save for those replies and where a write failed. A command line that is refused is told by clap's text.
 //!
 //! `check` (`engine`) carries the theorem, over the bytes of both files: lawful is written exactly where the rows that the capture
 //! spells are lawful for the system that SYSTEM spells. The crates `tl_streams` and `tl_verdict` read the two, `tl_check_options`

@@ -2,6 +2,8 @@
 use Rattle.std.proofs.Common.{◌∙◌, ◌++◌, append_assoc, ap, sym, take}
 use Rattle.tl_script.specs.Trace.{lines_of, trace_line}
 use Rattle.tl_script.proofs.Lines.{lines_more}
+use Rattle.tl_text.proofs.TextLemmas.{begins_appended, begins_before}
+use Rattle.tl_text.specs.Text.{BeginsWith}
 use Rattle.tl_script.proofs.print.push_trace.Goals as goal
 
 pub loop-place-preserved : goal.loop-place-preserved
@@ -9,5 +11,9 @@ loop-place-preserved c =
     let entries = c.args.trace.now.items in
     let line = trace_line c.args.master c.read.new.entry in
     let before = lines_of c.args.master (take c.loop-place.place entries) in
-    c.in_ok-push_entry.ensures ∙ ap (λ text. text ++ line) c.loop-place.invariant ∙ append_assoc c.args.text.now.items before line
-    ∙ ap (λ lines. c.args.text.now.items ++ lines) (sym (lines_more c.args.master entries c.loop-place.place c.read.new.entry c.read.ensures))
+    let front = c.loop-place.invariant.1 in
+    let one_more : BeginsWith c.loop-place.text.items c.push_entry.new.text.items = begins_appended _ _ _ c.in_ok-push_entry.ensures.ok in (
+      c.in_ok-push_entry.ensures.ok ∙ ap (λ text. text ++ line) c.loop-place.invariant.0 ∙ append_assoc c.args.text.now.items before line
+          ∙ ap (λ lines. c.args.text.now.items ++ lines) (sym (lines_more c.args.master entries c.loop-place.place c.read.new.entry c.read.ensures)),
+      begins_before _ _ _ one_more front,
+    )

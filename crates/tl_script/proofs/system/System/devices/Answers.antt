@@ -1,0 +1,11 @@
+-- The devices are those of the map's ranges.
+use Rattle.std.proofs.Common.{All}
+use Rattle.tl_script.specs.System.{IsLawfulDevice}
+use Rattle.tl_script.proofs.Banks.{devices_are_lawful}
+use Rattle.tl_script.proofs.system.System.devices.Goals as goal
+
+pub returns-clause-banks : goal.returns-clause-banks
+returns-clause-banks c =
+    let banks : All IsLawfulDevice c.self.inside.devices.items =
+    devices_are_lawful c.self.inside.devices.items c.self.inside.map c.self.invariant.ranges c.self.invariant.lengths c.ports-lawful.ensures.lawful in
+    rw c.deref.ensures.value banks
