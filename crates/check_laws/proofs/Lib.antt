@@ -1,0 +1,11 @@
+pub mod Lists
+pub mod Links
+pub mod Turns
+pub mod Flights
+pub mod Taking
+pub mod Dues
+pub mod Done
+pub mod Told
+pub mod Memory
+pub mod Telling
+pub mod Sequential

@@ -1,0 +1,20 @@
+//! Laws of lawful lists of beats, each on a function that does nothing but carry it.
+ghost use Rattle.std.specs.Prelude.{List, ℕ, ◌≡◌};
+ghost use Rattle.tl_types.specs.Request.{Request};
+ghost use Rattle.tl_types.specs.Response.{Response};
+ghost use Rattle.tl_ops.specs.History.{replay};
+ghost use Rattle.tl_link.specs.declared.beat.Sighting.{Sighting};
+ghost use Rattle.tl_watch.specs.Lawful.{IsLawful};
+ghost use Rattle.tl_watch.specs.Past.{state};
+ghost use Rattle.tl_watch.specs.Plan.{Plan};
+ghost use Rattle.check_laws.specs.Crossed.{AreWatched};
+ghost use Rattle.check_laws.specs.Memories.{IsDoneAt, asks_done, reset_of};
+
+/// Each port's replies are those of a memory that does one request at a time, in the order of the plan; and what the judge
+/// keeps of the port's slave is what these requests leave.
+pub fn memories_are_sequential()
+    ensures done { (plan : Plan) (past : List Sighting) → AreWatched plan.layout past → IsLawful plan past
+        → (port : ℕ) → (history : List (Request × Response)) × IsDoneAt plan past port history }
+    ensures kept { (plan : Plan) (past : List Sighting) → AreWatched plan.layout past → IsLawful plan past
+        → (port : ℕ) → ((state plan past).slaves port).bank ≡ replay (reset_of plan port) (asks_done plan port past) }
+{}
