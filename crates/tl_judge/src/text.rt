@@ -1,6 +1,7 @@
 //! The lines of verdicts.
-ghost use Rattle.std.specs.Prelude.{◌≡◌, ◌++◌, OnOk};
+ghost use Rattle.std.specs.Prelude.{◌≡◌, ◌<◌, ◌≤◌, ◌+◌, ◌++◌, length, vec_capacity, OnErr, OnOk};
 ghost use Rattle.tl_script.specs.Trace.{reply_text};
+ghost use Rattle.tl_text.specs.Text.{BeginsWith};
 ghost use Rattle.tl_judge.specs.Text.{channel_text, fault_text, form_text, lawful_line, link_text, unlawful_line, wrong_text};
 
 use crate::stop::{Counts, Unlawful};
@@ -26,36 +27,54 @@ fn form_words(fault: FormFault) -> &'static str
     }
 }
 
+#[tactic(auto, using(tl_text::proofs::TextLemmas::begins))]
 fn push_words(text: &mut Vec<u8>, words: &str) -> Result<(), AllocError>
-    ensures { OnOk result (text.new.items ≡ text.old.items ++ words.now) }
+    ensures ok { OnOk result (text.new.items ≡ text.old.items ++ words.now) }
+    ensures err { OnErr result (BeginsWith text.old.items text.new.items) }
+    ensures room { vec_capacity text.old ≤ vec_capacity text.new }
+    ensures full { OnErr result (vec_capacity text.old
+        < length text.old.items + length words.now) }
 {
     text.extend_from_slice(words.as_bytes())
 }
 
 /// Appends some words and a reply, as traces spell it.
+#[tactic(auto, using(tl_text::proofs::TextLemmas::begins))]
 fn push_words_and_reply(text: &mut Vec<u8>, words: &str, reply: &Reply) -> Result<(), AllocError>
-    ensures { OnOk result (text.new.items ≡ text.old.items ++ words.now ++ reply_text reply.now) }
+    ensures ok { OnOk result (text.new.items ≡ text.old.items ++ words.now ++ reply_text reply.now) }
+    ensures err { OnErr result (BeginsWith text.old.items text.new.items) }
+    ensures room { vec_capacity text.old ≤ vec_capacity text.new }
+    ensures full { OnErr result (vec_capacity text.old
+        < length text.old.items + length words.now + length (reply_text reply.now)) }
 {
     push_words(text, words)?;
     push_reply(text, reply)
 }
 
-#[tactic(auto, unfolding(crate::specs::Text::wrong_text))]
+#[tactic(auto, using(tl_text::proofs::TextLemmas::begins), unfolding(crate::specs::Text::wrong_text))]
 fn push_wrong_reply(
     text: &mut Vec<u8>,
     expected: &Reply,
     captured: &Reply,
 ) -> Result<(), AllocError>
-    ensures { OnOk result
+    ensures ok { OnOk result
         (text.new.items ≡ text.old.items ++ wrong_text expected.now captured.now) }
+    ensures err { OnErr result (BeginsWith text.old.items text.new.items) }
+    ensures room { vec_capacity text.old ≤ vec_capacity text.new }
+    ensures full { OnErr result (vec_capacity text.old
+        < length text.old.items + length (wrong_text expected.now captured.now)) }
 {
     push_words_and_reply(text, "wrong reply: expected ", expected)?;
     push_words_and_reply(text, ", captured ", captured)
 }
 
-#[tactic(auto, unfolding(crate::specs::Text::fault_text))]
+#[tactic(auto, using(tl_text::proofs::TextLemmas::begins), unfolding(crate::specs::Text::fault_text))]
 fn push_fault(text: &mut Vec<u8>, fault: &Fault) -> Result<(), AllocError>
-    ensures { OnOk result (text.new.items ≡ text.old.items ++ fault_text fault.now) }
+    ensures ok { OnOk result (text.new.items ≡ text.old.items ++ fault_text fault.now) }
+    ensures err { OnErr result (BeginsWith text.old.items text.new.items) }
+    ensures room { vec_capacity text.old ≤ vec_capacity text.new }
+    ensures full { OnErr result (vec_capacity text.old
+        < length text.old.items + length (fault_text fault.now)) }
 {
     match fault {
         Fault::Form(fault) => push_words(text, form_words(*fault)),
@@ -73,9 +92,13 @@ fn push_fault(text: &mut Vec<u8>, fault: &Fault) -> Result<(), AllocError>
     }
 }
 
-#[tactic(auto, unfolding(crate::specs::Text::link_text))]
+#[tactic(auto, using(tl_text::proofs::TextLemmas::begins), unfolding(crate::specs::Text::link_text))]
 fn push_link(text: &mut Vec<u8>, link: Link) -> Result<(), AllocError>
-    ensures { OnOk result (text.new.items ≡ text.old.items ++ link_text link) }
+    ensures ok { OnOk result (text.new.items ≡ text.old.items ++ link_text link) }
+    ensures err { OnErr result (BeginsWith text.old.items text.new.items) }
+    ensures room { vec_capacity text.old ≤ vec_capacity text.new }
+    ensures full { OnErr result (vec_capacity text.old
+        < length text.old.items + length (link_text link)) }
 {
     match link {
         Link::Master(number) => push_field(text, b"m", number as u64),
@@ -94,9 +117,10 @@ fn channel_words(beat: &Beat) -> &'static str
 }
 
 /// Appends the line of a lawful capture.
-#[tactic(auto, unfolding(crate::specs::Text::lawful_line))]
+#[tactic(auto, using(tl_text::proofs::TextLemmas::begins), unfolding(crate::specs::Text::lawful_line))]
 pub fn push_lawful(text: &mut Vec<u8>, counts: &Counts) -> Result<(), AllocError>
-    ensures { OnOk result (text.new.items ≡ text.old.items ++ lawful_line counts.now) }
+    ensures ok { OnOk result (text.new.items ≡ text.old.items ++ lawful_line counts.now) }
+    ensures err { OnErr result (BeginsWith text.old.items text.new.items) }
 {
     push_field(text, b"lawful: ", counts.rows)?;
     push_field(text, b" rows, ", counts.requests)?;
@@ -105,9 +129,13 @@ pub fn push_lawful(text: &mut Vec<u8>, counts: &Counts) -> Result<(), AllocError
 }
 
 /// Appends the line of a capture that is not lawful.
-#[tactic(auto, unfolding(crate::specs::Text::unlawful_line))]
+#[tactic(auto, using(tl_text::proofs::TextLemmas::begins), unfolding(crate::specs::Text::unlawful_line))]
 pub fn push_unlawful(text: &mut Vec<u8>, found: &Unlawful) -> Result<(), AllocError>
-    ensures { OnOk result (text.new.items ≡ text.old.items ++ unlawful_line found.now) }
+    ensures ok { OnOk result (text.new.items ≡ text.old.items ++ unlawful_line found.now) }
+    ensures err { OnErr result (BeginsWith text.old.items text.new.items) }
+    ensures room { vec_capacity text.old ≤ vec_capacity text.new }
+    ensures full { OnErr result (vec_capacity text.old
+        < length text.old.items + length (unlawful_line found.now)) }
 {
     push_field(text, b"unlawful: line ", found.row.line)?;
     push_field(text, b", time ", found.row.time)?;

@@ -1,6 +1,7 @@
 //! The line of a reply that was seen at a link.
-ghost use Rattle.std.specs.Prelude.{◌≡◌, OnOk};
+ghost use Rattle.std.specs.Prelude.{◌≡◌, OnErr, OnOk};
 ghost use Rattle.tl_judge.specs.Told.{AppendsLine};
+ghost use Rattle.tl_text.specs.Text.{BeginsWith};
 ghost use Rattle.tl_watch.specs.Plan.{source_of};
 
 use std::alloc::AllocError;
@@ -28,8 +29,9 @@ pub fn push_answer(
     source: u16,
     entry: &Entry,
 ) -> Result<(), AllocError>
-    ensures { OnOk result (AppendsLine sources.now link source entry.now
+    ensures ok { OnOk result (AppendsLine sources.now link source entry.now
         text.old.items text.new.items) }
+    ensures err { OnErr result (BeginsWith text.old.items text.new.items) }
 {
     match link {
         Link::Master(master) => push_entry(

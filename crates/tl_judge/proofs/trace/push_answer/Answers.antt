@@ -14,8 +14,8 @@ line_is : (entry : Entry) (master own : ℕ) (ask : Request) (reply : Response) 
 line_is entry master own ask reply ask_is reply_is =
     λ i. trace_line master (record { ask = ask_is i; reply = reply_is i; port = entry.port; index = entry.index })
 
-pub returns-in-Some : goal.returns-in-Some
-returns-in-Some c =
+pub returns-in-Some-clause-ok : goal.returns-in-Some-clause-ok
+returns-in-Some-clause-ok c =
     let entry = c.args.entry.now in
     let line : List ℕ = trace_line c.in-Some.master (record { ask = c.with_source-ask.result; reply = c.with_source-reply.result; port = entry.port; index = entry.index }) in
     let P : Link → Type 0 = λ l. IsLine c.args.sources.now l c.args.source entry line in
@@ -25,9 +25,9 @@ returns-in-Some c =
       (c.owner.ensures c.in-Some.master c.in-Some.own).0 c.in-Some.is,
       line_is entry c.in-Some.master c.in-Some.own c.with_source-ask.result c.with_source-reply.result c.with_source-ask.ensures c.with_source-reply.ensures,
     ) in
-    on_ok_weaker c.push_entry-in-Some.result (λ is. inl (line, is, is_line)) c.push_entry-in-Some.ensures
+    on_ok_weaker c.push_entry-in-Some.result (λ is. inl (line, is, is_line)) c.push_entry-in-Some.ensures.ok
 
-pub returns-in-None : goal.returns-in-None
-returns-in-None c =
+pub returns-in-None-clause-ok : goal.returns-in-None-clause-ok
+returns-in-None-clause-ok c =
     let P : Link → Type 0 = λ l. HasOwner c.args.sources.now l c.args.source → ⊥ in
     inr (refl, subst P (sym c.in-Port.is) (λ owner. let found = (c.owner.ensures owner.0 owner.1).1 owner.2 in let none = c.in-None.is in absurd (cc)))
