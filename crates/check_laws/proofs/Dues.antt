@@ -73,7 +73,7 @@ pub late_sourced : (port : ℕ) (slave : Slave) (effect : Bool) (n : ℕ) (ask :
 late_sourced port slave true n ask due was = refl
 late_sourced port slave false n ask due was = was
 
-replied : (begun : List DBeat) (beat first : DBeat) (more : List DBeat) → Continues SameReplyFields begun beat → begun ++ beat ∷ [] ≡ first ∷ more → first.source ≡ beat.source
+pub replied : (begun : List DBeat) (beat first : DBeat) (more : List DBeat) → Continues SameReplyFields begun beat → begun ++ beat ∷ [] ≡ first ∷ more → first.source ≡ beat.source
 replied [] beat first more same is = cc
 replied (b ∷ begun) beat first more same is =
     let at : b ≡ first = cc in ap (λ (c : DBeat). c.source) (sym at) ∙ sym (same b refl).source

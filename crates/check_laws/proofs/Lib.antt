@@ -9,3 +9,8 @@ pub mod Told
 pub mod Memory
 pub mod Telling
 pub mod Sequential
+pub mod Fitting
+pub mod Replying
+pub mod UnderWay
+pub mod Placing
+pub mod Turned

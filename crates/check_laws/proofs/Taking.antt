@@ -18,8 +18,8 @@ use Rattle.tl_watch.specs.declared.order.Order.TheVariants.{Accept, Reply}
 use Rattle.tl_watch.specs.Plan.{Plan, Layout, side_of, number_of, wide_of, same_side, are_both, is_at_acceptance, is_at_reply, HasLink, IsWatched}
 use Rattle.tl_watch.specs.Plan.Side.{AtMasters, AtPorts}
 use Rattle.tl_watch.specs.Scene.{ask_by, takes_effect, effect_by, begins_reply}
-use Rattle.check_laws.specs.Crossed.{beats_at, asks, replies}
-use Rattle.check_laws.specs.Memories.{side_by, side_for, port_for, is_for, next_answered, ask_done, widened}
+use Rattle.check_laws.specs.Crossed.{beats_at, asks, replies, next_answered}
+use Rattle.check_laws.specs.Memories.{side_by, side_for, port_for, is_for, ask_done, widened}
 use Rattle.check_laws.proofs.Lists.{drop_front}
 use Rattle.check_laws.proofs.Turns.{ask_at, reply_at, link_on, own_link}
 use Rattle.check_laws.proofs.Flights.{pending, InStep}

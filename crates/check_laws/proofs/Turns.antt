@@ -74,7 +74,7 @@ true_or_false b so not = absurd (cc)
 
 -- ---- turns
 
-asking_same : (m n : ℕ) → Asking m ≡ Asking n → m ≡ n
+pub asking_same : (m n : ℕ) → Asking m ≡ Asking n → m ≡ n
 asking_same m n is = ap number is
   where
     number : Turn → ℕ
@@ -82,10 +82,10 @@ asking_same m n is = ap number is
     number (Asking k) = k
     number (Asked k ask) = k
 
-not_asking : (n k : ℕ) (turn : Turn) (P : Request → Type 0) → OfAsked n turn P → turn ≡ Asking k → ⊥
+pub not_asking : (n k : ℕ) (turn : Turn) (P : Request → Type 0) → OfAsked n turn P → turn ≡ Asking k → ⊥
 not_asking n k turn P of is = subst (λ t. OfAsked n t P) is of
 
-idle_or_asking : (k : ℕ) → Idle ≡ Asking k → ⊥
+pub idle_or_asking : (k : ℕ) → Idle ≡ Asking k → ⊥
 idle_or_asking k is = subst IsIdle is tt
   where
     IsIdle : Turn → Type 0
@@ -94,7 +94,7 @@ idle_or_asking k is = subst IsIdle is tt
     IsIdle (Asked k ask) = ⊥
 
 -- the first beat of a request has its source
-head_source : (begun : List ABeat) (beat first : ABeat) (more : List ABeat) → Continues SameFields begun beat → begun ++ beat ∷ [] ≡ first ∷ more → first.source ≡ beat.source
+pub head_source : (begun : List ABeat) (beat first : ABeat) (more : List ABeat) → Continues SameFields begun beat → begun ++ beat ∷ [] ≡ first ∷ more → first.source ≡ beat.source
 head_source [] beat first more same is = cc
 head_source (b ∷ begun) beat first more same is =
     let at : b ≡ first = cc in ap (λ (c : ABeat). c.source) (sym at) ∙ sym (same b refl).source

@@ -1,7 +1,7 @@
 -- What a list of sightings shows: the beats of each link, and the whole messages of each source. Lists of sightings and of beats have
 -- the latest first, lists of messages the earliest. What a message is made of is the chapter "Beats and bursts" of the TileLink
 -- specification; links, sides and wide sources are this project's own.
-use Rattle.std.specs.Prelude.{ℕ, if◌then◌else◌, List, [], ◌∷◌, ◌++◌, zip}
+use Rattle.std.specs.Prelude.{ℕ, if◌then◌else◌, suc, List, [], ◌∷◌, ◌++◌, length, zip, slice_range}
 use Rattle.std.specs.List.{AllByRecursion}
 use Rattle.tl_types.specs.Request.{Request}
 use Rattle.tl_beats.specs.declared.beat.DBeat.{DBeat}
@@ -62,3 +62,8 @@ replies plan side wide (x ∷ past) =
 -- the requests of a wide source with their replies: the first reply of a source is the one to its first request, and so on
 abbrev pub exchanges : Plan → Side → ℕ → List Sighting → List (AskSeen × ReplySeen)
 exchanges plan side wide past = zip (asks plan side wide past) (replies plan side wide past)
+
+-- the request that the next reply of a wide source answers: as many of its requests were answered before as replies of it have ended
+abbrev pub next_answered : Plan → Side → ℕ → List Sighting → List AskSeen
+next_answered plan side wide past =
+    let answered = length (replies plan side wide past) in slice_range (asks plan side wide past) answered (suc answered)

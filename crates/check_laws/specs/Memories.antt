@@ -1,7 +1,7 @@
 -- What lawful beats say of memories: each port's replies are those of a memory that does one request at a time. What a memory does is
 -- the chapter "TL-UL and TL-UH operations" of the TileLink specification (`Store.antt` of `tl_ops`); in which order, and where this is
 -- seen, is this project's own.
-use Rattle.std.specs.Prelude.{◌≡◌, ℕ, suc, ◌≤◌, Bool, true, false, ◌&&◌, ◌==◌, if◌then◌else◌, nat_lt, List, [], ◌∷◌, ◌++◌, length, map, filter, unwrap_or, slice_get, slice_range}
+use Rattle.std.specs.Prelude.{◌≡◌, ℕ, ◌≤◌, Bool, true, false, ◌&&◌, ◌==◌, if◌then◌else◌, nat_lt, List, [], ◌∷◌, ◌++◌, length, map, filter, unwrap_or, slice_get}
 use Rattle.tl_types.specs.Request.{Request}
 use Rattle.tl_types.specs.Response.{Response, IsLawfulResponse}
 use Rattle.tl_ops.specs.Store.{Store}
@@ -21,7 +21,7 @@ use Rattle.tl_watch.specs.Plan.{Plan, Layout, Side, side_of, source_of, wide_of,
 use Rattle.tl_watch.specs.Plan.Side.{AtMasters, AtPorts}
 use Rattle.tl_watch.specs.Scene.{begins_reply}
 use Rattle.tl_watch.specs.Past.{no_store}
-use Rattle.check_laws.specs.Crossed.{AskSeen, ReplySeen, beats_at, ask_ended, asks, replies, exchanges}
+use Rattle.check_laws.specs.Crossed.{AskSeen, ReplySeen, beats_at, ask_ended, exchanges, next_answered}
 
 -- ---- where a port's memory is seen
 
@@ -45,11 +45,6 @@ abbrev pub is_for : Plan → ℕ → AskSeen → Bool
 is_for plan port seen = same_side (side_of seen.link) (side_for plan.layout port) && (port_for plan seen.link seen.ask == port)
 
 -- ---- in which order the memory does its requests
-
--- the request that the next reply of a wide source answers: as many of its requests were answered before as replies of it have ended
-abbrev pub next_answered : Plan → Side → ℕ → List Sighting → List AskSeen
-next_answered plan side wide past =
-    let answered = length (replies plan side wide past) in slice_range (asks plan side wide past) answered (suc answered)
 
 -- the request that a reply answers which begins with this beat
 abbrev pub ask_answered : Plan → List Sighting → Sighting → Beat → List AskSeen

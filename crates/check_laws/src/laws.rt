@@ -8,7 +8,14 @@ ghost use Rattle.tl_watch.specs.Lawful.{IsLawful};
 ghost use Rattle.tl_watch.specs.Past.{state};
 ghost use Rattle.tl_watch.specs.Plan.{Plan};
 ghost use Rattle.check_laws.specs.Crossed.{AreWatched};
+ghost use Rattle.check_laws.specs.Messages.{AreMessages};
 ghost use Rattle.check_laws.specs.Memories.{IsDoneAt, asks_done, reset_of};
+
+/// Each channel of a link carries whole messages one after the other, and a beginning of one more; each reply answers a request that
+/// had ended, no request is answered twice, and none of a source begins before the one before it is answered.
+pub fn beats_are_messages()
+    ensures { (plan : Plan) (past : List Sighting) → IsLawful plan past → AreMessages plan past }
+{}
 
 /// Each port's replies are those of a memory that does one request at a time, in the order of the plan; and what the judge
 /// keeps of the port's slave is what these requests leave.
