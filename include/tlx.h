@@ -219,8 +219,9 @@ static inline uint32_t tlx_judge_step(struct tlx_judge *judge, const struct tlx_
   return judge && beat ? tlx_judge_step_at(judge, beat) : (uint32_t)TLX_NULL;
 }
 
-/* The line of the last fault of a beat (TLX_FIELD_CHANGED to TLX_WRONG_REPLY), as tlcheck says it of a capture, with its line end:
- * `unlawful: line 4, time 12, p0 D: wrong reply: expected .., captured ..`. Empty before the first. */
+/* The line of the last fault of a beat (TLX_FIELD_CHANGED to TLX_WRONG_REPLY), as tlcheck says it of a capture, with its line end and with
+ * the `line` and the `time` of the struct: `unlawful: line 4, time 12, p0 D: wrong reply: expected .., captured ..`. Empty before the first;
+ * a lawful beat leaves it as it was. */
 static inline size_t tlx_judge_text(struct tlx_judge *judge, char *text, size_t room) {
   return judge && text && room ? tlx_judge_text_at(judge, text, room) : 0;
 }

@@ -1,6 +1,8 @@
 -- What each call makes of what a handle holds. This project's own.
-use Rattle.std.specs.Prelude.{◌≡◌, ◌↔◌, ◌&&◌, ◌<◌, ◌==◌, if◌then◌else◌, ⊤, ℕ, List, [], ◌∷◌, Option, Some, None, IsSomeAnd}
+use Rattle.std.specs.Prelude.{◌≡◌, ◌↔◌, ◌&&◌, ◌<◌, ◌≤◌, ◌==◌, ◌⊎◌, if◌then◌else◌, ⊤, ℕ, List, [], ◌∷◌, length, Option, Some, None, IsSomeAnd, vec_capacity}
 use Rattle.tl_judge.specs.Count.{is_counted, is_whole_ask, is_whole_reply, one_more}
+use Rattle.tl_judge.specs.Text.{unlawful_line}
+use Rattle.tl_judge.specs.declared.stop.Unlawful.{Unlawful}
 use Rattle.tl_link.specs.declared.beat.Sighting.{Sighting}
 use Rattle.tl_model.specs.Crossbar.{CrossbarState, Accepts, IsFirstServeFault, IsServed}
 use Rattle.tl_model.specs.declared.crossbar.Answer.{Answer}
@@ -23,6 +25,7 @@ use Rattle.tl_c.specs.declared.fault.TheConstants.{MEMORY, OK}
 use Rattle.tl_c.specs.declared.held.Held.{Held}
 use Rattle.tl_c.specs.declared.held.Held.TheVariants as held
 use Rattle.tl_c.specs.declared.held.Judge.{Judge}
+use Rattle.tl_c.specs.declared.judge.TheConstants.{LINE_ROOM}
 use Rattle.tl_c.specs.declared.wire.WireAnswer.{WireAnswer}
 use Rattle.tl_c.specs.declared.wire.WireAsk.{WireAsk}
 
@@ -90,18 +93,30 @@ pub record IsStep (plan : Plan) (past : List Sighting) (shown : Sighting) (old :
   pub keeps : number ≡ OK → Keeps plan (shown ∷ past) new.watch
   pub requests : number ≡ OK → new.requests ≡ one_more (is_counted plan.layout.links shown.link && is_whole_ask (what_is_seen plan past shown)) old.requests
   pub answered : number ≡ OK → new.answered ≡ one_more (is_counted plan.layout.links shown.link && is_whole_reply (what_is_seen plan past shown)) old.answered
+  pub text : number ≡ OK → new.text ≡ old.text
 
--- the number is that of the first fault of the beat that is shown
-pub record IsFaultOfBeat (plan : Plan) (past : List Sighting) (shown : Sighting) (number : ℕ) : Type 0 where
+-- the text is the line of this fault; or it is empty, if there was no room for the line
+abbrev pub IsLineOf : Unlawful → ℕ → List ℕ → Type 0
+IsLineOf found room text = (text ≡ unlawful_line found) ⊎ ((text ≡ []) × (room < length (unlawful_line found)))
+
+-- the fault of a beat that was shown with this line and this time
+abbrev pub found_at : ℕ → ℕ → Sighting → Fault → Unlawful
+found_at line time shown fault = record { row = record { line = line; time = time; sighting = shown }; fault = fault }
+
+-- the number is that of the first fault of the beat that is shown, and the text is the line of this fault, with the line and the time that
+-- the beat was shown with
+pub record IsFaultOfBeat (plan : Plan) (past : List Sighting) (shown : Sighting) (line time : ℕ) (old : Judge) (number : ℕ) (new : Judge) : Type 0 where
   pub fault : Fault
   pub number_is : number ≡ beat_number fault
   pub first : IsFirstFault plan past shown fault
+  pub text : IsLineOf (found_at line time shown fault) (vec_capacity old.text) new.text.items
 
--- after a fault the judge is as it was, but for its text
+-- after a fault the judge is as it was, but for its text, whose room is no less
 pub record KeepsAllButText (old new : Judge) : Type 0 where
   pub watch : new.watch ≡ old.watch
   pub requests : new.requests ≡ old.requests
   pub answered : new.answered ≡ old.answered
+  pub room : vec_capacity old.text ≤ vec_capacity new.text
 
 -- the links that are watched, and the order, sources and ranges by which beats are judged
 abbrev pub layout_of : Links → Order → System → Layout
@@ -113,13 +128,16 @@ pub record IsPlanOf (links : Links) (order : Order) (system : System) (plan : Pl
   pub layout : plan.layout ≡ layout_of links order system
   pub resets : plan.resets ≡ resets system
 
--- a judge of this system before any beat: it keeps no beat by each plan of the system, of which there is one, and has counted none
+-- a judge of this system before any beat: it keeps no beat by each plan of the system, of which there is one, and has counted none; its
+-- text is empty, with room for a line
 pub record BeginsBy (links : Links) (order : Order) (system : System) (judge : Judge) : Type 0 where
   pub layout : judge.watch.layout ≡ layout_of links order system
   pub some : (plan : Plan) × IsPlanOf links order system plan
   pub keeps : (plan : Plan) → IsPlanOf links order system plan → Keeps plan [] judge.watch
   pub requests : judge.requests ≡ 0
   pub answered : judge.answered ≡ 0
+  pub text : judge.text.items ≡ []
+  pub room : LINE_ROOM ≤ vec_capacity judge.text
 
 -- the links and the order of a number
 abbrev pub links_of : ℕ → Option Links

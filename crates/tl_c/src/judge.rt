@@ -1,6 +1,6 @@
 //! Judges of beats.
-ghost use Rattle.std.specs.Prelude.{◌≡◌, ◌≢◌, ◌<◌, ◌≤◌, ◌↔◌, ◌&&◌, ◌⊎◌, ℕ, List, IfOk, IsSome, None, Some};
-ghost use Rattle.tl_c.specs.Calls.{BeginsAs, BeginsBy, HoldsJudge, HoldsSystem, IsFaultOfBeat, IsJudge, IsStep, IsSystem, KeepsAllButText, links_of, order_of};
+ghost use Rattle.std.specs.Prelude.{◌≡◌, ◌≢◌, ◌<◌, ◌≤◌, ◌↔◌, ◌&&◌, ◌⊎◌, ℕ, List, IfOk, IsSome, None, Some, vec_capacity};
+ghost use Rattle.tl_c.specs.Calls.{BeginsAs, BeginsBy, HoldsJudge, HoldsSystem, IsFaultOfBeat, IsJudge, IsLineOf, IsStep, IsSystem, KeepsAllButText, links_of, order_of};
 ghost use Rattle.tl_c.specs.Text.{IsTextOf, IsWritten};
 ghost use Rattle.tl_c.specs.Wire.{shown_by};
 ghost use Rattle.tl_c.specs.declared.held.Judge.{Judge};
@@ -119,6 +119,7 @@ fn is_counted(links: Links, link: Link) -> bool
 /// Counts what a beat ends at a link.
 fn count(judge: &mut Judge, link: Link, end: Ended)
     ensures watch { judge.new.watch ≡ judge.old.watch }
+    ensures text { judge.new.text ≡ judge.old.text }
     ensures requests { judge.new.requests
         ≡ one_more (is_counted judge.old.watch.layout.links link && ends_an_ask end) judge.old.requests }
     ensures answered { judge.new.answered
@@ -134,8 +135,11 @@ fn count(judge: &mut Judge, link: Link, end: Ended)
     }
 }
 
-/// Keeps the line of a fault. It has room, so no memory is asked for.
-fn keep_line(text: &mut Vec<u8>, found: &Unlawful) {
+/// Keeps the line of a fault. A text with room for it asks for no memory.
+fn keep_line(text: &mut Vec<u8>, found: &Unlawful)
+    ensures line { IsLineOf found.now (vec_capacity text.old) text.new.items }
+    ensures room { vec_capacity text.old ≤ vec_capacity text.new }
+{
     text.clear();
     if push_unlawful(text, found).is_err() {
         text.clear();
@@ -149,7 +153,7 @@ fn judge_fault(judge: &mut Judge, line: u64, time: u64, sighting: Sighting) -> u
     ensures step { (plan : Plan) (past : List Sighting) → Keeps plan past judge.old.watch
         → IsStep plan past sighting judge.old result judge.new }
     ensures fault { (plan : Plan) (past : List Sighting) → Keeps plan past judge.old.watch → NO_LINK < result
-        → IsFaultOfBeat plan past sighting result }
+        → IsFaultOfBeat plan past sighting line time judge.old result judge.new }
     ensures above { result ≢ OK → NO_LINK < result }
     ensures err { result ≢ OK → KeepsAllButText judge.old judge.new }
 {
@@ -176,7 +180,7 @@ fn step(judge: &mut Judge, line: u64, time: u64, sighting: Sighting) -> u32
     ensures step { (plan : Plan) (past : List Sighting) → Keeps plan past judge.old.watch → result ≢ NO_LINK
         → IsStep plan past sighting judge.old result judge.new }
     ensures fault { (plan : Plan) (past : List Sighting) → Keeps plan past judge.old.watch → NO_LINK < result
-        → IsFaultOfBeat plan past sighting result }
+        → IsFaultOfBeat plan past sighting line time judge.old result judge.new }
     ensures link { result ≡ NO_LINK ↔ ((HasLink judge.old.watch.layout sighting.link
         × IsWatched judge.old.watch.layout.links sighting.link) → ⊥) }
     ensures first { result ≢ OK → NO_LINK ≤ result }
@@ -203,7 +207,8 @@ pub extern "C" fn tlx_judge_step_at(alloc: Global, judge: &mut Handle, beat: &Wi
     ensures step { (plan : Plan) (past : List Sighting) (j : Judge) (shown : Sighting) → judge.old.value ≡ Some (held.Judge j) → shown_by beat.now ≡ Some shown
         → Keeps plan past j.watch → result ≢ NO_LINK → HoldsJudge (IsStep plan past shown j result) judge.new.value }
     ensures fault { (plan : Plan) (past : List Sighting) (j : Judge) (shown : Sighting) → judge.old.value ≡ Some (held.Judge j) → shown_by beat.now ≡ Some shown
-        → Keeps plan past j.watch → NO_LINK < result → IsFaultOfBeat plan past shown result }
+        → Keeps plan past j.watch → NO_LINK < result
+        → HoldsJudge (IsFaultOfBeat plan past shown beat.now.line beat.now.time j result) judge.new.value }
     ensures first { result ≢ OK → result ≢ EMPTY → result ≢ BAD_ARGUMENT → NO_LINK ≤ result }
     ensures err { result ≢ OK
         → HoldsJudge (λ old. HoldsJudge (KeepsAllButText old) judge.new.value) judge.old.value

@@ -1,6 +1,7 @@
 //! The numbers of the header, on functions that do nothing but carry the law.
 ghost use Rattle.std.specs.Prelude.{◌≡◌};
 ghost use Rattle.tl_c.specs.declared.fault.TheConstants.{OK, EMPTY, FULL, MEMORY, BAD_ARGUMENT, NO_OPERATION, SIZE, NO_BYTE, NO_LINK};
+ghost use Rattle.tl_c.specs.declared.judge.TheConstants.{LINE_ROOM};
 ghost use Rattle.tl_c.specs.declared.wire.TheConstants.{ROOM};
 
 /// The faults in the numbers of `enum tlx_fault`; those that are told of scripts, requests and beats are in `specs/Numbers.antt`. Contracts
@@ -17,7 +18,8 @@ pub fn faults_in_numbers()
     ensures no_link { NO_LINK ≡ 30 }
 {}
 
-/// The room of a message's bytes in the structs, `TLX_ROOM`.
+/// The room of a message's bytes in the structs, `TLX_ROOM`, and the room for the line of a fault that a judge begins with.
 pub fn room_in_numbers()
-    ensures { ROOM ≡ 256 }
+    ensures bytes { ROOM ≡ 256 }
+    ensures line { LINE_ROOM ≡ 2048 }
 {}

@@ -1,7 +1,7 @@
 //! A slave port, and how many requests it has served.
-ghost use Rattle.std.specs.Prelude.{◌≡◌, ◌+◌, ◌<◌, ◌++◌, ◌∷◌, [], IfOk, map};
+ghost use Rattle.std.specs.Prelude.{◌≡◌, ◌+◌, ◌<◌, ◌++◌, ◌∷◌, [], All, IfOk, map};
 ghost use Rattle.tl_ops.specs.Store.{after, reply};
-ghost use Rattle.tl_script.specs.System.{error_store, store_of};
+ghost use Rattle.tl_script.specs.System.{IsLawfulDevice, error_store, store_of};
 ghost use Rattle.tl_model.specs.Crossbar.{fresh};
 ghost use Rattle.tl_model.specs.Ports.{state_of};
 
@@ -35,6 +35,7 @@ impl Port {
 
 /// The slave ports of these devices at reset, and the error port behind them.
 pub(crate) fn ports_of(alloc: Global, devices: &[Device]) -> Result<Vec<Port>, Memory>
+    requires { All IsLawfulDevice devices.now }
     ensures { IfOk result (λ ports. map state_of ports.items
         ≡ map fresh (map store_of devices.now ++ error_store ∷ [])) }
 {

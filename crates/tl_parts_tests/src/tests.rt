@@ -1,5 +1,6 @@
 mod beats;
 mod map;
+mod memory;
 mod ops;
 mod slots;
 mod types;

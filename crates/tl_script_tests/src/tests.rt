@@ -4,6 +4,7 @@
 //! and its values are judged when it runs.
 mod faults;
 mod limits;
+mod memory;
 mod operations;
 mod systems;
 mod texts;

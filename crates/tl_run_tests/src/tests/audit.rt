@@ -160,6 +160,44 @@ fn masters_are_told_apart_by_wide_sources(rt: HostRuntime) {
     );
 }
 
+/// Of the first kind of fault that there is, the lowest master and port are named, and there the lowest place.
+#[test]
+fn the_lowest_place_is_named(rt: HostRuntime) {
+    let alloc = rt.alloc();
+    let sources = Sources::new(alloc, &[16, 16]).expect(&rt, "sources");
+    let lost = [(Put, 7), (Put, 8)];
+    let traces = [
+        trace_of(&rt, alloc, 1, &lost),
+        trace_of(&rt, alloc, 1, &lost),
+    ];
+    let none = Journal::new(alloc);
+    assert!(rt;
+        audit_lists(alloc, &sources, &traces, &[&none, &none]) == Err(AuditFault::Missing(0, 0))
+    );
+    let empty = [trace_of(&rt, alloc, 1, &[]), trace_of(&rt, alloc, 1, &[])];
+    let served = history_of(&rt, alloc, &[(Put, 1), (Put, 1)]);
+    assert!(rt;
+        audit_lists(alloc, &sources, &empty, &[&none, &served, &served])
+            == Err(AuditFault::Untraced(1, 0))
+    );
+}
+
+/// The audit of one put, at port 0.
+fn audit_of_one(rt: &impl Abort, alloc: Global) -> Result<(), AuditFault> {
+    let sources = Sources::new(alloc, &[16]).expect(rt, "sources");
+    let traces = [trace_of(rt, alloc, 0, &[(Put, 0)])];
+    let history = history_of(rt, alloc, &[(Put, 0)]);
+    audit_lists(alloc, &sources, &traces, &[&history])
+}
+
+/// The audit's own requests for memory may be refused (`rt try --test --fail-alloc N`, behind those that make what it audits): it answers
+/// what is right, or that memory was refused.
+#[test]
+fn an_audit_says_yes_or_memory_is_refused(rt: HostRuntime) {
+    let answer = audit_of_one(&rt, rt.alloc());
+    assert!(rt; answer == Ok(()) || answer == Err(AuditFault::Memory));
+}
+
 const LINES: [(AuditFault, &str); 5] = [
     (
         AuditFault::Missing(1, 2),

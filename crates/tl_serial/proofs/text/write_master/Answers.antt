@@ -39,6 +39,6 @@ loop-number-preserved c =
             asked = asks_in-push before.entries entry ∙ ap (λ (asks : List Request). asks ++ ask ∷ []) before.asked ∙ sym (sends-send jobs i ask at);
             stands = λ keeps log stand. rw (w.slaves-is, numbered-push log master before.entries entry)
                 (w.in_ok-place.ensures.stands keeps (log ++ numbered master before.entries) (before.stands keeps log stand));
-            is = rw w.text-is (w.in_ok-push_entry.ensures ∙ ap (λ (text : List ℕ). text ++ trace_line master entry) before.is ∙ sym (lines_of-push master before.entries entry c.args.text.now.items));
+            is = rw w.text-is (w.in_ok-push_entry.ensures.ok ∙ ap (λ (text : List ℕ). text ++ trace_line master entry) before.is ∙ sym (lines_of-push master before.entries entry c.args.text.now.items));
           }
     ]
