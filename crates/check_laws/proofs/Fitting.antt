@@ -6,7 +6,7 @@ use Rattle.tl_beats.specs.declared.beat.ABeat.{ABeat}
 use Rattle.tl_beats.specs.declared.beat.DBeat.{DBeat}
 use Rattle.tl_link.specs.declared.beat.Link.{Link}
 use Rattle.tl_link.specs.declared.beat.Sighting.{Sighting}
-use Rattle.tl_link.specs.Past.{Under, asking, replying}
+use Rattle.tl_link.specs.Past.{Under}
 use Rattle.tl_link.specs.Form.{FitsAsk, FitsReply}
 use Rattle.tl_link.specs.Laws.{AreFitting}
 use Rattle.tl_watch.specs.Plan.{Plan, side_of, number_of, is_link}

@@ -14,3 +14,5 @@ pub mod Replying
 pub mod UnderWay
 pub mod Placing
 pub mod Turned
+pub mod Standing
+pub mod Crossing

@@ -1,10 +1,9 @@
 -- Each beat is of a source that the system has, and each request at a port's link is one of the port.
-use Rattle.std.proofs.Common.{◌≡◌, ◌∙◌, ℕ, Bool, true, false, if◌then◌else◌, List, [], ◌∷◌, ◌++◌, Some, slice_get, refl, ap, sym, subst, append-nil}
+use Rattle.std.proofs.Common.{◌≡◌, ◌∙◌, ℕ, Bool, true, false, if◌then◌else◌, List, [], ◌∷◌, ◌++◌, slice_get, refl, ap, sym, subst, append-nil}
 use Rattle.std.specs.List.{AllByRecursion}
 use Rattle.tl_beats.specs.Faults.{SameFields}
 use Rattle.tl_beats.specs.declared.beat.ABeat.{ABeat}
-use Rattle.tl_beats.specs.declared.beat.DBeat.{DBeat}
-use Rattle.tl_map.specs.Map.{RoutesBytes, Routes}
+use Rattle.tl_map.specs.Map.{RoutesBytes}
 use Rattle.tl_link.specs.declared.beat.Beat.{Beat}
 use Rattle.tl_link.specs.declared.beat.Beat.TheVariants.{A, D}
 use Rattle.tl_link.specs.declared.beat.Link.{Link}
@@ -12,12 +11,11 @@ use Rattle.tl_link.specs.declared.beat.Link.TheVariants.{Master, Port}
 use Rattle.tl_link.specs.declared.beat.Sighting.{Sighting}
 use Rattle.tl_link.specs.Message.{ask_of}
 use Rattle.tl_link.specs.Past.{Under, ends_ask, asking}
-use Rattle.tl_link.specs.Form.{Continues}
 use Rattle.tl_watch.specs.Plan.{Plan, Layout, Side, side_of, number_of, source_of, is_link, is_of, HasSource}
 use Rattle.tl_watch.specs.Past.{state, scene_of}
 use Rattle.tl_watch.specs.Allowed.{IsPlaced, IsAllowedAsk}
 use Rattle.tl_watch.specs.Lawful.{IsLawful, IsAllowed}
-use Rattle.check_laws.specs.Crossed.{AskSeen, beats_at, ask_ended, asks}
+use Rattle.check_laws.specs.Crossed.{beats_at, ask_ended, asks}
 use Rattle.check_laws.specs.Messages.{IsInPlace}
 use Rattle.check_laws.proofs.Links.{links_are, same_link}
 use Rattle.check_laws.proofs.Turns.{ask_at}

@@ -1,11 +1,7 @@
 -- A reply that is under way answers the request in flight, and one that has ended answered it with each beat.
-use Rattle.std.proofs.Common.{◌≡◌, ◌∙◌, ℕ, ◌⊎◌, inl, inr, Bool, true, false, if◌then◌else◌, List, [], ◌∷◌, ◌++◌, length, zip, Some, slice_get, zero, suc, refl, ap, sym, subst, append-nil}
-use Rattle.std.specs.Prelude.{◌==◌, ◌&&◌}
+use Rattle.std.proofs.Common.{◌≡◌, ◌∙◌, ℕ, Bool, true, false, if◌then◌else◌, List, [], ◌∷◌, ◌++◌, length, zip, Some, slice_get, suc, refl, ap, sym, subst, append-nil}
 use Rattle.std.specs.List.{AllByRecursion}
-use Rattle.tl_types.specs.Operation.{reply_op_of}
 use Rattle.tl_types.specs.Request.{Request}
-use Rattle.tl_types.specs.Wire.{reply_opcode_of}
-use Rattle.tl_beats.specs.Faults.{SameReplyFields}
 use Rattle.tl_beats.specs.declared.beat.ABeat.{ABeat}
 use Rattle.tl_beats.specs.declared.beat.DBeat.{DBeat}
 use Rattle.tl_link.specs.declared.beat.Beat.{Beat}
@@ -13,25 +9,22 @@ use Rattle.tl_link.specs.declared.beat.Beat.TheVariants.{A, D}
 use Rattle.tl_link.specs.declared.beat.Link.{Link}
 use Rattle.tl_link.specs.declared.beat.Sighting.{Sighting}
 use Rattle.tl_link.specs.Past.{Under, ends_reply, asking, replying}
-use Rattle.tl_link.specs.Form.{Continues, FitsReply}
+use Rattle.tl_link.specs.Form.{FitsReply}
 use Rattle.tl_link.specs.Begun.{IsWholeReply}
 use Rattle.tl_link.specs.Laws.{AreFitting}
 use Rattle.tl_link.proofs.Begun.{reply_is_whole}
 use Rattle.tl_link.proofs.Reading.{kept_of_fitting}
-use Rattle.tl_flight.specs.Flight.{Turn, Flight, idle}
-use Rattle.tl_flight.specs.Flight.Turn.{Idle, Asking, Asked}
-use Rattle.tl_watch.specs.Plan.{Plan, Side, side_of, number_of, wide_of, is_link, is_of}
-use Rattle.tl_watch.specs.Scene.{flight_after}
-use Rattle.tl_watch.specs.Past.{State, scene_of, state, state_after}
-use Rattle.tl_watch.specs.Allowed.{OfAsked, IsAnswer, IsAllowedAsk, IsAllowedReply}
+use Rattle.tl_flight.specs.Flight.Turn.{Asked}
+use Rattle.tl_watch.specs.Plan.{Plan, Side, side_of, number_of, wide_of, is_of}
+use Rattle.tl_watch.specs.Past.{State, scene_of, state}
+use Rattle.tl_watch.specs.Allowed.{IsAnswer, IsAllowedAsk, IsAllowedReply}
 use Rattle.tl_watch.specs.Lawful.{IsLawful, IsAllowed}
 use Rattle.check_laws.specs.Crossed.{AskSeen, ReplySeen, beats_at, ask_ended, reply_ended, asks, replies}
 use Rattle.check_laws.specs.Messages.{Answers, IsAnswered}
 use Rattle.check_laws.proofs.Lists.{zip_past, zip_more}
-use Rattle.check_laws.proofs.Links.{links_are, same_link}
-use Rattle.check_laws.proofs.Turns.{LinksAre, AskingIsInFlight, ask_at, reply_at, open_before, asking_in_flight, link_on, own_link, is_link_by, is_of_is, is_of_own, true_or_false}
-use Rattle.check_laws.proofs.Flights.{pending, InStep, AreInStep, asked_at, nothing_pending, in_step}
-use Rattle.check_laws.proofs.Dues.{replied}
+use Rattle.check_laws.proofs.Links.{links_are}
+use Rattle.check_laws.proofs.Turns.{LinksAre, AskingIsInFlight, ask_at, reply_at, asking_in_flight, own_link, is_of_is}
+use Rattle.check_laws.proofs.Flights.{pending, AreInStep, asked_at, nothing_pending, in_step}
 use Rattle.check_laws.proofs.Fitting.{fitting}
 
 -- ---- replies that have ended
@@ -57,10 +50,10 @@ module _ (plan : Plan) (s : State) (past : List Sighting) (linked : LinksAre s p
       go true is =
           let both = is_of_is plan (ask_at link known beat) side wide is in
           let none : pending side (s.flights side wide).turn ≡ [] =
-              subst (λ sd. pending sd (s.flights sd wide).turn ≡ []) both.0 (subst (λ w. pending (side_of link) (s.flights (side_of link) w).turn ≡ []) both.1 (nothing_pending plan s past linked busy steps link known beat allowed)) in
+          subst (λ sd. pending sd (s.flights sd wide).turn ≡ []) both.0 (subst (λ w. pending (side_of link) (s.flights (side_of link) w).turn ≡ []) both.1 (nothing_pending plan s past linked busy steps link known beat allowed)) in
           let step = steps side wide in
           let counted : length (asks plan side wide past) ≡ length (replies plan side wide past) =
-              ap (λ (l : List AskSeen). length l) (step.asks_are ∙ ap (λ l. step.done ++ l) none ∙ append-nil step.done) ∙ sym step.counted in
+          ap (λ (l : List AskSeen). length l) (step.asks_are ∙ ap (λ l. step.done ++ l) none ∙ append-nil step.done) ∙ sym step.counted in
           subst (λ l. AllByRecursion IsAnswered l) (sym (zip_past (asks plan side wide past) (ask_ended link (beats_at link past) (A beat)) (replies plan side wide past) counted)
           ∙ ap (λ l. zip (asks plan side wide past ++ ask_ended link (beats_at link past) (A beat)) l) (sym (append-nil (replies plan side wide past)))) (before side wide)
 

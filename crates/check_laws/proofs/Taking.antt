@@ -26,7 +26,7 @@ use Rattle.check_laws.proofs.Flights.{pending, InStep}
 
 -- ---- where a request to a port takes effect
 
-less : (m n : ℕ) → m < n → nat_lt m n ≡ true
+pub less : (m n : ℕ) → m < n → nat_lt m n ≡ true
 less m n h = go (nat_lt m n) refl
   where
     go : (b : Bool) → nat_lt m n ≡ b → b ≡ true

@@ -1,6 +1,5 @@
 -- What lawful beats say of messages.
-use Rattle.std.proofs.Common.{◌≡◌, ◌∙◌, ℕ, ◌+◌, ◌≤◌, List, [], ◌∷◌, ◌++◌, length, refl, ap, sym, arith, append-nil, length-append}
-use Rattle.tl_types.specs.Request.{Request}
+use Rattle.std.proofs.Common.{◌≡◌, ◌∙◌, ℕ, ◌+◌, ◌≤◌, List, length, ap, sym, arith, length-append}
 use Rattle.tl_link.specs.declared.beat.Link.{Link}
 use Rattle.tl_link.specs.declared.beat.Sighting.{Sighting}
 use Rattle.tl_link.proofs.Reading.{cut_up, all_spelled, replies_cut_up, all_replies_spelled}
@@ -8,12 +7,12 @@ use Rattle.tl_link.proofs.Ending.{can_end, reply_can_end}
 use Rattle.tl_flight.specs.Flight.{Turn}
 use Rattle.tl_flight.specs.Flight.Turn.{Idle, Asking, Asked}
 use Rattle.tl_watch.specs.Plan.{Plan, Side, side_of, number_of, wide_of}
-use Rattle.tl_watch.specs.Past.{State, state}
+use Rattle.tl_watch.specs.Past.{state}
 use Rattle.tl_watch.specs.Lawful.{IsLawful}
-use Rattle.check_laws.specs.Crossed.{AskSeen, ReplySeen, beats_at, asks, replies, next_answered}
-use Rattle.check_laws.specs.Messages.{CarriesMessages, Answers, AsksAt, RepliesAt, TakeTurns, AreMessages}
+use Rattle.check_laws.specs.Crossed.{AskSeen, beats_at, asks, replies}
+use Rattle.check_laws.specs.Messages.{CarriesMessages, Answers, AsksAt, TakeTurns, AreMessages}
 use Rattle.check_laws.proofs.Links.{same_link}
-use Rattle.check_laws.proofs.Turns.{AskingIsInFlight, asking_in_flight, asking_same, is_link_by}
+use Rattle.check_laws.proofs.Turns.{asking_in_flight, asking_same, is_link_by}
 use Rattle.check_laws.proofs.Flights.{pending, InStep, in_step, asked_at}
 use Rattle.check_laws.proofs.Taking.{next_is}
 use Rattle.check_laws.proofs.Fitting.{fitting}

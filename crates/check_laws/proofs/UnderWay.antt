@@ -1,5 +1,5 @@
 -- A reply that is under way answers the request in flight.
-use Rattle.std.proofs.Common.{◌≡◌, ◌∙◌, ℕ, ◌⊎◌, inl, inr, Bool, true, false, if◌then◌else◌, List, [], ◌∷◌, ◌++◌, Some, slice_get, refl, ap, sym, subst}
+use Rattle.std.proofs.Common.{◌≡◌, ◌∙◌, ℕ, ◌⊎◌, inl, inr, Bool, true, false, if◌then◌else◌, List, [], ◌∷◌, ◌++◌, refl, ap, sym, subst}
 use Rattle.tl_types.specs.Request.{Request}
 use Rattle.tl_beats.specs.Faults.{SameReplyFields}
 use Rattle.tl_beats.specs.declared.beat.ABeat.{ABeat}
@@ -10,9 +10,9 @@ use Rattle.tl_link.specs.declared.beat.Link.{Link}
 use Rattle.tl_link.specs.declared.beat.Sighting.{Sighting}
 use Rattle.tl_link.specs.Past.{Under, ends_reply, replying}
 use Rattle.tl_link.specs.Form.{Continues}
-use Rattle.tl_flight.specs.Flight.{Turn, Flight, idle}
+use Rattle.tl_flight.specs.Flight.{Turn, idle}
 use Rattle.tl_flight.specs.Flight.Turn.{Idle, Asking, Asked}
-use Rattle.tl_watch.specs.Plan.{Plan, Side, side_of, number_of, wide_of, is_link, is_of}
+use Rattle.tl_watch.specs.Plan.{Plan, side_of, number_of, wide_of, is_link, is_of}
 use Rattle.tl_watch.specs.Scene.{flight_after}
 use Rattle.tl_watch.specs.Past.{State, scene_of, state, state_after}
 use Rattle.tl_watch.specs.Allowed.{OfAsked, IsAnswer, IsAllowedAsk, IsAllowedReply}
@@ -21,7 +21,6 @@ use Rattle.check_laws.specs.Crossed.{beats_at}
 use Rattle.check_laws.specs.Messages.{Answers}
 use Rattle.check_laws.proofs.Links.{links_are, same_link}
 use Rattle.check_laws.proofs.Turns.{LinksAre, AskingIsInFlight, ask_at, reply_at, open_before, asking_in_flight, not_asking, is_link_by, is_of_is, is_of_own, true_or_false}
-use Rattle.check_laws.proofs.Flights.{asked_at}
 use Rattle.check_laws.proofs.Dues.{replied}
 
 abbrev pub ReplyingIsInFlight : Plan → State → List Sighting → Type 0
@@ -107,7 +106,7 @@ module _ (plan : Plan) (s : State) (past : List Sighting) (linked : LinksAre s p
             let goes_on : ends_reply (s.links (side_of link) (number_of link)).replying beat ≡ false = ap (λ l. ends_reply l beat) under_is ∙ e in
             let turn = (s.flights (side_of link) (wide_of plan link beat.source)).turn in
             let here : OfAsked (number_of link) turn (λ ask. Answers ask first) = of_weaker (number_of link) turn (IsAnswer beat known) (λ ask. Answers ask first) allowed.answers
-                (λ ask answer. first_answers (replying (beats_at link past)) beat first more ask same is (record { size = answer.size; opcode = answer.opcode })) in
+            (λ ask answer. first_answers (replying (beats_at link past)) beat first more ask same is (record { size = answer.size; opcode = answer.opcode })) in
             subst (λ (b : Bool). OfAsked (number_of link) (if b then flight_after plan.layout link (scene_of plan s (reply_at link known beat)) (D beat) else s.flights (side_of link) (wide_of plan link first.source)).turn (λ ask. Answers ask first)) (sym mine)
             (subst (λ (b : Bool). OfAsked (number_of link) (if b then idle else (scene_of plan s (reply_at link known beat)).flight).turn (λ ask. Answers ask first)) (sym goes_on) here)
 
@@ -118,7 +117,7 @@ module _ (plan : Plan) (s : State) (past : List Sighting) (linked : LinksAre s p
             → OfAsked (number_of at) (if is_of plan (reply_at link known beat) (side_of at) (wide_of plan at first.source) then flight_after plan.layout link (scene_of plan s (reply_at link known beat)) (D beat) else s.flights (side_of at) (wide_of plan at first.source)).turn (λ ask. Answers ask first)
         go true here is =
             let P : Link → Type 0 = λ l. replying (D beat ∷ beats_at l past) ≡ first ∷ more
-                → OfAsked (number_of l) (if is_of plan (reply_at link known beat) (side_of l) (wide_of plan l first.source) then flight_after plan.layout link (scene_of plan s (reply_at link known beat)) (D beat) else s.flights (side_of l) (wide_of plan l first.source)).turn (λ ask. Answers ask first) in
+            → OfAsked (number_of l) (if is_of plan (reply_at link known beat) (side_of l) (wide_of plan l first.source) then flight_after plan.layout link (scene_of plan s (reply_at link known beat)) (D beat) else s.flights (side_of l) (wide_of plan l first.source)).turn (λ ask. Answers ask first) in
             subst P (same_link link at here) (own_replying first more) is
         go false here is = stays (reply_at link known beat) at first (before at first more is) other
           where

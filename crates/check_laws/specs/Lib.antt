@@ -1,3 +1,4 @@
 pub mod Crossed
 pub mod Memories
 pub mod Messages
+pub mod Crossings

@@ -4,10 +4,12 @@ ghost use Rattle.tl_types.specs.Request.{Request};
 ghost use Rattle.tl_types.specs.Response.{Response};
 ghost use Rattle.tl_ops.specs.History.{replay};
 ghost use Rattle.tl_link.specs.declared.beat.Sighting.{Sighting};
+ghost use Rattle.tl_watch.specs.declared.links.Links.TheVariants.{Both};
 ghost use Rattle.tl_watch.specs.Lawful.{IsLawful};
 ghost use Rattle.tl_watch.specs.Past.{state};
-ghost use Rattle.tl_watch.specs.Plan.{Plan};
+ghost use Rattle.tl_watch.specs.Plan.{Plan, IsPlan};
 ghost use Rattle.check_laws.specs.Crossed.{AreWatched};
+ghost use Rattle.check_laws.specs.Crossings.{IsCrossing};
 ghost use Rattle.check_laws.specs.Messages.{AreMessages};
 ghost use Rattle.check_laws.specs.Memories.{IsDoneAt, asks_done, reset_of};
 
@@ -24,4 +26,11 @@ pub fn memories_are_sequential()
         → (port : ℕ) → (history : List (Request × Response)) × IsDoneAt plan past port history }
     ensures kept { (plan : Plan) (past : List Sighting) → AreWatched plan.layout past → IsLawful plan past
         → (port : ℕ) → ((state plan past).slaves port).bank ≡ replay (reset_of plan port) (asks_done plan port past) }
+{}
+
+/// Where both sides are watched, what a port is asked is what a master asked, each request once, and what a master is answered is what
+/// the port answered.
+pub fn messages_cross()
+    ensures { (plan : Plan) (past : List Sighting) → IsPlan plan → plan.layout.links ≡ Both → AreWatched plan.layout past
+        → IsLawful plan past → (wide : ℕ) → IsCrossing plan past wide }
 {}
