@@ -31,6 +31,7 @@ use Rattle.tl_watch.specs.Allowed.{IsAskedAs, EndsWell, IsAllowedAsk, IsAllowedR
 use Rattle.tl_watch.specs.Lawful.{IsLawful, IsAllowed}
 use Rattle.check_laws.specs.Crossed.{AskSeen, ReplySeen, AreWatched, beats_at, ask_ended, reply_ended, asks, replies, exchanges}
 use Rattle.check_laws.specs.Crossings.{IsOwned, answered_from_outside, sent_out, requests_of, AreGiven, IsCrossing}
+use Rattle.check_laws.proofs.BackForm.{last_of_all}
 use Rattle.check_laws.proofs.Links.{links_are}
 use Rattle.check_laws.proofs.Turns.{ask_at, reply_at, open_before, asking_in_flight}
 use Rattle.check_laws.proofs.Flights.{pending, InStep, asked_at, nothing_pending, in_step}
@@ -40,10 +41,6 @@ use Rattle.check_laws.proofs.Placing.{beat_placed, asking_placed}
 use Rattle.check_laws.proofs.Standing.{Story, IsAtRest, IsOut, is_out, Stands, IsGot, IsTheSent, IsItsGift, master_asks, master_gets, port_asks, port_gives, given_but_one}
 
 -- ---- owners
-
-last_of_all : {X : Type 0} (P : X → Type 0) (xs : List X) (x : X) → AllByRecursion P (xs ++ x ∷ []) → P x
-last_of_all P [] x all = all.0
-last_of_all P (y ∷ xs) x all = last_of_all P xs x all.1
 
 -- a source at a master's link is one of this master, with this wide source
 wide_here : (plan : Plan) → IsPlan plan → (m source : ℕ) → HasSource plan.layout (Master m) source → IsWide plan.layout.counts m source (plan.wide m source)

@@ -16,3 +16,6 @@ pub mod Placing
 pub mod Turned
 pub mod Standing
 pub mod Crossing
+pub mod Rules
+pub mod BackForm
+pub mod Begun

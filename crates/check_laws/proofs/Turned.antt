@@ -1,6 +1,7 @@
 -- What lawful beats say of messages.
 use Rattle.std.proofs.Common.{◌≡◌, ◌∙◌, ℕ, ◌+◌, ◌≤◌, List, length, ap, sym, arith, length-append}
 use Rattle.tl_link.specs.declared.beat.Link.{Link}
+use Rattle.tl_link.specs.declared.beat.Link.TheVariants.{Port}
 use Rattle.tl_link.specs.declared.beat.Sighting.{Sighting}
 use Rattle.tl_link.proofs.Reading.{cut_up, all_spelled, replies_cut_up, all_replies_spelled}
 use Rattle.tl_link.proofs.Ending.{can_end, reply_can_end}
@@ -18,7 +19,7 @@ use Rattle.check_laws.proofs.Taking.{next_is}
 use Rattle.check_laws.proofs.Fitting.{fitting}
 use Rattle.check_laws.proofs.Replying.{are_answered}
 use Rattle.check_laws.proofs.UnderWay.{replying_in_flight}
-use Rattle.check_laws.proofs.Placing.{known_sources, asks_placed}
+use Rattle.check_laws.proofs.Placing.{asking_placed, known_sources, asks_placed}
 
 carries : (plan : Plan) (past : List Sighting) → IsLawful plan past → (link : Link) → CarriesMessages past link
 carries plan past lawful link =
@@ -69,4 +70,5 @@ messages plan past lawful = record {
   sources = take_turns plan past lawful;
   known = known_sources plan past lawful;
   placed = asks_placed plan past lawful;
+  begun_placed = λ port. asking_placed plan past lawful (Port port);
 }

@@ -2,3 +2,4 @@ pub mod Crossed
 pub mod Memories
 pub mod Messages
 pub mod Crossings
+pub mod Rules

@@ -8,7 +8,7 @@ use Rattle.tl_types.specs.Request.{Request}
 use Rattle.tl_types.specs.Wire.{reply_opcode_of}
 use Rattle.tl_beats.specs.declared.beat.ABeat.{ABeat}
 use Rattle.tl_beats.specs.declared.beat.DBeat.{DBeat}
-use Rattle.tl_map.specs.Map.{Routes}
+use Rattle.tl_map.specs.Map.{Routes, RoutesBytes}
 use Rattle.tl_link.specs.declared.beat.Link.{Link}
 use Rattle.tl_link.specs.declared.beat.Link.TheVariants.{Port}
 use Rattle.tl_link.specs.declared.beat.Sighting.{Sighting}
@@ -79,4 +79,7 @@ pub record AreMessages (plan : Plan) (past : List Sighting) : Type 0 where
   pub sources : (side : Side) (wide : ℕ) → TakeTurns plan past side wide
   -- each beat is of a source that the system has at its link
   pub known : AllByRecursion (λ (x : Sighting). HasSource plan.layout x.link (source_of x.beat)) past
+  -- each request at a port's link is one of the port, once it has begun
   pub placed : (side : Side) (wide : ℕ) → AllByRecursion (IsInPlace plan.layout) (asks plan side wide past)
+  pub begun_placed : (port : ℕ) (first : ABeat) (more : List ABeat) → asking (beats_at (Port port) past) ≡ first ∷ more
+      → RoutesBytes plan.layout.ranges first.address first.size port

@@ -11,6 +11,7 @@ ghost use Rattle.tl_watch.specs.Plan.{Plan, IsPlan};
 ghost use Rattle.check_laws.specs.Crossed.{AreWatched};
 ghost use Rattle.check_laws.specs.Crossings.{IsCrossing};
 ghost use Rattle.check_laws.specs.Messages.{AreMessages};
+ghost use Rattle.check_laws.specs.Rules.{AlwaysKeepsRules};
 ghost use Rattle.check_laws.specs.Memories.{IsDoneAt, asks_done, reset_of};
 
 /// Each channel of a link carries whole messages one after the other, and a beginning of one more; each reply answers a request that
@@ -33,4 +34,11 @@ pub fn memories_are_sequential()
 pub fn messages_cross()
     ensures { (plan : Plan) (past : List Sighting) → IsPlan plan → plan.layout.links ≡ Both → AreWatched plan.layout past
         → IsLawful plan past → (wide : ℕ) → IsCrossing plan past wide }
+{}
+
+/// What `lawful` means: at each moment the beats so far are whole messages that come in turn, the replies are those of memories, and
+/// messages cross.
+pub fn lawful_beats_keep_the_rules()
+    ensures { (plan : Plan) (past : List Sighting) → IsPlan plan → AreWatched plan.layout past → IsLawful plan past
+        → AlwaysKeepsRules plan past }
 {}
