@@ -1,9 +1,8 @@
 -- Beats that keep the rules at each moment are lawful.
-use Rattle.std.proofs.Common.{◌≡◌, ◌∙◌, ℕ, Bool, true, false, if◌then◌else◌, List, [], ◌∷◌, ◌++◌, length, refl, ap, sym, subst}
-use Rattle.std.specs.Prelude.{◌&&◌, nat_lt, IsTrue, IsSomeAnd}
+use Rattle.std.proofs.Common.{◌≡◌, ◌∙◌, ℕ, Bool, true, false, List, [], ◌∷◌, ◌++◌, length, refl, ap, sym, subst}
+use Rattle.std.specs.Prelude.{◌&&◌, nat_lt, IsSomeAnd}
 use Rattle.tl_types.specs.Request.{Request}
 use Rattle.tl_types.specs.Response.{Response, IsLawfulResponse}
-use Rattle.tl_beats.specs.Faults.{SameFields, SameReplyFields}
 use Rattle.tl_beats.specs.Replies.{SpellsReply}
 use Rattle.tl_beats.specs.declared.beat.ABeat.{ABeat}
 use Rattle.tl_beats.specs.declared.beat.DBeat.{DBeat}
@@ -15,7 +14,6 @@ use Rattle.tl_link.specs.declared.beat.Sighting.{Sighting}
 use Rattle.tl_link.specs.Message.{ask_of}
 use Rattle.tl_link.specs.Past.{Under, ends_ask, ends_reply, asking, replying}
 use Rattle.tl_link.specs.Form.{FitsAsk, FitsReply}
-use Rattle.tl_flight.specs.Flight.{Turn}
 use Rattle.tl_flight.specs.Flight.Turn.{Asked}
 use Rattle.tl_watch.specs.declared.links.Links.{Links}
 use Rattle.tl_watch.specs.declared.links.Links.TheVariants.{Both, Masters, Ports}
@@ -23,7 +21,7 @@ use Rattle.tl_watch.specs.Plan.{Plan, IsPlan, Layout, side_of, number_of, wide_o
 use Rattle.tl_watch.specs.Plan.Side.{AtMasters, AtPorts}
 use Rattle.tl_watch.specs.Scene.{is_given, must_by}
 use Rattle.tl_watch.specs.Past.{State, port_in, found_in, scene_of, state}
-use Rattle.tl_watch.specs.Allowed.{IsAskedAs, IsSent, EndsSent, OfAsked, IsAnswer, EndsWell, IsAllowedAsk, IsAllowedReply}
+use Rattle.tl_watch.specs.Allowed.{IsSent, OfAsked, IsAnswer, EndsWell, IsAllowedAsk, IsAllowedReply}
 use Rattle.tl_watch.specs.Lawful.{IsLawful, IsAllowed}
 use Rattle.check_laws.specs.Crossed.{AreWatched, beats_at}
 use Rattle.check_laws.specs.Rules.{KeepsRules, AlwaysKeepsRules, IsSeenWhole, AreSeenWhole}
@@ -34,7 +32,7 @@ use Rattle.check_laws.proofs.Taking.{next_is}
 use Rattle.check_laws.proofs.Standing.{IsOut, Stands, is_out}
 use Rattle.check_laws.proofs.Crossing.{story_at, all_stand}
 use Rattle.check_laws.proofs.BackForm.{ask_fits, reply_fits}
-use Rattle.check_laws.proofs.BackTurns.{free_back, placed_back, IsAnswering, answering_back}
+use Rattle.check_laws.proofs.BackTurns.{free_back, placed_back, answering_back}
 use Rattle.check_laws.proofs.BackCross.{sent_back}
 use Rattle.check_laws.proofs.BackReplies.{memory_back, given_back}
 
@@ -98,7 +96,7 @@ module _ (plan : Plan) (is_plan : IsPlan plan) (past : List Sighting) (watched :
       let both = both_of plan.layout m (port_in plan turn) given in
       let out : is_out plan wide ask ≡ true = ap (λ t. nat_lt (port_in plan t) (length plan.layout.ranges)) (sym in_flight) ∙ both.1 in
       let stands : Stands plan wide (story_at plan wide past) (Asked m ask) (s.crossings wide) (s.flights AtPorts wide).turn =
-          subst (λ t. Stands plan wide (story_at plan wide past) t (s.crossings wide) (s.flights AtPorts wide).turn) in_flight (all_stand plan is_plan both.0 past watched lawful wide) in
+      subst (λ t. Stands plan wide (story_at plan wide past) t (s.crossings wide) (s.flights AtPorts wide).turn) in_flight (all_stand plan is_plan both.0 past watched lawful wide) in
       given_back plan past lawful m known beat ask in_flight ends out (rules.crossings both.0 wide) (s.crossings wide) (s.flights AtPorts wide).turn
       (subst (λ b. IsOut plan wide (story_at plan wide past) b ask (s.crossings wide) (s.flights AtPorts wide).turn) out stands)
 
@@ -109,7 +107,7 @@ module _ (plan : Plan) (is_plan : IsPlan plan) (past : List Sighting) (watched :
       let ends : ends_reply (replying (beats_at link past)) beat ≡ true = ap (λ l. ends_reply l beat) (sym replying_is) ∙ ends_here in
       let is : IsWell link beat ask (is_given plan.layout link found) = go (is_given plan.layout link found) refl ends in
       subst (λ (l : List DBeat). (captured : Response) × IsLawfulResponse captured.op captured.size captured.denied captured.bytes × SpellsReply captured ask.address (l ++ beat ∷ [])
-        × IsSomeAnd (must_by (is_given plan.layout link found) beat.source (scene_of plan s (reply_at link known beat)).crossing (scene_of plan s (reply_at link known beat)).flight.due) (λ answer. answer.reply ≡ captured)) (sym replying_is) is
+      × IsSomeAnd (must_by (is_given plan.layout link found) beat.source (scene_of plan s (reply_at link known beat)).crossing (scene_of plan s (reply_at link known beat)).flight.due) (λ answer. answer.reply ≡ captured)) (sym replying_is) is
     where
       go : (given : Bool) → is_given plan.layout link (found_in plan s (reply_at link known beat)).port ≡ given → ends_reply (replying (beats_at link past)) beat ≡ true → IsWell link beat ask given
       go true given ends = given_so link beat rules ask in_flight ends given

@@ -1,10 +1,9 @@
 -- Requests that cross were sent: the way back from what lawful beats say of crossings.
-use Rattle.std.proofs.Common.{◌≡◌, ◌∙◌, ℕ, ◌+◌, ◌≤◌, Bool, true, false, if◌then◌else◌, List, [], ◌∷◌, ◌++◌, length, map, refl, ap, sym, subst, arith, length-append, append_assoc}
-use Rattle.std.proofs.lemmas.List.{map-append, append_cancel_left, length-map}
+use Rattle.std.proofs.Common.{◌≡◌, ◌∙◌, ℕ, Bool, true, false, if◌then◌else◌, List, [], ◌∷◌, ◌++◌, length, refl, ap, sym, arith, length-append, append_assoc}
+use Rattle.std.proofs.lemmas.List.{map-append, append_cancel_left}
 use Rattle.tl_types.specs.Request.{Request}
 use Rattle.tl_beats.specs.declared.beat.ABeat.{ABeat}
 use Rattle.tl_link.specs.declared.beat.Link.TheVariants.{Port}
-use Rattle.tl_link.specs.declared.beat.Beat.TheVariants.{A}
 use Rattle.tl_link.specs.declared.beat.Sighting.{Sighting}
 use Rattle.tl_link.specs.Message.{ask_of}
 use Rattle.tl_link.specs.Past.{ends_ask, asking}
@@ -13,12 +12,11 @@ use Rattle.tl_flight.specs.Flight.Turn.{Idle, Asking, Asked}
 use Rattle.tl_flight.specs.Flight.Crossing.{Waiting, Crossed, Given}
 use Rattle.tl_watch.specs.Plan.{Plan}
 use Rattle.tl_watch.specs.Plan.Side.{AtMasters, AtPorts}
-use Rattle.tl_watch.specs.Past.{state}
 use Rattle.tl_watch.specs.Allowed.{IsAskedAs}
 use Rattle.check_laws.specs.Crossed.{AskSeen, beats_at, asks}
 use Rattle.check_laws.specs.Crossings.{sent_out, requests_of, IsCrossing}
 use Rattle.check_laws.proofs.Turns.{ask_at}
-use Rattle.check_laws.proofs.Standing.{Story, IsOut, is_out, Stands}
+use Rattle.check_laws.proofs.Standing.{IsOut, is_out, Stands}
 use Rattle.check_laws.proofs.Crossing.{story_at}
 use Rattle.check_laws.proofs.BackTurns.{asks_with_ask}
 
@@ -65,5 +63,5 @@ module _ (plan : Plan) (past : List Sighting) (p known : ℕ) (beat : ABeat) (en
       go true (Given answer) stands = absurd (too_few stands.same)
       go true Waiting stands =
           let lists : record sent { source = wide } ∷ [] ≡ ask ∷ [] ++ crossing.waiting =
-              append_cancel_left (requests_of taken) (record sent { source = wide } ∷ []) (ask ∷ [] ++ crossing.waiting) (sym stands.same ∙ sent_is) in
+          append_cancel_left (requests_of taken) (record sent { source = wide } ∷ []) (ask ∷ [] ++ crossing.waiting) (sym stands.same ∙ sent_is) in
           (ap (head_of ask) lists, refl)

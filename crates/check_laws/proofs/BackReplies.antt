@@ -1,6 +1,6 @@
 -- Replies of memories, and replies that cross, are those that must come: the way back from what lawful beats say of replies.
-use Rattle.std.proofs.Common.{◌≡◌, ◌∙◌, ℕ, zero, suc, ◌≤◌, Bool, true, false, if◌then◌else◌, List, [], ◌∷◌, ◌++◌, length, zip, Option, Some, None, slice_get, refl, ap, sym, subst, arith, append-nil}
-use Rattle.std.specs.Prelude.{◌==◌, ◌&&◌, nat_lt, IsSomeAnd}
+use Rattle.std.proofs.Common.{◌≡◌, ◌∙◌, ℕ, suc, true, false, if◌then◌else◌, List, [], ◌∷◌, ◌++◌, length, zip, Option, Some, None, slice_get, refl, ap, sym, subst, append-nil}
+use Rattle.std.specs.Prelude.{◌==◌, ◌&&◌, IsSomeAnd}
 use Rattle.tl_types.specs.Request.{Request}
 use Rattle.tl_types.specs.Response.{Response, IsLawfulResponse}
 use Rattle.tl_ops.specs.Store.{Store, after, reply}
@@ -12,32 +12,30 @@ use Rattle.tl_link.specs.declared.beat.Link.{Link}
 use Rattle.tl_link.specs.declared.beat.Link.TheVariants.{Master, Port}
 use Rattle.tl_link.specs.declared.beat.Beat.TheVariants.{D}
 use Rattle.tl_link.specs.declared.beat.Sighting.{Sighting}
-use Rattle.tl_link.specs.Past.{Under, ends_reply, replying}
+use Rattle.tl_link.specs.Past.{ends_reply, replying}
 use Rattle.tl_flight.specs.declared.flight.Answer.{Answer}
-use Rattle.tl_flight.specs.Flight.{Turn, Flight, Crossing}
-use Rattle.tl_flight.specs.Flight.Turn.{Idle, Asking, Asked}
+use Rattle.tl_flight.specs.Flight.{Turn, Crossing}
+use Rattle.tl_flight.specs.Flight.Turn.{Asked}
 use Rattle.tl_flight.specs.Flight.Crossing.{Waiting, Crossed, Given}
-use Rattle.tl_watch.specs.declared.links.Links.TheVariants.{Both}
-use Rattle.tl_watch.specs.Plan.{Plan, Layout, Side, side_of, number_of, wide_of, same_side, crosses, are_both, HasLink, IsWatched}
+use Rattle.tl_watch.specs.Plan.{Plan, Layout, side_of, number_of, wide_of, same_side, HasLink, IsWatched}
 use Rattle.tl_watch.specs.Plan.Side.{AtMasters, AtPorts}
-use Rattle.tl_watch.specs.Scene.{takes_effect, is_given, must_by, given_to}
-use Rattle.tl_watch.specs.Past.{State, port_in, found_in, scene_of, state}
-use Rattle.tl_watch.specs.Allowed.{EndsWell}
+use Rattle.tl_watch.specs.Scene.{takes_effect, is_given, given_to}
+use Rattle.tl_watch.specs.Past.{State, found_in, scene_of, state}
 use Rattle.tl_watch.specs.Lawful.{IsLawful}
 use Rattle.check_laws.specs.Crossed.{AskSeen, ReplySeen, AreWatched, beats_at, asks, replies, exchanges}
-use Rattle.check_laws.specs.Memories.{side_for, port_for, is_for, asks_done, reset_of, IsEntry, AreEntries, exchanges_at, entries_of, IsDoneAt}
-use Rattle.check_laws.specs.Crossings.{goes_out, answered_from_outside, IsGiven, AreGiven, IsCrossing}
+use Rattle.check_laws.specs.Memories.{side_for, port_for, is_for, reset_of, IsEntry, AreEntries, exchanges_at, entries_of, IsDoneAt}
+use Rattle.check_laws.specs.Crossings.{answered_from_outside, IsGiven, AreGiven, IsCrossing}
 use Rattle.check_laws.proofs.Links.{links_are}
-use Rattle.check_laws.proofs.Turns.{reply_at, link_on, own_link, same_side-refl, same_side-true, eqb_own}
+use Rattle.check_laws.proofs.Turns.{reply_at, link_on, own_link, same_side-true, eqb_own}
 use Rattle.check_laws.proofs.Flights.{pending, InStep, in_step}
 use Rattle.check_laws.proofs.Taking.{takes}
 use Rattle.check_laws.proofs.Dues.{IsSourced, are_due}
 use Rattle.check_laws.proofs.Done.{port_own, are_replayed}
 use Rattle.check_laws.proofs.Told.{told, told_none, told_cons, AreMatched}
-use Rattle.check_laws.proofs.Memory.{owed, history_at}
+use Rattle.check_laws.proofs.Memory.{owed}
 use Rattle.check_laws.proofs.Telling.{at_port, told_at, seen_more, put_last, sourced_late, goes_there, are_told}
-use Rattle.check_laws.proofs.Standing.{Story, AllGiven, IsOut, is_out, Stands, outside_answered}
-use Rattle.check_laws.proofs.Crossing.{story_at, all_stand}
+use Rattle.check_laws.proofs.Standing.{Story, AllGiven, IsOut, is_out, outside_answered}
+use Rattle.check_laws.proofs.Crossing.{story_at}
 use Rattle.check_laws.proofs.BackTurns.{asks_with_reply, replies_with_reply}
 
 -- ---- lists
@@ -150,16 +148,16 @@ module _ (plan : Plan) (past : List Sighting) (watched : AreWatched plan.layout 
       let was = told_at plan s past found own own (side_for plan.layout found) (side_of link) side refl (are_told plan past watched lawful found own) in
       let done = memories found in
       let history_is : entries_of own done.0 ≡ was.front ++ owed plan found own (side_of link) turn due =
-          ap (λ l. entries_of own l) (lawful_is_told (reset_of plan found) done.0 done.1.lawful ∙ ap (λ l. told (reset_of plan found) l) done.1.order)
-          ∙ put_last plan s past linked steps dues replayed link known has seen_here beat ask in_flight found was.front was.entries_are in
+      ap (λ l. entries_of own l) (lawful_is_told (reset_of plan found) done.0 done.1.lawful ∙ ap (λ l. told (reset_of plan found) l) done.1.order)
+      ∙ put_last plan s past linked steps dues replayed link known has seen_here beat ask in_flight found was.front was.entries_are in
       let seen_is : exchanges_at plan found own (reply_at link known beat ∷ past) ≡ at_port plan found (asks plan (side_of link) own past) (replies plan (side_of link) own past) ++ last ∷ [] =
-          ap (λ sd. at_port plan found (asks plan sd own (reply_at link known beat ∷ past)) (replies plan sd own (reply_at link known beat ∷ past))) (sym side)
-          ∙ ap (λ l. at_port plan found l (replies plan (side_of link) own (reply_at link known beat ∷ past))) asks_are
-          ∙ ap (λ l. at_port plan found (asks plan (side_of link) own past ++ []) l) replies_are
-          ∙ sym (seen_more plan found (asks plan (side_of link) own past) step.done (replies plan (side_of link) own past) last.0 last.1 asked_is step.counted)
-          ∙ ap (λ b. at_port plan found (asks plan (side_of link) own past) (replies plan (side_of link) own past) ++ (if b then last ∷ [] else [])) for_it in
+      ap (λ sd. at_port plan found (asks plan sd own (reply_at link known beat ∷ past)) (replies plan sd own (reply_at link known beat ∷ past))) (sym side)
+      ∙ ap (λ l. at_port plan found l (replies plan (side_of link) own (reply_at link known beat ∷ past))) asks_are
+      ∙ ap (λ l. at_port plan found (asks plan (side_of link) own past ++ []) l) replies_are
+      ∙ sym (seen_more plan found (asks plan (side_of link) own past) step.done (replies plan (side_of link) own past) last.0 last.1 asked_is step.counted)
+      ∙ ap (λ b. at_port plan found (asks plan (side_of link) own past) (replies plan (side_of link) own past) ++ (if b then last ∷ [] else [])) for_it in
       let entries : AreEntries own (at_port plan found (asks plan (side_of link) own past) (replies plan (side_of link) own past) ++ last ∷ []) (was.front ++ owed plan found own (side_of link) turn due) =
-          subst (λ l. AreEntries own l (was.front ++ owed plan found own (side_of link) turn due)) seen_is (subst (λ l. AreEntries own (exchanges_at plan found own (reply_at link known beat ∷ past)) l) history_is (done.1.captured own)) in
+      subst (λ l. AreEntries own l (was.front ++ owed plan found own (side_of link) turn due)) seen_is (subst (λ l. AreEntries own (exchanges_at plan found own (reply_at link known beat ∷ past)) l) history_is (done.1.captured own)) in
       let entry = last_entry_of own (at_port plan found (asks plan (side_of link) own past) (replies plan (side_of link) own past)) last was.front (owed plan found own (side_of link) turn due) was.matched entries in
       owed_entry plan found own (number_of link) link ask due entry.0 entry.1 message refl goes_so (ap (λ t. owed plan found own (side_of link) t due) (sym in_flight) ∙ entry.2)
       (sourced_late plan s past linked steps dues replayed link known has seen_here beat ask in_flight) entry.3
@@ -191,11 +189,11 @@ module _ (plan : Plan) (past : List Sighting) (lawful : IsLawful plan past) (m k
       let step = in_step plan past lawful AtMasters wide in
       let asked_so : asks plan AtMasters wide past ≡ step.done ++ one.0 ∷ [] = step.asks_are ∙ ap (λ t. step.done ++ pending AtMasters t) in_flight in
       let seen : answered_from_outside plan (exchanges plan AtMasters wide (reply_at (Master m) known beat ∷ past)) ≡ before ++ one ∷ [] =
-          ap (λ l. answered_from_outside plan (zip l (replies plan AtMasters wide (reply_at (Master m) known beat ∷ past)))) (asks_with_reply plan past (Master m) known beat ∙ sym (append-nil (asks plan AtMasters wide past)))
-          ∙ ap (λ l. answered_from_outside plan (zip (asks plan AtMasters wide past ++ []) l)) (replies_with_reply plan past (Master m) known beat
-            ∙ ap (λ b. replies plan AtMasters wide past ++ (if b then record { link = Master m; beats = reply_beats } ∷ [] else [])) ends)
-          ∙ outside_answered plan wide story step.done one.0 one.1 asked_so step.counted
-          ∙ ap (λ b. before ++ (if b then one ∷ [] else [])) out in
+      ap (λ l. answered_from_outside plan (zip l (replies plan AtMasters wide (reply_at (Master m) known beat ∷ past)))) (asks_with_reply plan past (Master m) known beat ∙ sym (append-nil (asks plan AtMasters wide past)))
+      ∙ ap (λ l. answered_from_outside plan (zip (asks plan AtMasters wide past ++ []) l)) (replies_with_reply plan past (Master m) known beat
+      ∙ ap (λ b. replies plan AtMasters wide past ++ (if b then record { link = Master m; beats = reply_beats } ∷ [] else [])) ends)
+      ∙ outside_answered plan wide story step.done one.0 one.1 asked_so step.counted
+      ∙ ap (λ b. before ++ (if b then one ∷ [] else [])) out in
       subst (λ l. AreGiven wide l (exchanges plan AtPorts wide past)) seen crossing.given
 
   pub given_back : (far : Crossing) (there : Turn) → IsOut plan wide story true ask far there

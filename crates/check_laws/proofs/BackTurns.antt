@@ -1,35 +1,33 @@
 -- Messages that come in turn are lawful beat by beat: the way back from what lawful beats say of turns.
-use Rattle.std.proofs.Common.{◌≡◌, ◌∙◌, ℕ, zero, suc, ◌+◌, ◌-◌, ◌≤◌, Bool, true, false, if◌then◌else◌, List, [], ◌∷◌, ◌++◌, length, zip, take, drop, slice_get, Some, refl, ap, sym, subst, arith, append-nil, length-append}
+use Rattle.std.proofs.Common.{◌≡◌, ◌∙◌, ℕ, suc, ◌+◌, ◌-◌, ◌≤◌, Bool, true, false, if◌then◌else◌, List, [], ◌∷◌, ◌++◌, length, zip, take, drop, refl, ap, sym, subst, arith, append-nil, length-append}
 use Rattle.std.specs.Prelude.{slice_range}
 use Rattle.std.specs.List.{AllByRecursion}
 use Rattle.tl_types.specs.Request.{Request}
-use Rattle.tl_map.specs.Map.{Routes, RoutesBytes}
+use Rattle.tl_map.specs.Map.{RoutesBytes}
 use Rattle.tl_beats.specs.Faults.{SameFields, SameReplyFields}
 use Rattle.tl_beats.specs.declared.beat.ABeat.{ABeat}
 use Rattle.tl_beats.specs.declared.beat.DBeat.{DBeat}
-use Rattle.tl_link.specs.declared.beat.Beat.{Beat}
 use Rattle.tl_link.specs.declared.beat.Beat.TheVariants.{A, D}
 use Rattle.tl_link.specs.declared.beat.Link.{Link}
 use Rattle.tl_link.specs.declared.beat.Link.TheVariants.{Master, Port}
 use Rattle.tl_link.specs.declared.beat.Sighting.{Sighting}
 use Rattle.tl_link.specs.Message.{ask_of}
-use Rattle.tl_link.specs.Past.{Under, ends_ask, ends_reply, asking, replying}
-use Rattle.tl_link.specs.Form.{Continues, FitsAsk, FitsReply}
+use Rattle.tl_link.specs.Past.{ends_ask, ends_reply, asking, replying}
+use Rattle.tl_link.specs.Form.{Continues}
 use Rattle.tl_flight.specs.Flight.{Turn}
 use Rattle.tl_flight.specs.Flight.Turn.{Idle, Asking, Asked}
-use Rattle.tl_watch.specs.Plan.{Plan, Layout, Side, side_of, number_of, wide_of, is_link, is_of}
+use Rattle.tl_watch.specs.Plan.{Plan, Side, side_of, number_of, wide_of, is_link}
 use Rattle.tl_watch.specs.Plan.Side.{AtMasters, AtPorts}
-use Rattle.tl_watch.specs.Past.{State, state}
-use Rattle.tl_watch.specs.Allowed.{IsPlaced, OfAsked, IsAnswer, IsKnownReply}
+use Rattle.tl_watch.specs.Past.{state}
+use Rattle.tl_watch.specs.Allowed.{IsPlaced}
 use Rattle.tl_watch.specs.Lawful.{IsLawful}
-use Rattle.check_laws.specs.Crossed.{AskSeen, ReplySeen, beats_at, ask_ended, reply_ended, asks, replies, exchanges, next_answered}
+use Rattle.check_laws.specs.Crossed.{AskSeen, ReplySeen, beats_at, ask_ended, reply_ended, asks, replies, next_answered}
 use Rattle.check_laws.specs.Messages.{Answers, IsAnswered, AsksAt, RepliesAt, TakeTurns, AreMessages, IsInPlace}
 use Rattle.check_laws.proofs.Lists.{zip_more, drop_front}
 use Rattle.check_laws.proofs.Links.{same_link}
-use Rattle.check_laws.proofs.Turns.{ask_at, reply_at, link_on, own_link, is_of_own}
+use Rattle.check_laws.proofs.Turns.{ask_at, reply_at, link_on, is_of_own}
 use Rattle.check_laws.proofs.Flights.{pending, InStep, in_step}
 use Rattle.check_laws.proofs.Dues.{replied, side_on, some_first}
-use Rattle.check_laws.proofs.Taking.{next_is}
 use Rattle.check_laws.proofs.BackForm.{beats_here, last_of_all}
 use Rattle.check_laws.proofs.Begun.{asks_elsewhere, asks_own, asking_begun}
 
@@ -112,7 +110,7 @@ module _ (plan : Plan) (past : List Sighting) (lawful : IsLawful plan past) (lin
               absurd (omega (arith, was, ap (λ t. length (pending (side_of link) t)) is, now true e, answered_now, even))
           other false here false e =
               let at : link ≡ link_on (side_of link) n = turns.begins_once link (link_on (side_of link) n) refl (side_here n) (asks_own plan past link known beat same e)
-                  (asks_elsewhere plan past (ask_at link known beat) own (link_on (side_of link) n) here begun) in
+              (asks_elsewhere plan past (ask_at link known beat) own (link_on (side_of link) n) here begun) in
               let some : asking (beats_at link past) ≡ begun.first ∷ begun.more = ap (λ l. asking (beats_at l past)) at ∙ begun.begun in
               absurd (cc)
 
@@ -124,7 +122,7 @@ placed_back plan past (Port p) known beat messages empty = go (ends_ask (asking 
     go : (ends : Bool) → ends_ask (asking (beats_at (Port p) past)) beat ≡ ends → RoutesBytes plan.layout.ranges beat.address beat.size p
     go false e =
         let begun : asking (beats_at (Port p) (ask_at (Port p) known beat ∷ past)) ≡ beat ∷ [] =
-            ap (λ l. asking l) (beats_here (ask_at (Port p) known beat) past) ∙ ap (λ b. if b then [] else asking (beats_at (Port p) past) ++ beat ∷ []) e ∙ ap (λ l. l ++ beat ∷ []) empty in
+        ap (λ l. asking l) (beats_here (ask_at (Port p) known beat) past) ∙ ap (λ b. if b then [] else asking (beats_at (Port p) past) ++ beat ∷ []) e ∙ ap (λ l. l ++ beat ∷ []) empty in
         messages.begun_placed p beat [] begun
     go true e =
         let wide = wide_of plan (Port p) beat.source in
@@ -132,7 +130,7 @@ placed_back plan past (Port p) known beat messages empty = go (ends_ask (asking 
         let message = asking (beats_at (Port p) past) ++ beat ∷ [] in
         let seen : AskSeen = record { link = Port p; ask = ask_of beat message } in
         let all : AllByRecursion (IsInPlace plan.layout) (asks plan side wide past ++ seen ∷ []) =
-            subst (λ l. AllByRecursion (IsInPlace plan.layout) l) (asks_with_ask plan past (Port p) known beat ∙ ap (λ b. asks plan side wide past ++ (if b then seen ∷ [] else [])) e) (messages.placed side wide) in
+        subst (λ l. AllByRecursion (IsInPlace plan.layout) l) (asks_with_ask plan past (Port p) known beat ∙ ap (λ b. asks plan side wide past ++ (if b then seen ∷ [] else [])) e) (messages.placed side wide) in
         last_of_all (IsInPlace plan.layout) (asks plan side wide past) seen all p refl
 
 -- ---- replies
@@ -208,12 +206,12 @@ module _ (plan : Plan) (past : List Sighting) (lawful : IsLawful plan past) (lin
       let asked = turns.replies_asked link refl there in
       let side = side_of link in
       let next : next_answered plan side mine past ≡ record { link = link; ask = asked.0 } ∷ [] =
-          sym (ap (λ l. slice_range l (length (replies plan side mine (reply_at link known beat ∷ past))) (suc (length (replies plan side mine (reply_at link known beat ∷ past))))) (asks_with_reply plan past link known beat)
-          ∙ ap (λ (l : List ReplySeen). slice_range (asks plan side mine past) (length l) (suc (length l))) (replies_with_reply plan past link known beat
-            ∙ ap (λ b. replies plan side mine past ++ (if b then record { link = link; beats = replying (beats_at link past) ++ beat ∷ [] } ∷ [] else [])) e ∙ append-nil (replies plan side mine past)))
-          ∙ asked.1 in
+      sym (ap (λ l. slice_range l (length (replies plan side mine (reply_at link known beat ∷ past))) (suc (length (replies plan side mine (reply_at link known beat ∷ past))))) (asks_with_reply plan past link known beat)
+      ∙ ap (λ (l : List ReplySeen). slice_range (asks plan side mine past) (length l) (suc (length l))) (replies_with_reply plan past link known beat
+      ∙ ap (λ b. replies plan side mine past ++ (if b then record { link = link; beats = replying (beats_at link past) ++ beat ∷ [] } ∷ [] else [])) e ∙ append-nil (replies plan side mine past)))
+      ∙ asked.1 in
       let begun : replying (beats_at link past) ++ beat ∷ [] ≡ there.first ∷ there.more =
-          ap (λ b. if b then [] else replying (beats_at link past) ++ beat ∷ []) (sym e) ∙ ap (λ l. replying l) (sym (beats_here (reply_at link known beat) past)) ∙ there.begun in
+      ap (λ b. if b then [] else replying (beats_at link past) ++ beat ∷ []) (sym e) ∙ ap (λ l. replying l) (sym (beats_here (reply_at link known beat) past)) ∙ there.begun in
       record {
         ask = asked.0;
         in_flight = of_pending at asked.0 (sym (next_pending plan past side mine at kept) ∙ next);
@@ -225,8 +223,16 @@ module _ (plan : Plan) (past : List Sighting) (lawful : IsLawful plan past) (lin
       replies_are = replies_with_reply plan past link known beat ∙ ap (λ b. replies plan (side_of link) mine past ++ (if b then record { link = link; beats = replying (beats_at link past) ++ beat ∷ [] } ∷ [] else [])) e
 
       enough : length (replies plan (side_of link) mine past) + 1 ≤ length (replies plan (side_of link) mine past) + length (pending (side_of link) at)
-      enough = omega (arith, turns.no_reply_more, ap (λ (l : List ReplySeen). length l) replies_are, length-append (replies plan (side_of link) mine past) (record { link = link; beats = replying (beats_at link past) ++ beat ∷ [] } ∷ []),
-          ap (λ (l : List AskSeen). length l) (asks_with_reply plan past link known beat), ap (λ (l : List AskSeen). length l) kept.asks_are, length-append kept.done (pending (side_of link) at), kept.counted)
+      enough = omega (
+        arith,
+        turns.no_reply_more,
+        ap (λ (l : List ReplySeen). length l) replies_are,
+        length-append (replies plan (side_of link) mine past) (record { link = link; beats = replying (beats_at link past) ++ beat ∷ [] } ∷ []),
+        ap (λ (l : List AskSeen). length l) (asks_with_reply plan past link known beat),
+        ap (λ (l : List AskSeen). length l) kept.asks_are,
+        length-append kept.done (pending (side_of link) at),
+        kept.counted,
+      )
 
       go : (t : Turn) → at ≡ t → IsAnswering
       go Idle is = absurd (omega (arith, enough, ap (λ t. length (pending (side_of link) t)) is))
@@ -237,7 +243,7 @@ module _ (plan : Plan) (past : List Sighting) (lawful : IsLawful plan past) (lin
           let answered = replies plan (side_of link) mine past in
           let asked_is : asks plan (side_of link) mine (reply_at link known beat ∷ past) ≡ kept.done ++ last ∷ [] = asks_with_reply plan past link known beat ∙ kept.asks_are ∙ ap (λ t. kept.done ++ pending (side_of link) t) is in
           let all : AllByRecursion IsAnswered (zip kept.done answered ++ (last, reply) ∷ []) = subst (λ l. AllByRecursion IsAnswered l)
-              (ap (λ l. zip l (replies plan (side_of link) mine (reply_at link known beat ∷ past))) asked_is ∙ ap (λ l. zip (kept.done ++ last ∷ []) l) replies_are ∙ zip_more kept.done answered last reply (sym kept.counted)) turns.answered in
+          (ap (λ l. zip l (replies plan (side_of link) mine (reply_at link known beat ∷ past))) asked_is ∙ ap (λ l. zip (kept.done ++ last ∷ []) l) replies_are ∙ zip_more kept.done answered last reply (sym kept.counted)) turns.answered in
           let one : IsAnswered (last, reply) = last_of_all IsAnswered (zip kept.done answered) (last, reply) all in
           let number : n ≡ number_of link = sym (number_on (side_of link) n) ∙ ap (λ l. number_of l) (sym one.link) in
           record {

@@ -20,7 +20,6 @@ use Rattle.tl_flight.specs.Slave.{slave_by}
 use Rattle.tl_watch.specs.Plan.{Plan, side_of, number_of, wide_of, is_at_acceptance, is_at_reply, HasLink, IsWatched}
 use Rattle.tl_watch.specs.Scene.{ask_by, takes_effect, effect_by, effect, begins_reply, late_effect}
 use Rattle.tl_watch.specs.Past.{State, port_of, found_in, scene_of, state, state_after}
-use Rattle.tl_watch.specs.Allowed.{IsAllowedReply}
 use Rattle.tl_watch.specs.Lawful.{IsLawful, IsAllowed}
 use Rattle.check_laws.specs.Crossed.{AreWatched}
 use Rattle.check_laws.specs.Memories.{port_for, is_for, ask_done, widened, asks_done, reset_of}

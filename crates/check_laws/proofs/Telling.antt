@@ -271,7 +271,6 @@ module _ (plan : Plan) (s : State) (past : List Sighting) (linked : LinksAre s p
       subst (λ t. IsSourced (Asked (number_of link) ask) (due_by flying.due (answer_by to_port (s.slaves to_port) (effect_by late (asked t))))) (sym in_flight)
       (late_sourced to_port (s.slaves to_port) late (number_of link) ask flying.due before)
 
-
 module _ (plan : Plan) (s : State) (past : List Sighting) (linked : LinksAre s past) (steps : AreInStep plan s past) (dues : AreDue plan s past) (replayed : AreReplayed plan s past) (told_so : AreTold plan s past) (link : Link) (known : ℕ)
     (has : HasLink plan.layout link) (watched : IsWatched plan.layout.links link) (beat : DBeat) (allowed : IsAllowedReply plan.layout link (scene_of plan s (reply_at link known beat)) beat known) where
   abbrev mine : ℕ
