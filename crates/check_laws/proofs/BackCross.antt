@@ -14,7 +14,7 @@ use Rattle.tl_watch.specs.Plan.{Plan}
 use Rattle.tl_watch.specs.Plan.Side.{AtMasters, AtPorts}
 use Rattle.tl_watch.specs.Allowed.{IsAskedAs}
 use Rattle.check_laws.specs.Crossed.{AskSeen, beats_at, asks}
-use Rattle.check_laws.specs.Crossings.{sent_out, requests_of, IsCrossing}
+use Rattle.check_laws.specs.Crossings.{sent_out, requests_of, MessagesCross}
 use Rattle.check_laws.proofs.Turns.{ask_at}
 use Rattle.check_laws.proofs.Standing.{IsOut, is_out, Stands}
 use Rattle.check_laws.proofs.Crossing.{story_at}
@@ -27,7 +27,7 @@ abbrev head_of : Request → List Request → Request
 head_of other [] = other
 head_of other (ask ∷ more) = ask
 
-module _ (plan : Plan) (past : List Sighting) (p known : ℕ) (beat : ABeat) (ends : ends_ask (asking (beats_at (Port p) past)) beat ≡ true) (crossing : IsCrossing plan (ask_at (Port p) known beat ∷ past) beat.source) where
+module _ (plan : Plan) (past : List Sighting) (p known : ℕ) (beat : ABeat) (ends : ends_ask (asking (beats_at (Port p) past)) beat ≡ true) (crossing : MessagesCross plan (ask_at (Port p) known beat ∷ past) beat.source) where
   abbrev wide : ℕ
   wide = beat.source
 

@@ -24,7 +24,7 @@ use Rattle.tl_watch.specs.Past.{State, found_in, scene_of, state}
 use Rattle.tl_watch.specs.Lawful.{IsLawful}
 use Rattle.check_laws.specs.Crossed.{AskSeen, ReplySeen, AreWatched, beats_at, asks, replies, exchanges}
 use Rattle.check_laws.specs.Memories.{side_for, port_for, is_for, reset_of, IsEntry, AreEntries, exchanges_at, entries_of, IsDoneAt}
-use Rattle.check_laws.specs.Crossings.{answered_from_outside, IsGiven, AreGiven, IsCrossing}
+use Rattle.check_laws.specs.Crossings.{answered_from_outside, IsGiven, AreGiven, MessagesCross}
 use Rattle.check_laws.proofs.Links.{links_are}
 use Rattle.check_laws.proofs.Turns.{reply_at, link_on, own_link, same_side-true, eqb_own}
 use Rattle.check_laws.proofs.Flights.{pending, InStep, in_step}
@@ -168,7 +168,7 @@ slice_last (b ∷ begun) beat = slice_last begun beat
 
 -- the reply that a port gave
 module _ (plan : Plan) (past : List Sighting) (lawful : IsLawful plan past) (m known : ℕ) (beat : DBeat) (ask : Request) (in_flight : ((state plan past).flights AtMasters (plan.wide m beat.source)).turn ≡ Asked m ask)
-    (ends : ends_reply (replying (beats_at (Master m) past)) beat ≡ true) (out : is_out plan (plan.wide m beat.source) ask ≡ true) (crossing : IsCrossing plan (reply_at (Master m) known beat ∷ past) (plan.wide m beat.source)) where
+    (ends : ends_reply (replying (beats_at (Master m) past)) beat ≡ true) (out : is_out plan (plan.wide m beat.source) ask ≡ true) (crossing : MessagesCross plan (reply_at (Master m) known beat ∷ past) (plan.wide m beat.source)) where
   abbrev wide : ℕ
   wide = plan.wide m beat.source
 

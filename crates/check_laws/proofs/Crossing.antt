@@ -30,7 +30,7 @@ use Rattle.tl_watch.specs.Past.{State, port_in, scene_of, state, state_after}
 use Rattle.tl_watch.specs.Allowed.{IsAskedAs, EndsWell, IsAllowedAsk, IsAllowedReply}
 use Rattle.tl_watch.specs.Lawful.{IsLawful, IsAllowed}
 use Rattle.check_laws.specs.Crossed.{AskSeen, ReplySeen, AreWatched, beats_at, ask_ended, reply_ended, asks, replies, exchanges}
-use Rattle.check_laws.specs.Crossings.{IsOwned, answered_from_outside, sent_out, requests_of, AreGiven, IsCrossing}
+use Rattle.check_laws.specs.Crossings.{IsOwned, answered_from_outside, sent_out, requests_of, AreGiven, MessagesCross}
 use Rattle.check_laws.proofs.BackForm.{last_of_all}
 use Rattle.check_laws.proofs.Links.{links_are}
 use Rattle.check_laws.proofs.Turns.{ask_at, reply_at, open_before, asking_in_flight}
@@ -373,19 +373,19 @@ module _ (plan : Plan) (past : List Sighting) (wide : ℕ) (owned : AllByRecursi
   abbrev story : Story
   story = story_at plan wide past
 
-  crossing_by : (turn : Turn) (crossing : Crossing) (there : Turn) → Stands plan wide story turn crossing there → IsCrossing plan past wide
+  crossing_by : (turn : Turn) (crossing : Crossing) (there : Turn) → Stands plan wide story turn crossing there → MessagesCross plan past wide
   crossing_by turn crossing there stands = go turn crossing stands
     where
-      full : sent_out plan wide (asks plan AtMasters wide past) ≡ requests_of (asks plan AtPorts wide past) → AreGiven wide (answered_from_outside plan (exchanges plan AtMasters wide past)) (exchanges plan AtPorts wide past) → IsCrossing plan past wide
+      full : sent_out plan wide (asks plan AtMasters wide past) ≡ requests_of (asks plan AtPorts wide past) → AreGiven wide (answered_from_outside plan (exchanges plan AtMasters wide past)) (exchanges plan AtPorts wide past) → MessagesCross plan past wide
       full same given = record { owned = owned; waiting = []; requests = same ∙ sym (append-nil (requests_of (asks plan AtPorts wide past))); one_waits = omega arith; given = given }
 
       none : (given : List (AskSeen × ReplySeen)) → AreGiven wide (answered_from_outside plan (exchanges plan AtMasters wide past)) (given ++ []) → AreGiven wide (answered_from_outside plan (exchanges plan AtMasters wide past)) given
       none given is = subst (λ l. AreGiven wide (answered_from_outside plan (exchanges plan AtMasters wide past)) l) (append-nil given) is
 
-      rest : IsAtRest plan wide story there → IsCrossing plan past wide
+      rest : IsAtRest plan wide story there → MessagesCross plan past wide
       rest stands = full stands.same (none (exchanges plan AtPorts wide past) (given_but_one wide (answered_from_outside plan (exchanges plan AtMasters wide past)) (exchanges plan AtPorts wide past) [] stands.given (omega arith)))
 
-      out : (out : Bool) (ask : Request) (crossing : Crossing) → IsOut plan wide story out ask crossing there → IsCrossing plan past wide
+      out : (out : Bool) (ask : Request) (crossing : Crossing) → IsOut plan wide story out ask crossing there → MessagesCross plan past wide
       out false ask crossing stands = rest stands
       out true ask Waiting stands = record {
         owned = owned;
@@ -399,12 +399,12 @@ module _ (plan : Plan) (past : List Sighting) (wide : ℕ) (owned : AllByRecursi
           (subst (λ l. AreGiven wide (answered_from_outside plan (exchanges plan AtMasters wide past)) l) (sym stands.split)
           (given_but_one wide (answered_from_outside plan (exchanges plan AtMasters wide past)) stands.front (stands.last ∷ []) stands.given (omega arith)))
 
-      go : (turn : Turn) (crossing : Crossing) → Stands plan wide story turn crossing there → IsCrossing plan past wide
+      go : (turn : Turn) (crossing : Crossing) → Stands plan wide story turn crossing there → MessagesCross plan past wide
       go Idle crossing stands = rest stands
       go (Asking n) crossing stands = rest stands
       go (Asked n ask) crossing stands = out (is_out plan wide ask) ask crossing stands
 
-pub crossing : (plan : Plan) (past : List Sighting) → IsPlan plan → plan.layout.links ≡ Both → AreWatched plan.layout past → IsLawful plan past → (wide : ℕ) → IsCrossing plan past wide
+pub crossing : (plan : Plan) (past : List Sighting) → IsPlan plan → plan.layout.links ≡ Both → AreWatched plan.layout past → IsLawful plan past → (wide : ℕ) → MessagesCross plan past wide
 crossing plan past is both watched lawful wide =
     let s = state plan past in
     crossing_by plan past wide (asks_owned plan is past lawful wide) (s.flights AtMasters wide).turn (s.crossings wide) (s.flights AtPorts wide).turn (all_stand plan is both past watched lawful wide)

@@ -9,7 +9,7 @@ ghost use Rattle.tl_watch.specs.Lawful.{IsLawful};
 ghost use Rattle.tl_watch.specs.Past.{state};
 ghost use Rattle.tl_watch.specs.Plan.{Plan, IsPlan};
 ghost use Rattle.check_laws.specs.Crossed.{AreWatched};
-ghost use Rattle.check_laws.specs.Crossings.{IsCrossing};
+ghost use Rattle.check_laws.specs.Crossings.{MessagesCross};
 ghost use Rattle.check_laws.specs.Messages.{AreMessages};
 ghost use Rattle.check_laws.specs.Rules.{AlwaysKeepsRules, AreSeenWhole};
 ghost use Rattle.check_laws.specs.Memories.{IsDoneAt, asks_done, reset_of};
@@ -33,7 +33,7 @@ pub fn memories_are_sequential()
 /// the port answered.
 pub fn messages_cross()
     ensures { (plan : Plan) (past : List Sighting) → IsPlan plan → plan.layout.links ≡ Both → AreWatched plan.layout past
-        → IsLawful plan past → (wide : ℕ) → IsCrossing plan past wide }
+        → IsLawful plan past → (wide : ℕ) → MessagesCross plan past wide }
 {}
 
 /// What `lawful` means: at each moment the beats so far are whole messages that come in turn, the replies are those of memories, and
