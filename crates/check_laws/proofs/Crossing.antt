@@ -112,6 +112,9 @@ asked_as Idle ask is = absurd is
 asked_as (Asking n) ask is = absurd is
 asked_as (Asked n sent) ask is = (n, sent, refl, is)
 
+same_place : (sent ask : Request) (source : ℕ) → record sent { source = source } ≡ ask → (sent.address ≡ ask.address) × (sent.size ≡ ask.size)
+same_place sent ask source is = (ap (λ (r : Request). r.address) is, ap (λ (r : Request). r.size) is)
+
 turn_after : (ends : Bool) (flight : Flight) → (if ends then idle else flight).turn ≡ (if ends then Idle else flight.turn)
 turn_after true flight = refl
 turn_after false flight = refl
@@ -248,8 +251,9 @@ module _ (plan : Plan) (is_plan : IsPlan plan) (both : plan.layout.links ≡ Bot
         let found = asked_as (s.flights AtMasters took).turn ask asked in
         let placed : RoutesBytes plan.layout.ranges beat.address beat.size p = beat_placed plan past (asking_placed plan past lawful) (Port p) known beat allowed in
         let within : plan.route beat.address beat.size < length plan.layout.ranges = goes_out_by plan.layout.ranges beat.address beat.size p (plan.route beat.address beat.size) has placed (is_plan.route beat.address beat.size) in
-        let address : found.1.address ≡ beat.address = ap (λ (r : Request). r.address) found.3 in
-        let size : found.1.size ≡ beat.size = ap (λ (r : Request). r.size) found.3 in
+        let place = same_place found.1 ask ask.source found.3 in
+        let address : found.1.address ≡ beat.address = place.0 in
+        let size : found.1.size ≡ beat.size = place.1 in
         record {
           number = found.0;
           sent = found.1;

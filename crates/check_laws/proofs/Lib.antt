@@ -24,3 +24,4 @@ pub mod BackCross
 pub mod BackReplies
 pub mod Back
 pub mod Whole
+pub mod Sorted
