@@ -27,7 +27,8 @@ pub record BreaksRules (plan : Plan) (file : List Row) (row : Row) : Type 0 wher
   pub crossing : IsCrossing file (after ++ row ∷ before)
   pub kept : AlwaysKeepsRules plan (seen plan.layout before)
   pub whole : AreSeenWhole plan (seen plan.layout before)
-  pub broken : AreSeenWhole plan (row.sighting ∷ seen plan.layout before) → AlwaysKeepsRules plan (row.sighting ∷ seen plan.layout before) → ⊥
+  pub broken : AreSeenWhole plan (row.sighting ∷ seen plan.layout before)
+      → AlwaysKeepsRules plan (row.sighting ∷ seen plan.layout before) → ⊥
 
 -- from a place on a text is a capture, its rows keep the rules, and so many they are
 pub record CaptureKeepsRules (plan : Plan) (sizes : Sizes) (from : Place) (counts : Counts) : Type 0 where
