@@ -1,21 +1,18 @@
 -- Beats of whole messages fit one after the other: the way back from what lawful beats say of messages.
-use Rattle.std.proofs.Common.{◌≡◌, ◌≢◌, ◌∙◌, ℕ, ◌≤◌, zero, suc, Bool, true, false, if◌then◌else◌, List, [], ◌∷◌, ◌++◌, length, Some, slice_get, refl, ap, sym, subst, append-nil}
+use Rattle.std.proofs.Common.{◌≡◌, ◌≢◌, ◌∙◌, ℕ, ◌≤◌, Bool, true, false, if◌then◌else◌, List, [], ◌∷◌, ◌++◌, length, Some, slice_get, refl, ap, sym, subst, append-nil}
 use Rattle.std.specs.List.{AllByRecursion}
 use Rattle.tl_types.specs.Request.{Request}
-use Rattle.tl_types.specs.Response.{Response}
 use Rattle.tl_types.specs.declared.limits.TheConstants.{LARGEST_SIZE}
 use Rattle.tl_beats.specs.Beats.{IsLawfulMask}
 use Rattle.tl_beats.specs.Replies.{IsLawfulFlag}
-use Rattle.tl_beats.specs.Faults.{SameFields, SameReplyFields}
 use Rattle.tl_beats.specs.declared.beat.ABeat.{ABeat}
 use Rattle.tl_beats.specs.declared.beat.DBeat.{DBeat}
-use Rattle.tl_link.specs.declared.beat.Beat.{Beat}
 use Rattle.tl_link.specs.declared.beat.Beat.TheVariants.{A, D}
 use Rattle.tl_link.specs.declared.beat.Link.{Link}
 use Rattle.tl_link.specs.declared.beat.Sighting.{Sighting}
 use Rattle.tl_link.specs.Message.{ask_of}
 use Rattle.tl_link.specs.Past.{ends_ask, ends_reply, asking, replying}
-use Rattle.tl_link.specs.Form.{IsFormed, FitsAsk, IsFormedReply, FitsReply}
+use Rattle.tl_link.specs.Form.{FitsAsk, FitsReply}
 use Rattle.tl_link.specs.Laws.{ended, IsSpelled, CanEnd, ended_replies, IsReplySpelled, ReplyCanEndSo}
 use Rattle.tl_watch.specs.Plan.{side_of, number_of, is_link}
 use Rattle.check_laws.specs.Crossed.{beats_at}

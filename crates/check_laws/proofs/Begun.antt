@@ -1,5 +1,5 @@
 -- A request that is in flight and has not ended is under way at its link.
-use Rattle.std.proofs.Common.{◌≡◌, ◌∙◌, ℕ, Bool, true, false, if◌then◌else◌, List, [], ◌∷◌, ◌++◌, Option, Some, None, slice_get, refl, ap, sym, subst}
+use Rattle.std.proofs.Common.{◌≡◌, ◌∙◌, ℕ, Bool, true, false, if◌then◌else◌, List, [], ◌∷◌, ◌++◌, Some, None, slice_get, refl, ap, sym, subst}
 use Rattle.tl_types.specs.Request.{Request}
 use Rattle.tl_beats.specs.Faults.{SameFields}
 use Rattle.tl_beats.specs.declared.beat.ABeat.{ABeat}
@@ -9,9 +9,9 @@ use Rattle.tl_link.specs.declared.beat.Beat.TheVariants.{A, D}
 use Rattle.tl_link.specs.declared.beat.Link.{Link}
 use Rattle.tl_link.specs.declared.beat.Sighting.{Sighting}
 use Rattle.tl_link.specs.Message.{ask_of}
-use Rattle.tl_link.specs.Past.{Under, ends_ask, ends_reply, asking, replying}
+use Rattle.tl_link.specs.Past.{Under, ends_ask, ends_reply, asking}
 use Rattle.tl_link.specs.Form.{Continues}
-use Rattle.tl_flight.specs.Flight.{Turn, Flight, idle}
+use Rattle.tl_flight.specs.Flight.{Turn, idle}
 use Rattle.tl_flight.specs.Flight.Turn.{Idle, Asking, Asked}
 use Rattle.tl_watch.specs.Plan.{Plan, Side, side_of, number_of, wide_of, is_link, is_of}
 use Rattle.tl_watch.specs.Scene.{ask_by, turn_by, flight_after}

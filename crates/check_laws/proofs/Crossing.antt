@@ -30,7 +30,7 @@ use Rattle.tl_watch.specs.Past.{State, port_in, scene_of, state, state_after}
 use Rattle.tl_watch.specs.Allowed.{IsAskedAs, EndsWell, IsAllowedAsk, IsAllowedReply}
 use Rattle.tl_watch.specs.Lawful.{IsLawful, IsAllowed}
 use Rattle.check_laws.specs.Crossed.{AskSeen, ReplySeen, AreWatched, beats_at, ask_ended, reply_ended, asks, replies, exchanges}
-use Rattle.check_laws.specs.Crossings.{IsOwned, answered_from_outside, sent_out, requests_of, AreGiven, IsCrossing}
+use Rattle.check_laws.specs.Crossings.{IsOwned, answered_from_outside, sent_out, requests_of, AreGiven, MessagesCross}
 use Rattle.check_laws.proofs.BackForm.{last_of_all}
 use Rattle.check_laws.proofs.Links.{links_are}
 use Rattle.check_laws.proofs.Turns.{ask_at, reply_at, open_before, asking_in_flight}
@@ -111,6 +111,9 @@ asked_as : (turn : Turn) (ask : Request) → IsAskedAs turn ask → (n : ℕ) ×
 asked_as Idle ask is = absurd is
 asked_as (Asking n) ask is = absurd is
 asked_as (Asked n sent) ask is = (n, sent, refl, is)
+
+same_place : (sent ask : Request) (source : ℕ) → record sent { source = source } ≡ ask → (sent.address ≡ ask.address) × (sent.size ≡ ask.size)
+same_place sent ask source is = (ap (λ (r : Request). r.address) is, ap (λ (r : Request). r.size) is)
 
 turn_after : (ends : Bool) (flight : Flight) → (if ends then idle else flight).turn ≡ (if ends then Idle else flight.turn)
 turn_after true flight = refl
@@ -248,8 +251,9 @@ module _ (plan : Plan) (is_plan : IsPlan plan) (both : plan.layout.links ≡ Bot
         let found = asked_as (s.flights AtMasters took).turn ask asked in
         let placed : RoutesBytes plan.layout.ranges beat.address beat.size p = beat_placed plan past (asking_placed plan past lawful) (Port p) known beat allowed in
         let within : plan.route beat.address beat.size < length plan.layout.ranges = goes_out_by plan.layout.ranges beat.address beat.size p (plan.route beat.address beat.size) has placed (is_plan.route beat.address beat.size) in
-        let address : found.1.address ≡ beat.address = ap (λ (r : Request). r.address) found.3 in
-        let size : found.1.size ≡ beat.size = ap (λ (r : Request). r.size) found.3 in
+        let place = same_place found.1 ask ask.source found.3 in
+        let address : found.1.address ≡ beat.address = place.0 in
+        let size : found.1.size ≡ beat.size = place.1 in
         record {
           number = found.0;
           sent = found.1;
@@ -373,19 +377,19 @@ module _ (plan : Plan) (past : List Sighting) (wide : ℕ) (owned : AllByRecursi
   abbrev story : Story
   story = story_at plan wide past
 
-  crossing_by : (turn : Turn) (crossing : Crossing) (there : Turn) → Stands plan wide story turn crossing there → IsCrossing plan past wide
+  crossing_by : (turn : Turn) (crossing : Crossing) (there : Turn) → Stands plan wide story turn crossing there → MessagesCross plan past wide
   crossing_by turn crossing there stands = go turn crossing stands
     where
-      full : sent_out plan wide (asks plan AtMasters wide past) ≡ requests_of (asks plan AtPorts wide past) → AreGiven wide (answered_from_outside plan (exchanges plan AtMasters wide past)) (exchanges plan AtPorts wide past) → IsCrossing plan past wide
+      full : sent_out plan wide (asks plan AtMasters wide past) ≡ requests_of (asks plan AtPorts wide past) → AreGiven wide (answered_from_outside plan (exchanges plan AtMasters wide past)) (exchanges plan AtPorts wide past) → MessagesCross plan past wide
       full same given = record { owned = owned; waiting = []; requests = same ∙ sym (append-nil (requests_of (asks plan AtPorts wide past))); one_waits = omega arith; given = given }
 
       none : (given : List (AskSeen × ReplySeen)) → AreGiven wide (answered_from_outside plan (exchanges plan AtMasters wide past)) (given ++ []) → AreGiven wide (answered_from_outside plan (exchanges plan AtMasters wide past)) given
       none given is = subst (λ l. AreGiven wide (answered_from_outside plan (exchanges plan AtMasters wide past)) l) (append-nil given) is
 
-      rest : IsAtRest plan wide story there → IsCrossing plan past wide
+      rest : IsAtRest plan wide story there → MessagesCross plan past wide
       rest stands = full stands.same (none (exchanges plan AtPorts wide past) (given_but_one wide (answered_from_outside plan (exchanges plan AtMasters wide past)) (exchanges plan AtPorts wide past) [] stands.given (omega arith)))
 
-      out : (out : Bool) (ask : Request) (crossing : Crossing) → IsOut plan wide story out ask crossing there → IsCrossing plan past wide
+      out : (out : Bool) (ask : Request) (crossing : Crossing) → IsOut plan wide story out ask crossing there → MessagesCross plan past wide
       out false ask crossing stands = rest stands
       out true ask Waiting stands = record {
         owned = owned;
@@ -399,12 +403,12 @@ module _ (plan : Plan) (past : List Sighting) (wide : ℕ) (owned : AllByRecursi
           (subst (λ l. AreGiven wide (answered_from_outside plan (exchanges plan AtMasters wide past)) l) (sym stands.split)
           (given_but_one wide (answered_from_outside plan (exchanges plan AtMasters wide past)) stands.front (stands.last ∷ []) stands.given (omega arith)))
 
-      go : (turn : Turn) (crossing : Crossing) → Stands plan wide story turn crossing there → IsCrossing plan past wide
+      go : (turn : Turn) (crossing : Crossing) → Stands plan wide story turn crossing there → MessagesCross plan past wide
       go Idle crossing stands = rest stands
       go (Asking n) crossing stands = rest stands
       go (Asked n ask) crossing stands = out (is_out plan wide ask) ask crossing stands
 
-pub crossing : (plan : Plan) (past : List Sighting) → IsPlan plan → plan.layout.links ≡ Both → AreWatched plan.layout past → IsLawful plan past → (wide : ℕ) → IsCrossing plan past wide
+pub crossing : (plan : Plan) (past : List Sighting) → IsPlan plan → plan.layout.links ≡ Both → AreWatched plan.layout past → IsLawful plan past → (wide : ℕ) → MessagesCross plan past wide
 crossing plan past is both watched lawful wide =
     let s = state plan past in
     crossing_by plan past wide (asks_owned plan is past lawful wide) (s.flights AtMasters wide).turn (s.crossings wide) (s.flights AtPorts wide).turn (all_stand plan is both past watched lawful wide)

@@ -20,7 +20,6 @@ use Rattle.tl_flight.specs.Slave.{slave_by}
 use Rattle.tl_watch.specs.Plan.{Plan, side_of, number_of, wide_of, is_at_acceptance, is_at_reply, HasLink, IsWatched}
 use Rattle.tl_watch.specs.Scene.{ask_by, takes_effect, effect_by, effect, begins_reply, late_effect}
 use Rattle.tl_watch.specs.Past.{State, port_of, found_in, scene_of, state, state_after}
-use Rattle.tl_watch.specs.Allowed.{IsAllowedReply}
 use Rattle.tl_watch.specs.Lawful.{IsLawful, IsAllowed}
 use Rattle.check_laws.specs.Crossed.{AreWatched}
 use Rattle.check_laws.specs.Memories.{port_for, is_for, ask_done, widened, asks_done, reset_of}
@@ -66,19 +65,18 @@ module _ (plan : Plan) (s : State) (past : List Sighting) (linked : LinksAre s p
       ask_taken plan link wide port found has watched (port_own plan link turn (A beat)) plan.layout.order past known beat (ask_goes plan link turn beat)
       ∙ ap (λ (l : List ABeat). if found == port then list_of wide (effect_by (is_at_acceptance plan.layout.order && takes_effect plan.layout link found) (ask_by l beat)) else []) (sym (ap (λ (u : Under). u.asking) (linked link)))
 
-  pub reply_does : AreInStep plan s past → (beat : DBeat) → IsAllowedReply plan.layout link (scene_of plan s (reply_at link known beat)) beat known → (port : ℕ)
+  pub reply_does : AreInStep plan s past → (beat : DBeat) (ask : Request) → (s.flights (side_of link) (wide_of plan link beat.source)).turn ≡ Asked (number_of link) ask → (port : ℕ)
       → map (widened (wide_of plan link beat.source)) (filter (is_for plan port) (ask_done plan plan.layout.order past (reply_at link known beat)))
       ≡ (if (found_in plan s (reply_at link known beat)).port == port then list_of (wide_of plan link beat.source) (reply_effect plan s link known beat) else [])
-  reply_does steps beat allowed port =
+  reply_does steps beat ask in_flight port =
       let wide = wide_of plan link beat.source in
       let turn = (s.flights (side_of link) wide).turn in
       let found = (found_in plan s (reply_at link known beat)).port in
-      let answers = asked_at (number_of link) turn _ allowed.answers in
       let takes : List DBeat → Bool = λ l. is_at_reply plan.layout.order && takes_effect plan.layout link found && begins_reply l in
-      reply_taken plan link wide port found has watched (port_own plan link turn (D beat)) plan.layout.order past known beat answers.0 (reply_goes plan link turn (number_of link) beat answers.0 answers.1)
-      (next_is plan past link wide turn answers.0 (steps (side_of link) wide) answers.1)
-      ∙ ap (λ (l : List DBeat). if found == port then list_of wide (effect_by (takes l) (Some answers.0)) else []) (sym (ap (λ (u : Under). u.replying) (linked link)))
-      ∙ ap (λ t. if found == port then list_of wide (effect_by (takes (s.links (side_of link) (number_of link)).replying) (asked t)) else []) (sym answers.1)
+      reply_taken plan link wide port found has watched (port_own plan link turn (D beat)) plan.layout.order past known beat ask (reply_goes plan link turn (number_of link) beat ask in_flight)
+      (next_is plan past link wide turn ask (steps (side_of link) wide) in_flight)
+      ∙ ap (λ (l : List DBeat). if found == port then list_of wide (effect_by (takes l) (Some ask)) else []) (sym (ap (λ (u : Under). u.replying) (linked link)))
+      ∙ ap (λ t. if found == port then list_of wide (effect_by (takes (s.links (side_of link) (number_of link)).replying) (asked t)) else []) (sym in_flight)
 
 -- ---- memories
 
@@ -114,6 +112,7 @@ are_replayed plan (x ∷ past) watched lawful = go (are_replayed plan past watch
         ∙ ap (λ l. replay (reset_of plan port) (asks_done plan port past ++ l)) (sym (ask_does plan s past (links_are plan past) x.link x.known watched.0.0 watched.0.1 beat port))
     go replayed (D beat) allowed port =
         let s = state plan past in
+        let found = asked_at (number_of x.link) (s.flights (side_of x.link) (wide_of plan x.link beat.source)).turn _ allowed.answers in
         bank_after s.slaves (reset_of plan port) (asks_done plan port past) port (found_in plan s (reply_at x.link x.known beat)).port (wide_of plan x.link beat.source)
         (reply_effect plan s x.link x.known beat) (replayed port)
-        ∙ ap (λ l. replay (reset_of plan port) (asks_done plan port past ++ l)) (sym (reply_does plan s past (links_are plan past) x.link x.known watched.0.0 watched.0.1 (in_step plan past lawful.0) beat allowed port))
+        ∙ ap (λ l. replay (reset_of plan port) (asks_done plan port past ++ l)) (sym (reply_does plan s past (links_are plan past) x.link x.known watched.0.0 watched.0.1 (in_step plan past lawful.0) beat found.0 found.1 port))

@@ -78,7 +78,7 @@ replied [] beat first more same is = cc
 replied (b ∷ begun) beat first more same is =
     let at : b ≡ first = cc in ap (λ (c : DBeat). c.source) (sym at) ∙ sym (same b refl).source
 
-some_first : (begun : List DBeat) (beat : DBeat) → (first : DBeat) × (more : List DBeat) × (begun ++ beat ∷ [] ≡ first ∷ more)
+pub some_first : (begun : List DBeat) (beat : DBeat) → (first : DBeat) × (more : List DBeat) × (begun ++ beat ∷ [] ≡ first ∷ more)
 some_first [] beat = (beat, [], refl)
 some_first (b ∷ begun) beat = (b, begun ++ beat ∷ [], refl)
 

@@ -19,3 +19,9 @@ pub mod Crossing
 pub mod Rules
 pub mod BackForm
 pub mod Begun
+pub mod BackTurns
+pub mod BackCross
+pub mod BackReplies
+pub mod Back
+pub mod Whole
+pub mod Sorted

@@ -1,5 +1,5 @@
 -- Lawful beats keep the rules at each moment.
-use Rattle.std.proofs.Common.{◌≡◌, List, [], ◌∷◌, ◌++◌, sym, subst}
+use Rattle.std.proofs.Common.{List, [], ◌∷◌, ◌++◌, sym, subst}
 use Rattle.tl_link.specs.declared.beat.Sighting.{Sighting}
 use Rattle.tl_watch.specs.Plan.{Plan, Layout, IsPlan}
 use Rattle.tl_watch.specs.Lawful.{IsLawful}

@@ -140,7 +140,7 @@ module _ (plan : Plan) (wide : ℕ) where
     pub own : source ≡ ask.source
 
   -- exchanges with one reply more
-  outside_answered : (story : Story) (done : List AskSeen) (last : AskSeen) (reply : ReplySeen) → story.sent ≡ done ++ last ∷ [] → length story.collected ≡ length done
+  pub outside_answered : (story : Story) (done : List AskSeen) (last : AskSeen) (reply : ReplySeen) → story.sent ≡ done ++ last ∷ [] → length story.collected ≡ length done
       → outside (record story { sent = story.sent ++ []; collected = story.collected ++ reply ∷ [] }) ≡ outside story ++ (if goes_out plan last then (last, reply) ∷ [] else [])
   outside_answered story done last reply is counted =
       let test : AskSeen × ReplySeen → Bool = λ seen. goes_out plan seen.0 in

@@ -42,7 +42,7 @@ abbrev pub at_port : Plan → ℕ → List AskSeen → List ReplySeen → List (
 at_port plan port asked answered = filter (λ (seen : AskSeen × ReplySeen). is_for plan port seen.0) (zip asked answered)
 
 -- what is kept, at a side and a wide source that are written another way
-told_at : (plan : Plan) (s : State) (past : List Sighting) (port wide own : ℕ) (side mine : Side) → mine ≡ side → own ≡ wide
+pub told_at : (plan : Plan) (s : State) (past : List Sighting) (port wide own : ℕ) (side mine : Side) → mine ≡ side → own ≡ wide
     → IsTold plan port wide side (s.flights side wide) (at_port plan port (asks plan side wide past) (replies plan side wide past)) (entries_of wide (history_at plan port past))
     → IsTold plan port own mine (s.flights mine own) (at_port plan port (asks plan mine own past) (replies plan mine own past)) (entries_of own (history_at plan port past))
 told_at plan s past port wide own side mine side_is wide_is was =
@@ -200,7 +200,7 @@ last_entry plan port wide link ask beats captured seen front (Some answer) goes 
     subst (λ l. AreMatched wide (seen ++ last ∷ []) (front ++ l)) owed_is (matched_more wide seen front last entry all is)
 
 -- the exchanges with one reply more
-seen_more : (plan : Plan) (port : ℕ) (asked done : List AskSeen) (answered : List ReplySeen) (last : AskSeen) (reply : ReplySeen) → asked ≡ done ++ last ∷ [] → length answered ≡ length done
+pub seen_more : (plan : Plan) (port : ℕ) (asked done : List AskSeen) (answered : List ReplySeen) (last : AskSeen) (reply : ReplySeen) → asked ≡ done ++ last ∷ [] → length answered ≡ length done
     → at_port plan port asked answered ++ (if is_for plan port last then (last, reply) ∷ [] else []) ≡ at_port plan port (asked ++ []) (answered ++ reply ∷ [])
 seen_more plan port asked done answered last reply is counted =
     let test : AskSeen × ReplySeen → Bool = λ seen. is_for plan port seen.0 in
@@ -209,6 +209,67 @@ seen_more plan port asked done answered last reply is counted =
     ∙ sym (filter-append test (zip done answered) ((last, reply) ∷ []))
     ∙ ap (λ l. filter test l) (sym (zip_more done answered last reply (sym counted)))
     ∙ ap (λ l. at_port plan port l (answered ++ reply ∷ [])) (sym (append-nil asked ∙ is))
+
+-- a beat of a reply to the request in flight, whether it is lawful or not
+module _ (plan : Plan) (s : State) (past : List Sighting) (linked : LinksAre s past) (steps : AreInStep plan s past) (dues : AreDue plan s past) (replayed : AreReplayed plan s past) (link : Link) (known : ℕ)
+    (has : HasLink plan.layout link) (watched : IsWatched plan.layout.links link) (beat : DBeat) (ask : Request) (in_flight : (s.flights (side_of link) (wide_of plan link beat.source)).turn ≡ Asked (number_of link) ask) where
+  abbrev key : ℕ
+  key = wide_of plan link beat.source
+
+  abbrev to_port : ℕ
+  to_port = (found_in plan s (reply_at link known beat)).port
+
+  abbrev effect_now : Option Request
+  effect_now = reply_effect plan s link known beat
+
+  -- what is in flight, and what must come
+  abbrev flying : Flight
+  flying = s.flights (side_of link) key
+
+  abbrev due_now : Option Answer
+  due_now = due_by flying.due (answer_by to_port (s.slaves to_port) effect_now)
+
+  pub gain : (port wide : ℕ) → entries_of wide (history_at plan port (reply_at link known beat ∷ past))
+      ≡ entries_of wide (history_at plan port past) ++ (if to_port == port then (if key == wide then entry_list key (replay (reset_of plan port) (asks_done plan port past)) effect_now else []) else [])
+  gain port wide =
+      ap (λ l. entries_of wide (told (reset_of plan port) (asks_done plan port past ++ l))) (reply_does plan s past linked link known has watched steps beat ask in_flight port)
+      ∙ entries_more (reset_of plan port) (asks_done plan port past) wide key (to_port == port) effect_now
+
+  gain_own : (port : ℕ) → (if to_port == port then (if key == key then entry_list key (replay (reset_of plan port) (asks_done plan port past)) effect_now else []) else [])
+      ≡ (if to_port == port then entry_list key (s.slaves to_port).bank effect_now else [])
+  gain_own port = go (to_port == port) refl
+    where
+      go : (at : Bool) → (to_port == port) ≡ at → (if at then (if key == key then entry_list key (replay (reset_of plan port) (asks_done plan port past)) effect_now else []) else []) ≡ (if at then entry_list key (s.slaves to_port).bank effect_now else [])
+      go false is = refl
+      go true is = ap (λ b. if b then entry_list key (replay (reset_of plan port) (asks_done plan port past)) effect_now else []) (eqb_own key)
+          ∙ ap (λ b. entry_list key b effect_now) (sym (replayed port) ∙ ap (λ p. (s.slaves p).bank) (sym (eqb-true to_port port is)))
+
+  replying_is : (s.links (side_of link) (number_of link)).replying ≡ replying (beats_at link past)
+  replying_is = ap (λ (u : Under). u.replying) (linked link)
+
+  pub goes_there : port_for plan link ask ≡ to_port
+  goes_there = reply_goes plan link flying.turn (number_of link) beat ask in_flight
+
+  -- its entry stands last, once it has taken effect
+  pub put_last : (port : ℕ) (front : List (Request × Response)) → entries_of key (history_at plan port past) ≡ front ++ owed plan port key (side_of link) flying.turn flying.due
+      → entries_of key (history_at plan port (reply_at link known beat ∷ past)) ≡ front ++ owed plan port key (side_of link) flying.turn due_now
+  put_last port front is =
+      let late : Bool = is_at_reply plan.layout.order && takes_effect plan.layout link to_port && begins_reply (s.links (side_of link) (number_of link)).replying in
+      let begun_is : replying (beats_at (link_on (side_of link) (number_of link)) past) ≡ (s.links (side_of link) (number_of link)).replying = ap (λ l. replying (beats_at l past)) (own_link link) ∙ sym replying_is in
+      let fresh : late ≡ true → flying.due ≡ None = λ so. fresh_due plan past (side_of link) key (number_of link) flying.turn ask flying.due (takes_effect plan.layout link to_port) in_flight (dues (side_of link) key).begun
+      (ap (λ l. is_at_reply plan.layout.order && takes_effect plan.layout link to_port && begins_reply l) begun_is ∙ so) in
+      gain port key
+      ∙ ap (λ l. l ++ (if to_port == port then (if key == key then entry_list key (replay (reset_of plan port) (asks_done plan port past)) effect_now else []) else [])) is
+      ∙ append_assoc front (owed plan port key (side_of link) flying.turn flying.due) (if to_port == port then (if key == key then entry_list key (replay (reset_of plan port) (asks_done plan port past)) effect_now else []) else [])
+      ∙ ap (λ l. front ++ (owed plan port key (side_of link) flying.turn flying.due ++ l)) (gain_own port)
+      ∙ ap (λ l. front ++ l) (late_owed plan port key to_port link (s.slaves to_port) late flying.turn ask flying.due in_flight goes_there fresh)
+
+  pub sourced_late : IsSourced (Asked (number_of link) ask) due_now
+  sourced_late =
+      let late : Bool = is_at_reply plan.layout.order && takes_effect plan.layout link to_port && begins_reply (s.links (side_of link) (number_of link)).replying in
+      let before : IsSourced (Asked (number_of link) ask) flying.due = subst (λ t. IsSourced t flying.due) in_flight (dues (side_of link) key).sourced in
+      subst (λ t. IsSourced (Asked (number_of link) ask) (due_by flying.due (answer_by to_port (s.slaves to_port) (effect_by late (asked t))))) (sym in_flight)
+      (late_sourced to_port (s.slaves to_port) late (number_of link) ask flying.due before)
 
 module _ (plan : Plan) (s : State) (past : List Sighting) (linked : LinksAre s past) (steps : AreInStep plan s past) (dues : AreDue plan s past) (replayed : AreReplayed plan s past) (told_so : AreTold plan s past) (link : Link) (known : ℕ)
     (has : HasLink plan.layout link) (watched : IsWatched plan.layout.links link) (beat : DBeat) (allowed : IsAllowedReply plan.layout link (scene_of plan s (reply_at link known beat)) beat known) where
@@ -228,21 +289,6 @@ module _ (plan : Plan) (s : State) (past : List Sighting) (linked : LinksAre s p
   abbrev late_due : Option Answer
   late_due = due_by here.due (answer_by goes_to (s.slaves goes_to) does)
 
-  reply_gained : (port wide : ℕ) → entries_of wide (history_at plan port (reply_at link known beat ∷ past))
-      ≡ entries_of wide (history_at plan port past) ++ (if goes_to == port then (if mine == wide then entry_list mine (replay (reset_of plan port) (asks_done plan port past)) does else []) else [])
-  reply_gained port wide =
-      ap (λ l. entries_of wide (told (reset_of plan port) (asks_done plan port past ++ l))) (reply_does plan s past linked link known has watched steps beat allowed port)
-      ∙ entries_more (reset_of plan port) (asks_done plan port past) wide mine (goes_to == port) does
-
-  reply_gained_own : (port : ℕ) → (if goes_to == port then (if mine == mine then entry_list mine (replay (reset_of plan port) (asks_done plan port past)) does else []) else [])
-      ≡ (if goes_to == port then entry_list mine (s.slaves goes_to).bank does else [])
-  reply_gained_own port = go (goes_to == port) refl
-    where
-      go : (at : Bool) → (goes_to == port) ≡ at → (if at then (if mine == mine then entry_list mine (replay (reset_of plan port) (asks_done plan port past)) does else []) else []) ≡ (if at then entry_list mine (s.slaves goes_to).bank does else [])
-      go false is = refl
-      go true is = ap (λ b. if b then entry_list mine (replay (reset_of plan port) (asks_done plan port past)) does else []) (eqb_own mine)
-          ∙ ap (λ b. entry_list mine b does) (sym (replayed port) ∙ ap (λ p. (s.slaves p).bank) (sym (eqb-true goes_to port is)))
-
   -- the request that is answered, and that a reply which ends is the one that must come
   answers : (ask : Request) × (here.turn ≡ Asked (number_of link) ask) × EndsWell plan.layout link (scene_of plan s (reply_at link known beat)) beat ask
   answers = asked_at (number_of link) here.turn (EndsWell plan.layout link (scene_of plan s (reply_at link known beat)) beat) allowed.ends
@@ -253,26 +299,16 @@ module _ (plan : Plan) (s : State) (past : List Sighting) (linked : LinksAre s p
   goes : port_for plan link answers.0 ≡ goes_to
   goes = reply_goes plan link here.turn (number_of link) beat answers.0 answers.1
 
-  -- its entry stands last, once it has taken effect
+  reply_gained : (port wide : ℕ) → entries_of wide (history_at plan port (reply_at link known beat ∷ past))
+      ≡ entries_of wide (history_at plan port past) ++ (if goes_to == port then (if mine == wide then entry_list mine (replay (reset_of plan port) (asks_done plan port past)) does else []) else [])
+  reply_gained = gain plan s past linked steps dues replayed link known has watched beat answers.0 answers.1
+
   mid : (port : ℕ) (front : List (Request × Response)) → entries_of mine (history_at plan port past) ≡ front ++ owed plan port mine (side_of link) here.turn here.due
       → entries_of mine (history_at plan port (reply_at link known beat ∷ past)) ≡ front ++ owed plan port mine (side_of link) here.turn late_due
-  mid port front is =
-      let late : Bool = is_at_reply plan.layout.order && takes_effect plan.layout link goes_to && begins_reply (s.links (side_of link) (number_of link)).replying in
-      let begun_is : replying (beats_at (link_on (side_of link) (number_of link)) past) ≡ (s.links (side_of link) (number_of link)).replying = ap (λ l. replying (beats_at l past)) (own_link link) ∙ sym under_is in
-      let fresh : late ≡ true → here.due ≡ None = λ so. fresh_due plan past (side_of link) mine (number_of link) here.turn answers.0 here.due (takes_effect plan.layout link goes_to) answers.1 (dues (side_of link) mine).begun
-      (ap (λ l. is_at_reply plan.layout.order && takes_effect plan.layout link goes_to && begins_reply l) begun_is ∙ so) in
-      reply_gained port mine
-      ∙ ap (λ l. l ++ (if goes_to == port then (if mine == mine then entry_list mine (replay (reset_of plan port) (asks_done plan port past)) does else []) else [])) is
-      ∙ append_assoc front (owed plan port mine (side_of link) here.turn here.due) (if goes_to == port then (if mine == mine then entry_list mine (replay (reset_of plan port) (asks_done plan port past)) does else []) else [])
-      ∙ ap (λ l. front ++ (owed plan port mine (side_of link) here.turn here.due ++ l)) (reply_gained_own port)
-      ∙ ap (λ l. front ++ l) (late_owed plan port mine goes_to link (s.slaves goes_to) late here.turn answers.0 here.due answers.1 goes fresh)
+  mid = put_last plan s past linked steps dues replayed link known has watched beat answers.0 answers.1
 
   late_is_sourced : IsSourced (Asked (number_of link) answers.0) late_due
-  late_is_sourced =
-      let late : Bool = is_at_reply plan.layout.order && takes_effect plan.layout link goes_to && begins_reply (s.links (side_of link) (number_of link)).replying in
-      let before : IsSourced (Asked (number_of link) answers.0) here.due = subst (λ t. IsSourced t here.due) answers.1 (dues (side_of link) mine).sourced in
-      subst (λ t. IsSourced (Asked (number_of link) answers.0) (due_by here.due (answer_by goes_to (s.slaves goes_to) (effect_by late (asked t))))) (sym answers.1)
-      (late_sourced goes_to (s.slaves goes_to) late (number_of link) answers.0 here.due before)
+  late_is_sourced = sourced_late plan s past linked steps dues replayed link known has watched beat answers.0 answers.1
 
   abbrev message : List DBeat
   message = replying (beats_at link past) ++ beat ∷ []

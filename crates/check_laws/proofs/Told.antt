@@ -36,6 +36,10 @@ pub told_none : (store : Store) → told store [] ≡ []
 unfolding told
 told_none store = refl
 
+pub told_cons : (store : Store) (ask : Request) (asks : List Request) → told store (ask ∷ asks) ≡ (ask, reply store ask) ∷ told (after store ask) asks
+unfolding told
+told_cons store ask asks = refl
+
 -- ---- the entries of one source
 
 -- the entry of a request that a memory does

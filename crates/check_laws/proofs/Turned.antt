@@ -19,6 +19,7 @@ use Rattle.check_laws.proofs.Taking.{next_is}
 use Rattle.check_laws.proofs.Fitting.{fitting}
 use Rattle.check_laws.proofs.Replying.{are_answered}
 use Rattle.check_laws.proofs.UnderWay.{replying_in_flight}
+use Rattle.check_laws.proofs.Sorted.{asks_sorted, replies_sorted}
 use Rattle.check_laws.proofs.Placing.{asking_placed, known_sources, asks_placed}
 
 carries : (plan : Plan) (past : List Sighting) → IsLawful plan past → (link : Link) → CarriesMessages past link
@@ -68,6 +69,8 @@ pub messages : (plan : Plan) (past : List Sighting) → IsLawful plan past → A
 messages plan past lawful = record {
   links = carries plan past lawful;
   sources = take_turns plan past lawful;
+  asks_sorted = asks_sorted plan past;
+  replies_sorted = replies_sorted plan past lawful;
   known = known_sources plan past lawful;
   placed = asks_placed plan past lawful;
   begun_placed = λ port. asking_placed plan past lawful (Port port);

@@ -31,7 +31,7 @@ abbrev pub link_on : Side → ℕ → Link
 link_on AtMasters n = Master n
 link_on AtPorts n = Port n
 
-same_side-true : (a b : Side) → same_side a b ≡ true → a ≡ b
+pub same_side-true : (a b : Side) → same_side a b ≡ true → a ≡ b
 same_side-true AtMasters AtMasters is = refl
 same_side-true AtMasters AtPorts is = cc
 same_side-true AtPorts AtMasters is = cc

@@ -50,7 +50,8 @@ reply_ended link before (D beat) =
 abbrev pub asks : Plan → Side → ℕ → List Sighting → List AskSeen
 asks plan side wide [] = []
 asks plan side wide (x ∷ past) =
-    if is_of plan x side wide then asks plan side wide past ++ ask_ended x.link (beats_at x.link past) x.beat else asks plan side wide past
+    if is_of plan x side wide then asks plan side wide past ++ ask_ended x.link (beats_at x.link past) x.beat
+    else asks plan side wide past
 
 -- the replies of a wide source that have ended there, in the order of their last beats
 abbrev pub replies : Plan → Side → ℕ → List Sighting → List ReplySeen

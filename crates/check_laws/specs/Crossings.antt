@@ -48,7 +48,7 @@ AreGiven wide (seen ∷ more) [] = ⊥
 AreGiven wide (seen ∷ more) (one ∷ given) = IsGiven wide seen one × AreGiven wide more given
 
 -- the messages of a wide source cross
-pub record IsCrossing (plan : Plan) (past : List Sighting) (wide : ℕ) : Type 0 where
+pub record MessagesCross (plan : Plan) (past : List Sighting) (wide : ℕ) : Type 0 where
   -- masters' requests of it are those of the master that has it
   pub owned : AllByRecursion (IsOwned plan.layout wide) (asks plan AtMasters wide past)
   -- ports' requests of it are, in order, those that the master sent out, each once; the last may not have crossed yet

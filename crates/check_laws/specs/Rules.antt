@@ -10,7 +10,7 @@ use Rattle.tl_watch.specs.declared.links.Links.TheVariants.{Both}
 use Rattle.tl_watch.specs.Plan.{Plan, side_of, wide_of}
 use Rattle.tl_watch.specs.Allowed.{IsKnownReply}
 use Rattle.check_laws.specs.Crossed.{next_answered}
-use Rattle.check_laws.specs.Crossings.{IsCrossing}
+use Rattle.check_laws.specs.Crossings.{MessagesCross}
 use Rattle.check_laws.specs.Memories.{IsDoneAt}
 use Rattle.check_laws.specs.Messages.{AreMessages}
 
@@ -19,7 +19,7 @@ use Rattle.check_laws.specs.Messages.{AreMessages}
 pub record KeepsRules (plan : Plan) (past : List Sighting) : Type 0 where
   pub messages : AreMessages plan past
   pub memories : (port : ℕ) → (history : List (Request × Response)) × IsDoneAt plan past port history
-  pub crossings : plan.layout.links ≡ Both → (wide : ℕ) → IsCrossing plan past wide
+  pub crossings : plan.layout.links ≡ Both → (wide : ℕ) → MessagesCross plan past wide
 
 -- so it is at each moment: lists of sightings have the latest first, so what crossed up to a moment is an end of the list
 abbrev pub AlwaysKeepsRules : Plan → List Sighting → Type 0

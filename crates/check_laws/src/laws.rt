@@ -9,9 +9,9 @@ ghost use Rattle.tl_watch.specs.Lawful.{IsLawful};
 ghost use Rattle.tl_watch.specs.Past.{state};
 ghost use Rattle.tl_watch.specs.Plan.{Plan, IsPlan};
 ghost use Rattle.check_laws.specs.Crossed.{AreWatched};
-ghost use Rattle.check_laws.specs.Crossings.{IsCrossing};
+ghost use Rattle.check_laws.specs.Crossings.{MessagesCross};
 ghost use Rattle.check_laws.specs.Messages.{AreMessages};
-ghost use Rattle.check_laws.specs.Rules.{AlwaysKeepsRules};
+ghost use Rattle.check_laws.specs.Rules.{AlwaysKeepsRules, AreSeenWhole};
 ghost use Rattle.check_laws.specs.Memories.{IsDoneAt, asks_done, reset_of};
 
 /// Each channel of a link carries whole messages one after the other, and a beginning of one more; each reply answers a request that
@@ -33,12 +33,19 @@ pub fn memories_are_sequential()
 /// the port answered.
 pub fn messages_cross()
     ensures { (plan : Plan) (past : List Sighting) → IsPlan plan → plan.layout.links ≡ Both → AreWatched plan.layout past
-        → IsLawful plan past → (wide : ℕ) → IsCrossing plan past wide }
+        → IsLawful plan past → (wide : ℕ) → MessagesCross plan past wide }
 {}
 
 /// What `lawful` means: at each moment the beats so far are whole messages that come in turn, the replies are those of memories, and
-/// messages cross.
+/// messages cross; and each lane that carries a byte was seen.
 pub fn lawful_beats_keep_the_rules()
-    ensures { (plan : Plan) (past : List Sighting) → IsPlan plan → AreWatched plan.layout past → IsLawful plan past
+    ensures rules { (plan : Plan) (past : List Sighting) → IsPlan plan → AreWatched plan.layout past → IsLawful plan past
         → AlwaysKeepsRules plan past }
+    ensures lanes { (plan : Plan) (past : List Sighting) → IsLawful plan past → AreSeenWhole plan past }
+{}
+
+/// And the way back: beats that keep these rules at each moment are lawful.
+pub fn beats_that_keep_the_rules_are_lawful()
+    ensures { (plan : Plan) (past : List Sighting) → IsPlan plan → AreWatched plan.layout past → AreSeenWhole plan past
+        → AlwaysKeepsRules plan past → IsLawful plan past }
 {}

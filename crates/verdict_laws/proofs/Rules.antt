@@ -1,5 +1,5 @@
 -- What lawful verdicts say of rows.
-use Rattle.std.proofs.Common.{◌≡◌, ◌∙◌, ℕ, ◌<◌, Bool, if◌then◌else◌, true, false, List, [], ◌∷◌, map, filter, refl, sym, arith, ltb→lt, T, subst}
+use Rattle.std.proofs.Common.{◌≡◌, ℕ, ◌<◌, Bool, if◌then◌else◌, true, false, List, [], ◌∷◌, map, filter, refl, sym, ltb→lt, T, subst}
 use Rattle.std.specs.Prelude.{◌&&◌, nat_lt, length}
 use Rattle.tl_link.specs.declared.beat.Link.{Link}
 use Rattle.tl_link.specs.declared.beat.Link.TheVariants.{Master, Port}
@@ -8,15 +8,18 @@ use Rattle.tl_watch.specs.declared.links.Links.TheVariants.{Both, Masters, Ports
 use Rattle.tl_watch.specs.Plan.{Plan, Layout, IsPlan, HasLink, IsWatched}
 use Rattle.tl_capture.specs.declared.row.Row.{Row}
 use Rattle.tl_judge.specs.Order.{are_masters_watched, are_ports_watched, is_watched, seen}
-use Rattle.tl_judge.specs.Verdict.{IsLawfulFile}
+use Rattle.tl_judge.specs.Verdict.{IsLawfulFile, IsFirstUnlawful}
 use Rattle.tl_judge.specs.declared.stop.Counts.{Counts}
+use Rattle.tl_judge.specs.declared.stop.Unlawful.{Unlawful}
 use Rattle.tl_records.specs.Text.{Place}
 use Rattle.tl_verdict.specs.Capture.{IsVerdict}
-use Rattle.tl_verdict.specs.declared.fault.Verdict.TheVariants.{Lawful}
+use Rattle.tl_verdict.specs.declared.fault.Verdict.TheVariants.{Lawful, Unlawful as Not}
 use Rattle.tl_verdict.specs.declared.rows.Sizes.{Sizes}
 use Rattle.check_laws.specs.Crossed.{AreWatched}
+use Rattle.check_laws.proofs.Back.{rules_make_lawful}
 use Rattle.check_laws.proofs.Rules.{always_keeps}
-use Rattle.verdict_laws.specs.Rules.{FileKeepsRules, CaptureKeepsRules}
+use Rattle.check_laws.proofs.Whole.{seen_whole}
+use Rattle.verdict_laws.specs.Rules.{FileKeepsRules, BreaksRules, CaptureKeepsRules, CaptureBreaksRules}
 
 less : (m n : ℕ) → nat_lt m n ≡ true → m < n
 less m n is = ltb→lt m n (subst (λ b. T b) (sym is) tt)
@@ -58,7 +61,29 @@ file_keeps plan file is lawful = record {
   crossed = lawful.crossed;
   crossing = lawful.crossing;
   keeps = always_keeps plan (seen plan.layout lawful.crossed) is (seen_watched plan.layout lawful.crossed) lawful.lawful;
+  whole = seen_whole plan (seen plan.layout lawful.crossed) lawful.lawful;
 }
+
+pub rules_make_lawful_file : (plan : Plan) (file : List Row) → IsPlan plan → FileKeepsRules plan file → IsLawfulFile plan file
+rules_make_lawful_file plan file is rules = record {
+  crossed = rules.crossed;
+  crossing = rules.crossing;
+  lawful = rules_make_lawful plan (seen plan.layout rules.crossed) is (seen_watched plan.layout rules.crossed) rules.whole rules.keeps;
+}
+
+-- the first row that makes a file unlawful is the first after which the rules are not kept
+pub unlawful_breaks : (plan : Plan) (file : List Row) (found : Unlawful) → IsPlan plan → IsFirstUnlawful plan file found → BreaksRules plan file found.row
+unlawful_breaks plan file found is first =
+    let before = seen plan.layout first.before in
+    let watched = seen_watched plan.layout first.before in
+    record {
+      after = first.after;
+      before = first.before;
+      crossing = first.crossing;
+      kept = always_keeps plan before is watched first.is.lawful;
+      whole = seen_whole plan before first.is.lawful;
+      broken = λ whole keeps. first.is.unlawful (rules_make_lawful plan (found.row.sighting ∷ before) is (watched_link plan.layout found.row.sighting.link first.is.watched, watched) whole keeps);
+    }
 
 pub capture_keeps : (plan : Plan) (sizes : Sizes) (from : Place) (counts : Counts) → IsPlan plan → IsVerdict plan sizes from (Lawful counts) → CaptureKeepsRules plan sizes from counts
 capture_keeps plan sizes from counts is verdict = record {
@@ -66,4 +91,13 @@ capture_keeps plan sizes from counts is verdict = record {
   is = verdict.1;
   keeps = file_keeps plan verdict.0 is verdict.2;
   counted = verdict.3;
+}
+
+pub capture_breaks : (plan : Plan) (sizes : Sizes) (from : Place) (found : Unlawful) → IsPlan plan → IsVerdict plan sizes from (Not found) → CaptureBreaksRules plan sizes from found
+capture_breaks plan sizes from found is verdict = record {
+  rows = verdict.0;
+  place = verdict.1;
+  begins = verdict.2;
+  over = verdict.3;
+  breaks = unlawful_breaks plan verdict.0 found is verdict.4;
 }

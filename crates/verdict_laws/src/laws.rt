@@ -4,19 +4,24 @@ ghost use Rattle.tl_watch.specs.Plan.{Plan, IsPlan};
 ghost use Rattle.tl_capture.specs.declared.row.Row.{Row};
 ghost use Rattle.tl_judge.specs.Verdict.{IsLawfulFile};
 ghost use Rattle.tl_judge.specs.declared.stop.Counts.{Counts};
+ghost use Rattle.tl_judge.specs.declared.stop.Unlawful.{Unlawful as Found};
 ghost use Rattle.tl_records.specs.Text.{Place};
 ghost use Rattle.tl_verdict.specs.Capture.{IsVerdict};
-ghost use Rattle.tl_verdict.specs.declared.fault.Verdict.TheVariants.{Lawful};
+ghost use Rattle.tl_verdict.specs.declared.fault.Verdict.TheVariants.{Lawful, Unlawful};
 ghost use Rattle.tl_verdict.specs.declared.rows.Sizes.{Sizes};
-ghost use Rattle.verdict_laws.specs.Rules.{FileKeepsRules, CaptureKeepsRules};
+ghost use Rattle.verdict_laws.specs.Rules.{FileKeepsRules, CaptureKeepsRules, CaptureBreaksRules};
 
-/// The rows of a lawful file keep the rules at each moment.
+/// A file is lawful where its rows keep the rules at each moment, and only there.
 pub fn lawful_files_keep_the_rules()
-    ensures { (plan : Plan) (file : List Row) → IsPlan plan → IsLawfulFile plan file → FileKeepsRules plan file }
+    ensures rules { (plan : Plan) (file : List Row) → IsPlan plan → IsLawfulFile plan file → FileKeepsRules plan file }
+    ensures lawful { (plan : Plan) (file : List Row) → IsPlan plan → FileKeepsRules plan file → IsLawfulFile plan file }
 {}
 
-/// A text whose verdict is `lawful` is a capture whose rows keep the rules at each moment.
+/// A text whose verdict is `lawful` is a capture whose rows keep the rules at each moment; one whose verdict is `unlawful` names the
+/// first row with which they do not.
 pub fn lawful_captures_keep_the_rules()
-    ensures { (plan : Plan) (sizes : Sizes) (from : Place) (counts : Counts) → IsPlan plan
+    ensures lawful { (plan : Plan) (sizes : Sizes) (from : Place) (counts : Counts) → IsPlan plan
         → IsVerdict plan sizes from (Lawful counts) → CaptureKeepsRules plan sizes from counts }
+    ensures unlawful { (plan : Plan) (sizes : Sizes) (from : Place) (found : Found) → IsPlan plan
+        → IsVerdict plan sizes from (Unlawful found) → CaptureBreaksRules plan sizes from found }
 {}
