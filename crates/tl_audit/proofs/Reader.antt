@@ -9,7 +9,7 @@ use Rattle.tl_types.specs.declared.trace.Entry.{Entry}
 use Rattle.tl_ops.specs.Store.{Store, after, reply}
 use Rattle.tl_ops.specs.History.{IsLawfulHistory, asks_of, replay}
 use Rattle.tl_port.specs.Book.{BookView, reset}
-use Rattle.tl_audit.specs.Agrees.{Agrees, HasEntry, IsInOrder, IsRecorded, names, pair_at, times_in, times_named}
+use Rattle.tl_audit.specs.Agrees.{Agrees, HasEntry, IsNeverOutOfOrder, IsRecorded, names, pair_at, times_in, times_named}
 use Rattle.tl_audit.specs.Reader.{AreLawful, AreOneThreads, CarriesReply, IsServedInOrder, IsTracedOnce, histories_of, replies_of}
 
 -- ---- one thread's replies
@@ -148,7 +148,7 @@ traced_once traces p i one =
 
 -- ---- in order
 
-in_turn : (trace : List Entry) → IsInOrder trace → IsServedInOrder trace
+in_turn : (trace : List Entry) → IsNeverOutOfOrder trace → IsServedInOrder trace
 in_turn trace ordered j k earlier later first second before source port = ⊎_elim
     (λ (less : earlier.index < later.index). less)
     (λ (more : later.index ≤ earlier.index).

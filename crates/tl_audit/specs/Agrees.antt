@@ -63,8 +63,8 @@ pub record IsOutOfOrder (trace : List Entry) (k : ℕ) : Type 0 where
   pub index : later.index ≤ earlier.index
 
 -- of two entries of the trace with one source and port the earlier has the smaller index
-abbrev pub IsInOrder : List Entry → Type 0
-IsInOrder trace = (k : ℕ) → IsOutOfOrder trace k → ⊥
+abbrev pub IsNeverOutOfOrder : List Entry → Type 0
+IsNeverOutOfOrder trace = (k : ℕ) → IsOutOfOrder trace k → ⊥
 
 -- ---- agreement
 
@@ -73,7 +73,7 @@ IsInOrder trace = (k : ℕ) → IsOutOfOrder trace k → ⊥
 pub record Agrees (counts : List ℕ) (traces : List (List Entry)) (histories : List (List (Request × Response))) : Type 0 where
   pub recorded : AreRecorded counts traces histories
   pub once : (p i : ℕ) → HasPlace histories p i → times_named traces p i ≡ 1
-  pub ordered : (m : ℕ) (trace : List Entry) → slice_get traces m ≡ Some trace → IsInOrder trace
+  pub ordered : (m : ℕ) (trace : List Entry) → slice_get traces m ≡ Some trace → IsNeverOutOfOrder trace
 
 -- what a fault says of the traces and the histories; memory can be refused to any
 abbrev pub HasAuditFault : List ℕ → List (List Entry) → List (List (Request × Response)) → AuditFault → Type 0

@@ -3,7 +3,7 @@ ghost use Rattle.std.specs.Prelude.{◌≡◌, ℕ, List, All, IfErr, IfNone, If
 ghost use Rattle.std.specs.Prelude as std;
 ghost use Rattle.tl_types.specs.declared.trace.Entry.{Entry};
 ghost use Rattle.tl_journal.specs.Trace.{entries_in};
-ghost use Rattle.tl_audit.specs.Agrees.{Agrees, AreRecorded, HasAuditFault, IsInOrder, IsOutOfOrder, IsRecorded, journals_in};
+ghost use Rattle.tl_audit.specs.Agrees.{Agrees, AreRecorded, HasAuditFault, IsNeverOutOfOrder, IsOutOfOrder, IsRecorded, journals_in};
 ghost use Rattle.tl_audit.specs.Marks.{AreCounted, rows_in};
 ghost use Rattle.tl_audit.specs.Order.{HavePlaces};
 ghost use Rattle.tl_audit.specs.declared.fault.AuditFault.TheVariants.{Memory};
@@ -96,7 +96,7 @@ fn first_disordered(
 ) -> Result<Option<usize>, AllocError>
     requires { HavePlaces sources.now ports master trace.now.items }
     ensures found { IfOk result (λ first. IfSome first (IsOutOfOrder trace.now.items)) }
-    ensures none { IfOk result (λ first. IfNone first (IsInOrder trace.now.items)) }
+    ensures none { IfOk result (λ first. IfNone first (IsNeverOutOfOrder trace.now.items)) }
 {
     let count = sources.count(master).unwrap_or(0);
     let mut lasts = blank(alloc, ports, count)?;
@@ -112,7 +112,7 @@ fn check_order(
 ) -> Result<(), AuditFault>
     requires { AreRecorded sources.now (entries_in traces.now) (journals_in histories.now) }
     ensures ok { OnOk result ((master : ℕ) (trace : List Entry)
-        → slice_get (entries_in traces.now) master ≡ Some trace → IsInOrder trace) }
+        → slice_get (entries_in traces.now) master ≡ Some trace → IsNeverOutOfOrder trace) }
     ensures fault { IfErr result
         (HasAuditFault sources.now (entries_in traces.now) (journals_in histories.now)) }
 {

@@ -1,6 +1,6 @@
 //! Whether the entries of a trace are in order.
 ghost use Rattle.std.specs.Prelude.{◌≡◌, ◌↔◌, IfNone, IfSome, IsSome, IsTrue, Some};
-ghost use Rattle.tl_audit.specs.Agrees.{IsInOrder, IsOutOfOrder};
+ghost use Rattle.tl_audit.specs.Agrees.{IsNeverOutOfOrder, IsOutOfOrder};
 ghost use Rattle.tl_audit.specs.Marks.{IsSetAt, cell, rows_in};
 ghost use Rattle.tl_audit.specs.Order.{AreBlank, HaveCells, IsAtLeast};
 
@@ -39,7 +39,7 @@ pub(crate) fn first_out_of_order(lasts: &mut [Vec<Option<usize>>], trace: &Trace
     requires blank { AreBlank (rows_in lasts.old) }
     requires cells { HaveCells (rows_in lasts.old) trace.now.items }
     ensures found { IfSome result (IsOutOfOrder trace.now.items) }
-    ensures none { IfNone result (IsInOrder trace.now.items) }
+    ensures none { IfNone result (IsNeverOutOfOrder trace.now.items) }
 {
     let mut entry = blank_entry();
     for place in 0..trace.len() {

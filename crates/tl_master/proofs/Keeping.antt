@@ -1,7 +1,7 @@
 -- A master stays as it should be when a request is posted, and when a reply is collected.
 use Rattle.std.proofs.Common.{◌≡◌, ◌≢◌, ℕ, ◌+◌, ◌-◌, ◌<◌, ◌≤◌, ⊎_elim, List, [], ◌∷◌, ◌++◌, length, map, slice_get, slice_set, Option, Some, None, option_map, true, ap, sym, subst, ◌∙◌, arith, length-append, length-set, get_or, count_by}
 use Rattle.std.proofs.lemmas.Bool.{cases_lt}
-use Rattle.std.proofs.lemmas.List.{map_push, get_or-set_same, get_or-set_other}
+use Rattle.std.proofs.lemmas.List.{length-map, map_push, get_or-set_same, get_or-set_other}
 use Rattle.std.proofs.lemmas.Option.{slice_get-map, slice_get_within}
 use mathlib.Core.Logic.{dite}
 use native.Mathlib.Decide.{ℕ_discrete}
@@ -12,6 +12,7 @@ use Rattle.tl_types.proofs.Lists.{slice_get-push}
 use Rattle.tl_rule.specs.declared.view.Held.{Held}
 use Rattle.tl_rule.specs.declared.view.Held.TheVariants.{Nothing, Filled, Sent, Taken}
 use Rattle.tl_rule.specs.Carried.{is_held}
+use Rattle.tl_rule.specs.Views.{Above}
 use Rattle.tl_rule.proofs.Facts.{in_hand_of}
 use Rattle.tl_arena.specs.Views.{MasterView, TicketView, ServedView, hand_at, with_held, entry_of, owned_of}
 use Rattle.tl_arena.specs.Promises.{IsCollected, IsIdleSource}
@@ -41,6 +42,14 @@ module _ (m : MasterState) (start count : ℕ) (kept : IsKeptMaster m start coun
   -- the seat's entry at a place is the trace's with its source widened
   pub got_at : (j : ℕ) (e : Entry) → slice_get m.trace j ≡ Some e → slice_get m.seat.got j ≡ Some (widened start e)
   got_at j e at = ap (λ (es : List Entry). slice_get es j) kept.got ∙ (slice_get-map (widened start) m.trace j ∙ ap (λ (o : Option Entry). option_map (widened start) o) at)
+
+  -- the seat has as many entries as the trace
+  pub got_long : length m.seat.got ≡ length m.trace
+  got_long = ap (λ (es : List Entry). length es) kept.got ∙ length-map m.trace (widened start)
+
+  -- what is above the seat's entries is above the trace's
+  pub above_trace : (known p index : ℕ) → Above m.seat.got known p index → Above m.trace known p index
+  above_trace known p index above j e early at port = above j (widened start e) early (got_at j e at) port
 
   -- a source with nothing out may be posted
   pub unsent : (s i : ℕ) → ticket_at m.out s ≡ None → hand_at m.seat i ≡ Nothing → i < length m.seat.hand → IsIdleSource (with_held m.seat i Filled) (start + s)
@@ -226,6 +235,6 @@ collects_kept m start count s t r v kept is got =
 
       above : (j : ℕ) (d : Entry) → slice_get m.trace j ≡ Some d → d.ask.source ≡ s → d.port ≡ r.port → d.index < r.index
       above j d at of_s port = ⊎_elim
-          (λ (early : j < t.known). got.above j (widened start d) early (got_at m start count kept j d at) port)
+          (λ (early : j < t.known). above_trace m start count kept t.known r.port r.index got.above j d early at port)
           (λ (late : t.known ≤ j). absurd (sent.since j d late at of_s))
           (cases_lt j t.known)

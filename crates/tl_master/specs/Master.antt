@@ -68,8 +68,8 @@ IsInOrder es = (j k : ℕ) (d e : Entry) → j < k → slice_get es j ≡ Some d
 abbrev pub of_source : ℕ → List Request → List Request
 of_source source qs = filter (λ (q : Request). eqb q.source source) qs
 
-abbrev pub asks_of : List Entry → List Request
-asks_of es = map (λ (e : Entry). e.ask) es
+abbrev pub requests_of : List Entry → List Request
+requests_of es = map (λ (e : Entry). e.ask) es
 
 -- the request that is out, with the master's own source
 abbrev pub out_ask : ℕ → Option TicketView → List Request
@@ -78,4 +78,4 @@ out_ask source (Some t) = ask_from source t.ask ∷ []
 
 -- what was asked of the source, in the order of issue: the requests collected, and then the one that is out
 abbrev pub asked : MasterState → ℕ → List Request
-asked m source = of_source source (asks_of m.trace) ++ out_ask source (ticket_at m.out source)
+asked m source = of_source source (requests_of m.trace) ++ out_ask source (ticket_at m.out source)

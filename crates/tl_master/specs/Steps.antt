@@ -7,6 +7,7 @@ use Rattle.tl_map.specs.declared.map.Range.{Range}
 use Rattle.tl_map.specs.Map.{Routes}
 use Rattle.tl_map.specs.Block.{IsWide}
 use Rattle.tl_rule.specs.declared.view.Held.TheVariants.{Nothing, Filled, Sent}
+use Rattle.tl_rule.specs.Views.{Above}
 use Rattle.tl_arena.specs.Views.{MasterView, TicketView, ServedView, hand_at, with_held, entry_of}
 use Rattle.tl_arena.specs.Promises.{IsCollected}
 use Rattle.tl_master.specs.declared.master.Issued.{Issued}
@@ -27,7 +28,7 @@ abbrev pub with_out : MasterState → ℕ → TicketView → MasterState
 with_out m source t = record { seat = with_posted m.seat t; out = slice_set m.out source (Some t); trace = m.trace; limit = m.limit }
 
 -- the request is posted from the claimed slot and from this wide source, to the port that the map gives it
-pub record IsPosted (ranges : List Range) (q : Request) (wide : ℕ) (v : MasterView) (claim : ℕ) (t : TicketView) (issued : Issued) : Type 0 where
+pub record IsRoutedPost (ranges : List Range) (q : Request) (wide : ℕ) (v : MasterView) (claim : ℕ) (t : TicketView) (issued : Issued) : Type 0 where
   pub from : t.slot ≡ claim
   pub ask : t.ask ≡ ask_from wide q
   pub routed : Routes ranges q t.port
@@ -36,7 +37,7 @@ pub record IsPosted (ranges : List Range) (q : Request) (wide : ℕ) (v : Master
   pub port : issued.port ≡ t.port
 
 -- the request, with its source widened, is posted from a slot that the master did not own
-pub record Sends (ranges : List Range) (m : MasterState) (q : Request) (issued : Issued) (n : MasterState) : Type 0 where
+pub record IssuesOne (ranges : List Range) (m : MasterState) (q : Request) (issued : Issued) (n : MasterState) : Type 0 where
   pub known : q.source < length m.out
   pub idle : ticket_at m.out q.source ≡ None
   pub room : length m.trace + out_of m.out < m.limit
@@ -44,7 +45,9 @@ pub record Sends (ranges : List Range) (m : MasterState) (q : Request) (issued :
   pub wide : ℕ
   pub widened : IsWide m.seat.arena.about.counts m.seat.number q.source wide
   pub free : hand_at m.seat ticket.slot ≡ Nothing
-  pub posted : IsPosted ranges q wide m.seat ticket.slot ticket issued
+  pub posted : IsRoutedPost ranges q wide m.seat ticket.slot ticket issued
+  -- it is known what had been collected then
+  pub since : ticket.known ≡ length m.trace
   pub master : n ≡ with_out m q.source ticket
 
 -- the refusal is the first that applies
@@ -55,7 +58,7 @@ IsRefused m q TraceFull = (q.source < length m.out) × (ticket_at m.out q.source
 IsRefused m q NoSlot = (q.source < length m.out) × (ticket_at m.out q.source ≡ None) × (length m.trace + out_of m.out < m.limit)
 
 abbrev pub Issues : List Range → MasterState → Request → Result Issued IssueFault → MasterState → Type 0
-Issues ranges m q (Ok issued) n = Sends ranges m q issued n
+Issues ranges m q (Ok issued) n = IssuesOne ranges m q issued n
 Issues ranges m q (Err fault) n = (n ≡ m) × IsRefused m q fault
 
 -- the request, where there is one of this source
@@ -87,13 +90,15 @@ pub record Appends (v : MasterView) (t : TicketView) (source : ℕ) (before : Li
   pub place_is : place ≡ length before
   pub is : after ≡ before ++ entry ∷ []
 
--- the reply to what was out for the source is collected, and this is its entry's place in the trace
+-- the reply to what was out for the source is collected, and this is its entry's place in the trace; what had been collected
+-- at its port when its request was issued has smaller indexes
 pub record CollectsOne (m : MasterState) (source place : ℕ) (n : MasterState) : Type 0 where
   pub ticket : TicketView
   pub was : ticket_at m.out source ≡ Some ticket
   pub entry : Entry
   pub reply : IsReply m.seat ticket source entry n.seat
   pub place_is : place ≡ length m.trace
+  pub above : Above m.trace ticket.known entry.port entry.index
   pub master : n ≡ with_entry m source n.seat entry
 
 abbrev pub Polls : MasterState → ℕ → Polled → MasterState → Type 0

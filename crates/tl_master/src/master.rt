@@ -5,8 +5,8 @@ ghost use Rattle.tl_rule.specs.declared.view.Held.TheVariants.{Filled, Sent};
 ghost use Rattle.tl_rule.specs.Views.{Owns};
 ghost use Rattle.tl_arena.specs.Views.{owned_of, hand_at, with_held};
 ghost use Rattle.tl_arena.specs.Promises.{IsIdleSource, OwnsHistories};
-ghost use Rattle.tl_master.specs.Master.{new_state, count_of, out_of, ticket_at, IsInOrder, AreWidened, asks_of, of_source, asked, IsNextOut};
-ghost use Rattle.tl_master.specs.Steps.{Appends, IsPosted, Issues, Polls, AsksMore, AsksSame};
+ghost use Rattle.tl_master.specs.Master.{new_state, count_of, out_of, ticket_at, IsInOrder, AreWidened, requests_of, of_source, asked, IsNextOut};
+ghost use Rattle.tl_master.specs.Steps.{Appends, IsRoutedPost, Issues, Polls, AsksMore, AsksSame};
 
 use crate::source_set::SourceSet;
 use std::alloc::{AllocError, Global};
@@ -285,7 +285,7 @@ fn post_routed(
     requires source { Owns arena.now.about seat.old.number wide }
     requires unsent { IsIdleSource seat.old wide }
     requires ports { length map.now + 1 ≤ arena.now.about.ports }
-    ensures posted { IsPosted map.now ask.now wide seat.old claim result.0 result.1 }
+    ensures posted { IsRoutedPost map.now ask.now wide seat.old claim result.0 result.1 }
     ensures seat { seat.new
         ≡ with_held seat.old claim (Sent result.0.ask result.0.port result.0.known) }
 {

@@ -17,7 +17,7 @@ use Rattle.tl_script.specs.System.{System, IsLawfulSystem, sends}
 use Rattle.tl_script.specs.declared.system.TheConstants.{MAX_JOBS}
 use Rattle.tl_threads.proofs.Asking.{next_sends}
 use Rattle.tl_threads.proofs.Rows.{one_some}
-use Rattle.tl_threads.specs.Start.{ArePortsOf, times_in, GoTo, AddsArrivals, all_sends, AreJournals, IsNewBook}
+use Rattle.tl_threads.specs.Start.{ArePortsOf, occurrences_of, GoTo, AddsArrivals, all_sends, AreJournals, IsNewBook}
 use Rattle.tl_arena.specs.Views.{ArenaId, new_port}
 use Rattle.tl_rule.specs.Views.{reset_of}
 use Rattle.tl_port.specs.Book.{BookView, new_book}
@@ -36,13 +36,13 @@ ports_then ranges [] ys (p ∷ ps) qs are more = absurd are
 ports_then ranges (a ∷ xs) ys [] qs are more = absurd are
 ports_then ranges (a ∷ xs) ys (p ∷ ps) qs are more = (are.0, ports_then ranges xs ys ps qs are.1 more)
 
-times_then : (ps qs : List ℕ) (p : ℕ) → times_in (ps ++ qs) p ≡ times_in ps p + times_in qs p
+times_then : (ps qs : List ℕ) (p : ℕ) → occurrences_of (ps ++ qs) p ≡ occurrences_of ps p + occurrences_of qs p
 times_then ps qs p = sum_by-append (λ (q : ℕ). cond (eqb q p) 1 0) ps qs
 
-times_here : (p : ℕ) → times_in (p ∷ []) p ≡ 1
+times_here : (p : ℕ) → occurrences_of (p ∷ []) p ≡ 1
 times_here p = ap (λ b. 0 + cond b 1 0) (eq-eqb p p refl)
 
-times_elsewhere : (q p : ℕ) → (q ≡ p → ⊥) → times_in (q ∷ []) p ≡ 0
+times_elsewhere : (q p : ℕ) → (q ≡ p → ⊥) → occurrences_of (q ∷ []) p ≡ 0
 times_elsewhere q p not = ap (λ b. 0 + cond b 1 0) (ne_eqb q p not)
 
 -- ---- counts
@@ -63,12 +63,12 @@ adds_one ranges ask port n old at goes = record {
   each = λ p m is. dite (ℕ_discrete port p)
       (λ (here : port ≡ p).
       let same : n ≡ m = one_some (slice_get old port) n m at (ap (λ (k : ℕ). slice_get old k) here ∙ is) in
-      let one : times_in (port ∷ []) p ≡ 1 = subst (λ (k : ℕ). times_in (port ∷ []) k ≡ 1) here (times_here port) in
-      let sum : n + 1 ≡ m + times_in (port ∷ []) p = omega (arith, same, one) in
+      let one : occurrences_of (port ∷ []) p ≡ 1 = subst (λ (k : ℕ). occurrences_of (port ∷ []) k ≡ 1) here (times_here port) in
+      let sum : n + 1 ≡ m + occurrences_of (port ∷ []) p = omega (arith, same, one) in
       ap (λ (k : ℕ). slice_get (set old port (n + 1)) k) (sym here) ∙ slice_get-set_same old port (n + 1) (slice_get_within old port n at) ∙ ap (λ (k : ℕ). Some k) sum)
       (λ (other : port ≡ p → ⊥).
-      let none : times_in (port ∷ []) p ≡ 0 = times_elsewhere port p other in
-      let sum : m ≡ m + times_in (port ∷ []) p = omega (arith, none) in
+      let none : occurrences_of (port ∷ []) p ≡ 0 = times_elsewhere port p other in
+      let sum : m ≡ m + occurrences_of (port ∷ []) p = omega (arith, none) in
       slice_get-set_other old port p (n + 1) other ∙ is ∙ ap (λ (k : ℕ). Some k) sum);
 }
 
@@ -78,16 +78,16 @@ adds_then ranges xs ys a b c p q = record {
   are = ports_then ranges xs ys p.ports q.ports p.are q.are;
   many = q.many ∙ p.many;
   each = λ port n is.
-      let sum : (n + times_in p.ports port) + times_in q.ports port ≡ n + times_in (p.ports ++ q.ports) port = omega (arith, times_then p.ports q.ports port) in
-      q.each port (n + times_in p.ports port) (p.each port n is) ∙ ap (λ (k : ℕ). Some k) sum;
+      let sum : (n + occurrences_of p.ports port) + occurrences_of q.ports port ≡ n + occurrences_of (p.ports ++ q.ports) port = omega (arith, times_then p.ports q.ports port) in
+      q.each port (n + occurrences_of p.ports port) (p.each port n is) ∙ ap (λ (k : ℕ). Some k) sum;
 }
 
 -- a count was there before, and grew by so many requests, which are no more than there are
-grown_by : (ranges : List Range) (asks : List Request) (old new : List ℕ) (p m : ℕ) (adds : AddsArrivals ranges asks old new) → slice_get new p ≡ Some m → (n : ℕ) × (slice_get old p ≡ Some n) × (m ≡ n + times_in adds.ports p)
+grown_by : (ranges : List Range) (asks : List Request) (old new : List ℕ) (p m : ℕ) (adds : AddsArrivals ranges asks old new) → slice_get new p ≡ Some m → (n : ℕ) × (slice_get old p ≡ Some n) × (m ≡ n + occurrences_of adds.ports p)
 grown_by ranges asks old new p m adds at =
     let within : p < length old = subst (λ (k : ℕ). p < k) adds.many (slice_get_within new p m at) in
     let was : slice_get old p ≡ Some (get_or old p 0) = slice_get-get_or old p 0 within in
-    (get_or old p 0, was, one_some (slice_get new p) m (get_or old p 0 + times_in adds.ports p) at (adds.each p (get_or old p 0) was))
+    (get_or old p 0, was, one_some (slice_get new p) m (get_or old p 0 + occurrences_of adds.ports p) at (adds.each p (get_or old p 0) was))
 
 pub grown : (ranges : List Range) (asks : List Request) (old new : List ℕ) (p m : ℕ) → AddsArrivals ranges asks old new → slice_get new p ≡ Some m → (n : ℕ) × (slice_get old p ≡ Some n) × (m ≤ n + length asks)
 grown ranges asks old new p m adds at =

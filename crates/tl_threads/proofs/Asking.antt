@@ -22,11 +22,12 @@ use Rattle.tl_arena.specs.Promises.{IsCollected, OwnsHistories}
 use Rattle.tl_master.specs.declared.master.Issued.{Issued}
 use Rattle.tl_master.specs.declared.master.Polled.{Polled}
 use Rattle.tl_master.specs.declared.master.Polled.TheVariants.{Idle, NotYet, Done}
-use Rattle.tl_master.specs.Master.{MasterState, IsInOrder, AreWidened, asks_of, of_source, asked, out_of, out_ask, ticket_at, new_state, count_of}
-use Rattle.tl_master.specs.Steps.{Sends, CollectsOne, AsksMore, AsksSame, Polls, ask_of}
+use Rattle.tl_master.specs.Master.{MasterState, IsInOrder, AreWidened, requests_of, of_source, asked, out_of, out_ask, ticket_at, new_state, count_of}
+use Rattle.tl_master.specs.Steps.{IssuesOne, CollectsOne, AsksMore, AsksSame, Polls, ask_of}
 use Rattle.tl_master.proofs.Hands.{source_known}
-use Rattle.tl_threads.specs.Trace.{StandFirst, AreWaitedFor, AreRouted, IsTrace, IsRouted, IsLonger, IsSame, HasAsked, HasDone, IsDriven, IsIdle}
+use Rattle.tl_threads.specs.Trace.{AreDoneInTurn, AreRouted, WereDone, IsCut, IsTrace, WasDone, IsRouted, IsLonger, IsSame, HasAsked, HasDone, IsDriven, IsIdle}
 use Rattle.tl_threads.proofs.Rows.{one_some}
+use Rattle.tl_threads.proofs.Cuts.{issues_cut, collects_cut, issues_turn, waits_turn, done_still, done_after, first_of_wait}
 use Rattle.tl_threads.specs.Start.{Handle, IsPromised, IsTraceOf}
 
 -- ---- what the trace has, and where requests go
@@ -37,21 +38,13 @@ longer_self es = record { more = []; is = sym (append-nil es) }
 longer_then : (es fs gs : List Entry) → IsLonger es fs → IsLonger fs gs → IsLonger es gs
 longer_then es fs gs p q = record { more = p.more ++ q.more; is = q.is ∙ ap (λ (l : List Entry). l ++ q.more) p.is ∙ append_assoc es p.more q.more }
 
-still_first : (js : List Job) (es fs : List Entry) → StandFirst js es → IsLonger es fs → StandFirst js fs
-still_first js es fs s p = record {
-  first = s.first;
-  others = s.others ++ p.more;
-  is = p.is ∙ ap (λ (l : List Entry). l ++ p.more) s.is ∙ append_assoc s.first s.others p.more;
-  each = s.each;
-}
-
 routed_more : (ranges : List Range) (es : List Entry) (e : Entry) → AreRouted ranges es → Routes ranges e.ask e.port → AreRouted ranges (es ++ e ∷ [])
 routed_more ranges es e all new k f at = ⊎_elim (λ (old : slice_get es k ≡ Some f). all k f old)
     (λ (last : (k ≡ length es) × (e ≡ f)). subst (λ (x : Entry). Routes ranges x.ask x.port) last.1 new)
     (slice_get-push es e f k at)
 
 -- what is out after a request was put out for its source
-sends_routed : (ranges : List Range) (m : MasterState) (q : Request) (issued : Issued) (n : MasterState) → Sends ranges m q issued n → IsRouted ranges m → IsRouted ranges n
+sends_routed : (ranges : List Range) (m : MasterState) (q : Request) (issued : Issued) (n : MasterState) → IssuesOne ranges m q issued n → IsRouted ranges m → IsRouted ranges n
 sends_routed ranges m q issued n s r = subst (λ (x : MasterState). IsRouted ranges x) (sym s.master) (record { trace = r.trace; out = still }) where
   t : TicketView
   t = s.ticket
@@ -96,7 +89,7 @@ collects_routed ranges m source place n c r = subst (λ (x : MasterState). IsRou
 -- ---- from call to call
 
 pub same_self : (m : MasterState) → IsSame m m
-same_self m = record { arena = refl; number = refl; asked_is = λ s. refl; longer = longer_self m.trace; routed = λ ranges r. r }
+same_self m = record { arena = refl; number = refl; asked_is = λ s. refl; longer = longer_self m.trace; cuts = λ asks had c. c; routed = λ ranges r. r }
 
 pub same_then : (m n o : MasterState) → IsSame m n → IsSame n o → IsSame m o
 same_then m n o p q = record {
@@ -104,6 +97,7 @@ same_then m n o p q = record {
   number = q.number ∙ p.number;
   asked_is = λ s. q.asked_is s ∙ p.asked_is s;
   longer = longer_then m.trace n.trace o.trace p.longer q.longer;
+  cuts = λ asks had c. q.cuts asks had (p.cuts asks had c);
   routed = λ ranges r. q.routed ranges (p.routed ranges r);
 }
 
@@ -113,16 +107,20 @@ same_asked ranges m n o q p r = record {
   number = r.number ∙ p.number;
   asked_is = λ s. r.asked_is s ∙ ap (λ (l : List Request). l ++ ask_of s q) (p.asked_is s);
   longer = longer_then m.trace n.trace o.trace p.longer r.longer;
+  cuts = λ asks had c. r.cuts asks had (p.cuts asks had c);
+  turn = λ asks all. r.turn asks (λ s. p.asked_is s ∙ all s);
   routed = λ was. r.routed (p.routed ranges was);
 }
 
 -- what an issue sends was asked
-pub issue_asks : (ranges : List Range) (m : MasterState) (q : Request) (issued : Issued) (n : MasterState) → Sends ranges m q issued n → AsksMore m q n → HasAsked ranges m q n
+pub issue_asks : (ranges : List Range) (m : MasterState) (q : Request) (issued : Issued) (n : MasterState) → IssuesOne ranges m q issued n → AsksMore m q n → HasAsked ranges m q n
 issue_asks ranges m q issued n s more = record {
   arena = ap (λ (x : MasterState). x.seat.arena) s.master;
   number = ap (λ (x : MasterState). x.seat.number) s.master;
   asked_is = more;
   longer = subst (λ (x : MasterState). IsLonger m.trace x.trace) (sym s.master) (longer_self m.trace);
+  cuts = issues_cut ranges m q issued n s;
+  turn = issues_turn ranges m q issued n s;
   routed = sends_routed ranges m q issued n s;
 }
 
@@ -139,6 +137,7 @@ poll_same m source (Done place) n p same = record {
   number = ap (λ (v : MasterView). v.number) p.reply.seat ∙ ap (λ (v : MasterView). v.number) p.reply.collected.seat;
   asked_is = same;
   longer = record { more = p.entry ∷ []; is = ap (λ (x : MasterState). x.trace) p.master };
+  cuts = collects_cut m source place n p;
   routed = λ ranges. collects_routed ranges m source place n p;
 }
 
@@ -157,8 +156,8 @@ none_out out none s = by (slice_get out s) refl where
       let one : bit (get_or out s None) ≡ 1 = ap bit (get_or_from_slice_get out s (Some t) None is) in
       absurd (omega arith)
 
-pub all_asked : (m : MasterState) → out_of m.out ≡ 0 → (s : ℕ) → asked m s ≡ of_source s (asks_of m.trace)
-all_asked m none s = ap (λ (o : Option TicketView). of_source s (asks_of m.trace) ++ out_ask s o) (none_out m.out none s) ∙ append-nil (of_source s (asks_of m.trace))
+pub all_asked : (m : MasterState) → out_of m.out ≡ 0 → (s : ℕ) → asked m s ≡ of_source s (requests_of m.trace)
+all_asked m none s = ap (λ (o : Option TicketView). of_source s (requests_of m.trace) ++ out_ask s o) (none_out m.out none s) ∙ append-nil (of_source s (requests_of m.trace))
 
 sends_snoc : (js : List Job) (j : Job) → sends (js ++ j ∷ []) ≡ sends js ++ sends (j ∷ [])
 sends_snoc js j = filter_map-append sent_by js (j ∷ [])
@@ -166,16 +165,20 @@ sends_snoc js j = filter_map-append sent_by js (j ∷ [])
 pub next_sends : (js : List Job) (k : ℕ) (d j : Job) → k < length js → get_or js k d ≡ j → sends (take (k + 1) js) ≡ sends (take k js) ++ sends (j ∷ [])
 next_sends js k d j lt is = ap sends (take_more js k d lt) ∙ sends_snoc (take k js) (get_or js k d) ∙ ap (λ (x : Job). sends (take k js) ++ sends (x ∷ [])) is
 
--- one operation more, which waited if it is a wait
-waited_more : (js : List Job) (k : ℕ) (es fs : List Entry) → AreWaitedFor js k es → IsLonger es fs → (slice_get js k ≡ Some Wait → StandFirst (take k js) fs) → AreWaitedFor js (k + 1) fs
-waited_more js k es fs was longer here i lt is = ⊎_elim (λ (old : i < k). still_first (take i js) es fs (was i old is) longer)
-    (λ (late : k ≤ i). let e : k ≡ i = omega arith in subst (λ (x : ℕ). StandFirst (take x js) fs) e (here (subst (λ (x : ℕ). slice_get js x ≡ Some Wait) (sym e) is)))
+-- one operation more, done in its turn
+turns_more : (js : List Job) (k : ℕ) (d j : Job) (m n : MasterState) → k < length js → get_or js k d ≡ j → WereDone js k m → IsLonger m.trace n.trace → ((asks : List Request) (had : ℕ) → IsCut asks had m → IsCut asks had n)
+    → WasDone (sends (take k js)) j n → WereDone js (k + 1) n
+turns_more js k d j m n within here was longer cuts last i job lt is = ⊎_elim (λ (old : i < k). done_still (sends (take i js)) job m n (was i job old is) longer (cuts (sends (take i js))))
+    (λ (late : k ≤ i).
+    let e : k ≡ i = omega arith in
+    let same : j ≡ job = one_some (slice_get js k) j job (slice_get-get_or js k d within ∙ ap (λ (x : Job). Some x) here) (ap (λ (x : ℕ). slice_get js x) e ∙ is) in
+    subst (λ (x : ℕ). WasDone (sends (take x js)) job n) e (subst (λ (x : Job). WasDone (sends (take k js)) x n) same last))
     (cases_lt i k)
 
 module _ (a : ArenaId) (ranges : List Range) (number : ℕ) (js : List Job) where
   -- nothing was done yet
   pub idle_driven : (m : MasterState) → IsIdle a number m → IsDriven a ranges number js 0 m
-  idle_driven m idle = record { arena_is = idle.arena_is; number_is = idle.number_is; asked_is = idle.none; waits = λ k lt is. absurd (omega arith); routed = idle.routed ranges }
+  idle_driven m idle = record { arena_is = idle.arena_is; number_is = idle.number_is; asked_is = idle.none; turns = λ k job lt is. absurd (omega arith); routed = idle.routed ranges }
 
   driven_job : (k : ℕ) (d : Job) (m n : MasterState) (j : Job) → k < length js → get_or js k d ≡ j → IsDriven a ranges number js k m → HasDone ranges m j n → IsDriven a ranges number js (k + 1) n
   driven_job k d m n Wait lt is p q =
@@ -184,15 +187,15 @@ module _ (a : ArenaId) (ranges : List Range) (number : ℕ) (js : List Job) wher
         arena_is = same.arena ∙ p.arena_is;
         number_is = same.number ∙ p.number_is;
         asked_is = λ s. same.asked_is s ∙ p.asked_is s ∙ ap (of_source s) (sym (next_sends js k d Wait lt is ∙ append-nil (sends (take k js))));
-        waits = waited_more js k m.trace n.trace p.waits same.longer
-            (λ _. record { first = n.trace; others = []; is = sym (append-nil n.trace); each = λ s. sym (all_asked n q.1 s) ∙ same.asked_is s ∙ p.asked_is s });
+        turns = turns_more js k d Wait m n lt is p.turns same.longer same.cuts
+            (waits_turn n (sends (take k js)) (λ s. same.asked_is s ∙ p.asked_is s) (λ s. sym (all_asked n q.1 s) ∙ same.asked_is s ∙ p.asked_is s));
         routed = same.routed ranges p.routed;
       }
   driven_job k d m n (Send q) lt is p r = record {
     arena_is = r.arena ∙ p.arena_is;
     number_is = r.number ∙ p.number_is;
     asked_is = λ s. r.asked_is s ∙ ap (λ (l : List Request). l ++ ask_of s q) (p.asked_is s) ∙ sym (filter-append (λ (x : Request). eqb x.source s) (sends (take k js)) (q ∷ [])) ∙ ap (of_source s) (sym (next_sends js k d (Send q) lt is));
-    waits = waited_more js k m.trace n.trace p.waits r.longer (λ here. let clash : Some Wait ≡ Some (Send q) = sym here ∙ slice_get-get_or js k d lt ∙ ap (λ (x : Job). Some x) is in absurd cc);
+    turns = turns_more js k d (Send q) m n lt is p.turns r.longer r.cuts (r.turn (sends (take k js)) p.asked_is);
     routed = r.routed p.routed;
   }
 
@@ -203,8 +206,9 @@ module _ (a : ArenaId) (ranges : List Range) (number : ℕ) (js : List Job) wher
   pub traced : (k : ℕ) (m n : MasterState) (es : List Entry) → length js ≤ k → IsDriven a ranges number js k m → IsSame m n → out_of n.out ≡ 0 → es ≡ n.trace → IsInOrder es
       → AreWidened n.seat.arena.about.counts n.seat.number es n.seat.got → OwnsHistories n.seat → IsTrace a ranges number js es
   traced k m n es end d p none is order widened own = record {
-    each = λ s. ap (λ (l : List Entry). of_source s (asks_of l)) is ∙ sym (all_asked n none s) ∙ p.asked_is s ∙ d.asked_is s ∙ ap (λ (l : List Job). of_source s (sends l)) (take_all k js end);
-    waits = λ i lt wait. subst (λ (l : List Entry). StandFirst (take i js) l) (sym is) (still_first (take i js) m.trace n.trace (d.waits i (omega arith) wait) p.longer);
+    each = λ s. ap (λ (l : List Entry). of_source s (requests_of l)) is ∙ sym (all_asked n none s) ∙ p.asked_is s ∙ d.asked_is s ∙ ap (λ (l : List Job). of_source s (sends l)) (take_all k js end);
+    waits = λ i wait. first_of_wait (take i js) es (turns i Wait wait);
+    turns = turns;
     routed = subst (λ (l : List Entry). AreRouted ranges l) (sym is) (p.routed ranges d.routed).trace;
     order = order;
     seat = n.seat;
@@ -213,6 +217,11 @@ module _ (a : ArenaId) (ranges : List Range) (number : ℕ) (js : List Job) wher
     widened = subst (λ (i : ℕ). AreWidened a.about.counts i es n.seat.got) (p.number ∙ d.number_is) (subst (λ (b : ArenaId). AreWidened b.about.counts n.seat.number es n.seat.got) (p.arena ∙ d.arena_is) widened);
     own = own;
   }
+    where
+      turns : AreDoneInTurn js es
+      turns i job at =
+          let within = slice_get_within js i job at in
+          done_after (sends (take i js)) job n es (done_still (sends (take i js)) job m n (d.turns i job (omega arith) at) p.longer (p.cuts (sends (take i js)))) is
 
 -- what a promise that was kept says
 pub kept_promise : (a : ArenaId) (ranges : List Range) (jobs : List (List Job)) (k : ℕ) (h : Handle) (t : TraceView) → IsPromised a ranges jobs k h

@@ -3,3 +3,4 @@ pub mod Arrivals
 pub mod Asking
 pub mod Rows
 pub mod Whole
+pub mod Cuts

@@ -61,21 +61,21 @@ ArePortsOf ranges (ask ∷ asks) [] = ⊥
 ArePortsOf ranges (ask ∷ asks) (port ∷ ports) = Routes ranges ask port × ArePortsOf ranges asks ports
 
 -- how often the number is in the list
-abbrev pub times_in : List ℕ → ℕ → ℕ
-times_in numbers n = count_by (λ m. eqb m n) numbers
+abbrev pub occurrences_of : List ℕ → ℕ → ℕ
+occurrences_of numbers n = count_by (λ m. eqb m n) numbers
 
 -- so many of these requests go to the port
 pub record GoTo (ranges : List Range) (asks : List Request) (port count : ℕ) : Type 0 where
   pub ports : List ℕ
   pub are : ArePortsOf ranges asks ports
-  pub count_is : count ≡ times_in ports port
+  pub count_is : count ≡ occurrences_of ports port
 
 -- each port's count is larger by the number of these requests that go there
 pub record AddsArrivals (ranges : List Range) (asks : List Request) (old new : List ℕ) : Type 0 where
   pub ports : List ℕ
   pub are : ArePortsOf ranges asks ports
   pub many : length new ≡ length old
-  pub each : (p n : ℕ) → slice_get old p ≡ Some n → slice_get new p ≡ Some (n + times_in ports p)
+  pub each : (p n : ℕ) → slice_get old p ≡ Some n → slice_get new p ≡ Some (n + occurrences_of ports p)
 
 -- the requests of all masters
 abbrev pub all_sends : List (List Job) → List Request

@@ -1,2 +1,3 @@
 pub mod Failing
 mod OneThread
+mod Slots

@@ -1,5 +1,5 @@
 -- The text of a run by threads is one thread's, port by port.
-use Rattle.std.proofs.Common.{◌≡◌, ◌∙◌, ℕ, ◌+◌, ◌<◌, Bool, List, [], ◌∷◌, length, Option, Some, None, option_map, slice_get, get_or, refl, ap, arith, length-append}
+use Rattle.std.proofs.Common.{subst, ◌≡◌, ◌∙◌, ℕ, ◌+◌, ◌<◌, Bool, List, [], ◌∷◌, length, Option, Some, None, option_map, slice_get, get_or, refl, ap, arith, length-append}
 use Rattle.std.proofs.lemmas.List.{length-map}
 use Rattle.std.proofs.lemmas.Option.{slice_get-get_or, slice_get-map, slice_get_within}
 use Rattle.tl_types.specs.declared.trace.Entry.{Entry}
@@ -15,6 +15,8 @@ use Rattle.tl_script.specs.System.{System, IsLawfulSystem, error_store, range_of
 use Rattle.tl_script.specs.declared.operation.Job.{Job}
 use Rattle.tlx.specs.Engine.{IsThreadedText}
 use Rattle.tlx.specs.OneThread.{IsOneThreadsText, IsServedByOne}
+use Rattle.tlx.proofs.Slots.{all_slots}
+use Rattle.tl_arena.specs.declared.account.HeldSlot.{HeldSlot}
 
 -- the trace that an entry stands in
 record IsInTrace (traces : List (List Entry)) (m k : ℕ) (e : Entry) : Type 0 where
@@ -82,12 +84,15 @@ module _ (history : Bool) (s : System) (text : List ℕ) (lawful : IsLawfulSyste
     histories = histories_of t.books;
     free = length t.free;
     held = length t.held;
+    left = t.left;
+    slots = all_slots t.run.arena.about t.free t.held t.left t.run.account ∙ ap (λ (about : About). about.slots) t.run.about;
+    all_free = λ all. ap (λ (held : List HeldSlot). length held) (t.run.account.all_free (λ m within. all m (subst (λ (about : About). m < about.masters) t.run.about within)));
     run = record {
       masters = t.run.traces_are.many;
       ports = length-map t.books (λ (book : BookView). book.history) ∙ t.run.books_are.many;
       asked = λ m jobs trace its at.
           let trace_is = t.run.traces_are.each m jobs trace its at in
-          record { each = trace_is.each; waits = trace_is.waits };
+          record { each = trace_is.each; waits = trace_is.waits; turns = trace_is.turns };
       served = served;
       once = one.once;
       order = one.order;
