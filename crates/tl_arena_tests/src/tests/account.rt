@@ -16,7 +16,7 @@ fn words_show_who_holds_what(rt: HostRuntime) {
 fn an_account_is_whole_or_memory_is_refused(rt: HostRuntime) {
     if let Ok(account) = account_of(rt.alloc(), &[4106, 0], &[0, 1]) {
         assert!(rt; account.free.as_slice() == [1].as_slice());
-        assert!(rt; account.held.as_slice() == [Held { slot: 0, master: 1 }].as_slice());
+        assert!(rt; account.held.as_slice() == [HeldSlot { slot: 0, master: 1 }].as_slice());
         assert!(rt; account.left.as_slice() == [1].as_slice());
     }
 }
