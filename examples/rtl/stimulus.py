@@ -15,7 +15,7 @@ TOP = os.path.dirname(os.path.dirname(os.path.dirname(os.path.abspath(__file__))
 sys.path.insert(0, os.path.join(TOP, "tools"))
 sys.dont_write_bytecode = True
 from capture import beats_of, bytes_of, widths  # noqa: E402, F401
-from common import OPERATIONS, REPLIES  # noqa: E402
+from common import HEADER, OPERATIONS, REPLIES  # noqa: E402, F401
 
 NAMES = {codes: name for name, codes in OPERATIONS.items()}
 ANSWERS = {code: name for name, code in REPLIES.items()}
