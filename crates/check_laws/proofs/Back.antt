@@ -6,23 +6,23 @@ use Rattle.tl_types.specs.Response.{Response, IsLawfulResponse}
 use Rattle.tl_beats.specs.Replies.{SpellsReply}
 use Rattle.tl_beats.specs.declared.beat.ABeat.{ABeat}
 use Rattle.tl_beats.specs.declared.beat.DBeat.{DBeat}
-use Rattle.tl_link.specs.declared.beat.Beat.{Beat}
-use Rattle.tl_link.specs.declared.beat.Beat.TheVariants.{A, D}
-use Rattle.tl_link.specs.declared.beat.Link.{Link}
-use Rattle.tl_link.specs.declared.beat.Link.TheVariants.{Master, Port}
-use Rattle.tl_link.specs.declared.beat.Sighting.{Sighting}
-use Rattle.tl_link.specs.Message.{ask_of}
-use Rattle.tl_link.specs.Past.{Under, ends_ask, ends_reply, asking, replying}
-use Rattle.tl_link.specs.Form.{FitsAsk, FitsReply}
-use Rattle.tl_flight.specs.Flight.Turn.{Asked}
-use Rattle.tl_watch.specs.declared.links.Links.{Links}
-use Rattle.tl_watch.specs.declared.links.Links.TheVariants.{Both, Masters, Ports}
-use Rattle.tl_watch.specs.Plan.{Plan, IsPlan, Layout, side_of, number_of, wide_of, are_both, HasLink, IsWatched}
-use Rattle.tl_watch.specs.Plan.Side.{AtMasters, AtPorts}
-use Rattle.tl_watch.specs.Scene.{is_given, must_by}
-use Rattle.tl_watch.specs.Past.{State, port_in, found_in, scene_of, state}
-use Rattle.tl_watch.specs.Allowed.{IsSent, OfAsked, IsAnswer, EndsWell, IsAllowedAsk, IsAllowedReply}
-use Rattle.tl_watch.specs.Lawful.{IsLawful, IsAllowed}
+use Rattle.check_link.specs.declared.beat.Beat.{Beat}
+use Rattle.check_link.specs.declared.beat.Beat.TheVariants.{A, D}
+use Rattle.check_link.specs.declared.beat.Link.{Link}
+use Rattle.check_link.specs.declared.beat.Link.TheVariants.{Master, Port}
+use Rattle.check_link.specs.declared.beat.Sighting.{Sighting}
+use Rattle.check_link.specs.Message.{ask_of}
+use Rattle.check_link.specs.Past.{Under, ends_ask, ends_reply, asking, replying}
+use Rattle.check_link.specs.Form.{FitsAsk, FitsReply}
+use Rattle.check_flight.specs.Flight.Turn.{Asked}
+use Rattle.check_watch.specs.declared.links.Links.{Links}
+use Rattle.check_watch.specs.declared.links.Links.TheVariants.{Both, Masters, Ports}
+use Rattle.check_watch.specs.Plan.{Plan, IsPlan, Layout, side_of, number_of, wide_of, are_both, HasLink, IsWatched}
+use Rattle.check_watch.specs.Plan.Side.{AtMasters, AtPorts}
+use Rattle.check_watch.specs.Scene.{is_given, must_by}
+use Rattle.check_watch.specs.Past.{State, port_in, found_in, scene_of, state}
+use Rattle.check_watch.specs.Allowed.{IsSent, OfAsked, IsAnswer, EndsWell, IsAllowedAsk, IsAllowedReply}
+use Rattle.check_watch.specs.Lawful.{IsLawful, IsAllowed}
 use Rattle.check_laws.specs.Crossed.{AreWatched, beats_at}
 use Rattle.check_laws.specs.Rules.{KeepsRules, AlwaysKeepsRules, IsSeenWhole, AreSeenWhole}
 use Rattle.check_laws.proofs.Links.{links_are}

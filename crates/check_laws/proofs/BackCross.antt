@@ -3,16 +3,16 @@ use Rattle.std.proofs.Common.{◌≡◌, ◌∙◌, ℕ, Bool, true, false, if�
 use Rattle.std.proofs.lemmas.List.{map-append, append_cancel_left}
 use Rattle.tl_types.specs.Request.{Request}
 use Rattle.tl_beats.specs.declared.beat.ABeat.{ABeat}
-use Rattle.tl_link.specs.declared.beat.Link.TheVariants.{Port}
-use Rattle.tl_link.specs.declared.beat.Sighting.{Sighting}
-use Rattle.tl_link.specs.Message.{ask_of}
-use Rattle.tl_link.specs.Past.{ends_ask, asking}
-use Rattle.tl_flight.specs.Flight.{Turn, Crossing}
-use Rattle.tl_flight.specs.Flight.Turn.{Idle, Asking, Asked}
-use Rattle.tl_flight.specs.Flight.Crossing.{Waiting, Crossed, Given}
-use Rattle.tl_watch.specs.Plan.{Plan}
-use Rattle.tl_watch.specs.Plan.Side.{AtMasters, AtPorts}
-use Rattle.tl_watch.specs.Allowed.{IsAskedAs}
+use Rattle.check_link.specs.declared.beat.Link.TheVariants.{Port}
+use Rattle.check_link.specs.declared.beat.Sighting.{Sighting}
+use Rattle.check_link.specs.Message.{ask_of}
+use Rattle.check_link.specs.Past.{ends_ask, asking}
+use Rattle.check_flight.specs.Flight.{Turn, Crossing}
+use Rattle.check_flight.specs.Flight.Turn.{Idle, Asking, Asked}
+use Rattle.check_flight.specs.Flight.Crossing.{Waiting, Crossed, Given}
+use Rattle.check_watch.specs.Plan.{Plan}
+use Rattle.check_watch.specs.Plan.Side.{AtMasters, AtPorts}
+use Rattle.check_watch.specs.Allowed.{IsAskedAs}
 use Rattle.check_laws.specs.Crossed.{AskSeen, beats_at, asks}
 use Rattle.check_laws.specs.Crossings.{sent_out, requests_of, MessagesCross}
 use Rattle.check_laws.proofs.Turns.{ask_at}

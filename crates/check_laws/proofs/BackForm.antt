@@ -7,14 +7,14 @@ use Rattle.tl_beats.specs.Beats.{IsLawfulMask}
 use Rattle.tl_beats.specs.Replies.{IsLawfulFlag}
 use Rattle.tl_beats.specs.declared.beat.ABeat.{ABeat}
 use Rattle.tl_beats.specs.declared.beat.DBeat.{DBeat}
-use Rattle.tl_link.specs.declared.beat.Beat.TheVariants.{A, D}
-use Rattle.tl_link.specs.declared.beat.Link.{Link}
-use Rattle.tl_link.specs.declared.beat.Sighting.{Sighting}
-use Rattle.tl_link.specs.Message.{ask_of}
-use Rattle.tl_link.specs.Past.{ends_ask, ends_reply, asking, replying}
-use Rattle.tl_link.specs.Form.{FitsAsk, FitsReply}
-use Rattle.tl_link.specs.Laws.{ended, IsSpelled, CanEnd, ended_replies, IsReplySpelled, ReplyCanEndSo}
-use Rattle.tl_watch.specs.Plan.{side_of, number_of, is_link}
+use Rattle.check_link.specs.declared.beat.Beat.TheVariants.{A, D}
+use Rattle.check_link.specs.declared.beat.Link.{Link}
+use Rattle.check_link.specs.declared.beat.Sighting.{Sighting}
+use Rattle.check_link.specs.Message.{ask_of}
+use Rattle.check_link.specs.Past.{ends_ask, ends_reply, asking, replying}
+use Rattle.check_link.specs.Form.{FitsAsk, FitsReply}
+use Rattle.check_link.specs.Laws.{ended, IsSpelled, CanEnd, ended_replies, IsReplySpelled, ReplyCanEndSo}
+use Rattle.check_watch.specs.Plan.{side_of, number_of, is_link}
 use Rattle.check_laws.specs.Crossed.{beats_at}
 use Rattle.check_laws.specs.Messages.{CarriesMessages}
 use Rattle.check_laws.proofs.Turns.{is_link_by}

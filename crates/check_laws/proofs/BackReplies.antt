@@ -8,20 +8,20 @@ use Rattle.tl_ops.specs.History.{asks_of, IsLawfulHistory}
 use Rattle.tl_beats.specs.Replies.{SpellsReply}
 use Rattle.tl_beats.specs.declared.beat.DBeat.{DBeat}
 use Rattle.tl_beats.proofs.ReplyOnly.{same_reply}
-use Rattle.tl_link.specs.declared.beat.Link.{Link}
-use Rattle.tl_link.specs.declared.beat.Link.TheVariants.{Master, Port}
-use Rattle.tl_link.specs.declared.beat.Beat.TheVariants.{D}
-use Rattle.tl_link.specs.declared.beat.Sighting.{Sighting}
-use Rattle.tl_link.specs.Past.{ends_reply, replying}
-use Rattle.tl_flight.specs.declared.flight.Answer.{Answer}
-use Rattle.tl_flight.specs.Flight.{Turn, Crossing}
-use Rattle.tl_flight.specs.Flight.Turn.{Asked}
-use Rattle.tl_flight.specs.Flight.Crossing.{Waiting, Crossed, Given}
-use Rattle.tl_watch.specs.Plan.{Plan, Layout, side_of, number_of, wide_of, same_side, HasLink, IsWatched}
-use Rattle.tl_watch.specs.Plan.Side.{AtMasters, AtPorts}
-use Rattle.tl_watch.specs.Scene.{takes_effect, is_given, given_to}
-use Rattle.tl_watch.specs.Past.{State, found_in, scene_of, state}
-use Rattle.tl_watch.specs.Lawful.{IsLawful}
+use Rattle.check_link.specs.declared.beat.Link.{Link}
+use Rattle.check_link.specs.declared.beat.Link.TheVariants.{Master, Port}
+use Rattle.check_link.specs.declared.beat.Beat.TheVariants.{D}
+use Rattle.check_link.specs.declared.beat.Sighting.{Sighting}
+use Rattle.check_link.specs.Past.{ends_reply, replying}
+use Rattle.check_flight.specs.declared.flight.Answer.{Answer}
+use Rattle.check_flight.specs.Flight.{Turn, Crossing}
+use Rattle.check_flight.specs.Flight.Turn.{Asked}
+use Rattle.check_flight.specs.Flight.Crossing.{Waiting, Crossed, Given}
+use Rattle.check_watch.specs.Plan.{Plan, Layout, side_of, number_of, wide_of, same_side, HasLink, IsWatched}
+use Rattle.check_watch.specs.Plan.Side.{AtMasters, AtPorts}
+use Rattle.check_watch.specs.Scene.{takes_effect, is_given, given_to}
+use Rattle.check_watch.specs.Past.{State, found_in, scene_of, state}
+use Rattle.check_watch.specs.Lawful.{IsLawful}
 use Rattle.check_laws.specs.Crossed.{AskSeen, ReplySeen, AreWatched, beats_at, asks, replies, exchanges}
 use Rattle.check_laws.specs.Memories.{side_for, port_for, is_for, reset_of, IsEntry, AreEntries, exchanges_at, entries_of, IsDoneAt}
 use Rattle.check_laws.specs.Crossings.{answered_from_outside, IsGiven, AreGiven, MessagesCross}

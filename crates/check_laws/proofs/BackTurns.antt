@@ -7,20 +7,20 @@ use Rattle.tl_map.specs.Map.{RoutesBytes}
 use Rattle.tl_beats.specs.Faults.{SameFields, SameReplyFields}
 use Rattle.tl_beats.specs.declared.beat.ABeat.{ABeat}
 use Rattle.tl_beats.specs.declared.beat.DBeat.{DBeat}
-use Rattle.tl_link.specs.declared.beat.Beat.TheVariants.{A, D}
-use Rattle.tl_link.specs.declared.beat.Link.{Link}
-use Rattle.tl_link.specs.declared.beat.Link.TheVariants.{Master, Port}
-use Rattle.tl_link.specs.declared.beat.Sighting.{Sighting}
-use Rattle.tl_link.specs.Message.{ask_of}
-use Rattle.tl_link.specs.Past.{ends_ask, ends_reply, asking, replying}
-use Rattle.tl_link.specs.Form.{Continues}
-use Rattle.tl_flight.specs.Flight.{Turn}
-use Rattle.tl_flight.specs.Flight.Turn.{Idle, Asking, Asked}
-use Rattle.tl_watch.specs.Plan.{Plan, Side, side_of, number_of, wide_of, is_link}
-use Rattle.tl_watch.specs.Plan.Side.{AtMasters, AtPorts}
-use Rattle.tl_watch.specs.Past.{state}
-use Rattle.tl_watch.specs.Allowed.{IsPlaced}
-use Rattle.tl_watch.specs.Lawful.{IsLawful}
+use Rattle.check_link.specs.declared.beat.Beat.TheVariants.{A, D}
+use Rattle.check_link.specs.declared.beat.Link.{Link}
+use Rattle.check_link.specs.declared.beat.Link.TheVariants.{Master, Port}
+use Rattle.check_link.specs.declared.beat.Sighting.{Sighting}
+use Rattle.check_link.specs.Message.{ask_of}
+use Rattle.check_link.specs.Past.{ends_ask, ends_reply, asking, replying}
+use Rattle.check_link.specs.Form.{Continues}
+use Rattle.check_flight.specs.Flight.{Turn}
+use Rattle.check_flight.specs.Flight.Turn.{Idle, Asking, Asked}
+use Rattle.check_watch.specs.Plan.{Plan, Side, side_of, number_of, wide_of, is_link}
+use Rattle.check_watch.specs.Plan.Side.{AtMasters, AtPorts}
+use Rattle.check_watch.specs.Past.{state}
+use Rattle.check_watch.specs.Allowed.{IsPlaced}
+use Rattle.check_watch.specs.Lawful.{IsLawful}
 use Rattle.check_laws.specs.Crossed.{AskSeen, ReplySeen, beats_at, ask_ended, reply_ended, asks, replies, next_answered}
 use Rattle.check_laws.specs.Messages.{Answers, IsAnswered, AsksAt, RepliesAt, TakeTurns, AreMessages, IsInPlace}
 use Rattle.check_laws.proofs.Lists.{zip_more, drop_front}

@@ -4,20 +4,20 @@ use Rattle.tl_types.specs.Request.{Request}
 use Rattle.tl_beats.specs.Faults.{SameFields}
 use Rattle.tl_beats.specs.declared.beat.ABeat.{ABeat}
 use Rattle.tl_beats.specs.declared.beat.DBeat.{DBeat}
-use Rattle.tl_link.specs.declared.beat.Beat.{Beat}
-use Rattle.tl_link.specs.declared.beat.Beat.TheVariants.{A, D}
-use Rattle.tl_link.specs.declared.beat.Link.{Link}
-use Rattle.tl_link.specs.declared.beat.Sighting.{Sighting}
-use Rattle.tl_link.specs.Message.{ask_of}
-use Rattle.tl_link.specs.Past.{Under, ends_ask, ends_reply, asking}
-use Rattle.tl_link.specs.Form.{Continues}
-use Rattle.tl_flight.specs.Flight.{Turn, idle}
-use Rattle.tl_flight.specs.Flight.Turn.{Idle, Asking, Asked}
-use Rattle.tl_watch.specs.Plan.{Plan, Side, side_of, number_of, wide_of, is_link, is_of}
-use Rattle.tl_watch.specs.Scene.{ask_by, turn_by, flight_after}
-use Rattle.tl_watch.specs.Past.{State, scene_of, state, state_after}
-use Rattle.tl_watch.specs.Allowed.{IsAllowedAsk, IsAllowedReply}
-use Rattle.tl_watch.specs.Lawful.{IsLawful, IsAllowed}
+use Rattle.check_link.specs.declared.beat.Beat.{Beat}
+use Rattle.check_link.specs.declared.beat.Beat.TheVariants.{A, D}
+use Rattle.check_link.specs.declared.beat.Link.{Link}
+use Rattle.check_link.specs.declared.beat.Sighting.{Sighting}
+use Rattle.check_link.specs.Message.{ask_of}
+use Rattle.check_link.specs.Past.{Under, ends_ask, ends_reply, asking}
+use Rattle.check_link.specs.Form.{Continues}
+use Rattle.check_flight.specs.Flight.{Turn, idle}
+use Rattle.check_flight.specs.Flight.Turn.{Idle, Asking, Asked}
+use Rattle.check_watch.specs.Plan.{Plan, Side, side_of, number_of, wide_of, is_link, is_of}
+use Rattle.check_watch.specs.Scene.{ask_by, turn_by, flight_after}
+use Rattle.check_watch.specs.Past.{State, scene_of, state, state_after}
+use Rattle.check_watch.specs.Allowed.{IsAllowedAsk, IsAllowedReply}
+use Rattle.check_watch.specs.Lawful.{IsLawful, IsAllowed}
 use Rattle.check_laws.specs.Crossed.{beats_at}
 use Rattle.check_laws.specs.Messages.{AsksAt}
 use Rattle.check_laws.proofs.Links.{links_are, same_link}

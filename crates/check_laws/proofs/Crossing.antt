@@ -12,23 +12,23 @@ use Rattle.tl_map.specs.Map.{RoutesBytes}
 use Rattle.tl_map.specs.Range.{HoldsBytes}
 use Rattle.tl_map.specs.declared.map.Range.{Range}
 use Rattle.tl_map.proofs.Blocks.{one_source}
-use Rattle.tl_link.specs.declared.beat.Beat.{Beat}
-use Rattle.tl_link.specs.declared.beat.Beat.TheVariants.{A, D}
-use Rattle.tl_link.specs.declared.beat.Link.{Link}
-use Rattle.tl_link.specs.declared.beat.Link.TheVariants.{Master, Port}
-use Rattle.tl_link.specs.declared.beat.Sighting.{Sighting}
-use Rattle.tl_link.specs.Message.{ask_of}
-use Rattle.tl_link.specs.Past.{Under, ends_ask, ends_reply, asking, replying}
-use Rattle.tl_flight.specs.Flight.{Turn, Flight, Crossing, idle}
-use Rattle.tl_flight.specs.Flight.Turn.{Idle, Asking, Asked}
-use Rattle.tl_flight.specs.Flight.Crossing.{Waiting, Crossed, Given}
-use Rattle.tl_watch.specs.declared.links.Links.TheVariants.{Both}
-use Rattle.tl_watch.specs.Plan.{Plan, IsPlan, Side, is_of, are_both, HasLink, HasSource}
-use Rattle.tl_watch.specs.Plan.Side.{AtMasters, AtPorts}
-use Rattle.tl_watch.specs.Scene.{ask_by, turn_by, flight_after, is_given, must_by, given_by}
-use Rattle.tl_watch.specs.Past.{State, port_in, scene_of, state, state_after}
-use Rattle.tl_watch.specs.Allowed.{IsAskedAs, EndsWell, IsAllowedAsk, IsAllowedReply}
-use Rattle.tl_watch.specs.Lawful.{IsLawful, IsAllowed}
+use Rattle.check_link.specs.declared.beat.Beat.{Beat}
+use Rattle.check_link.specs.declared.beat.Beat.TheVariants.{A, D}
+use Rattle.check_link.specs.declared.beat.Link.{Link}
+use Rattle.check_link.specs.declared.beat.Link.TheVariants.{Master, Port}
+use Rattle.check_link.specs.declared.beat.Sighting.{Sighting}
+use Rattle.check_link.specs.Message.{ask_of}
+use Rattle.check_link.specs.Past.{Under, ends_ask, ends_reply, asking, replying}
+use Rattle.check_flight.specs.Flight.{Turn, Flight, Crossing, idle}
+use Rattle.check_flight.specs.Flight.Turn.{Idle, Asking, Asked}
+use Rattle.check_flight.specs.Flight.Crossing.{Waiting, Crossed, Given}
+use Rattle.check_watch.specs.declared.links.Links.TheVariants.{Both}
+use Rattle.check_watch.specs.Plan.{Plan, IsPlan, Side, is_of, are_both, HasLink, HasSource}
+use Rattle.check_watch.specs.Plan.Side.{AtMasters, AtPorts}
+use Rattle.check_watch.specs.Scene.{ask_by, turn_by, flight_after, is_given, must_by, given_by}
+use Rattle.check_watch.specs.Past.{State, port_in, scene_of, state, state_after}
+use Rattle.check_watch.specs.Allowed.{IsAskedAs, EndsWell, IsAllowedAsk, IsAllowedReply}
+use Rattle.check_watch.specs.Lawful.{IsLawful, IsAllowed}
 use Rattle.check_laws.specs.Crossed.{AskSeen, ReplySeen, AreWatched, beats_at, ask_ended, reply_ended, asks, replies, exchanges}
 use Rattle.check_laws.specs.Crossings.{IsOwned, answered_from_outside, sent_out, requests_of, AreGiven, MessagesCross}
 use Rattle.check_laws.proofs.BackForm.{last_of_all}

@@ -7,20 +7,20 @@ use Rattle.tl_ops.specs.History.{replay}
 use Rattle.tl_ops.proofs.Histories.{replay-append}
 use Rattle.tl_beats.specs.declared.beat.ABeat.{ABeat}
 use Rattle.tl_beats.specs.declared.beat.DBeat.{DBeat}
-use Rattle.tl_link.specs.declared.beat.Beat.{Beat}
-use Rattle.tl_link.specs.declared.beat.Beat.TheVariants.{A, D}
-use Rattle.tl_link.specs.declared.beat.Link.{Link}
-use Rattle.tl_link.specs.declared.beat.Link.TheVariants.{Master, Port}
-use Rattle.tl_link.specs.declared.beat.Sighting.{Sighting}
-use Rattle.tl_link.specs.Past.{Under}
-use Rattle.tl_flight.specs.declared.slave.Slave.{Slave}
-use Rattle.tl_flight.specs.Flight.{Turn, asked}
-use Rattle.tl_flight.specs.Flight.Turn.{Asked}
-use Rattle.tl_flight.specs.Slave.{slave_by}
-use Rattle.tl_watch.specs.Plan.{Plan, side_of, number_of, wide_of, is_at_acceptance, is_at_reply, HasLink, IsWatched}
-use Rattle.tl_watch.specs.Scene.{ask_by, takes_effect, effect_by, effect, begins_reply, late_effect}
-use Rattle.tl_watch.specs.Past.{State, port_of, found_in, scene_of, state, state_after}
-use Rattle.tl_watch.specs.Lawful.{IsLawful, IsAllowed}
+use Rattle.check_link.specs.declared.beat.Beat.{Beat}
+use Rattle.check_link.specs.declared.beat.Beat.TheVariants.{A, D}
+use Rattle.check_link.specs.declared.beat.Link.{Link}
+use Rattle.check_link.specs.declared.beat.Link.TheVariants.{Master, Port}
+use Rattle.check_link.specs.declared.beat.Sighting.{Sighting}
+use Rattle.check_link.specs.Past.{Under}
+use Rattle.check_flight.specs.declared.slave.Slave.{Slave}
+use Rattle.check_flight.specs.Flight.{Turn, asked}
+use Rattle.check_flight.specs.Flight.Turn.{Asked}
+use Rattle.check_flight.specs.Slave.{slave_by}
+use Rattle.check_watch.specs.Plan.{Plan, side_of, number_of, wide_of, is_at_acceptance, is_at_reply, HasLink, IsWatched}
+use Rattle.check_watch.specs.Scene.{ask_by, takes_effect, effect_by, effect, begins_reply, late_effect}
+use Rattle.check_watch.specs.Past.{State, port_of, found_in, scene_of, state, state_after}
+use Rattle.check_watch.specs.Lawful.{IsLawful, IsAllowed}
 use Rattle.check_laws.specs.Crossed.{AreWatched}
 use Rattle.check_laws.specs.Memories.{port_for, is_for, ask_done, widened, asks_done, reset_of}
 use Rattle.check_laws.proofs.Links.{links_are}

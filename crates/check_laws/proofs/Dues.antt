@@ -5,25 +5,25 @@ use Rattle.tl_types.specs.Request.{Request}
 use Rattle.tl_beats.specs.Faults.{SameReplyFields}
 use Rattle.tl_beats.specs.declared.beat.ABeat.{ABeat}
 use Rattle.tl_beats.specs.declared.beat.DBeat.{DBeat}
-use Rattle.tl_link.specs.declared.beat.Beat.{Beat}
-use Rattle.tl_link.specs.declared.beat.Beat.TheVariants.{A, D}
-use Rattle.tl_link.specs.declared.beat.Link.{Link}
-use Rattle.tl_link.specs.declared.beat.Sighting.{Sighting}
-use Rattle.tl_link.specs.Past.{Under, ends_reply, replying}
-use Rattle.tl_link.specs.Form.{Continues}
-use Rattle.tl_flight.specs.declared.flight.Answer.{Answer}
-use Rattle.tl_flight.specs.declared.slave.Slave.{Slave}
-use Rattle.tl_flight.specs.Flight.{Turn, Flight, idle, asked, due_by}
-use Rattle.tl_flight.specs.Flight.Turn.{Idle, Asking, Asked}
-use Rattle.tl_flight.specs.Slave.{answer_by}
-use Rattle.tl_watch.specs.declared.order.Order.{Order}
-use Rattle.tl_watch.specs.declared.order.Order.TheVariants.{Accept, Reply}
-use Rattle.tl_watch.specs.Plan.{Plan, Side, side_of, number_of, wide_of, is_link, is_of, is_at_acceptance, is_at_reply}
-use Rattle.tl_watch.specs.Plan.Side.{AtMasters, AtPorts}
-use Rattle.tl_watch.specs.Scene.{ask_by, turn_by, takes_effect, effect_by, begins_reply, flight_after}
-use Rattle.tl_watch.specs.Past.{State, found_in, scene_of, state, state_after}
-use Rattle.tl_watch.specs.Allowed.{IsAllowedReply}
-use Rattle.tl_watch.specs.Lawful.{IsLawful, IsAllowed}
+use Rattle.check_link.specs.declared.beat.Beat.{Beat}
+use Rattle.check_link.specs.declared.beat.Beat.TheVariants.{A, D}
+use Rattle.check_link.specs.declared.beat.Link.{Link}
+use Rattle.check_link.specs.declared.beat.Sighting.{Sighting}
+use Rattle.check_link.specs.Past.{Under, ends_reply, replying}
+use Rattle.check_link.specs.Form.{Continues}
+use Rattle.check_flight.specs.declared.flight.Answer.{Answer}
+use Rattle.check_flight.specs.declared.slave.Slave.{Slave}
+use Rattle.check_flight.specs.Flight.{Turn, Flight, idle, asked, due_by}
+use Rattle.check_flight.specs.Flight.Turn.{Idle, Asking, Asked}
+use Rattle.check_flight.specs.Slave.{answer_by}
+use Rattle.check_watch.specs.declared.order.Order.{Order}
+use Rattle.check_watch.specs.declared.order.Order.TheVariants.{Accept, Reply}
+use Rattle.check_watch.specs.Plan.{Plan, Side, side_of, number_of, wide_of, is_link, is_of, is_at_acceptance, is_at_reply}
+use Rattle.check_watch.specs.Plan.Side.{AtMasters, AtPorts}
+use Rattle.check_watch.specs.Scene.{ask_by, turn_by, takes_effect, effect_by, begins_reply, flight_after}
+use Rattle.check_watch.specs.Past.{State, found_in, scene_of, state, state_after}
+use Rattle.check_watch.specs.Allowed.{IsAllowedReply}
+use Rattle.check_watch.specs.Lawful.{IsLawful, IsAllowed}
 use Rattle.check_laws.specs.Crossed.{beats_at}
 use Rattle.check_laws.proofs.Links.{links_are, same_link}
 use Rattle.check_laws.proofs.Turns.{LinksAre, ask_at, reply_at, link_on, own_link, is_link_by, is_of_is, is_of_own, true_or_false}

@@ -1,17 +1,17 @@
 -- The beats of a link fit one after the other.
 use Rattle.std.proofs.Common.{◌≡◌, Bool, true, false, if◌then◌else◌, List, [], ◌∷◌, refl, ap, sym, subst}
-use Rattle.tl_link.specs.declared.beat.Beat.{Beat}
-use Rattle.tl_link.specs.declared.beat.Beat.TheVariants.{A, D}
+use Rattle.check_link.specs.declared.beat.Beat.{Beat}
+use Rattle.check_link.specs.declared.beat.Beat.TheVariants.{A, D}
 use Rattle.tl_beats.specs.declared.beat.ABeat.{ABeat}
 use Rattle.tl_beats.specs.declared.beat.DBeat.{DBeat}
-use Rattle.tl_link.specs.declared.beat.Link.{Link}
-use Rattle.tl_link.specs.declared.beat.Sighting.{Sighting}
-use Rattle.tl_link.specs.Past.{Under}
-use Rattle.tl_link.specs.Form.{FitsAsk, FitsReply}
-use Rattle.tl_link.specs.Laws.{AreFitting}
-use Rattle.tl_watch.specs.Plan.{Plan, side_of, number_of, is_link}
-use Rattle.tl_watch.specs.Past.{state, scene_of}
-use Rattle.tl_watch.specs.Lawful.{IsLawful, IsAllowed}
+use Rattle.check_link.specs.declared.beat.Link.{Link}
+use Rattle.check_link.specs.declared.beat.Sighting.{Sighting}
+use Rattle.check_link.specs.Past.{Under}
+use Rattle.check_link.specs.Form.{FitsAsk, FitsReply}
+use Rattle.check_link.specs.Laws.{AreFitting}
+use Rattle.check_watch.specs.Plan.{Plan, side_of, number_of, is_link}
+use Rattle.check_watch.specs.Past.{state, scene_of}
+use Rattle.check_watch.specs.Lawful.{IsLawful, IsAllowed}
 use Rattle.check_laws.specs.Crossed.{beats_at}
 use Rattle.check_laws.proofs.Links.{links_are, same_link}
 

@@ -3,19 +3,19 @@ use Rattle.std.proofs.Common.{◌≡◌, ◌∙◌, ℕ, ◌⊎◌, inl, inr, Bo
 use Rattle.tl_types.specs.Request.{Request}
 use Rattle.tl_beats.specs.declared.beat.ABeat.{ABeat}
 use Rattle.tl_beats.specs.declared.beat.DBeat.{DBeat}
-use Rattle.tl_link.specs.declared.beat.Beat.{Beat}
-use Rattle.tl_link.specs.declared.beat.Beat.TheVariants.{A, D}
-use Rattle.tl_link.specs.declared.beat.Link.{Link}
-use Rattle.tl_link.specs.declared.beat.Sighting.{Sighting}
-use Rattle.tl_link.specs.Message.{ask_of}
-use Rattle.tl_link.specs.Past.{Under, ends_ask, ends_reply, asking, replying}
-use Rattle.tl_flight.specs.Flight.{Turn, Flight, idle}
-use Rattle.tl_flight.specs.Flight.Turn.{Idle, Asking, Asked}
-use Rattle.tl_watch.specs.Plan.{Plan, Side, side_of, number_of, wide_of, is_of}
-use Rattle.tl_watch.specs.Scene.{ask_by, turn_by, flight_after}
-use Rattle.tl_watch.specs.Past.{State, scene_of, state, state_after}
-use Rattle.tl_watch.specs.Allowed.{OfAsked, IsAllowedAsk, IsAllowedReply}
-use Rattle.tl_watch.specs.Lawful.{IsLawful, IsAllowed}
+use Rattle.check_link.specs.declared.beat.Beat.{Beat}
+use Rattle.check_link.specs.declared.beat.Beat.TheVariants.{A, D}
+use Rattle.check_link.specs.declared.beat.Link.{Link}
+use Rattle.check_link.specs.declared.beat.Sighting.{Sighting}
+use Rattle.check_link.specs.Message.{ask_of}
+use Rattle.check_link.specs.Past.{Under, ends_ask, ends_reply, asking, replying}
+use Rattle.check_flight.specs.Flight.{Turn, Flight, idle}
+use Rattle.check_flight.specs.Flight.Turn.{Idle, Asking, Asked}
+use Rattle.check_watch.specs.Plan.{Plan, Side, side_of, number_of, wide_of, is_of}
+use Rattle.check_watch.specs.Scene.{ask_by, turn_by, flight_after}
+use Rattle.check_watch.specs.Past.{State, scene_of, state, state_after}
+use Rattle.check_watch.specs.Allowed.{OfAsked, IsAllowedAsk, IsAllowedReply}
+use Rattle.check_watch.specs.Lawful.{IsLawful, IsAllowed}
 use Rattle.check_laws.specs.Crossed.{AskSeen, ReplySeen, beats_at, ask_ended, reply_ended, asks, replies}
 use Rattle.check_laws.proofs.Links.{links_are}
 use Rattle.check_laws.proofs.Turns.{LinksAre, AskingIsInFlight, ask_at, reply_at, open_before, asking_in_flight, link_on, own_link, is_of_is}

@@ -1,14 +1,14 @@
 -- What the judge keeps of links: the messages that are under way there.
 use Rattle.std.proofs.Common.{◌≡◌, ◌∙◌, Bool, true, false, if◌then◌else◌, List, [], ◌∷◌, refl, ap, eqb-true}
-use Rattle.tl_link.specs.declared.beat.Beat.{Beat}
-use Rattle.tl_link.specs.declared.beat.Beat.TheVariants.{A, D}
-use Rattle.tl_link.specs.declared.beat.Link.{Link}
-use Rattle.tl_link.specs.declared.beat.Link.TheVariants.{Master, Port}
-use Rattle.tl_link.specs.declared.beat.Sighting.{Sighting}
-use Rattle.tl_link.specs.Past.{under, under_after}
-use Rattle.tl_watch.specs.Plan.{Plan, side_of, number_of, is_link}
-use Rattle.tl_watch.specs.Scene.{answering}
-use Rattle.tl_watch.specs.Past.{State, found_in, state, scene}
+use Rattle.check_link.specs.declared.beat.Beat.{Beat}
+use Rattle.check_link.specs.declared.beat.Beat.TheVariants.{A, D}
+use Rattle.check_link.specs.declared.beat.Link.{Link}
+use Rattle.check_link.specs.declared.beat.Link.TheVariants.{Master, Port}
+use Rattle.check_link.specs.declared.beat.Sighting.{Sighting}
+use Rattle.check_link.specs.Past.{under, under_after}
+use Rattle.check_watch.specs.Plan.{Plan, side_of, number_of, is_link}
+use Rattle.check_watch.specs.Scene.{answering}
+use Rattle.check_watch.specs.Past.{State, found_in, state, scene}
 use Rattle.check_laws.specs.Crossed.{beats_at}
 
 -- a link is known by its side and its number

@@ -4,17 +4,17 @@ use Rattle.std.specs.Prelude.{◌==◌, ◌&&◌}
 use Rattle.tl_types.specs.Request.{Request}
 use Rattle.tl_types.specs.Response.{Response}
 use Rattle.tl_ops.specs.Store.{Store, reply}
-use Rattle.tl_link.specs.declared.beat.Link.{Link}
-use Rattle.tl_link.specs.declared.beat.Link.TheVariants.{Port}
-use Rattle.tl_link.specs.declared.beat.Sighting.{Sighting}
-use Rattle.tl_flight.specs.declared.flight.Answer.{Answer}
-use Rattle.tl_flight.specs.declared.slave.Slave.{Slave}
-use Rattle.tl_flight.specs.Flight.{Turn, Flight, asked, due_by}
-use Rattle.tl_flight.specs.Flight.Turn.{Idle, Asking, Asked}
-use Rattle.tl_flight.specs.Slave.{answer_by}
-use Rattle.tl_watch.specs.Plan.{Plan, Side, side_of, number_of, same_side, HasLink, IsWatched}
-use Rattle.tl_watch.specs.Scene.{turn_by, takes_effect, effect_by}
-use Rattle.tl_watch.specs.Past.{State}
+use Rattle.check_link.specs.declared.beat.Link.{Link}
+use Rattle.check_link.specs.declared.beat.Link.TheVariants.{Port}
+use Rattle.check_link.specs.declared.beat.Sighting.{Sighting}
+use Rattle.check_flight.specs.declared.flight.Answer.{Answer}
+use Rattle.check_flight.specs.declared.slave.Slave.{Slave}
+use Rattle.check_flight.specs.Flight.{Turn, Flight, asked, due_by}
+use Rattle.check_flight.specs.Flight.Turn.{Idle, Asking, Asked}
+use Rattle.check_flight.specs.Slave.{answer_by}
+use Rattle.check_watch.specs.Plan.{Plan, Side, side_of, number_of, same_side, HasLink, IsWatched}
+use Rattle.check_watch.specs.Scene.{turn_by, takes_effect, effect_by}
+use Rattle.check_watch.specs.Past.{State}
 use Rattle.check_laws.specs.Crossed.{AskSeen, ReplySeen}
 use Rattle.check_laws.specs.Memories.{side_for, port_for, asks_done, reset_of, exchanges_at, entries_of}
 use Rattle.check_laws.proofs.Turns.{link_on, own_link, true_or_false}

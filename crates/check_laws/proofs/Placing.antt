@@ -4,17 +4,17 @@ use Rattle.std.specs.List.{AllByRecursion}
 use Rattle.tl_beats.specs.Faults.{SameFields}
 use Rattle.tl_beats.specs.declared.beat.ABeat.{ABeat}
 use Rattle.tl_map.specs.Map.{RoutesBytes}
-use Rattle.tl_link.specs.declared.beat.Beat.{Beat}
-use Rattle.tl_link.specs.declared.beat.Beat.TheVariants.{A, D}
-use Rattle.tl_link.specs.declared.beat.Link.{Link}
-use Rattle.tl_link.specs.declared.beat.Link.TheVariants.{Master, Port}
-use Rattle.tl_link.specs.declared.beat.Sighting.{Sighting}
-use Rattle.tl_link.specs.Message.{ask_of}
-use Rattle.tl_link.specs.Past.{Under, ends_ask, asking}
-use Rattle.tl_watch.specs.Plan.{Plan, Layout, Side, side_of, number_of, source_of, is_link, is_of, HasSource}
-use Rattle.tl_watch.specs.Past.{state, scene_of}
-use Rattle.tl_watch.specs.Allowed.{IsPlaced, IsAllowedAsk}
-use Rattle.tl_watch.specs.Lawful.{IsLawful, IsAllowed}
+use Rattle.check_link.specs.declared.beat.Beat.{Beat}
+use Rattle.check_link.specs.declared.beat.Beat.TheVariants.{A, D}
+use Rattle.check_link.specs.declared.beat.Link.{Link}
+use Rattle.check_link.specs.declared.beat.Link.TheVariants.{Master, Port}
+use Rattle.check_link.specs.declared.beat.Sighting.{Sighting}
+use Rattle.check_link.specs.Message.{ask_of}
+use Rattle.check_link.specs.Past.{Under, ends_ask, asking}
+use Rattle.check_watch.specs.Plan.{Plan, Layout, Side, side_of, number_of, source_of, is_link, is_of, HasSource}
+use Rattle.check_watch.specs.Past.{state, scene_of}
+use Rattle.check_watch.specs.Allowed.{IsPlaced, IsAllowedAsk}
+use Rattle.check_watch.specs.Lawful.{IsLawful, IsAllowed}
 use Rattle.check_laws.specs.Crossed.{beats_at, ask_ended, asks}
 use Rattle.check_laws.specs.Messages.{IsInPlace}
 use Rattle.check_laws.proofs.Links.{links_are, same_link}

@@ -4,21 +4,21 @@ use Rattle.std.specs.List.{AllByRecursion}
 use Rattle.tl_types.specs.Request.{Request}
 use Rattle.tl_beats.specs.declared.beat.ABeat.{ABeat}
 use Rattle.tl_beats.specs.declared.beat.DBeat.{DBeat}
-use Rattle.tl_link.specs.declared.beat.Beat.{Beat}
-use Rattle.tl_link.specs.declared.beat.Beat.TheVariants.{A, D}
-use Rattle.tl_link.specs.declared.beat.Link.{Link}
-use Rattle.tl_link.specs.declared.beat.Sighting.{Sighting}
-use Rattle.tl_link.specs.Past.{Under, ends_reply, asking, replying}
-use Rattle.tl_link.specs.Form.{FitsReply}
-use Rattle.tl_link.specs.Begun.{IsWholeReply}
-use Rattle.tl_link.specs.Laws.{AreFitting}
-use Rattle.tl_link.proofs.Begun.{reply_is_whole}
-use Rattle.tl_link.proofs.Reading.{kept_of_fitting}
-use Rattle.tl_flight.specs.Flight.Turn.{Asked}
-use Rattle.tl_watch.specs.Plan.{Plan, Side, side_of, number_of, wide_of, is_of}
-use Rattle.tl_watch.specs.Past.{State, scene_of, state}
-use Rattle.tl_watch.specs.Allowed.{IsAnswer, IsAllowedAsk, IsAllowedReply}
-use Rattle.tl_watch.specs.Lawful.{IsLawful, IsAllowed}
+use Rattle.check_link.specs.declared.beat.Beat.{Beat}
+use Rattle.check_link.specs.declared.beat.Beat.TheVariants.{A, D}
+use Rattle.check_link.specs.declared.beat.Link.{Link}
+use Rattle.check_link.specs.declared.beat.Sighting.{Sighting}
+use Rattle.check_link.specs.Past.{Under, ends_reply, asking, replying}
+use Rattle.check_link.specs.Form.{FitsReply}
+use Rattle.check_link.specs.Begun.{IsWholeReply}
+use Rattle.check_link.specs.Laws.{AreFitting}
+use Rattle.check_link.proofs.Begun.{reply_is_whole}
+use Rattle.check_link.proofs.Reading.{kept_of_fitting}
+use Rattle.check_flight.specs.Flight.Turn.{Asked}
+use Rattle.check_watch.specs.Plan.{Plan, Side, side_of, number_of, wide_of, is_of}
+use Rattle.check_watch.specs.Past.{State, scene_of, state}
+use Rattle.check_watch.specs.Allowed.{IsAnswer, IsAllowedAsk, IsAllowedReply}
+use Rattle.check_watch.specs.Lawful.{IsLawful, IsAllowed}
 use Rattle.check_laws.specs.Crossed.{AskSeen, ReplySeen, beats_at, ask_ended, reply_ended, asks, replies}
 use Rattle.check_laws.specs.Messages.{Answers, IsAnswered}
 use Rattle.check_laws.proofs.Lists.{zip_past, zip_more}

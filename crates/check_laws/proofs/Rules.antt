@@ -1,9 +1,9 @@
 -- Lawful beats keep the rules at each moment.
 use Rattle.std.proofs.Common.{List, [], ◌∷◌, ◌++◌, sym, subst}
-use Rattle.tl_link.specs.declared.beat.Sighting.{Sighting}
-use Rattle.tl_watch.specs.Plan.{Plan, Layout, IsPlan}
-use Rattle.tl_watch.specs.Lawful.{IsLawful}
-use Rattle.tl_watch.proofs.Earlier.{earlier_is_lawful}
+use Rattle.check_link.specs.declared.beat.Sighting.{Sighting}
+use Rattle.check_watch.specs.Plan.{Plan, Layout, IsPlan}
+use Rattle.check_watch.specs.Lawful.{IsLawful}
+use Rattle.check_watch.proofs.Earlier.{earlier_is_lawful}
 use Rattle.check_laws.specs.Crossed.{AreWatched}
 use Rattle.check_laws.specs.Rules.{KeepsRules, AlwaysKeepsRules}
 use Rattle.check_laws.proofs.Turned.{messages}

@@ -3,13 +3,13 @@ use Rattle.std.proofs.Common.{ℕ, ◌≤◌, Bool, true, false, if◌then◌els
 use Rattle.std.specs.Prelude.{◌==◌}
 use Rattle.tl_types.specs.Request.{Request}
 use Rattle.tl_types.specs.Response.{Response}
-use Rattle.tl_link.specs.declared.beat.Sighting.{Sighting}
-use Rattle.tl_flight.specs.declared.flight.Answer.{Answer}
-use Rattle.tl_flight.specs.Flight.{Turn}
-use Rattle.tl_flight.specs.Flight.Turn.{Idle, Asking, Asked}
-use Rattle.tl_watch.specs.Plan.{Plan, Side}
-use Rattle.tl_watch.specs.Past.{state}
-use Rattle.tl_watch.specs.Lawful.{IsLawful}
+use Rattle.check_link.specs.declared.beat.Sighting.{Sighting}
+use Rattle.check_flight.specs.declared.flight.Answer.{Answer}
+use Rattle.check_flight.specs.Flight.{Turn}
+use Rattle.check_flight.specs.Flight.Turn.{Idle, Asking, Asked}
+use Rattle.check_watch.specs.Plan.{Plan, Side}
+use Rattle.check_watch.specs.Past.{state}
+use Rattle.check_watch.specs.Lawful.{IsLawful}
 use Rattle.check_laws.specs.Crossed.{AreWatched}
 use Rattle.check_laws.specs.Memories.{side_for, port_for, asks_done, reset_of, IsDoneAt, AreEntries, exchanges_at}
 use Rattle.check_laws.proofs.Turns.{link_on}

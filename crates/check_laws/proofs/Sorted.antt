@@ -7,17 +7,17 @@ use Rattle.tl_types.specs.Request.{Request}
 use Rattle.tl_beats.specs.Faults.{SameReplyFields}
 use Rattle.tl_beats.specs.declared.beat.ABeat.{ABeat}
 use Rattle.tl_beats.specs.declared.beat.DBeat.{DBeat}
-use Rattle.tl_link.specs.declared.beat.Beat.{Beat}
-use Rattle.tl_link.specs.declared.beat.Beat.TheVariants.{A, D}
-use Rattle.tl_link.specs.declared.beat.Link.{Link}
-use Rattle.tl_link.specs.declared.beat.Sighting.{Sighting}
-use Rattle.tl_link.specs.Message.{ask_of}
-use Rattle.tl_link.specs.Past.{Under, ends_ask, ends_reply, asking, replying}
-use Rattle.tl_link.specs.Form.{Continues}
-use Rattle.tl_link.specs.Laws.{ended, ended_replies}
-use Rattle.tl_watch.specs.Plan.{Plan, side_of, number_of, source_of, wide_of, is_link, is_of}
-use Rattle.tl_watch.specs.Past.{state, scene_of}
-use Rattle.tl_watch.specs.Lawful.{IsLawful, IsAllowed}
+use Rattle.check_link.specs.declared.beat.Beat.{Beat}
+use Rattle.check_link.specs.declared.beat.Beat.TheVariants.{A, D}
+use Rattle.check_link.specs.declared.beat.Link.{Link}
+use Rattle.check_link.specs.declared.beat.Sighting.{Sighting}
+use Rattle.check_link.specs.Message.{ask_of}
+use Rattle.check_link.specs.Past.{Under, ends_ask, ends_reply, asking, replying}
+use Rattle.check_link.specs.Form.{Continues}
+use Rattle.check_link.specs.Laws.{ended, ended_replies}
+use Rattle.check_watch.specs.Plan.{Plan, side_of, number_of, source_of, wide_of, is_link, is_of}
+use Rattle.check_watch.specs.Past.{state, scene_of}
+use Rattle.check_watch.specs.Lawful.{IsLawful, IsAllowed}
 use Rattle.check_laws.specs.Crossed.{AskSeen, ReplySeen, beats_at, ask_ended, reply_ended, asks, replies}
 use Rattle.check_laws.specs.Messages.{asks_at, replies_at, asks_of_source, replies_of_source, source_of_reply}
 use Rattle.check_laws.proofs.Links.{links_are, same_link}

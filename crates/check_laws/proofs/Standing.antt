@@ -7,14 +7,14 @@ use Rattle.tl_types.specs.Request.{Request}
 use Rattle.tl_types.specs.Response.{Response, IsLawfulResponse}
 use Rattle.tl_beats.specs.Replies.{SpellsReply}
 use Rattle.tl_beats.specs.declared.beat.DBeat.{DBeat}
-use Rattle.tl_link.specs.declared.beat.Link.{Link}
-use Rattle.tl_flight.specs.declared.flight.Answer.{Answer}
-use Rattle.tl_flight.specs.Flight.{Turn, Crossing}
-use Rattle.tl_flight.specs.Flight.Turn.{Idle, Asking, Asked}
-use Rattle.tl_flight.specs.Flight.Crossing.{Waiting, Crossed, Given}
-use Rattle.tl_watch.specs.Plan.{Plan}
-use Rattle.tl_watch.specs.Plan.Side.{AtPorts}
-use Rattle.tl_watch.specs.Scene.{turn_by, given_to, given_by}
+use Rattle.check_link.specs.declared.beat.Link.{Link}
+use Rattle.check_flight.specs.declared.flight.Answer.{Answer}
+use Rattle.check_flight.specs.Flight.{Turn, Crossing}
+use Rattle.check_flight.specs.Flight.Turn.{Idle, Asking, Asked}
+use Rattle.check_flight.specs.Flight.Crossing.{Waiting, Crossed, Given}
+use Rattle.check_watch.specs.Plan.{Plan}
+use Rattle.check_watch.specs.Plan.Side.{AtPorts}
+use Rattle.check_watch.specs.Scene.{turn_by, given_to, given_by}
 use Rattle.check_laws.specs.Crossed.{AskSeen, ReplySeen}
 use Rattle.check_laws.specs.Memories.{widened}
 use Rattle.check_laws.specs.Crossings.{goes_out, sent_out, answered_from_outside, requests_of, IsGiven, AreGiven}

@@ -4,20 +4,20 @@ use Rattle.std.specs.Prelude.{◌==◌, ◌&&◌, nat_lt}
 use Rattle.tl_types.specs.Request.{Request}
 use Rattle.tl_beats.specs.declared.beat.ABeat.{ABeat}
 use Rattle.tl_beats.specs.declared.beat.DBeat.{DBeat}
-use Rattle.tl_link.specs.declared.beat.Link.{Link}
-use Rattle.tl_link.specs.declared.beat.Link.TheVariants.{Master, Port}
-use Rattle.tl_link.specs.declared.beat.Sighting.{Sighting}
-use Rattle.tl_link.specs.Message.{ask_of}
-use Rattle.tl_link.specs.Past.{ends_ask, asking, replying}
-use Rattle.tl_flight.specs.Flight.{Turn}
-use Rattle.tl_flight.specs.Flight.Turn.{Asked}
-use Rattle.tl_watch.specs.declared.links.Links.{Links}
-use Rattle.tl_watch.specs.declared.links.Links.TheVariants.{Both, Masters, Ports}
-use Rattle.tl_watch.specs.declared.order.Order.{Order}
-use Rattle.tl_watch.specs.declared.order.Order.TheVariants.{Accept, Reply}
-use Rattle.tl_watch.specs.Plan.{Plan, Layout, side_of, number_of, wide_of, same_side, are_both, is_at_acceptance, is_at_reply, HasLink, IsWatched}
-use Rattle.tl_watch.specs.Plan.Side.{AtMasters, AtPorts}
-use Rattle.tl_watch.specs.Scene.{ask_by, takes_effect, effect_by, begins_reply}
+use Rattle.check_link.specs.declared.beat.Link.{Link}
+use Rattle.check_link.specs.declared.beat.Link.TheVariants.{Master, Port}
+use Rattle.check_link.specs.declared.beat.Sighting.{Sighting}
+use Rattle.check_link.specs.Message.{ask_of}
+use Rattle.check_link.specs.Past.{ends_ask, asking, replying}
+use Rattle.check_flight.specs.Flight.{Turn}
+use Rattle.check_flight.specs.Flight.Turn.{Asked}
+use Rattle.check_watch.specs.declared.links.Links.{Links}
+use Rattle.check_watch.specs.declared.links.Links.TheVariants.{Both, Masters, Ports}
+use Rattle.check_watch.specs.declared.order.Order.{Order}
+use Rattle.check_watch.specs.declared.order.Order.TheVariants.{Accept, Reply}
+use Rattle.check_watch.specs.Plan.{Plan, Layout, side_of, number_of, wide_of, same_side, are_both, is_at_acceptance, is_at_reply, HasLink, IsWatched}
+use Rattle.check_watch.specs.Plan.Side.{AtMasters, AtPorts}
+use Rattle.check_watch.specs.Scene.{ask_by, takes_effect, effect_by, begins_reply}
 use Rattle.check_laws.specs.Crossed.{beats_at, asks, replies, next_answered}
 use Rattle.check_laws.specs.Memories.{side_by, side_for, port_for, is_for, ask_done, widened}
 use Rattle.check_laws.proofs.Lists.{drop_front}

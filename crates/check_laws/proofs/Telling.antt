@@ -9,22 +9,22 @@ use Rattle.tl_ops.specs.History.{replay}
 use Rattle.tl_beats.specs.Replies.{SpellsReply}
 use Rattle.tl_beats.specs.declared.beat.ABeat.{ABeat}
 use Rattle.tl_beats.specs.declared.beat.DBeat.{DBeat}
-use Rattle.tl_link.specs.declared.beat.Beat.{Beat}
-use Rattle.tl_link.specs.declared.beat.Beat.TheVariants.{A, D}
-use Rattle.tl_link.specs.declared.beat.Link.{Link}
-use Rattle.tl_link.specs.declared.beat.Link.TheVariants.{Master, Port}
-use Rattle.tl_link.specs.declared.beat.Sighting.{Sighting}
-use Rattle.tl_link.specs.Message.{ask_of}
-use Rattle.tl_link.specs.Past.{Under, ends_ask, ends_reply, replying}
-use Rattle.tl_flight.specs.declared.flight.Answer.{Answer}
-use Rattle.tl_flight.specs.Flight.{Turn, Flight, idle, asked, due_by}
-use Rattle.tl_flight.specs.Flight.Turn.{Idle, Asking, Asked}
-use Rattle.tl_flight.specs.Slave.{answer_by}
-use Rattle.tl_watch.specs.Plan.{Plan, Layout, Side, side_of, number_of, wide_of, same_side, crosses, is_of, is_at_acceptance, is_at_reply, HasLink, IsWatched}
-use Rattle.tl_watch.specs.Scene.{ask_by, takes_effect, effect_by, begins_reply, is_given, must_by, flight_after}
-use Rattle.tl_watch.specs.Past.{State, found_in, scene_of, state, state_after}
-use Rattle.tl_watch.specs.Allowed.{EndsWell, IsAllowedAsk, IsAllowedReply}
-use Rattle.tl_watch.specs.Lawful.{IsLawful, IsAllowed}
+use Rattle.check_link.specs.declared.beat.Beat.{Beat}
+use Rattle.check_link.specs.declared.beat.Beat.TheVariants.{A, D}
+use Rattle.check_link.specs.declared.beat.Link.{Link}
+use Rattle.check_link.specs.declared.beat.Link.TheVariants.{Master, Port}
+use Rattle.check_link.specs.declared.beat.Sighting.{Sighting}
+use Rattle.check_link.specs.Message.{ask_of}
+use Rattle.check_link.specs.Past.{Under, ends_ask, ends_reply, replying}
+use Rattle.check_flight.specs.declared.flight.Answer.{Answer}
+use Rattle.check_flight.specs.Flight.{Turn, Flight, idle, asked, due_by}
+use Rattle.check_flight.specs.Flight.Turn.{Idle, Asking, Asked}
+use Rattle.check_flight.specs.Slave.{answer_by}
+use Rattle.check_watch.specs.Plan.{Plan, Layout, Side, side_of, number_of, wide_of, same_side, crosses, is_of, is_at_acceptance, is_at_reply, HasLink, IsWatched}
+use Rattle.check_watch.specs.Scene.{ask_by, takes_effect, effect_by, begins_reply, is_given, must_by, flight_after}
+use Rattle.check_watch.specs.Past.{State, found_in, scene_of, state, state_after}
+use Rattle.check_watch.specs.Allowed.{EndsWell, IsAllowedAsk, IsAllowedReply}
+use Rattle.check_watch.specs.Lawful.{IsLawful, IsAllowed}
 use Rattle.check_laws.specs.Crossed.{AskSeen, ReplySeen, AreWatched, beats_at, ask_ended, reply_ended, asks, replies}
 use Rattle.check_laws.specs.Memories.{side_for, port_for, is_for, asks_done, reset_of, IsEntry, entries_of}
 use Rattle.check_laws.proofs.Lists.{zip_past, zip_more}

@@ -1,15 +1,15 @@
 -- What lawful beats say of messages.
 use Rattle.std.proofs.Common.{◌≡◌, ◌∙◌, ℕ, ◌+◌, ◌≤◌, List, length, ap, sym, arith, length-append}
-use Rattle.tl_link.specs.declared.beat.Link.{Link}
-use Rattle.tl_link.specs.declared.beat.Link.TheVariants.{Port}
-use Rattle.tl_link.specs.declared.beat.Sighting.{Sighting}
-use Rattle.tl_link.proofs.Reading.{cut_up, all_spelled, replies_cut_up, all_replies_spelled}
-use Rattle.tl_link.proofs.Ending.{can_end, reply_can_end}
-use Rattle.tl_flight.specs.Flight.{Turn}
-use Rattle.tl_flight.specs.Flight.Turn.{Idle, Asking, Asked}
-use Rattle.tl_watch.specs.Plan.{Plan, Side, side_of, number_of, wide_of}
-use Rattle.tl_watch.specs.Past.{state}
-use Rattle.tl_watch.specs.Lawful.{IsLawful}
+use Rattle.check_link.specs.declared.beat.Link.{Link}
+use Rattle.check_link.specs.declared.beat.Link.TheVariants.{Port}
+use Rattle.check_link.specs.declared.beat.Sighting.{Sighting}
+use Rattle.check_link.proofs.Reading.{cut_up, all_spelled, replies_cut_up, all_replies_spelled}
+use Rattle.check_link.proofs.Ending.{can_end, reply_can_end}
+use Rattle.check_flight.specs.Flight.{Turn}
+use Rattle.check_flight.specs.Flight.Turn.{Idle, Asking, Asked}
+use Rattle.check_watch.specs.Plan.{Plan, Side, side_of, number_of, wide_of}
+use Rattle.check_watch.specs.Past.{state}
+use Rattle.check_watch.specs.Lawful.{IsLawful}
 use Rattle.check_laws.specs.Crossed.{AskSeen, beats_at, asks, replies}
 use Rattle.check_laws.specs.Messages.{CarriesMessages, Answers, AsksAt, TakeTurns, AreMessages}
 use Rattle.check_laws.proofs.Links.{same_link}

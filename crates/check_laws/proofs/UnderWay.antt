@@ -4,19 +4,19 @@ use Rattle.tl_types.specs.Request.{Request}
 use Rattle.tl_beats.specs.Faults.{SameReplyFields}
 use Rattle.tl_beats.specs.declared.beat.ABeat.{ABeat}
 use Rattle.tl_beats.specs.declared.beat.DBeat.{DBeat}
-use Rattle.tl_link.specs.declared.beat.Beat.{Beat}
-use Rattle.tl_link.specs.declared.beat.Beat.TheVariants.{A, D}
-use Rattle.tl_link.specs.declared.beat.Link.{Link}
-use Rattle.tl_link.specs.declared.beat.Sighting.{Sighting}
-use Rattle.tl_link.specs.Past.{Under, ends_reply, replying}
-use Rattle.tl_link.specs.Form.{Continues}
-use Rattle.tl_flight.specs.Flight.{Turn, idle}
-use Rattle.tl_flight.specs.Flight.Turn.{Idle, Asking, Asked}
-use Rattle.tl_watch.specs.Plan.{Plan, side_of, number_of, wide_of, is_link, is_of}
-use Rattle.tl_watch.specs.Scene.{flight_after}
-use Rattle.tl_watch.specs.Past.{State, scene_of, state, state_after}
-use Rattle.tl_watch.specs.Allowed.{OfAsked, IsAnswer, IsAllowedAsk, IsAllowedReply}
-use Rattle.tl_watch.specs.Lawful.{IsLawful, IsAllowed}
+use Rattle.check_link.specs.declared.beat.Beat.{Beat}
+use Rattle.check_link.specs.declared.beat.Beat.TheVariants.{A, D}
+use Rattle.check_link.specs.declared.beat.Link.{Link}
+use Rattle.check_link.specs.declared.beat.Sighting.{Sighting}
+use Rattle.check_link.specs.Past.{Under, ends_reply, replying}
+use Rattle.check_link.specs.Form.{Continues}
+use Rattle.check_flight.specs.Flight.{Turn, idle}
+use Rattle.check_flight.specs.Flight.Turn.{Idle, Asking, Asked}
+use Rattle.check_watch.specs.Plan.{Plan, side_of, number_of, wide_of, is_link, is_of}
+use Rattle.check_watch.specs.Scene.{flight_after}
+use Rattle.check_watch.specs.Past.{State, scene_of, state, state_after}
+use Rattle.check_watch.specs.Allowed.{OfAsked, IsAnswer, IsAllowedAsk, IsAllowedReply}
+use Rattle.check_watch.specs.Lawful.{IsLawful, IsAllowed}
 use Rattle.check_laws.specs.Crossed.{beats_at}
 use Rattle.check_laws.specs.Messages.{Answers}
 use Rattle.check_laws.proofs.Links.{links_are, same_link}

@@ -1,13 +1,13 @@
 -- Each lane of a lawful beat that carries a byte was seen.
 use Rattle.std.proofs.Common.{◌≡◌, ◌∙◌, List, [], ◌∷◌, ap, sym, subst}
 use Rattle.tl_types.specs.Request.{Request}
-use Rattle.tl_link.specs.declared.beat.Beat.{Beat}
-use Rattle.tl_link.specs.declared.beat.Beat.TheVariants.{A, D}
-use Rattle.tl_link.specs.declared.beat.Sighting.{Sighting}
-use Rattle.tl_watch.specs.Plan.{Plan, side_of, number_of, wide_of}
-use Rattle.tl_watch.specs.Past.{scene_of, state}
-use Rattle.tl_watch.specs.Allowed.{IsAnswer, IsKnownReply}
-use Rattle.tl_watch.specs.Lawful.{IsLawful, IsAllowed}
+use Rattle.check_link.specs.declared.beat.Beat.{Beat}
+use Rattle.check_link.specs.declared.beat.Beat.TheVariants.{A, D}
+use Rattle.check_link.specs.declared.beat.Sighting.{Sighting}
+use Rattle.check_watch.specs.Plan.{Plan, side_of, number_of, wide_of}
+use Rattle.check_watch.specs.Past.{scene_of, state}
+use Rattle.check_watch.specs.Allowed.{IsAnswer, IsKnownReply}
+use Rattle.check_watch.specs.Lawful.{IsLawful, IsAllowed}
 use Rattle.check_laws.specs.Crossed.{AskSeen}
 use Rattle.check_laws.specs.Rules.{IsSeenWhole, AreSeenWhole}
 use Rattle.check_laws.proofs.Flights.{asked_at, in_step}

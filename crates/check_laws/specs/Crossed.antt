@@ -5,13 +5,13 @@ use Rattle.std.specs.Prelude.{ℕ, if◌then◌else◌, suc, List, [], ◌∷◌
 use Rattle.std.specs.List.{AllByRecursion}
 use Rattle.tl_types.specs.Request.{Request}
 use Rattle.tl_beats.specs.declared.beat.DBeat.{DBeat}
-use Rattle.tl_link.specs.declared.beat.Beat.{Beat}
-use Rattle.tl_link.specs.declared.beat.Beat.TheVariants.{A, D}
-use Rattle.tl_link.specs.declared.beat.Link.{Link}
-use Rattle.tl_link.specs.declared.beat.Sighting.{Sighting}
-use Rattle.tl_link.specs.Message.{ask_of}
-use Rattle.tl_link.specs.Past.{ends_ask, ends_reply, asking, replying}
-use Rattle.tl_watch.specs.Plan.{Plan, Layout, Side, side_of, number_of, is_link, is_of, HasLink, IsWatched}
+use Rattle.check_link.specs.declared.beat.Beat.{Beat}
+use Rattle.check_link.specs.declared.beat.Beat.TheVariants.{A, D}
+use Rattle.check_link.specs.declared.beat.Link.{Link}
+use Rattle.check_link.specs.declared.beat.Sighting.{Sighting}
+use Rattle.check_link.specs.Message.{ask_of}
+use Rattle.check_link.specs.Past.{ends_ask, ends_reply, asking, replying}
+use Rattle.check_watch.specs.Plan.{Plan, Layout, Side, side_of, number_of, is_link, is_of, HasLink, IsWatched}
 
 -- each sighting is at a link of the system that is watched
 abbrev pub AreWatched : Layout → List Sighting → Type 0

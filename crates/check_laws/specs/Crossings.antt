@@ -6,10 +6,10 @@ use Rattle.tl_types.specs.Request.{Request}
 use Rattle.tl_types.specs.Response.{Response, IsLawfulResponse}
 use Rattle.tl_beats.specs.Replies.{SpellsReply}
 use Rattle.tl_map.specs.Block.{IsWide}
-use Rattle.tl_link.specs.declared.beat.Link.TheVariants.{Master}
-use Rattle.tl_link.specs.declared.beat.Sighting.{Sighting}
-use Rattle.tl_watch.specs.Plan.{Plan, Layout}
-use Rattle.tl_watch.specs.Plan.Side.{AtMasters, AtPorts}
+use Rattle.check_link.specs.declared.beat.Link.TheVariants.{Master}
+use Rattle.check_link.specs.declared.beat.Sighting.{Sighting}
+use Rattle.check_watch.specs.Plan.{Plan, Layout}
+use Rattle.check_watch.specs.Plan.Side.{AtMasters, AtPorts}
 use Rattle.check_laws.specs.Crossed.{AskSeen, ReplySeen, asks, exchanges}
 use Rattle.check_laws.specs.Memories.{widened}
 

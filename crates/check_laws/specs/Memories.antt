@@ -7,20 +7,20 @@ use Rattle.tl_types.specs.Response.{Response, IsLawfulResponse}
 use Rattle.tl_ops.specs.Store.{Store}
 use Rattle.tl_ops.specs.History.{asks_of, IsLawfulHistory}
 use Rattle.tl_beats.specs.Replies.{SpellsReply}
-use Rattle.tl_link.specs.declared.beat.Beat.{Beat}
-use Rattle.tl_link.specs.declared.beat.Beat.TheVariants.{A, D}
-use Rattle.tl_link.specs.declared.beat.Link.{Link}
-use Rattle.tl_link.specs.declared.beat.Link.TheVariants.{Master, Port}
-use Rattle.tl_link.specs.declared.beat.Sighting.{Sighting}
-use Rattle.tl_link.specs.Past.{replying}
-use Rattle.tl_watch.specs.declared.links.Links.{Links}
-use Rattle.tl_watch.specs.declared.links.Links.TheVariants.{Both, Masters, Ports}
-use Rattle.tl_watch.specs.declared.order.Order.{Order}
-use Rattle.tl_watch.specs.declared.order.Order.TheVariants.{Accept, Reply}
-use Rattle.tl_watch.specs.Plan.{Plan, Layout, Side, side_of, source_of, wide_of, same_side}
-use Rattle.tl_watch.specs.Plan.Side.{AtMasters, AtPorts}
-use Rattle.tl_watch.specs.Scene.{begins_reply}
-use Rattle.tl_watch.specs.Past.{no_store}
+use Rattle.check_link.specs.declared.beat.Beat.{Beat}
+use Rattle.check_link.specs.declared.beat.Beat.TheVariants.{A, D}
+use Rattle.check_link.specs.declared.beat.Link.{Link}
+use Rattle.check_link.specs.declared.beat.Link.TheVariants.{Master, Port}
+use Rattle.check_link.specs.declared.beat.Sighting.{Sighting}
+use Rattle.check_link.specs.Past.{replying}
+use Rattle.check_watch.specs.declared.links.Links.{Links}
+use Rattle.check_watch.specs.declared.links.Links.TheVariants.{Both, Masters, Ports}
+use Rattle.check_watch.specs.declared.order.Order.{Order}
+use Rattle.check_watch.specs.declared.order.Order.TheVariants.{Accept, Reply}
+use Rattle.check_watch.specs.Plan.{Plan, Layout, Side, side_of, source_of, wide_of, same_side}
+use Rattle.check_watch.specs.Plan.Side.{AtMasters, AtPorts}
+use Rattle.check_watch.specs.Scene.{begins_reply}
+use Rattle.check_watch.specs.Past.{no_store}
 use Rattle.check_laws.specs.Crossed.{AskSeen, ReplySeen, beats_at, ask_ended, exchanges, next_answered}
 
 -- ---- where a port's memory is seen

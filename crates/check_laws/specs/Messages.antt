@@ -9,12 +9,12 @@ use Rattle.tl_types.specs.Wire.{reply_opcode_of}
 use Rattle.tl_beats.specs.declared.beat.ABeat.{ABeat}
 use Rattle.tl_beats.specs.declared.beat.DBeat.{DBeat}
 use Rattle.tl_map.specs.Map.{Routes, RoutesBytes}
-use Rattle.tl_link.specs.declared.beat.Link.{Link}
-use Rattle.tl_link.specs.declared.beat.Link.TheVariants.{Port}
-use Rattle.tl_link.specs.declared.beat.Sighting.{Sighting}
-use Rattle.tl_link.specs.Past.{asking, replying}
-use Rattle.tl_link.specs.Laws.{ask_channel, ended, IsSpelled, CanEnd, reply_channel, ended_replies, IsReplySpelled, ReplyCanEndSo}
-use Rattle.tl_watch.specs.Plan.{Plan, Layout, Side, side_of, number_of, source_of, wide_of, is_link, HasSource}
+use Rattle.check_link.specs.declared.beat.Link.{Link}
+use Rattle.check_link.specs.declared.beat.Link.TheVariants.{Port}
+use Rattle.check_link.specs.declared.beat.Sighting.{Sighting}
+use Rattle.check_link.specs.Past.{asking, replying}
+use Rattle.check_link.specs.Laws.{ask_channel, ended, IsSpelled, CanEnd, reply_channel, ended_replies, IsReplySpelled, ReplyCanEndSo}
+use Rattle.check_watch.specs.Plan.{Plan, Layout, Side, side_of, number_of, source_of, wide_of, is_link, HasSource}
 use Rattle.check_laws.specs.Crossed.{AskSeen, ReplySeen, beats_at, asks, replies, exchanges, next_answered}
 
 -- ---- a link

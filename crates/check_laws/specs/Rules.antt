@@ -2,13 +2,13 @@
 use Rattle.std.specs.Prelude.{◌≡◌, ℕ, List, [], ◌∷◌, ◌++◌}
 use Rattle.tl_types.specs.Request.{Request}
 use Rattle.tl_types.specs.Response.{Response}
-use Rattle.tl_link.specs.declared.beat.Beat.{Beat}
-use Rattle.tl_link.specs.declared.beat.Beat.TheVariants.{A, D}
-use Rattle.tl_link.specs.declared.beat.Sighting.{Sighting}
-use Rattle.tl_link.specs.Form.{IsKnown}
-use Rattle.tl_watch.specs.declared.links.Links.TheVariants.{Both}
-use Rattle.tl_watch.specs.Plan.{Plan, side_of, wide_of}
-use Rattle.tl_watch.specs.Allowed.{IsKnownReply}
+use Rattle.check_link.specs.declared.beat.Beat.{Beat}
+use Rattle.check_link.specs.declared.beat.Beat.TheVariants.{A, D}
+use Rattle.check_link.specs.declared.beat.Sighting.{Sighting}
+use Rattle.check_link.specs.Form.{IsKnown}
+use Rattle.check_watch.specs.declared.links.Links.TheVariants.{Both}
+use Rattle.check_watch.specs.Plan.{Plan, side_of, wide_of}
+use Rattle.check_watch.specs.Allowed.{IsKnownReply}
 use Rattle.check_laws.specs.Crossed.{next_answered}
 use Rattle.check_laws.specs.Crossings.{MessagesCross}
 use Rattle.check_laws.specs.Memories.{IsDoneAt}

@@ -1,6 +1,6 @@
 //! What `lawful` means, said of whole lists of beats: three laws that a reader can believe without the judge.
 //!
-//! `IsLawful` of `tl_watch` says beat by beat what may come next, over what the beats before left. The laws here follow from it and
+//! `IsLawful` of `check_watch` says beat by beat what may come next, over what the beats before left. The laws here follow from it and
 //! speak of what was captured alone: [`laws::beats_are_messages`] of each link and source, [`laws::memories_are_sequential`] of each
 //! port, [`laws::messages_cross`] of a crossbar both of whose sides are watched. They hold at each moment
 //! ([`laws::lawful_beats_keep_the_rules`]), and beats of which they hold so are lawful

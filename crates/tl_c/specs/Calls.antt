@@ -1,9 +1,9 @@
 -- What each call makes of what a handle holds. This project's own.
 use Rattle.std.specs.Prelude.{◌≡◌, ◌↔◌, ◌&&◌, ◌<◌, ◌≤◌, ◌==◌, ◌⊎◌, if◌then◌else◌, ⊤, ℕ, List, [], ◌∷◌, length, Option, Some, None, IsSomeAnd, vec_capacity}
-use Rattle.tl_judge.specs.Count.{is_counted, is_whole_ask, is_whole_reply, one_more}
-use Rattle.tl_judge.specs.Text.{unlawful_line}
-use Rattle.tl_judge.specs.declared.stop.Unlawful.{Unlawful}
-use Rattle.tl_link.specs.declared.beat.Sighting.{Sighting}
+use Rattle.check_judge.specs.Count.{is_counted, is_whole_ask, is_whole_reply, one_more}
+use Rattle.check_judge.specs.Text.{unlawful_line}
+use Rattle.check_judge.specs.declared.stop.Unlawful.{Unlawful}
+use Rattle.check_link.specs.declared.beat.Sighting.{Sighting}
 use Rattle.tl_model.specs.Crossbar.{CrossbarState, Accepts, IsFirstServeFault, IsServed}
 use Rattle.tl_model.specs.declared.crossbar.Answer.{Answer}
 use Rattle.tl_model.specs.declared.fault.ServeFault.{ServeFault}
@@ -11,14 +11,14 @@ use Rattle.tl_script.specs.Script.{IsFirstScriptFault}
 use Rattle.tl_script.specs.System.{System, resets}
 use Rattle.tl_script.specs.declared.fault.ScriptFault.{ScriptFault}
 use Rattle.tl_types.specs.Request.{Request}
-use Rattle.tl_watch.specs.Lawful.{IsFirstFault, IsLawful, what_is_seen}
-use Rattle.tl_watch.specs.Plan.{IsPlan, Layout, Plan}
-use Rattle.tl_watch.specs.View.{Keeps}
-use Rattle.tl_watch.specs.declared.fault.Fault.{Fault}
-use Rattle.tl_watch.specs.declared.links.Links.{Links}
-use Rattle.tl_watch.specs.declared.links.Links.TheVariants.{Both, Masters, Ports}
-use Rattle.tl_watch.specs.declared.order.Order.{Order}
-use Rattle.tl_watch.specs.declared.order.Order.TheVariants.{Accept, Reply}
+use Rattle.check_watch.specs.Lawful.{IsFirstFault, IsLawful, what_is_seen}
+use Rattle.check_watch.specs.Plan.{IsPlan, Layout, Plan}
+use Rattle.check_watch.specs.View.{Keeps}
+use Rattle.check_watch.specs.declared.fault.Fault.{Fault}
+use Rattle.check_watch.specs.declared.links.Links.{Links}
+use Rattle.check_watch.specs.declared.links.Links.TheVariants.{Both, Masters, Ports}
+use Rattle.check_watch.specs.declared.order.Order.{Order}
+use Rattle.check_watch.specs.declared.order.Order.TheVariants.{Accept, Reply}
 use Rattle.tl_c.specs.Numbers.{beat_number, script_number, serve_number}
 use Rattle.tl_c.specs.Wire.{IsAnswerOf, IsAskOf}
 use Rattle.tl_c.specs.declared.fault.TheConstants.{MEMORY, OK}

@@ -1,13 +1,13 @@
 -- The numbers of faults: those of `enum tlx_fault` in include/tlx.h. This project's own.
 use Rattle.std.specs.Prelude.{ℕ}
-use Rattle.tl_link.specs.declared.fault.FormFault.{FormFault}
-use Rattle.tl_link.specs.declared.fault.FormFault.TheVariants as form
+use Rattle.check_link.specs.declared.fault.FormFault.{FormFault}
+use Rattle.check_link.specs.declared.fault.FormFault.TheVariants as form
 use Rattle.tl_model.specs.declared.fault.ServeFault.{ServeFault}
 use Rattle.tl_model.specs.declared.fault.ServeFault.TheVariants as serve
 use Rattle.tl_script.specs.declared.fault.ScriptFault.{ScriptFault}
 use Rattle.tl_script.specs.declared.fault.ScriptFault.TheVariants as script
-use Rattle.tl_watch.specs.declared.fault.Fault.{Fault}
-use Rattle.tl_watch.specs.declared.fault.Fault.TheVariants as beat
+use Rattle.check_watch.specs.declared.fault.Fault.{Fault}
+use Rattle.check_watch.specs.declared.fault.Fault.TheVariants as beat
 
 abbrev pub script_number : ScriptFault → ℕ
 script_number script.Memory = 4

@@ -2,10 +2,10 @@
 ghost use Rattle.std.specs.Prelude.{◌≡◌, ◌<◌};
 ghost use Rattle.tl_c.specs.Numbers.{beat_number, form_number, script_number, serve_number};
 
-use tl_link::FormFault;
+use check_link::FormFault;
+use check_watch::Fault;
 use tl_model::ServeFault;
 use tl_script::ScriptFault;
-use tl_watch::Fault;
 
 pub(crate) const OK: u32 = 0;
 

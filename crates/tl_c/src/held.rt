@@ -1,9 +1,9 @@
 //! What handles hold.
+use check_watch::Watch;
 use std::marker::Model;
 use tl_model::Crossbar;
 use tl_script::System;
 use tl_types::{Ask, Reply};
-use tl_watch::Watch;
 
 /// The model of a crossbar. Each request that it is handed is read into the place of the one before, and each reply served into the
 /// place of the one before: contracts see the crossbar alone.

@@ -5,11 +5,15 @@ ghost use Rattle.tl_c.specs.Text.{IsTextOf, IsWritten};
 ghost use Rattle.tl_c.specs.Wire.{shown_by};
 ghost use Rattle.tl_c.specs.declared.held.Judge.{Judge};
 ghost use Rattle.tl_c.specs.declared.held.Held.TheVariants as held;
-ghost use Rattle.tl_judge.specs.Count.{ends_a_reply, ends_an_ask, is_counted, one_more};
-ghost use Rattle.tl_link.specs.declared.beat.Sighting.{Sighting};
-ghost use Rattle.tl_watch.specs.Plan.{HasLink, IsWatched, Plan};
-ghost use Rattle.tl_watch.specs.View.{Keeps};
+ghost use Rattle.check_judge.specs.Count.{ends_a_reply, ends_an_ask, is_counted, one_more};
+ghost use Rattle.check_link.specs.declared.beat.Sighting.{Sighting};
+ghost use Rattle.check_watch.specs.Plan.{HasLink, IsWatched, Plan};
+ghost use Rattle.check_watch.specs.View.{Keeps};
 
+use check_capture::Row;
+use check_judge::{Unlawful, push_unlawful};
+use check_link::{Link, Sighting};
+use check_watch::{Ended, Links, Order, Watch};
 use crate::fault::{BAD_ARGUMENT, EMPTY, FULL, MEMORY, NO_LINK, OK, beat_number};
 use crate::handle::Handle;
 use crate::held::{Held, Judge};
@@ -17,12 +21,8 @@ use crate::system::{hold, is_full, take, take_system};
 use crate::text::put_text;
 use crate::wire::{WireBeat, sighting_of};
 use std::alloc::Global;
-use tl_capture::Row;
-use tl_judge::{Unlawful, push_unlawful};
-use tl_link::{Link, Sighting};
 use tl_script::{System, banks_of};
 use tl_types::Memory;
-use tl_watch::{Ended, Links, Order, Watch};
 
 /// The room that a judge reserves for the line of a fault.
 const LINE_ROOM: usize = 2048;

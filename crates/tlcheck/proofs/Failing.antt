@@ -1,8 +1,8 @@
 -- What a fault says of a result.
 use Rattle.std.proofs.Common.{◌≡◌, ℕ, Bool, List, Option, Result, Ok, Err, inl, inr, sym, subst}
 use Rattle.std.specs.Result.{IsErrAnd}
-use Rattle.tl_verdict.specs.declared.fault.CaptureFault.{CaptureFault}
-use Rattle.tl_verdict.specs.declared.fault.CaptureFault.TheVariants as stop
+use Rattle.check_verdict.specs.declared.fault.CaptureFault.{CaptureFault}
+use Rattle.check_verdict.specs.declared.fault.CaptureFault.TheVariants as stop
 use Rattle.tlcheck.specs.Engine.{IsChecked, IsFaulty, IsStopped}
 use Rattle.tlcheck.specs.Fault.{of_capture}
 use Rattle.tlcheck.specs.declared.fault.CheckFault.{CheckFault}

@@ -1,15 +1,15 @@
 -- What a judge finds by each plan that it judges by is what is found by the plan of its system.
 use Rattle.std.proofs.Common.{◌≡◌, ℕ, List, [], Option, Result, Ok, Err, IfSome, subst}
-use Rattle.tl_judge.specs.View.{Judges, is_traced}
-use Rattle.tl_judge.specs.declared.judge.Judge.{Judge}
-use Rattle.tl_records.specs.Text.{start_of}
+use Rattle.check_judge.specs.View.{Judges, is_traced}
+use Rattle.check_judge.specs.declared.judge.Judge.{Judge}
+use Rattle.check_records.specs.Text.{start_of}
 use Rattle.tl_script.specs.System.{System}
 use Rattle.tl_streams.specs.Input.{GivesSystem}
-use Rattle.tl_verdict.specs.Capture.{IsFault, IsVerdict, IsWritten}
-use Rattle.tl_verdict.specs.declared.fault.CaptureFault.{CaptureFault}
-use Rattle.tl_verdict.specs.declared.fault.Verdict.{Verdict}
-use Rattle.tl_verdict.specs.declared.rows.Sizes.{Sizes}
-use Rattle.tl_watch.specs.Plan.{Plan}
+use Rattle.check_verdict.specs.Capture.{IsFault, IsVerdict, IsWritten}
+use Rattle.check_verdict.specs.declared.fault.CaptureFault.{CaptureFault}
+use Rattle.check_verdict.specs.declared.fault.Verdict.{Verdict}
+use Rattle.check_verdict.specs.declared.rows.Sizes.{Sizes}
+use Rattle.check_watch.specs.Plan.{Plan}
 use Rattle.tlcheck.specs.declared.terms.Terms.{Terms}
 use Rattle.tlcheck.specs.Engine.{ByThePlan, HasVerdict, IsStopped, sizes_of}
 

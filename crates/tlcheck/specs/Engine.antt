@@ -1,19 +1,19 @@
 -- What tlcheck reads, and what it writes for that. This project's own.
 use Rattle.std.specs.Prelude.{◌≡◌, ◌⊎◌, ℕ, Bool, true, false, List, length, Option, Result, Ok, Err, IfOk, IfErr, IfSome}
 use Rattle.std.specs.Io.KnownBytes.{Appends, Keeps}
-use Rattle.tl_check_options.specs.declared.options.Options.{Options}
-use Rattle.tl_judge.specs.Text.{lawful_line, unlawful_line}
-use Rattle.tl_records.specs.Text.{start_of}
+use Rattle.check_options.specs.declared.options.Options.{Options}
+use Rattle.check_judge.specs.Text.{lawful_line, unlawful_line}
+use Rattle.check_records.specs.Text.{start_of}
 use Rattle.tl_script.specs.System.{System, resets}
 use Rattle.tl_streams.specs.Input.{GivesSystem, HasScriptFault}
 use Rattle.tl_streams.specs.Streams.{AppendsPart}
-use Rattle.tl_verdict.specs.Capture.{IsFault, IsVerdict, IsWritten}
-use Rattle.tl_verdict.specs.declared.fault.CaptureFault.{CaptureFault}
-use Rattle.tl_verdict.specs.declared.fault.CaptureFault.TheVariants as stop
-use Rattle.tl_verdict.specs.declared.fault.Verdict.{Verdict}
-use Rattle.tl_verdict.specs.declared.fault.Verdict.TheVariants.{Lawful, Unlawful}
-use Rattle.tl_verdict.specs.declared.rows.Sizes.{Sizes}
-use Rattle.tl_watch.specs.Plan.{Plan, IsPlan}
+use Rattle.check_verdict.specs.Capture.{IsFault, IsVerdict, IsWritten}
+use Rattle.check_verdict.specs.declared.fault.CaptureFault.{CaptureFault}
+use Rattle.check_verdict.specs.declared.fault.CaptureFault.TheVariants as stop
+use Rattle.check_verdict.specs.declared.fault.Verdict.{Verdict}
+use Rattle.check_verdict.specs.declared.fault.Verdict.TheVariants.{Lawful, Unlawful}
+use Rattle.check_verdict.specs.declared.rows.Sizes.{Sizes}
+use Rattle.check_watch.specs.Plan.{Plan, IsPlan}
 use Rattle.tlcheck.specs.declared.fault.CheckFault.{CheckFault}
 use Rattle.tlcheck.specs.declared.fault.CheckFault.TheVariants as check
 use Rattle.tlcheck.specs.declared.terms.Terms.{Terms}

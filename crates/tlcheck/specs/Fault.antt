@@ -2,8 +2,8 @@
 use Rattle.std.specs.Prelude.{ℕ, Bool, true, false}
 use Rattle.tl_streams.specs.declared.input.InputFault.{InputFault}
 use Rattle.tl_streams.specs.declared.input.InputFault.TheVariants as input
-use Rattle.tl_verdict.specs.declared.fault.CaptureFault.{CaptureFault}
-use Rattle.tl_verdict.specs.declared.fault.CaptureFault.TheVariants as capture
+use Rattle.check_verdict.specs.declared.fault.CaptureFault.{CaptureFault}
+use Rattle.check_verdict.specs.declared.fault.CaptureFault.TheVariants as capture
 use Rattle.tlcheck.specs.declared.fault.CheckFault.{CheckFault}
 use Rattle.tlcheck.specs.declared.fault.CheckFault.TheVariants.{Script, Capture, Read, Write, Memory}
 

@@ -2,15 +2,15 @@
 ghost use Rattle.std.specs.Prelude.{◌≡◌, IfOk};
 ghost use Rattle.tlcheck.specs.Engine.{IsChecked, is_lawful, line_of};
 
+use check_judge::{push_lawful, push_unlawful};
+use check_verdict::{Verdict, judge_capture};
 use crate::fault::CheckFault;
 use crate::judge::{judge_of, sizes_of};
 use crate::terms::Terms;
 use std::alloc::Global;
 use std::io::{Read, Write};
-use tl_judge::{push_lawful, push_unlawful};
 use tl_streams::{LimitedReader, LimitedWriter, read_whole_system, write_all};
 use tl_types::Memory;
-use tl_verdict::{Verdict, judge_capture};
 
 /// The line of a verdict.
 fn line_of(alloc: Global, verdict: &Verdict) -> Result<Vec<u8>, Memory>

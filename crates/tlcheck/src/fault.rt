@@ -3,11 +3,11 @@ ghost use Rattle.std.specs.Prelude.{◌≡◌};
 ghost use Rattle.tlcheck.specs.Fault.{of_capture, of_input, status_of};
 ghost use Rattle.tlcheck.specs.declared.fault.CheckFault.TheVariants.{Write, Memory as WantOfMemory};
 
+use check_verdict::CaptureFault;
 use thiserror::Error;
 use tl_script::ScriptFault;
 use tl_streams::{InputFault, WriteFault};
 use tl_types::Memory;
-use tl_verdict::CaptureFault;
 
 /// Why there is no verdict. The text of each is one line for standard error.
 #[derive(Debug, Drop, Error)]

@@ -1,15 +1,15 @@
 //! The judge of a system's captures.
 ghost use Rattle.std.specs.Prelude.{◌≡◌, [], ◌≤◌, IfOk};
-ghost use Rattle.tl_judge.specs.View.{Judges, is_traced};
+ghost use Rattle.check_judge.specs.View.{Judges, is_traced};
 ghost use Rattle.tlcheck.specs.Engine.{ByThePlan, sizes_of};
 
+use check_judge::Judge;
+use check_verdict::Sizes;
+use check_watch::Watch;
 use crate::terms::Terms;
 use std::alloc::Global;
-use tl_judge::Judge;
 use tl_script::{System, banks_of};
 use tl_types::{MAX_MASTERS, MAX_PORTS, Memory};
-use tl_verdict::Sizes;
-use tl_watch::Watch;
 
 /// How many masters a system has, and how many ports that have a link.
 pub fn sizes_of(system: &System) -> Sizes

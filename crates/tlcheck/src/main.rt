@@ -6,7 +6,7 @@
 //! nothing was written, save for those replies and where a write failed. A command line that is refused is told by clap's text.
 //!
 //! `check` (`engine`) carries the theorem, over the bytes of both files: lawful is written exactly where the rows that the capture
-//! spells are lawful for the system that SYSTEM spells. The crates `tl_streams` and `tl_verdict` read the two, `tl_check_options`
+//! spells are lawful for the system that SYSTEM spells. The crates `tl_streams` and `check_verdict` read the two, `check_options`
 //! reads the command line. Read on in `docs/CAPTURE.md`.
 #![tactic(auto)]
 
@@ -22,10 +22,11 @@ ghost use Rattle.std.specs.Prelude.{◌≡◌, ◌≢◌, IfOk, IfErr};
 ghost use Rattle.std.specs.IoError.{error_kind};
 ghost use Rattle.std.specs.Process.{exit_status};
 ghost use Rattle.clap.specs.Words.{kind_of};
-ghost use Rattle.tl_check_options.specs.Options.{status_of_kind};
+ghost use Rattle.check_options.specs.Options.{status_of_kind};
 ghost use Rattle.tlcheck.specs.Engine.{IsChecked, terms_of};
 ghost use Rattle.tlcheck.specs.Fault.{status_of, status_of_verdict};
 
+use check_options::{Options, options_status, read_options};
 use crate::engine::check;
 use crate::fault::CheckFault;
 use crate::file::NamedFile;
@@ -34,7 +35,6 @@ use std::alloc::Global;
 use std::io::{ErrorKind, Read, Write};
 use std::process::ExitCode;
 use std::{env, io};
-use tl_check_options::{Options, options_status, read_options};
 
 /// The status of a command line that is not text.
 const USAGE: u8 = 2;

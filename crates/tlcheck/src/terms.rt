@@ -1,5 +1,5 @@
 //! By which terms a capture is judged.
-use tl_watch::{Links, Order};
+use check_watch::{Links, Order};
 
 /// What is asked of a capture besides whether it is lawful, and what is known of how it was taken.
 #[derive(Debug, Clone, Copy, PartialEq, Eq)]

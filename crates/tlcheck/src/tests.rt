@@ -2,6 +2,9 @@
 //! before the capture is read.
 ghost use Rattle.std.specs.Prelude.{Some, ◌<◌};
 
+use check_capture::RowFault;
+use check_verdict::CaptureFault;
+use check_watch::{Links, Order};
 use crate::engine::check;
 use crate::fault::CheckFault;
 use crate::terms::Terms;
@@ -9,10 +12,7 @@ use std::alloc::Global;
 use std::io;
 use std::io::{ErrorKind, Read, Write};
 use std::process::Abort;
-use tl_capture::RowFault;
 use tl_script::ScriptFault;
-use tl_verdict::CaptureFault;
-use tl_watch::{Links, Order};
 
 /// One master with one source, and 16 bytes of memory.
 const SYSTEM: &[u8] =

@@ -1,0 +1,57 @@
+-- The columns of a row that are no numbers. This project's own.
+use Rattle.std.specs.Prelude.{ℕ, ◌<◌, Bool, true, false, ◌&&◌, ◌==◌, nat_lt, List, [], ◌∷◌, codes, length, Option, Some, None, Result, Ok, Err, if◌then◌else◌}
+use Rattle.std.specs.Str.{bytes_eq}
+use Rattle.std.specs.Str.Parse.{digits_value}
+use Rattle.csv.specs.Records.{field_at}
+use Rattle.check_link.specs.declared.beat.Link.{Link}
+use Rattle.check_link.specs.declared.beat.Link.TheVariants.{Master, Port}
+use Rattle.check_capture.specs.Reading.{◌>>=◌}
+use Rattle.check_capture.specs.Number.{are_digits}
+use Rattle.check_capture.specs.declared.columns.Channel.{Channel}
+use Rattle.check_capture.specs.declared.columns.Channel.TheVariants as channel
+use Rattle.check_capture.specs.declared.fault.RowFault.{RowFault}
+use Rattle.check_capture.specs.declared.fault.RowFault.TheVariants as fault
+
+-- the column of this number, counted from 0
+abbrev pub or_empty : Option (List ℕ) → List ℕ
+or_empty None = []
+or_empty (Some word) = word
+
+abbrev pub column : List (List ℕ) → ℕ → List ℕ
+column columns place = or_empty (field_at columns place)
+
+-- a link of a system with so many masters and ports
+abbrev pub IsLinkOf : ℕ → ℕ → Link → Type 0
+IsLinkOf masters ports (Master number) = number < masters
+IsLinkOf masters ports (Port number) = number < ports
+
+-- the number of a link among `count`
+unfoldable pub index_of : ℕ → List ℕ → Result ℕ RowFault
+index_of count digits =
+    if are_digits 10 digits && nat_lt (digits_value 10 digits) count then Ok (digits_value 10 digits) else Err fault.Link
+
+-- the link that a word names: `m` or `p` and a number that the system has
+unfoldable pub link_of : ℕ → ℕ → List ℕ → Result Link RowFault
+link_of masters ports [] = Err fault.Link
+link_of masters ports (side ∷ digits) =
+    if side == 109 then index_of masters digits >>= (λ n. Ok (Master n))
+    else if side == 112 then index_of ports digits >>= (λ n. Ok (Port n))
+    else Err fault.Link
+
+-- the channel that a word names
+unfoldable pub channel_of : List ℕ → Result Channel RowFault
+channel_of word =
+    if bytes_eq word (codes "A") then Ok channel.A
+    else if bytes_eq word (codes "D") then Ok channel.D
+    else Err fault.Channel
+
+-- a flag: `0` or `1`
+unfoldable pub flag_of : List ℕ → Result Bool RowFault
+flag_of word =
+    if bytes_eq word (codes "0") then Ok false
+    else if bytes_eq word (codes "1") then Ok true
+    else Err fault.Number
+
+-- a column that the channel does not have is empty
+unfoldable pub nothing_of : List ℕ → Result Unit RowFault
+nothing_of word = if length word == 0 then Ok tt else Err fault.Number

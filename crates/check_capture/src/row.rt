@@ -1,0 +1,131 @@
+//! The rows of a capture.
+ghost use Rattle.std.specs.Prelude.{◌≡◌, IfOk};
+ghost use Rattle.csv.specs.Records.{fields_of};
+ghost use Rattle.check_capture.specs.Columns.{IsLinkOf};
+ghost use Rattle.check_capture.specs.Row.{ask_of, beat_of, reply_of, row_of};
+
+use check_link::{Beat, Link, Sighting};
+use crate::columns::{Channel, column, read_channel, read_flag, read_link, read_nothing};
+use crate::fault::RowFault;
+use crate::lanes::{bytes_of, known_of, read_lanes};
+use crate::number::{read_address, read_decimal, read_mask};
+use csv::ByteRecord;
+use tl_beats::{ABeat, DBeat};
+
+/// How many columns a row has.
+const COLUMNS: usize = 12;
+
+/// The largest opcode, parameter and size that a beat can have.
+const LARGEST_FIELD: u64 = u8::MAX as u64;
+
+/// The largest source that a beat can have.
+const LARGEST_SOURCE: u64 = u16::MAX as u64;
+
+/// A row of a capture: the line on which it begins, and what was seen when.
+#[derive(Debug, Clone, Copy, PartialEq, Eq)]
+pub struct Row {
+    pub line: u64,
+    pub time: u64,
+    pub sighting: Sighting,
+}
+
+impl Default for Row {
+    fn default() -> Row {
+        Row {
+            line: 0,
+            time: 0,
+            sighting: Sighting {
+                link: Link::Master(0),
+                beat: Beat::A(ABeat::default()),
+                known: 0,
+            },
+        }
+    }
+}
+
+/// The beat of channel A that the columns spell, and which of its lanes are known.
+#[tactic(auto, unfolding(crate::specs::Row::ask_of))]
+fn read_ask(columns: &ByteRecord) -> Result<(Beat, u8), RowFault>
+    ensures { result ≡ ask_of (fields_of columns.now) }
+{
+    let opcode = read_decimal(column(columns, 3), LARGEST_FIELD)?;
+    let param = read_decimal(column(columns, 4), LARGEST_FIELD)?;
+    let size = read_decimal(column(columns, 5), LARGEST_FIELD)?;
+    let source = read_decimal(column(columns, 6), LARGEST_SOURCE)?;
+    let address = read_address(column(columns, 7))?;
+    let mask = read_mask(column(columns, 8))?;
+    let lanes = read_lanes(column(columns, 9))?;
+    read_nothing(column(columns, 10))?;
+    read_nothing(column(columns, 11))?;
+    let beat = ABeat {
+        opcode: opcode as u8,
+        param: param as u8,
+        size: size as u8,
+        source: source as u16,
+        address,
+        mask,
+        lanes: bytes_of(lanes),
+    };
+    Ok((Beat::A(beat), known_of(lanes)))
+}
+
+/// The beat of channel D that the columns spell, and which of its lanes are known.
+#[tactic(auto, unfolding(crate::specs::Row::reply_of))]
+fn read_reply(columns: &ByteRecord) -> Result<(Beat, u8), RowFault>
+    ensures { result ≡ reply_of (fields_of columns.now) }
+{
+    let opcode = read_decimal(column(columns, 3), LARGEST_FIELD)?;
+    read_nothing(column(columns, 4))?;
+    let size = read_decimal(column(columns, 5), LARGEST_FIELD)?;
+    let source = read_decimal(column(columns, 6), LARGEST_SOURCE)?;
+    read_nothing(column(columns, 7))?;
+    read_nothing(column(columns, 8))?;
+    let lanes = read_lanes(column(columns, 9))?;
+    let denied = read_flag(column(columns, 10))?;
+    let corrupt = read_flag(column(columns, 11))?;
+    let beat = DBeat {
+        opcode: opcode as u8,
+        size: size as u8,
+        source: source as u16,
+        denied,
+        corrupt,
+        lanes: bytes_of(lanes),
+    };
+    Ok((Beat::D(beat), known_of(lanes)))
+}
+
+/// The beat of this channel that the columns spell.
+fn read_beat(channel: Channel, columns: &ByteRecord) -> Result<(Beat, u8), RowFault>
+    ensures { result ≡ beat_of channel (fields_of columns.now) }
+{
+    match channel {
+        Channel::A => read_ask(columns),
+        Channel::D => read_reply(columns),
+    }
+}
+
+/// The row that the columns of a record spell, in a system with so many masters and ports, or the first fault that they
+/// have, from the left.
+#[tactic(auto, unfolding(crate::specs::Row::row_of))]
+pub fn read_row(
+    masters: usize,
+    ports: usize,
+    line: u64,
+    columns: &ByteRecord,
+) -> Result<Row, RowFault>
+    ensures value { result ≡ row_of masters ports line (fields_of columns.now) }
+    ensures link { IfOk result (λ row. IsLinkOf masters ports row.sighting.link) }
+{
+    if columns.len() != COLUMNS {
+        return Err(RowFault::Columns);
+    }
+    let time = read_decimal(column(columns, 0), u64::MAX)?;
+    let link = read_link(masters, ports, column(columns, 1))?;
+    let channel = read_channel(column(columns, 2))?;
+    let (beat, known) = read_beat(channel, columns)?;
+    Ok(Row {
+        line,
+        time,
+        sighting: Sighting { link, beat, known },
+    })
+}

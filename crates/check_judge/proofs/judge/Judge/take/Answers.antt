@@ -1,0 +1,52 @@
+-- A row of the moment's time, one of a later time, and one that may not follow.
+use Rattle.std.proofs.Common.{sym, subst}
+use Rattle.check_capture.specs.Moment.{Moment, Takes}
+use Rattle.check_judge.specs.View.{HasTold}
+use Rattle.check_judge.proofs.Judging.{judges_now, fault_of, told_now}
+use Rattle.check_judge.proofs.judge.Judge.take.Goals as goal
+
+pub returns-in-Ok-true-clause-keeps : goal.returns-in-Ok-true-clause-keeps
+returns-in-Ok-true-clause-keeps c plan file judges =
+    let old = c.args.self.now in
+    let new = c.count_row.new.self in
+    let P : Moment → Type 0 = λ m. Takes old.moment c.args.row m in
+    (judges_now plan file c.args.row old new judges
+    (subst P (sym c.count_row.ensures.same) (rw c.in-Ok-true.field-0-test at c.in-Ok-true.ensures.ok))
+    (record {
+      tally = c.count_row.ensures.tally;
+      was = c.rows-rows.ensures.moment;
+      moment = c.count_row.ensures.moment;
+      rows = c.count_row.ensures.rows;
+    })).0
+
+pub returns-in-Ok-true-clause-told : goal.returns-in-Ok-true-clause-told
+returns-in-Ok-true-clause-told c plan file so_far has =
+    let old = c.args.self.now in
+    let new = c.count_row.new.self in
+    let P : Moment → Type 0 = λ m. Takes old.moment c.args.row m in
+    told_now plan file c.args.row old new so_far c.args.text.now.items has
+    (subst P (sym c.count_row.ensures.same) (rw c.in-Ok-true.field-0-test at c.in-Ok-true.ensures.ok))
+    (record {
+      tally = c.count_row.ensures.tally;
+      was = c.rows-rows.ensures.moment;
+      moment = c.count_row.ensures.moment;
+      rows = c.count_row.ensures.rows;
+    })
+
+pub returns-in-Ok-false-clause-told : goal.returns-in-Ok-false-clause-told
+returns-in-Ok-false-clause-told c plan file so_far has =
+    let old = c.args.self.now in
+    let puts = rw c.in-Ok-false.field-0-test at c.in-Ok-false.ensures.ok in
+    let P : Moment → Type 0 = λ m. HasTold plan file (record old { moment = m }) so_far in
+    c.go_on.ensures.told plan file so_far (subst P (sym puts.1) has)
+
+pub returns-in-Ok-false-clause-stop_told : goal.returns-in-Ok-false-clause-stop_told
+returns-in-Ok-false-clause-stop_told c plan file so_far has =
+    let old = c.args.self.now in
+    let puts = rw c.in-Ok-false.field-0-test at c.in-Ok-false.ensures.ok in
+    let P : Moment → Type 0 = λ m. HasTold plan file (record old { moment = m }) so_far in
+    c.go_on.ensures.stop_told plan file so_far (subst P (sym puts.1) has)
+
+pub returns-in-Err-clause-stop : goal.returns-in-Err-clause-stop
+returns-in-Err-clause-stop c plan file judges =
+    fault_of plan file c.args.row c.args.self.now c.in-Err.fault c.rows-rows.ensures.moment judges c.in-Err.ensures.fault

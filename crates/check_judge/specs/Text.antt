@@ -1,0 +1,60 @@
+-- The lines of verdicts: `lawful: ROWS rows, ASKED requests, ANSWERED answered` and `unlawful: line N, time T, LINK CHANNEL: FAULT`.
+-- This project's own.
+use Rattle.std.specs.Prelude.{ℕ, List, [], ◌∷◌, ◌++◌, codes}
+use Rattle.std.specs.Fmt.{decimal}
+use Rattle.tl_types.specs.Response.{Response}
+use Rattle.check_link.specs.declared.beat.Beat.{Beat}
+use Rattle.check_link.specs.declared.beat.Beat.TheVariants.{A, D}
+use Rattle.check_link.specs.declared.beat.Link.{Link}
+use Rattle.check_link.specs.declared.beat.Link.TheVariants.{Master, Port}
+use Rattle.check_link.specs.declared.fault.FormFault.{FormFault}
+use Rattle.check_link.specs.declared.fault.FormFault.TheVariants as form
+use Rattle.check_watch.specs.declared.fault.Fault.{Fault}
+use Rattle.check_watch.specs.declared.fault.Fault.TheVariants.{Form, NoSuchSource, SourceBusy, WrongPort, NoRequest, EarlyReply, WrongSize, WrongOpcode, UnknownData, NotSent, NotGiven, WrongReply}
+use Rattle.tl_script.specs.Trace.{reply_text}
+use Rattle.check_judge.specs.declared.stop.Counts.{Counts}
+use Rattle.check_judge.specs.declared.stop.Unlawful.{Unlawful}
+
+unfoldable pub link_text : Link → List ℕ
+link_text (Master number) = codes "m" ++ decimal number
+link_text (Port number) = codes "p" ++ decimal number
+
+unfoldable pub channel_text : Beat → List ℕ
+channel_text (A beat) = codes " A: "
+channel_text (D beat) = codes " D: "
+
+unfoldable pub form_text : FormFault → List ℕ
+form_text form.Changed = codes "field changed"
+form_text form.Opcode = codes "unknown opcode"
+form_text form.Size = codes "size out of range"
+form_text form.Mask = codes "wrong mask"
+form_text form.CorruptFlag = codes "wrong corrupt flag"
+form_text form.UnknownData = codes "unknown data"
+
+-- the reply that had to come, and the one that was captured, each as traces spell it
+unfoldable pub wrong_text : Response → Response → List ℕ
+wrong_text expected captured = codes "wrong reply: expected " ++ reply_text expected ++ codes ", captured " ++ reply_text captured
+
+unfoldable pub fault_text : Fault → List ℕ
+fault_text (Form fault) = form_text fault
+fault_text NoSuchSource = codes "no such source"
+fault_text SourceBusy = codes "source in flight"
+fault_text WrongPort = codes "not this port's address"
+fault_text NoRequest = codes "reply without request"
+fault_text EarlyReply = codes "reply before its request ended"
+fault_text WrongSize = codes "size of another request"
+fault_text WrongOpcode = codes "opcode of another operation"
+fault_text UnknownData = codes "unknown data"
+fault_text NotSent = codes "no master sent this request"
+fault_text NotGiven = codes "the port gave no such reply"
+fault_text (WrongReply expected captured) = wrong_text expected captured
+
+unfoldable pub lawful_line : Counts → List ℕ
+lawful_line counts =
+    codes "lawful: " ++ decimal counts.rows ++ codes " rows, " ++ decimal counts.requests ++ codes " requests, " ++ decimal counts.answered ++ codes " answered"
+    ++ 10 ∷ []
+
+unfoldable pub unlawful_line : Unlawful → List ℕ
+unlawful_line found =
+    codes "unlawful: line " ++ decimal found.row.line ++ codes ", time " ++ decimal found.row.time ++ codes ", " ++ link_text found.row.sighting.link
+    ++ channel_text found.row.sighting.beat ++ fault_text found.fault ++ 10 ∷ []

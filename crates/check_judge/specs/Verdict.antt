@@ -1,0 +1,98 @@
+-- The verdict over the rows of a capture. Lists of what crossed have the latest first. This project's own.
+use Rattle.std.specs.Prelude.{◌≡◌, ℕ, ◌%◌, ◌^◌, ◌<◌, Bool, List, [], ◌∷◌, ◌++◌, IsTrue, length, reverse}
+use Rattle.std.specs.List.{AllByRecursion}
+use Rattle.check_watch.specs.Plan.{Plan}
+use Rattle.check_watch.specs.Lawful.{IsLawful, IsFirstFault}
+use Rattle.check_capture.specs.declared.row.Row.{Row}
+use Rattle.check_judge.specs.declared.stop.Counts.{Counts}
+use Rattle.check_judge.specs.declared.stop.Refusal.{Refusal}
+use Rattle.check_judge.specs.declared.stop.Refusal.TheVariants as refusal
+use Rattle.check_judge.specs.declared.stop.Stop.{Stop}
+use Rattle.check_judge.specs.declared.stop.Stop.TheVariants as stop
+use Rattle.check_judge.specs.declared.stop.Unlawful.{Unlawful}
+use Rattle.check_judge.specs.Order.{IsCrossing, IsLater, HasRowFault, is_watched, seen}
+use Rattle.check_judge.specs.Count.{asked, answered}
+use Rattle.check_judge.specs.Told.{AppendsTold, IsTold}
+
+-- the rows of a file, in the order in which their beats cross, are lawful at the links that are watched
+pub record IsLawfulFile (plan : Plan) (file : List Row) : Type 0 where
+  pub crossed : List Row
+  pub crossing : IsCrossing file crossed
+  pub lawful : IsLawful plan (seen plan.layout crossed)
+
+-- how many rows a file has, and how many whole requests and replies are seen of them
+pub record HasCounts (plan : Plan) (file : List Row) (counts : Counts) : Type 0 where
+  pub crossed : List Row
+  pub crossing : IsCrossing file crossed
+  pub rows : counts.rows ≡ length file % 2 ^ 64
+  pub requests : counts.requests ≡ asked plan (seen plan.layout crossed)
+  pub answered : counts.answered ≡ answered plan (seen plan.layout crossed)
+
+-- the rows before are lawful, and this one is not, behind them: it has this first fault
+pub record IsUnlawfulAfter (plan : Plan) (before : List Row) (found : Unlawful) : Type 0 where
+  pub watched : IsTrue (is_watched plan.layout found.row.sighting.link)
+  pub lawful : IsLawful plan (seen plan.layout before)
+  pub unlawful : IsLawful plan (found.row.sighting ∷ seen plan.layout before) → ⊥
+  pub fault : IsFirstFault plan (seen plan.layout before) found.row.sighting found.fault
+
+-- the row is the first one, in the order in which beats cross, that makes the file unlawful, with its first fault
+pub record IsFirstUnlawful (plan : Plan) (file : List Row) (found : Unlawful) : Type 0 where
+  pub after : List Row
+  pub before : List Row
+  pub crossing : IsCrossing file (after ++ found.row ∷ before)
+  pub is : IsUnlawfulAfter plan before found
+
+-- the rows of a file are lawful, and this is told of them
+pub record IsToldFile (trace : Bool) (plan : Plan) (file : List Row) (text : List ℕ) : Type 0 where
+  pub lawful : IsLawfulFile plan file
+  pub told : IsTold trace plan (seen plan.layout lawful.crossed) text
+
+-- the row is the first one that makes a file unlawful, and this is told of those that cross before it
+pub record IsToldBefore (trace : Bool) (plan : Plan) (file : List Row) (text : List ℕ) (found : Unlawful) : Type 0 where
+  pub first : IsFirstUnlawful plan file found
+  pub told : IsTold trace plan (seen plan.layout first.before) text
+
+-- rows of a file are lawful that cross before all others of it, and this is told of them
+pub record IsToldPart (trace : Bool) (plan : Plan) (file : List Row) (text : List ℕ) : Type 0 where
+  pub after : List Row
+  pub before : List Row
+  pub crossing : IsCrossing file (after ++ before)
+  pub lawful : IsLawful plan (seen plan.layout before)
+  pub told : IsTold trace plan (seen plan.layout before) text
+
+-- the rows of a file that are of an earlier time than its last are lawful, and this is told of them
+pub record IsToldEarlier (trace : Bool) (plan : Plan) (file : List Row) (text : List ℕ) : Type 0 where
+  pub time : ℕ
+  pub part : IsToldPart trace plan file text
+  pub now : AllByRecursion (λ row. row.time ≡ time) part.after
+  pub earlier : AllByRecursion (λ row. row.time < time) part.before
+  pub none : part.after ≡ [] → part.before ≡ []
+
+-- what is said of the unlawful row, where rows are refused for one
+abbrev pub OfUnlawful : (Unlawful → Type 0) → Refusal → Type 0
+OfUnlawful P (refusal.Unlawful found) = P found
+OfUnlawful P refusal.Memory = Unit {0}
+
+-- the first unlawful row of rows that cross in this order, behind those before
+pub record StopsAt (plan : Plan) (rows before : List Row) (found : Unlawful) : Type 0 where
+  pub done : List Row
+  pub left : List Row
+  pub are : rows ≡ done ++ found.row ∷ left
+  pub is : IsUnlawfulAfter plan (reverse done ++ before) found
+
+-- and a text grew by what is told of those that cross before it
+pub record StopsTelling (trace : Bool) (plan : Plan) (rows before : List Row) (old new : List ℕ) (found : Unlawful) : Type 0 where
+  pub stops : StopsAt plan rows before found
+  pub told : AppendsTold trace plan (seen plan.layout before) (seen plan.layout (reverse stops.done ++ before)) old new
+
+-- why a row is not taken behind those of the file: it may not stand there, or it is of a later time, and they are not lawful, or
+-- memory was refused
+abbrev pub IsStop : Plan → List Row → Row → Stop → Type 0
+IsStop plan file row (stop.Row fault) = HasRowFault file row fault
+IsStop plan file row (stop.Beat found) = IsLater file row × IsFirstUnlawful plan file found
+IsStop plan file row stop.Memory = IsLater file row
+
+-- what becomes of a row where those before it are refused
+abbrev pub stop_of : Refusal → Stop
+stop_of (refusal.Unlawful found) = stop.Beat found
+stop_of refusal.Memory = stop.Memory

@@ -1,0 +1,56 @@
+-- What a judge knows of the rows that it has taken. Lists of what crossed have the latest first. This project's own.
+use Rattle.std.specs.Prelude.{◌≡◌, ℕ, ◌<◌, ◌%◌, ◌^◌, Bool, List, [], ◌++◌, reverse, length}
+use Rattle.std.specs.List.{AllByRecursion}
+use Rattle.check_watch.specs.Plan.{Plan}
+use Rattle.check_watch.specs.View.{Keeps}
+use Rattle.check_capture.specs.declared.row.Row.{Row}
+use Rattle.check_judge.specs.declared.judge.Judge.{Judge}
+use Rattle.check_judge.specs.declared.tally.Tally.{Tally}
+use Rattle.check_judge.specs.declared.stop.Stop.{Stop}
+use Rattle.check_judge.specs.declared.stop.Stop.TheVariants as stop
+use Rattle.check_judge.specs.Order.{IsCrossing, NeverFalls, seen}
+use Rattle.check_judge.specs.Count.{asked, answered}
+use Rattle.check_judge.specs.Told.{IsTold}
+use Rattle.check_judge.specs.Verdict.{IsToldBefore}
+
+-- the rows that crossed are lawful, and this is kept and counted of them
+pub record Kept (plan : Plan) (crossed : List Row) (tally : Tally) : Type 0 where
+  pub keeps : Keeps plan (seen plan.layout crossed) tally.watch
+  pub requests : tally.requests ≡ asked plan (seen plan.layout crossed)
+  pub answered : tally.answered ≡ answered plan (seen plan.layout crossed)
+
+-- the rows of a file so far are those of the moment at hand and some of earlier times, and those are kept
+pub record Judges (plan : Plan) (file : List Row) (judge : Judge) : Type 0 where
+  pub before : List Row
+  pub crossing : IsCrossing file (reverse judge.moment.rows ++ before)
+  pub now : AllByRecursion (λ row. row.time ≡ judge.moment.time) judge.moment.rows
+  pub earlier : AllByRecursion (λ row. row.time < judge.moment.time) before
+  pub begun : judge.moment.rows ≡ [] → judge.moment.time ≡ 0
+  pub never_falls : NeverFalls file
+  pub kept : Kept plan before judge.tally
+  pub rows : judge.rows ≡ length file % 2 ^ 64
+
+-- ---- what is told
+
+-- the judge is to tell replies
+abbrev pub is_traced : Judge → Bool
+is_traced judge = judge.tally.trace
+
+-- the rows of a file so far are taken, and this is told of those of earlier times than the moment at hand
+pub record HasTold (plan : Plan) (file : List Row) (judge : Judge) (text : List ℕ) : Type 0 where
+  pub judges : Judges plan file judge
+  pub told : IsTold (is_traced judge) plan (seen plan.layout judges.before) text
+
+-- a text grew by what is told behind what was told so far, and so the judge of a file has told this
+pub record TellsOn (plan : Plan) (file : List Row) (judge : Judge) (so_far old new : List ℕ) : Type 0 where
+  pub more : List ℕ
+  pub grown : new ≡ old ++ more
+  pub told : HasTold plan file judge (so_far ++ more)
+
+-- what is told where a row is not taken: nothing where it may not stand there; where the rows before it are not lawful, what
+-- crosses before the first that is not
+abbrev pub TellsStop : Bool → Plan → List Row → List ℕ → List ℕ → List ℕ → Stop → Type 0
+TellsStop trace plan file so_far old new (stop.Row fault) = new ≡ old
+TellsStop trace plan file so_far old new (stop.Beat found) =
+    (more : List ℕ) × (new ≡ old ++ more) × IsToldBefore trace plan file (so_far ++ more) found
+TellsStop trace plan file so_far old new stop.Memory = Unit {0}

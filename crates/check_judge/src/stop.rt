@@ -1,0 +1,50 @@
+//! How the rows of a capture end.
+ghost use Rattle.std.specs.Prelude.{◌≡◌};
+ghost use Rattle.check_judge.specs.Verdict.{stop_of};
+
+use check_capture::{Row, RowFault};
+use check_watch::Fault;
+
+/// How many rows there are, and how many whole requests and replies were seen, each modulo 2^64.
+#[derive(Debug, Clone, Copy, PartialEq, Eq)]
+pub struct Counts {
+    pub rows: u64,
+    pub requests: u64,
+    pub answered: u64,
+}
+
+/// The first row that makes a capture unlawful, and the first fault of its beat.
+#[derive(Debug, Drop)]
+pub struct Unlawful {
+    pub row: Row,
+    pub fault: Fault,
+}
+
+/// Why rows are refused as they are judged.
+#[derive(Debug, Drop)]
+pub enum Refusal {
+    Unlawful(Unlawful),
+    /// There was no memory for what is told of them.
+    Memory,
+}
+
+/// Why a row is not taken.
+#[derive(Debug, Drop)]
+pub enum Stop {
+    /// It may not stand behind the rows before it.
+    Row(RowFault),
+    /// It is of a later time, and the rows before it are not lawful.
+    Beat(Unlawful),
+    /// It is of a later time, and there was no memory for what is told of the rows before it.
+    Memory,
+}
+
+/// What becomes of a row where those before it are refused.
+pub(crate) fn stop_of(refusal: Refusal) -> Stop
+    ensures { result ≡ stop_of refusal }
+{
+    match refusal {
+        Refusal::Unlawful(found) => Stop::Beat(found),
+        Refusal::Memory => Stop::Memory,
+    }
+}

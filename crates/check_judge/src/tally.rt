@@ -1,0 +1,176 @@
+//! Beats judged in the order in which they cross, and what they end, counted.
+ghost use Rattle.std.specs.Prelude.{◌≡◌, ◌&&◌, false, true, List, ◌∷◌, ◌++◌, reverse, OnOk, IfErr};
+ghost use Rattle.check_watch.specs.Plan.{Plan, HasLink, HasSource, IsWatched, source_of};
+ghost use Rattle.check_capture.specs.declared.row.Row.{Row};
+ghost use Rattle.check_judge.specs.Count.{ends_a_reply, ends_an_ask, is_counted, one_more};
+ghost use Rattle.check_judge.specs.Order.{seen};
+ghost use Rattle.check_judge.specs.Told.{AppendsTold, AppendsToldOf};
+ghost use Rattle.check_judge.specs.View.{Kept};
+ghost use Rattle.check_judge.specs.Verdict.{IsUnlawfulAfter, OfUnlawful, StopsTelling};
+
+use check_capture::Row;
+use check_link::{Link, Sighting};
+use check_watch::{Ended, Links, Seen, Watch};
+use crate::stop::{Refusal, Unlawful};
+use crate::trace::{push_answer, source_of};
+use std::alloc::AllocError;
+
+/// Whether messages are counted at a link: at the masters' where these are watched, else at the ports'.
+fn is_counted(links: Links, link: Link) -> bool
+    ensures { result ≡ is_counted links link }
+{
+    match link {
+        Link::Master(_) => matches!(links, Links::Both | Links::Masters),
+        Link::Port(_) => matches!(links, Links::Ports),
+    }
+}
+
+/// The judge of beats in the order in which they cross, with how many whole requests and replies it has seen.
+#[derive(Drop)]
+pub struct Tally {
+    pub watch: Watch,
+    /// Whether replies are told.
+    pub trace: bool,
+    pub requests: u64,
+    pub answered: u64,
+}
+
+impl Tally {
+    /// Counts what a beat ends at a link.
+    fn count(&mut self, link: Link, end: Ended)
+        ensures watch { self.new.watch ≡ self.old.watch }
+        ensures trace { self.new.trace ≡ self.old.trace }
+        ensures requests { self.new.requests
+            ≡ one_more (is_counted self.old.watch.layout.links link && ends_an_ask end)
+            self.old.requests }
+        ensures answered { self.new.answered
+            ≡ one_more (is_counted self.old.watch.layout.links link && ends_a_reply end)
+            self.old.answered }
+    {
+        if !is_counted(self.watch.links(), link) {
+            return;
+        }
+        match end {
+            Ended::Part => {}
+            Ended::Ask => self.requests = self.requests.wrapping_add(1),
+            Ended::Reply => self.answered = self.answered.wrapping_add(1),
+        }
+    }
+
+    /// Appends what is told of a beat that ends this.
+    fn tell(&self, sighting: &Sighting, seen: &Seen, text: &mut Vec<u8>) -> Result<(), AllocError>
+        ensures told { HasSource self.now.watch.layout sighting.now.link (source_of sighting.now.beat)
+            → OnOk result (AppendsToldOf
+            (self.now.trace && is_counted self.now.watch.layout.links sighting.now.link)
+            self.now.watch.layout.counts sighting.now.link (source_of sighting.now.beat) seen.now
+            text.old.items text.new.items) }
+        ensures memory { IfErr result (λ _. self.now.trace ≡ true) }
+    {
+        let link = sighting.link;
+        if !self.trace || !is_counted(self.watch.links(), link) {
+            return Ok(());
+        }
+        match seen {
+            Seen::Part | Seen::WholeAsk => Ok(()),
+            Seen::WholeReply(entry) => {
+                let source = source_of(&sighting.beat);
+                push_answer(text, self.watch.sources(), link, source, entry)
+            }
+        }
+    }
+
+    /// Takes the beat of a row behind those before it, if it is lawful, and tells nothing: whether it is. Most beats of a file are,
+    /// and where nothing is told of them nobody asks for their replies.
+    fn take_row(&mut self, row: &Row) -> bool
+        requires known { HasLink self.old.watch.layout row.now.sighting.link }
+        requires watched { IsWatched self.old.watch.layout.links row.now.sighting.link }
+        ensures trace { self.new.trace ≡ self.old.trace }
+        ensures keeps { (plan : Plan) (before : List Row) → Kept plan before self.old → result ≡ true
+            → Kept plan (row.now ∷ before) self.new }
+        ensures refused { result ≡ false → self.new ≡ self.old }
+    {
+        match self.watch.take(&row.sighting) {
+            Some(end) => {
+                self.count(row.sighting.link, end);
+                true
+            }
+            None => false,
+        }
+    }
+
+    /// Judges the beat of a row, whose link is watched, behind those before it, and appends what is told of it.
+    fn tell_row(&mut self, row: &Row, text: &mut Vec<u8>) -> Result<(), Refusal>
+        requires known { HasLink self.old.watch.layout row.now.sighting.link }
+        requires watched { IsWatched self.old.watch.layout.links row.now.sighting.link }
+        ensures trace { self.new.trace ≡ self.old.trace }
+        ensures keeps { (plan : Plan) (before : List Row) → Kept plan before self.old
+            → OnOk result (Kept plan (row.now ∷ before) self.new) }
+        ensures told { (plan : Plan) (before : List Row) → Kept plan before self.old
+            → OnOk result (AppendsTold self.old.trace plan (seen plan.layout before)
+            (seen plan.layout (row.now ∷ before)) text.old.items text.new.items) }
+        ensures fault { (plan : Plan) (before : List Row) → Kept plan before self.old
+            → IfErr result (OfUnlawful (IsUnlawfulAfter plan before)) }
+        ensures row { IfErr result (OfUnlawful (λ found. found.row ≡ row.now)) }
+        ensures quiet { IfErr result (OfUnlawful (λ _. text.new.items ≡ text.old.items)) }
+        ensures memory { IfErr result (λ why. why ≡ Refusal.Memory → self.old.trace ≡ true) }
+    {
+        let seen = match self.watch.step(&row.sighting) {
+            Ok(seen) => seen,
+            Err(fault) => return Err(Refusal::Unlawful(Unlawful { row: *row, fault })),
+        };
+        self.count(row.sighting.link, seen.ended());
+        match self.tell(&row.sighting, &seen, text) {
+            Ok(()) => Ok(()),
+            Err(_) => Err(Refusal::Memory),
+        }
+    }
+
+    /// Judges the beat of a row behind those before it, if its link is watched, and appends what is told of it.
+    fn judge_row(&mut self, row: &Row, text: &mut Vec<u8>) -> Result<(), Refusal>
+        ensures trace { self.new.trace ≡ self.old.trace }
+        ensures keeps { (plan : Plan) (before : List Row) → Kept plan before self.old
+            → OnOk result (Kept plan (row.now ∷ before) self.new) }
+        ensures told { (plan : Plan) (before : List Row) → Kept plan before self.old
+            → OnOk result (AppendsTold self.old.trace plan (seen plan.layout before)
+            (seen plan.layout (row.now ∷ before)) text.old.items text.new.items) }
+        ensures fault { (plan : Plan) (before : List Row) → Kept plan before self.old
+            → IfErr result (OfUnlawful (IsUnlawfulAfter plan before)) }
+        ensures row { IfErr result (OfUnlawful (λ found. found.row ≡ row.now)) }
+        ensures quiet { IfErr result (OfUnlawful (λ _. text.new.items ≡ text.old.items)) }
+        ensures memory { IfErr result (λ why. why ≡ Refusal.Memory → self.old.trace ≡ true) }
+    {
+        if !self.watch.watches(row.sighting.link) {
+            return Ok(());
+        }
+        if self.trace {
+            return self.tell_row(row, text);
+        }
+        if self.take_row(row) {
+            return Ok(());
+        }
+        // it is judged again for its fault
+        self.tell_row(row, text)
+    }
+
+    /// Judges the beats of rows that cross in this order behind those before them, up to the first that is not lawful, and
+    /// appends what is told of them.
+    pub fn judge_rows(&mut self, rows: &[Row], text: &mut Vec<u8>) -> Result<(), Refusal>
+        ensures trace { self.new.trace ≡ self.old.trace }
+        ensures keeps { (plan : Plan) (before : List Row) → Kept plan before self.old
+            → OnOk result (Kept plan (reverse rows.now ++ before) self.new) }
+        ensures told { (plan : Plan) (before : List Row) → Kept plan before self.old
+            → OnOk result (AppendsTold self.old.trace plan (seen plan.layout before)
+            (seen plan.layout (reverse rows.now ++ before)) text.old.items text.new.items) }
+        ensures fault { (plan : Plan) (before : List Row) → Kept plan before self.old
+            → IfErr result (OfUnlawful (StopsTelling self.old.trace plan rows.now before
+            text.old.items text.new.items)) }
+        ensures memory { IfErr result (λ why. why ≡ Refusal.Memory → self.old.trace ≡ true) }
+    {
+        for row in rows {
+            if let Err(refusal) = self.judge_row(row, text) {
+                return Err(refusal);
+            }
+        }
+        Ok(())
+    }
+}

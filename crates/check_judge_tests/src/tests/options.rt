@@ -1,0 +1,88 @@
+//! The command line, row by row.
+use check_options::{Options, options_status, read_options};
+use check_watch::{Links, Order};
+
+#[test]
+fn words_give_options(rt: HostRuntime) {
+    let rows: [(&[&str], Links, Order, bool, Option<&str>); 7] = [
+        (&["tlcheck", "s"], Links::Both, Order::Accept, false, None),
+        (
+            &["tlcheck", "s", "c"],
+            Links::Both,
+            Order::Accept,
+            false,
+            Some("c"),
+        ),
+        (
+            &["tlcheck", "s", "-"],
+            Links::Both,
+            Order::Accept,
+            false,
+            None,
+        ),
+        (
+            &["tlcheck", "--links", "masters", "s"],
+            Links::Masters,
+            Order::Accept,
+            false,
+            None,
+        ),
+        (
+            &["tlcheck", "s", "--links=ports", "--order=reply", "c"],
+            Links::Ports,
+            Order::Reply,
+            false,
+            Some("c"),
+        ),
+        (
+            &["tlcheck", "--trace", "s", "c"],
+            Links::Both,
+            Order::Accept,
+            true,
+            Some("c"),
+        ),
+        (
+            &["tlcheck", "--order", "accept", "--", "s", "--links"],
+            Links::Both,
+            Order::Accept,
+            false,
+            Some("--links"),
+        ),
+    ];
+    for (words, links, order, trace, capture) in rows {
+        let options = read_options(rt.alloc(), words).expect(&rt, "options");
+        assert_eq!(rt;
+            options,
+            Options {
+                links,
+                order,
+                trace,
+                system: "s",
+                capture
+            }
+        );
+    }
+}
+
+#[test]
+fn other_words_have_a_status(rt: HostRuntime) {
+    let rows: [(&[&str], u8); 11] = [
+        (&["tlcheck"], 2),
+        (&["tlcheck", "s", "c", "stray"], 2),
+        (&["tlcheck", "--links", "all", "s"], 2),
+        (&["tlcheck", "--links", "Both", "s"], 2),
+        (&["tlcheck", "--order", "reply", "--order", "reply", "s"], 2),
+        (&["tlcheck", "s", "--order"], 2),
+        (&["tlcheck", "--trace=yes", "s"], 2),
+        (&["tlcheck", "--trace", "--trace", "s"], 2),
+        (&["tlcheck", "--verbose", "s"], 2),
+        (&["tlcheck", "--version"], 0),
+        (&["tlcheck", "--help"], 0),
+    ];
+    for (words, status) in rows {
+        match read_options(rt.alloc(), words) {
+            Ok(options) => panic!(&rt; "{options:?}"),
+            Err(error) => assert_eq!(rt; options_status(&error), status),
+        }
+    }
+}

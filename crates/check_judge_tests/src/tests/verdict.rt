@@ -1,0 +1,222 @@
+//! Captures of the system in `examples/captures`, as texts, with verdicts that are worked out by hand.
+//!
+//! Port 0 has 64 bytes of memory at 0x1000, all zero but byte 1, which is 0x11. Wide sources 0 to 3 are master 0's.
+ghost use Rattle.std.specs.Prelude.{None};
+
+use check_capture::RowFault;
+use check_judge::Judge;
+use check_verdict::{CaptureFault, Sizes, Verdict, judge_capture};
+use check_watch::{Links, Order, Watch};
+use std::alloc::Global;
+use std::io;
+use std::io::{ErrorKind, Read, Write};
+use std::process::Abort;
+use tl_map::{Map, Range, Sources};
+use tl_ops::{Bank, Kind};
+use tl_streams::LimitedWriter;
+
+const SIZES: Sizes = Sizes {
+    masters: 1,
+    ports: 1,
+};
+
+fn judge(rt: &impl Abort, alloc: Global, trace: bool) -> Judge {
+    let mut ram = [0; 64];
+    ram[1] = 0x11;
+    let range = Range {
+        base: 0x1000,
+        length: 64,
+    };
+    let mut banks = Vec::new(alloc);
+    let bank = Bank::new(alloc, Kind::Ram, 0x1000, &ram).expect(rt, "a bank");
+    banks.push(bank).expect(rt, "memory");
+    let bank = Bank::new(alloc, Kind::NoDevice, 0, &[]).expect(rt, "a bank");
+    banks.push(bank).expect(rt, "memory");
+    let map = Map::new(alloc, &[range]).expect(rt, "a map");
+    let sources = Sources::new(alloc, &[4]).expect(rt, "sources");
+    assert!(rt; banks.len() == map.ports(), "a bank for each port");
+    let watch = Watch::new(alloc, Links::Both, Order::Accept, map, sources, banks);
+    Judge::new(watch.expect(rt, "memory"), trace)
+}
+
+const HEADER: &str =
+    "time,link,channel,opcode,param,size,source,address,mask,data,denied,corrupt\n";
+
+const ASKED: &str = "10,m0,A,4,0,2,3,1000,0f,,,\n10,p0,A,4,0,2,3,1000,0f,,,\n";
+
+const GIVEN: &str = "12,p0,D,1,,2,3,,,xxxxxxxx00001100,0,0\n";
+
+/// What becomes of a header and these lines, and what is written.
+fn traced(
+    rt: &impl Abort,
+    alloc: Global,
+    trace: bool,
+    lines: &[&str],
+) -> (Result<Verdict, CaptureFault>, Vec<u8>) {
+    let mut text = String::new(alloc);
+    text.push_str(HEADER).expect(rt, "memory");
+    for line in lines {
+        text.push_str(line).expect(rt, "memory");
+    }
+    let mut out = Vec::new(alloc);
+    let mut writer = LimitedWriter::new(&mut out);
+    let judge = judge(rt, alloc, trace);
+    let answer = judge_capture(alloc, text.as_bytes(), &mut writer, judge, SIZES);
+    (answer, out)
+}
+
+/// What becomes of a header and these lines, where replies are not traced.
+fn outcome(rt: &impl Abort, alloc: Global, lines: &[&str]) -> Result<Verdict, CaptureFault> {
+    let (answer, out) = traced(rt, alloc, false, lines);
+    assert!(rt; out.is_empty(), "nothing is told");
+    answer
+}
+
+#[test]
+fn lawful_captures_are_counted(rt: HostRuntime) {
+    let read = "12,m0,D,1,,2,3,,,xxxxxxxx00001100,0,0";
+    let rows: [(&[&str], [u64; 3]); 3] = [
+        (&[], [0, 0, 0]),
+        (&[ASKED], [2, 1, 0]),
+        (&[ASKED, "\r\n", GIVEN, read], [4, 1, 1]),
+    ];
+    for (lines, counts) in rows {
+        match outcome(&rt, rt.alloc(), lines) {
+            Ok(Verdict::Lawful(c)) => { assert_eq!(&rt; [c.rows, c.requests, c.answered], counts) }
+            other => panic!(&rt; "{other:?}"),
+        }
+    }
+}
+
+#[test]
+fn the_first_unlawful_row_is_named(rt: HostRuntime) {
+    let wrong = "12,p0,D,1,,2,3,,,xxxxxxxx00001101,0,0\n";
+    let later = "13,m0,D,1,,2,3,,,xxxxxxxx00001101,0,0\n";
+    // it is judged once a later time or the end is read
+    let rows: [&[&str]; 2] = [&[ASKED, wrong], &[ASKED, "\n", wrong, later, "14,m9"]];
+    for (k, lines) in rows.iter().enumerate() {
+        match outcome(&rt, rt.alloc(), lines) {
+            Ok(Verdict::Unlawful(found)) => assert_eq!(&rt; found.row.line, 4 + k as u64),
+            other => panic!(&rt; "{other:?}"),
+        }
+    }
+}
+
+#[test]
+fn what_is_no_capture_is_told_by_its_line(rt: HostRuntime) {
+    let rows: [(&[&str], CaptureFault); 4] = [
+        (&[ASKED, "12,p0\n"], CaptureFault::Row(4, RowFault::Columns)),
+        (
+            &[ASKED, "\n9,p0,D,1,,2,3,,,,0,0"],
+            CaptureFault::Row(5, RowFault::TimeFalls),
+        ),
+        // a row that is none comes before an unlawful beat of its time
+        (
+            &["12,p0,D,1,,2,3,,,,0,0\n", "12,p0,D,1,,2,3,,,,0,0"],
+            CaptureFault::Row(3, RowFault::TwoBeats),
+        ),
+        (&[HEADER], CaptureFault::Row(2, RowFault::Number)),
+    ];
+    for (lines, fault) in rows {
+        assert_eq!(&rt; outcome(&rt, rt.alloc(), lines).err(), Some(fault));
+    }
+    let rows: [(&str, u64); 3] = [("", 1), ("\n\r\n", 1), ("\n\ntime,link", 3)];
+    for (text, line) in rows {
+        let mut out = Vec::new(rt.alloc());
+        let mut writer = LimitedWriter::new(&mut out);
+        let judge = judge(&rt, rt.alloc(), true);
+        let answer = judge_capture(rt.alloc(), text.as_bytes(), &mut writer, judge, SIZES);
+        assert_eq!(&rt; answer.err(), Some(CaptureFault::Header(line)));
+    }
+}
+
+/// A reader that gives a header, and then fails.
+#[derive(Drop)]
+struct Failing {
+    reads: u32,
+}
+
+impl Read for Failing {
+    ghost remaining = { λ _. None };
+
+    fn read(&mut self, buf: &mut [u8]) -> io::Result<usize> {
+        let text = HEADER.as_bytes();
+        if self.reads > 0 || buf.len() < text.len() {
+            return Err(io::Error::from(ErrorKind::Other));
+        }
+        self.reads = 1;
+        buf[..text.len()].copy_from_slice(text);
+        Ok(text.len())
+    }
+}
+
+#[test]
+fn a_failed_read_is_told(rt: HostRuntime) {
+    let mut out = Vec::new(rt.alloc());
+    let mut writer = LimitedWriter::new(&mut out);
+    let judge = judge(&rt, rt.alloc(), false);
+    let reader = Failing { reads: 0 };
+    let answer = judge_capture(rt.alloc(), reader, &mut writer, judge, SIZES);
+    assert_eq!(&rt; answer.err(), Some(CaptureFault::Read));
+}
+
+const READ: &str = "12,m0,D,1,,2,3,,,xxxxxxxx00001100,0,0\n";
+
+const LINE: &str = "m0 s3 get 0x1000 2 -> AccessAckData 00110000 p0 #0\n";
+
+#[test]
+fn replies_are_written_before_the_answer(rt: HostRuntime) {
+    let later = "13,m0,D,1,,2,3,,,xxxxxxxx00001101,0,0\n";
+    let rows: [(&[&str], &str, Option<CaptureFault>); 5] = [
+        (&[ASKED, GIVEN, READ], LINE, None),
+        (&[ASKED, GIVEN, READ, later], LINE, None),
+        (&[ASKED, GIVEN], "", None),
+        // what is of the last time is not judged before a fault of the text
+        (
+            &[ASKED, GIVEN, READ, "13,m0\n"],
+            "",
+            Some(CaptureFault::Row(6, RowFault::Columns)),
+        ),
+        (
+            &[ASKED, GIVEN, READ, "13,m0,A,4,0,2,3,1000,0f,,,\n13,m0\n"],
+            LINE,
+            Some(CaptureFault::Row(7, RowFault::Columns)),
+        ),
+    ];
+    for (lines, told, fault) in rows {
+        let (answer, out) = traced(&rt, rt.alloc(), true, lines);
+        assert_eq!(&rt; answer.err(), fault);
+        assert_eq!(&rt; out.as_slice(), told.as_bytes());
+    }
+}
+
+/// A writer that takes nothing.
+#[derive(Drop)]
+struct Full;
+
+impl Write for Full {
+    ghost contents = { λ _. None };
+
+    fn write(&mut self, _buf: &[u8]) -> io::Result<usize> {
+        Ok(0)
+    }
+
+    fn flush(&mut self) -> io::Result<()> {
+        Ok(())
+    }
+}
+
+#[test]
+fn a_failed_write_is_told(rt: HostRuntime) {
+    let mut text = String::new(rt.alloc());
+    for part in [HEADER, ASKED, GIVEN, READ] {
+        text.push_str(part).expect(&rt, "memory");
+    }
+    for (trace, fault) in [(true, Some(CaptureFault::Write)), (false, None)] {
+        let mut full = Full;
+        let mut writer = LimitedWriter::new(&mut full);
+        let judge = judge(&rt, rt.alloc(), trace);
+        let answer = judge_capture(rt.alloc(), text.as_bytes(), &mut writer, judge, SIZES);
+        assert_eq!(&rt; answer.err(), fault);
+    }
+}

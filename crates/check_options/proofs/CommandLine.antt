@@ -1,0 +1,88 @@
+-- The command line, whose two lists of words may lie anywhere: what holds of it wherever they lie.
+use Rattle.std.proofs.Common.{◌≡◌, ◌∙◌, codes, true, ℕ, List, [], ◌∷◌, refl, sym, subst, ap, map}
+use Rattle.std.specs.Borrow.{Bor}
+use Rattle.clap.specs.Words.{App, HasMatchesOf, Text, first_of, first_value, found_of, is_simple, is_simple_and_free, matches_of}
+use Rattle.clap.proofs.WalkLemmas.{first_value-rows}
+use Rattle.clap.specs.declared.parser.matches.ArgMatches.{ArgMatches}
+use Rattle.check_options.specs.Options.{IsCommandLine, Names, texts_of, with_rules}
+
+-- a word that lies at a place
+abbrev pub at : ℕ × ℕ → Text → Bor Text
+at place word = record { ref_ptr = place; now = word }
+
+abbrev pub list_at : ℕ × ℕ → List (Bor Text) → Names
+list_at place words = record { ref_ptr = place; now = words }
+
+moved : (word : Bor Text) (text : Text) → word.now ≡ text → word ≡ at word.ref_ptr text
+moved word text e = ap (at word.ref_ptr) e
+
+-- the lists of the program, at any places
+abbrev pub links_at : ℕ × ℕ → ℕ × ℕ → ℕ × ℕ → ℕ × ℕ → Names
+links_at place a b c = list_at place (at a (codes "both") ∷ at b (codes "masters") ∷ at c (codes "ports") ∷ [])
+
+abbrev pub orders_at : ℕ × ℕ → ℕ × ℕ → ℕ × ℕ → Names
+orders_at place a b = list_at place (at a (codes "accept") ∷ at b (codes "reply") ∷ [])
+
+-- a list of three words is one at its places, and so is a list of two
+of_three : (P : Names → Type 0) (s t u : Text)
+    → ((place a b c : ℕ × ℕ) → P (list_at place (at a s ∷ at b t ∷ at c u ∷ [])))
+    → (names : Names) → texts_of names ≡ s ∷ t ∷ u ∷ [] → P names
+of_three P s t u holds names listed = go names.now listed
+  where
+    go : (words : List (Bor Text)) → map (λ (word : Bor Text). word.now) words ≡ s ∷ t ∷ u ∷ []
+        → P (list_at names.ref_ptr words)
+    go [] e = cc
+    go (a ∷ []) e = cc
+    go (a ∷ b ∷ []) e = cc
+    go (a ∷ b ∷ c ∷ []) e =
+        let first : a ≡ at a.ref_ptr s = moved a s cc in
+        let second : b ≡ at b.ref_ptr t = moved b t cc in
+        let third : c ≡ at c.ref_ptr u = moved c u cc in
+        let all : at a.ref_ptr s ∷ at b.ref_ptr t ∷ at c.ref_ptr u ∷ [] ≡ a ∷ b ∷ c ∷ [] = cc in
+        subst (λ (words : List (Bor Text)). P (list_at names.ref_ptr words)) all
+        (holds names.ref_ptr a.ref_ptr b.ref_ptr c.ref_ptr)
+    go (a ∷ b ∷ c ∷ d ∷ words) e = cc
+
+of_two : (P : Names → Type 0) (s t : Text) → ((place a b : ℕ × ℕ) → P (list_at place (at a s ∷ at b t ∷ [])))
+    → (names : Names) → texts_of names ≡ s ∷ t ∷ [] → P names
+of_two P s t holds names listed = go names.now listed
+  where
+    go : (words : List (Bor Text)) → map (λ (word : Bor Text). word.now) words ≡ s ∷ t ∷ []
+        → P (list_at names.ref_ptr words)
+    go [] e = cc
+    go (a ∷ []) e = cc
+    go (a ∷ b ∷ []) e =
+        let first : a ≡ at a.ref_ptr s = moved a s cc in
+        let second : b ≡ at b.ref_ptr t = moved b t cc in
+        let all : at a.ref_ptr s ∷ at b.ref_ptr t ∷ [] ≡ a ∷ b ∷ [] = cc in
+        subst (λ (words : List (Bor Text)). P (list_at names.ref_ptr words)) all
+        (holds names.ref_ptr a.ref_ptr b.ref_ptr)
+    go (a ∷ b ∷ c ∷ words) e = cc
+
+-- what holds at all places holds of the command line
+pub wherever : (P : App → Type 0)
+    → ((l a b c o d e : ℕ × ℕ) → P (with_rules (links_at l a b c) (orders_at o d e)))
+    → (app : App) → IsCommandLine app → P app
+wherever P holds app line =
+    subst P (sym line.is)
+    (of_three (λ (links : Names). P (with_rules links line.orders)) _ _ _
+    (λ l a b c. of_two (λ (orders : Names). P (with_rules (links_at l a b c) orders)) _ _
+    (holds l a b c) line.orders line.orders_listed)
+    line.links line.links_listed)
+
+-- it is one whose matches and faults clap tells
+pub is_simple_line : (app : App) → IsCommandLine app → is_simple app ≡ true
+is_simple_line = wherever (λ (app : App). is_simple app ≡ true) (λ l a b c o d e. refl)
+
+pub is_free_line : (app : App) → IsCommandLine app → is_simple_and_free app ≡ true
+is_free_line = wherever (λ (app : App). is_simple_and_free app ≡ true) (λ l a b c o d e. refl)
+
+-- there is one
+pub some_line : IsCommandLine (with_rules (links_at (0, 0) (0, 0) (0, 0) (0, 0)) (orders_at (0, 0) (0, 0) (0, 0)))
+some_line = record { links = _; orders = _; links_listed = refl; orders_listed = refl; is = refl }
+
+-- the first value of an option is what the words give it
+pub first_read : (app : App) (m : ArgMatches) (words : List Text) → IsCommandLine app → HasMatchesOf app words m
+    → (id : Text) → first_value (found_of m) id ≡ first_of id (matches_of app words)
+first_read app m words line has id =
+    first_value-rows (found_of m) id ∙ ap (first_of id) (has (is_simple_line app line)).0

@@ -1,0 +1,176 @@
+-- The command line of tlcheck: the options and words that there are, what the words ask for, and the status that the
+-- program ends with where they ask for nothing. This project's own.
+use Rattle.std.specs.Prelude.{◌≡◌, ℕ, List, [], ◌∷◌, Bool, true, Option, Some, None, Result, IfOk, codes, map, option_map, if◌then◌else◌, unwrap_or}
+use Rattle.std.specs.Borrow.{Bor}
+use Rattle.std.specs.Str.{bytes_eq}
+use Rattle.clap.specs.Words.{App, FailsBy, Rule, Text, fault_of, first_of, matches_of, new_app, new_rule, with_rule}
+use Rattle.clap.specs.declared.builder.action.ArgAction.TheVariants.{Set, SetTrue}
+use Rattle.clap.specs.declared.builder.value_parser.ValueParser.TheVariants as values
+use Rattle.clap.specs.declared.error.Error.{Error}
+use Rattle.clap.specs.declared.error.ErrorKind.{ErrorKind}
+use Rattle.clap.specs.declared.error.ErrorKind.TheVariants.{DisplayHelp, DisplayVersion, OutOfMemory}
+use Rattle.check_watch.specs.declared.links.Links.{Links}
+use Rattle.check_watch.specs.declared.links.Links.TheVariants.{Both, Masters, Ports}
+use Rattle.check_watch.specs.declared.order.Order.{Order}
+use Rattle.check_watch.specs.declared.order.Order.TheVariants.{Accept, Reply}
+use Rattle.check_options.specs.declared.options.Options.{Options}
+
+-- ---- the command line
+
+-- a list of words, which lies somewhere in memory
+abbrev pub Names : Type 0
+Names = Bor (List (Bor Text))
+
+abbrev pub texts_of : Names → List Text
+texts_of names = map (λ name. name.now) names.now
+
+-- the words of `--links`, and those of `--order`
+abbrev pub links_words : List Text
+links_words = codes "both" ∷ codes "masters" ∷ codes "ports" ∷ []
+
+abbrev pub order_words : List Text
+order_words = codes "accept" ∷ codes "reply" ∷ []
+
+-- `--links`, one of its words, and `both` where it is not given
+abbrev pub links_rule : Names → Rule
+links_rule names = record (new_rule (codes "links")) {
+  long = Some (codes "links");
+  action = Some Set;
+  value_names = 1;
+  parser = Some (values.Names names);
+  defaults = codes "both" ∷ [];
+}
+
+-- `--order`, one of its words, and `accept` where it is not given
+abbrev pub order_rule : Names → Rule
+order_rule names = record (new_rule (codes "order")) {
+  long = Some (codes "order");
+  action = Some Set;
+  value_names = 1;
+  parser = Some (values.Names names);
+  defaults = codes "accept" ∷ [];
+}
+
+-- `--trace`, a flag
+abbrev pub trace_rule : Rule
+trace_rule = record (new_rule (codes "trace")) {
+  long = Some (codes "trace");
+  action = Some SetTrue;
+  parser = Some values.Bool;
+}
+
+-- SYSTEM, a word that there must be
+abbrev pub system_rule : Rule
+system_rule = record (new_rule (codes "system")) { action = Some Set; value_names = 1; required = true }
+
+-- CAPTURE, a word that there may be
+abbrev pub capture_rule : Rule
+capture_rule = record (new_rule (codes "capture")) { action = Some Set; value_names = 1 }
+
+-- the program, which has a version
+abbrev pub program : App
+program = let plain = new_app (codes "tlcheck") in record plain { top = record plain.top { has_version = true } }
+
+-- these five, and `--help` and `--version`, which clap adds
+abbrev pub with_rules : Names → Names → App
+with_rules links orders =
+    let options = with_rule (with_rule (with_rule program (links_rule links)) (order_rule orders)) trace_rule in
+    with_rule (with_rule options system_rule) capture_rule
+
+-- the rule is that of `--links`, or of `--order`, wherever its list of words lies
+pub record IsLinksRule (rule : Rule) : Type 0 where
+  pub names : Names
+  pub listed : texts_of names ≡ links_words
+  pub is : rule ≡ links_rule names
+
+pub record IsOrderRule (rule : Rule) : Type 0 where
+  pub names : Names
+  pub listed : texts_of names ≡ order_words
+  pub is : rule ≡ order_rule names
+
+-- the command line, wherever its two lists of words lie
+pub record IsCommandLine (app : App) : Type 0 where
+  pub links : Names
+  pub orders : Names
+  pub links_listed : texts_of links ≡ links_words
+  pub orders_listed : texts_of orders ≡ order_words
+  pub is : app ≡ with_rules links orders
+
+-- ---- what the words ask for
+
+-- the options, without where their texts lie
+pub record Asked : Type 0 where
+  pub links : Links
+  pub order : Order
+  pub trace : Bool
+  pub system : Text
+  pub capture : Option Text
+
+abbrev pub asked_of : Options → Asked
+asked_of options = record {
+  links = options.links;
+  order = options.order;
+  trace = options.trace;
+  system = options.system.now;
+  capture = option_map (λ name. name.now) options.capture;
+}
+
+-- the links that a word names, and the order
+abbrev pub links_of : Text → Links
+links_of word =
+    if bytes_eq word (codes "masters") then Masters else (if bytes_eq word (codes "ports") then Ports else Both)
+
+abbrev pub order_of : Text → Order
+order_of word = if bytes_eq word (codes "reply") then Reply else Accept
+
+-- whether a flag with this value is set
+abbrev pub flag_of : Text → Bool
+flag_of word = bytes_eq word (codes "true")
+
+-- the file that a word names, where it names one: `-` is standard input
+abbrev pub file_of : Option Text → Option Text
+file_of None = None
+file_of (Some word) = if bytes_eq word (codes "-") then None else Some word
+
+-- the value that the words give an option, or its own where they give none
+abbrev pub value_in : App → List Text → Text → Text
+value_in app words id = unwrap_or (first_of id (matches_of app words)) []
+
+-- the options that the words ask for
+abbrev pub asked_in : App → List Text → Asked
+asked_in app words = record {
+  links = links_of (value_in app words (codes "links"));
+  order = order_of (value_in app words (codes "order"));
+  trace = flag_of (value_in app words (codes "trace"));
+  system = value_in app words (codes "system");
+  capture = file_of (first_of (codes "capture") (matches_of app words));
+}
+
+-- the words are taken or refused as the command line says, and where they are taken the options are those that they
+-- ask for
+pub record Answers (words : List Text) (result : Result Options Error) : Type 0 where
+  pub app : App
+  pub is : IsCommandLine app
+  pub faults : FailsBy (fault_of app words) result
+  pub asked : IfOk result (λ options. asked_of options ≡ asked_in app words)
+
+-- the words are taken, and ask for these options
+abbrev pub Asks : Asked → List Text → App → Type 0
+Asks asked words app = (fault_of app words ≡ []) × (asked_in app words ≡ asked)
+
+abbrev pub AskFor : Asked → List Text → Type 0
+AskFor asked words = (app : App) → IsCommandLine app → Asks asked words app
+
+-- the words are refused as this
+abbrev pub Refuses : ErrorKind → List Text → App → Type 0
+Refuses kind words app = fault_of app words ≡ kind ∷ []
+
+abbrev pub AreRefusedAs : ErrorKind → List Text → Type 0
+AreRefusedAs kind words = (app : App) → IsCommandLine app → Refuses kind words app
+
+-- the status of help and of the version, that of want of memory, and that of all else, which are mistakes
+abbrev pub status_of_kind : ErrorKind → ℕ
+status_of_kind DisplayHelp = 0
+status_of_kind DisplayVersion = 0
+status_of_kind OutOfMemory = 4
+status_of_kind _ = 2

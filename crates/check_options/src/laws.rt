@@ -1,0 +1,95 @@
+//! Laws of the command line, each on a function that does nothing but carry it: what lines that the documents name ask
+//! for, or are refused as.
+ghost use Rattle.std.specs.Prelude.{[], ◌∷◌, codes, true, false, Some, None};
+ghost use Rattle.clap.specs.declared.error.ErrorKind.TheVariants.{DisplayHelp, DisplayVersion, InvalidValue, MissingRequiredArgument, TooManyValues, UnknownArgument};
+ghost use Rattle.check_watch.specs.declared.links.Links.TheVariants.{Both, Masters, Ports};
+ghost use Rattle.check_watch.specs.declared.order.Order.TheVariants.{Accept, Reply};
+ghost use Rattle.check_options.specs.Options.{AskFor, AreRefusedAs};
+
+/// The lines that are taken. The first word is the program's name.
+pub fn lines_ask_for_options()
+    ensures alone { AskFor (record {
+      links = Both;
+      order = Accept;
+      trace = false;
+      system = codes "s.toml";
+      capture = None;
+    })
+        (codes "tlcheck" ∷ codes "s.toml" ∷ []) }
+    ensures file { AskFor (record {
+      links = Both;
+      order = Accept;
+      trace = false;
+      system = codes "s.toml";
+      capture = Some (codes "c.csv");
+    })
+        (codes "tlcheck" ∷ codes "s.toml" ∷ codes "c.csv" ∷ []) }
+    ensures input { AskFor (record {
+      links = Both;
+      order = Accept;
+      trace = false;
+      system = codes "s.toml";
+      capture = None;
+    })
+        (codes "tlcheck" ∷ codes "s.toml" ∷ codes "-" ∷ []) }
+    ensures masters { AskFor (record {
+      links = Masters;
+      order = Accept;
+      trace = false;
+      system = codes "s.toml";
+      capture = None;
+    })
+        (codes "tlcheck" ∷ codes "--links" ∷ codes "masters" ∷ codes "s.toml" ∷ []) }
+    ensures ports { AskFor (record {
+      links = Ports;
+      order = Reply;
+      trace = false;
+      system = codes "s.toml";
+      capture = Some (codes "c.csv");
+    })
+        (codes "tlcheck" ∷ codes "--links=ports" ∷ codes "s.toml" ∷ codes "c.csv"
+        ∷ codes "--order" ∷ codes "reply" ∷ []) }
+    ensures trace { AskFor (record {
+      links = Masters;
+      order = Accept;
+      trace = true;
+      system = codes "s.toml";
+      capture = None;
+    })
+        (codes "tlcheck" ∷ codes "--links" ∷ codes "masters" ∷ codes "--trace"
+        ∷ codes "s.toml" ∷ []) }
+    ensures trace_behind { AskFor (record {
+      links = Both;
+      order = Accept;
+      trace = true;
+      system = codes "s.toml";
+      capture = Some (codes "c.csv");
+    })
+        (codes "tlcheck" ∷ codes "s.toml" ∷ codes "c.csv" ∷ codes "--trace" ∷ []) }
+    ensures defaults { AskFor (record {
+      links = Both;
+      order = Accept;
+      trace = false;
+      system = codes "s.toml";
+      capture = None;
+    })
+        (codes "tlcheck" ∷ codes "--links" ∷ codes "both" ∷ codes "--order=accept"
+        ∷ codes "s.toml" ∷ []) }
+{}
+
+/// The lines that ask for help or the version, and mistakes.
+pub fn lines_are_refused()
+    ensures help { AreRefusedAs DisplayHelp (codes "tlcheck" ∷ codes "--help" ∷ []) }
+    ensures version { AreRefusedAs DisplayVersion (codes "tlcheck" ∷ codes "--version" ∷ []) }
+    ensures nothing { AreRefusedAs MissingRequiredArgument (codes "tlcheck" ∷ []) }
+    ensures links { AreRefusedAs InvalidValue
+        (codes "tlcheck" ∷ codes "--links" ∷ codes "all" ∷ codes "s.toml" ∷ []) }
+    ensures order { AreRefusedAs InvalidValue
+        (codes "tlcheck" ∷ codes "--order=" ∷ codes "s.toml" ∷ []) }
+    ensures stray { AreRefusedAs UnknownArgument
+        (codes "tlcheck" ∷ codes "s.toml" ∷ codes "c.csv" ∷ codes "d.csv" ∷ []) }
+    ensures trace { AreRefusedAs TooManyValues
+        (codes "tlcheck" ∷ codes "--trace=true" ∷ codes "s.toml" ∷ []) }
+    ensures unknown { AreRefusedAs UnknownArgument
+        (codes "tlcheck" ∷ codes "--verbose" ∷ codes "s.toml" ∷ []) }
+{}

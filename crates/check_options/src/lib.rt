@@ -1,0 +1,16 @@
+//! The command line of tlcheck: `tlcheck [--links both|masters|ports] [--order accept|reply] [--trace] SYSTEM
+//! [CAPTURE]`.
+//!
+//! [`read_options`] carries the promise: the words are taken or refused just as the command line says, by clap's own
+//! definitions (`IsCommandLine`, `specs/Options.antt`), and where they are taken the answer is what they ask for. The
+//! laws say of lines that the documents name what they ask for, or as what they are refused. What help and refusals
+//! read as is clap's.
+//!
+//! This crate stands on clap, and of the crates for captures on the two choices that the options name (`check_watch`).
+//! Read on in `docs/CAPTURE.md`, "The command".
+#![tactic(auto)]
+
+pub mod laws;
+mod options;
+
+pub use options::{Options, options_status, read_options};

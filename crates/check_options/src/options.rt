@@ -1,0 +1,198 @@
+//! The command line: `tlcheck [--links both|masters|ports] [--order accept|reply] [--trace] SYSTEM [CAPTURE]`.
+ghost use Rattle.std.specs.Prelude.{◌≡◌, IfOk, [], map, false, option_map, unwrap_or};
+ghost use Rattle.clap.specs.Words.{app_of, first_value, found_of, kind_of, rule_of};
+ghost use Rattle.check_options.specs.Options.{Answers, IsCommandLine, IsLinksRule, IsOrderRule, capture_rule, file_of, flag_of, links_of, order_of, program, status_of_kind, system_rule, trace_rule};
+
+use check_watch::{Links, Order};
+use clap::builder::ValueParser;
+use clap::error::ErrorKind;
+use clap::{Arg, ArgAction, ArgMatches, Command, Error, value_parser};
+use std::alloc::{AllocError, Global};
+
+/// What help says at its end.
+const AFTER_HELP: &str = "\
+SYSTEM is a script of tlx. CAPTURE has a row for each beat that crossed a link:
+  time,link,channel,opcode,param,size,source,address,mask,data,denied,corrupt
+  10,m0,A,4,0,2,3,1000,0f,,,
+  12,p0,D,1,,2,3,,,xxxxxxxx33221100,0,0
+
+Status: 0 lawful, 1 a fault of the system or the capture, 2 of the command line, 3 unlawful, 4 memory refused, 5 a file
+could not be opened, read or written.";
+
+/// What the command line asks for.
+#[derive(Clone, Copy, Debug, PartialEq, Eq)]
+pub struct Options<'a> {
+    /// The links that were watched.
+    pub links: Links,
+    /// When a request takes effect at its port.
+    pub order: Order,
+    /// Whether a line is printed for each request that was answered.
+    pub trace: bool,
+    /// The file with the system.
+    pub system: &'a str,
+    /// The file with the capture; where there is none it comes on standard input.
+    pub capture: Option<&'a str>,
+}
+
+/// Reads the command line, whose first word is the program's name.
+///
+/// Errors: help or the version that was asked for, an unknown option, a value that an option does not have, no SYSTEM,
+/// or a stray word; each is clap's own text.
+pub fn read_options<'a>(alloc: Global, words: &'a [&'a str]) -> Result<Options<'a>, Error>
+    // The words are taken or refused as the command line says; the options are those that they ask for.
+    ensures answer { Answers (map (λ word. word.now) words.now) result }
+{
+    let matches = command(alloc)?.try_get_matches_from(words)?;
+    Ok(Options {
+        links: read_links(value(&matches, "links")),
+        order: read_order(value(&matches, "order")),
+        trace: read_flag(value(&matches, "trace")),
+        system: value(&matches, "system"),
+        capture: read_file(matches.get_str("capture")),
+    })
+}
+
+/// The value of an option or a word: each that is read by this has a default, or must be given.
+fn value<'a>(matches: &ArgMatches<'a>, id: &str) -> &'a str
+    ensures { result.now ≡ unwrap_or (first_value (found_of matches.now) id.now) [] }
+{
+    matches.get_str(id).unwrap_or("")
+}
+
+/// The links that a word of `--links` names.
+fn read_links(word: &str) -> Links
+    ensures { result ≡ links_of word.now }
+{
+    match word {
+        "masters" => Links::Masters,
+        "ports" => Links::Ports,
+        _ => Links::Both,
+    }
+}
+
+/// The order that a word of `--order` names.
+fn read_order(word: &str) -> Order
+    ensures { result ≡ order_of word.now }
+{
+    match word {
+        "reply" => Order::Reply,
+        _ => Order::Accept,
+    }
+}
+
+/// Whether a flag is set, by its value.
+fn read_flag(word: &str) -> bool
+    ensures { result ≡ flag_of word.now }
+{
+    word == "true"
+}
+
+/// The file that a word names, where it names one.
+fn read_file<'a>(word: Option<&'a str>) -> Option<&'a str>
+    ensures { option_map (λ name. name.now) result
+        ≡ file_of (option_map (λ name. name.now) word.entry) }
+{
+    match word {
+        Some("-") => None,
+        name => name,
+    }
+}
+
+/// The program, with what its help says.
+fn program<'a>(alloc: Global) -> Command<'a>
+    ensures { app_of result ≡ program }
+{
+    Command::new(alloc, "tlcheck")
+        .version("0.1.0")
+        .about("Judges whether a captured trace of a TileLink crossbar is lawful")
+        .after_help(AFTER_HELP)
+}
+
+/// `--links`.
+fn links_option<'a>(alloc: Global) -> Arg<'a>
+    ensures rule { IsLinksRule (rule_of result) }
+    ensures local { result.global ≡ false }
+{
+    let words: &'a [&'a str] = &["both", "masters", "ports"];
+    Arg::new(alloc, "links")
+        .long("links")
+        .action(ArgAction::Set)
+        .value_name("LINKS")
+        .value_parser(ValueParser::Names(words))
+        .default_value("both")
+        .help("The links that were watched")
+}
+
+/// `--order`.
+fn order_option<'a>(alloc: Global) -> Arg<'a>
+    ensures rule { IsOrderRule (rule_of result) }
+    ensures local { result.global ≡ false }
+{
+    let words: &'a [&'a str] = &["accept", "reply"];
+    Arg::new(alloc, "order")
+        .long("order")
+        .action(ArgAction::Set)
+        .value_name("ORDER")
+        .value_parser(ValueParser::Names(words))
+        .default_value("accept")
+        .help("When a request takes effect at its port")
+}
+
+/// `--trace`.
+fn trace_flag<'a>(alloc: Global) -> Arg<'a>
+    ensures rule { rule_of result ≡ trace_rule }
+    ensures local { result.global ≡ false }
+{
+    Arg::new(alloc, "trace")
+        .long("trace")
+        .action(ArgAction::SetTrue)
+        .value_parser(value_parser!(bool))
+        .help("Print a line for each request that was answered")
+}
+
+/// SYSTEM.
+fn system_word<'a>(alloc: Global) -> Arg<'a>
+    ensures rule { rule_of result ≡ system_rule }
+    ensures local { result.global ≡ false }
+{
+    Arg::new(alloc, "system")
+        .action(ArgAction::Set)
+        .value_name("SYSTEM")
+        .required(true)
+        .help("The file with the system")
+}
+
+/// CAPTURE.
+fn capture_word<'a>(alloc: Global) -> Arg<'a>
+    ensures rule { rule_of result ≡ capture_rule }
+    ensures local { result.global ≡ false }
+{
+    Arg::new(alloc, "capture")
+        .action(ArgAction::Set)
+        .value_name("CAPTURE")
+        .help("The file with the capture; standard input where there is none, or -")
+}
+
+/// The options and words that there are.
+fn command<'a>(alloc: Global) -> Result<Command<'a>, AllocError>
+    ensures { IfOk result (λ command. IsCommandLine (app_of command)) }
+{
+    program(alloc)
+        .arg(links_option(alloc))?
+        .arg(order_option(alloc))?
+        .arg(trace_flag(alloc))?
+        .arg(system_word(alloc))?
+        .arg(capture_word(alloc))
+}
+
+/// The status that the program ends with where there are no options: 0 for help and the version, 4 for want of memory,
+/// 2 for a mistake.
+pub fn options_status(error: &Error) -> u8
+    ensures { result ≡ status_of_kind (kind_of error.now) }
+{
+    match error.kind() {
+        ErrorKind::DisplayHelp | ErrorKind::DisplayVersion => 0,
+        ErrorKind::OutOfMemory => 4,
+        _ => 2,
+    }
+}

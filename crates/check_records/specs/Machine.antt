@@ -1,0 +1,26 @@
+-- The states and actions of this crate's machine, as those of crate `csv`. This project's own.
+use Rattle.csv.specs.declared.parser.State.{State as CsvState}
+use Rattle.csv.specs.declared.parser.State.TheVariants as st
+use Rattle.csv.specs.declared.parser.Action.{Action as CsvAction}
+use Rattle.csv.specs.declared.parser.Action.TheVariants as act
+use Rattle.check_records.specs.declared.machine.State.{State}
+use Rattle.check_records.specs.declared.machine.State.TheVariants as own_state
+use Rattle.check_records.specs.declared.machine.Action.{Action}
+use Rattle.check_records.specs.declared.machine.Action.TheVariants as own_action
+
+abbrev pub state_of : State → CsvState
+state_of own_state.StartRecord = st.StartRecord
+state_of own_state.StartField = st.StartField
+state_of own_state.InField = st.InField
+state_of own_state.InQuoted = st.InQuoted
+state_of own_state.AfterQuote = st.AfterQuote
+state_of own_state.AfterCr = st.AfterCr
+
+abbrev pub action_of : Action → CsvAction
+action_of own_action.Skip = act.Skip
+action_of own_action.Copy = act.Copy
+action_of own_action.EndField = act.EndField
+action_of own_action.EndRecord = act.EndRecord
+
+abbrev pub step_of : State × Action → CsvState × CsvAction
+step_of pair = (state_of pair.0, action_of pair.1)

@@ -1,6 +1,0 @@
--- The next record is still the same.
-use Rattle.tl_records.specs.Source.{Between, HasSameNext, left}
-use Rattle.tl_records.proofs.source.Source.skip_line_ends.Given as goal
-
-abbrev pub invariant-loop : goal.invariant-loop
-invariant-loop g l = Between (left g.R.Read.remaining l.fn.self) (left g.R.Read.remaining l.self) HasSameNext

@@ -1,8 +1,0 @@
-//! The limit of this crate in its number, on a function that does nothing but carry the law.
-ghost use Rattle.std.specs.Prelude.{◌≡◌};
-ghost use Rattle.tl_records.specs.declared.draft.TheConstants.{MOST_ROW};
-
-/// Contracts name the constant, so a wrong one would change what they promise.
-pub fn limits_in_numbers()
-    ensures row { MOST_ROW ≡ 4096 }
-{}

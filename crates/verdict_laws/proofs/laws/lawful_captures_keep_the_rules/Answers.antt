@@ -1,8 +1,0 @@
-use Rattle.verdict_laws.proofs.Rules.{capture_keeps, capture_breaks}
-use Rattle.verdict_laws.proofs.laws.lawful_captures_keep_the_rules.Goals as goal
-
-pub returns-clause-lawful : goal.returns-clause-lawful
-returns-clause-lawful c = capture_keeps
-
-pub returns-clause-unlawful : goal.returns-clause-unlawful
-returns-clause-unlawful c = capture_breaks
