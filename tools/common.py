@@ -10,7 +10,7 @@ TLCHECK = os.environ.get("TLCHECK", os.path.join(TOP, "crates", "tlcheck", "out"
 SECONDS = 60
 
 LONGEST_SCRIPT = 1_048_576
-LARGEST_SIZE = 8
+MAX_SIZE = 8
 KINDS = ("ram", "rom", "regs", "w1c")
 # The keys of a script: of the document, of a port and of a master.
 KEYS = {"": ("slots", "port", "master"), "port": ("kind", "base", "length", "reset"), "master": ("sources", "ops")}

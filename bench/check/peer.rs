@@ -15,7 +15,7 @@ mod plain;
 mod rows;
 
 use given::{Given, MAX_BYTES};
-use plain::{Bank, Kind, LARGEST_SIZE, NAMES, Op, Script};
+use plain::{Bank, Kind, MAX_SIZE, NAMES, Op, Script};
 use rows::{Fields, LANES, Records, Row, Side, Stop};
 
 // ---- the judge
@@ -250,7 +250,7 @@ impl Judge {
                 let Some(op) = op_of(f.opcode, f.param) else {
                     return fault("unknown opcode");
                 };
-                if u32::from(f.size) > LARGEST_SIZE {
+                if u32::from(f.size) > MAX_SIZE {
                     return fault("size out of range");
                 }
                 op
@@ -341,7 +341,7 @@ impl Judge {
         let begun = self.under_way(row).reply.take();
         match &begun {
             None if f.opcode > 2 => return fault("unknown opcode"),
-            None if u32::from(f.size) > LARGEST_SIZE => return fault("size out of range"),
+            None if u32::from(f.size) > MAX_SIZE => return fault("size out of range"),
             Some((g, ..)) if (f.opcode, f.size, f.source, f.denied) != (g.opcode, g.size, g.source, g.denied) => {
                 return fault("field changed");
             }

@@ -3,7 +3,7 @@ use std::io::{self, Read};
 
 pub const LANES: usize = 8;
 const COLUMNS: usize = 12;
-const MOST_ROW: usize = 4096;
+const MAX_ROW: usize = 4096;
 const HEADER: [&str; COLUMNS] = [
     "time", "link", "channel", "opcode", "param", "size", "source", "address", "mask", "data", "denied", "corrupt",
 ];
@@ -281,7 +281,7 @@ impl<R: Read> Records<R> {
             }
             self.feeds += u64::from(byte == b'\n');
             taken += 1;
-            if taken > MOST_ROW && !(is_end && at != At::Quoted) {
+            if taken > MAX_ROW && !(is_end && at != At::Quoted) {
                 return Err(Stop::TooLong);
             }
             at = match (at, byte) {

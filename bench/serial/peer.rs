@@ -5,7 +5,7 @@ use std::fmt::Write as _;
 use std::io::{self, Read, Write as _};
 
 /// The largest size of a message, as log2 of its bytes.
-pub const LARGEST_SIZE: u32 = 8;
+pub const MAX_SIZE: u32 = 8;
 
 #[derive(Clone, Copy, PartialEq)]
 pub enum Kind {
@@ -93,7 +93,7 @@ pub fn ask_of(line: &str, sources: u16) -> Option<Ask> {
     let carries = !matches!(op, Op::Get | Op::Hint(_));
     let bytes = if carries { data(words.next()?)? } else { Vec::new() };
     let lawful = source < sources
-        && size <= LARGEST_SIZE
+        && size <= MAX_SIZE
         && words.next().is_none()
         && (!carries || bytes.len() == 1 << size)
         && (op == Op::PutPart || bytes.iter().all(Option::is_some));

@@ -8,7 +8,7 @@ const TURNS: u64 = 2_000_000;
 /// The most bytes of a message.
 const MAX_BYTES: usize = 256;
 /// The size of such a message.
-const LARGEST_SIZE: u8 = 8;
+const MAX_SIZE: u8 = 8;
 
 #[derive(Clone, Copy)]
 enum Arith {
@@ -74,7 +74,7 @@ impl Bank {
         let width = 1u64 << ask.size;
         let supported = match ask.op {
             Op::Arithmetic(_) | Op::Xor => ask.size == 2 || ask.size == 3,
-            _ => ask.size <= LARGEST_SIZE,
+            _ => ask.size <= MAX_SIZE,
         };
         supported
             && ask.address % width == 0

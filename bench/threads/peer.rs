@@ -25,7 +25,7 @@ use plain::{Bank, Kind, Op, Script};
 const LOOKS: u32 = 32;
 
 /// The most rings that a port owes masters before it gives them.
-const MOST_OWED: usize = 16;
+const MAX_OWED: usize = 16;
 
 /// A request, with the bytes that are given.
 #[derive(Clone, Copy)]
@@ -182,9 +182,9 @@ fn step(book: &Mutex<Book>, slots: &[Slot], port: usize) -> Option<usize> {
 
 /// Serves a request at each ring. It gives the rings that it owes once it has nothing else to do, or owes many.
 fn run_port(book: &Mutex<Book>, slots: &[Slot], port: usize, mut bell: Listener, masters: Vec<SyncSender<Ring>>) {
-    let mut owed: Vec<usize> = Vec::with_capacity(MOST_OWED);
+    let mut owed: Vec<usize> = Vec::with_capacity(MAX_OWED);
     loop {
-        let at_once = if owed.len() < MOST_OWED { bell.look() } else { None };
+        let at_once = if owed.len() < MAX_OWED { bell.look() } else { None };
         let ring = at_once.unwrap_or_else(|| {
             for master in owed.drain(..) {
                 let _ = masters[master].send(Ring::Look);

@@ -10,8 +10,8 @@
 #include <stdlib.h>
 #include <string.h>
 
-#define MOST_ROWS 256
-#define MOST_TEXT 65536
+#define MAX_ROWS 256
+#define MAX_TEXT 65536
 
 static int passed, failed;
 
@@ -128,7 +128,7 @@ static size_t read_file(const char *folder, const char *name, char *text) {
   snprintf(path, sizeof path, "%s/%s", folder, name);
   FILE *file = fopen(path, "rb");
   if (!file) return 0;
-  size_t length = fread(text, 1, MOST_TEXT - 1, file);
+  size_t length = fread(text, 1, MAX_TEXT - 1, file);
   fclose(file);
   text[length] = 0;
   return length;
@@ -253,8 +253,8 @@ static void judge_rows(struct tlx_judge *judge, const struct row *rows, size_t c
 }
 
 static void check_capture(const char *folder, const char *script, size_t length, const char *name) {
-  static char text[MOST_TEXT], args[MOST_TEXT], expected[MOST_TEXT];
-  static struct row rows[MOST_ROWS];
+  static char text[MAX_TEXT], args[MAX_TEXT], expected[MAX_TEXT];
+  static struct row rows[MAX_ROWS];
   char path[512], verdict[2048], *last = expected;
   struct tlx_system system = {0};
   struct tlx_judge judge = {0};
@@ -607,7 +607,7 @@ static void check_memory(const char *script) {
 }
 
 int main(int count, char **words) {
-  static char script[MOST_TEXT];
+  static char script[MAX_TEXT];
   char folder[1024];
   check_words();
   check_scripts();

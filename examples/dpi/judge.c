@@ -14,21 +14,21 @@
 extern "C" {
 #endif
 
-#define MOST_JUDGES 16
-#define MOST_BEATS 1024 /* of one cycle */
-#define MOST_TEXT 2048
-#define MOST_SCRIPT (1 << 20)
+#define MAX_JUDGES 16
+#define MAX_BEATS 1024 /* of one cycle */
+#define MAX_TEXT 2048
+#define MAX_SCRIPT (1 << 20)
 
 struct watch {
   struct tlx_judge judge;
   int links;           /* enum tlx_links */
   uint64_t count;      /* the beats that were handed over, watched or not */
-  char text[MOST_TEXT]; /* what is wrong, or the counts at the end; empty until then */
+  char text[MAX_TEXT]; /* what is wrong, or the counts at the end; empty until then */
   size_t held;
-  struct tlx_beat beats[MOST_BEATS];
+  struct tlx_beat beats[MAX_BEATS];
 };
 
-static struct watch watches[MOST_JUDGES];
+static struct watch watches[MAX_JUDGES];
 static int opened;
 
 static struct watch *watch_of(int judge) { return judge >= 0 && judge < opened ? &watches[judge] : NULL; }
@@ -43,8 +43,8 @@ static uint8_t place_of(const char *word, const char *const *words, uint8_t coun
 /* A file's bytes, one more than a script may have at most, which the library then refuses; null if there are none to read. */
 static char *read_script(const char *path, size_t *length) {
   FILE *file = fopen(path, "rb");
-  char *script = file ? (char *)malloc(MOST_SCRIPT + 1) : NULL;
-  if (script) *length = fread(script, 1, MOST_SCRIPT + 1, file);
+  char *script = file ? (char *)malloc(MAX_SCRIPT + 1) : NULL;
+  if (script) *length = fread(script, 1, MAX_SCRIPT + 1, file);
   if (file && ferror(file)) {
     free(script);
     script = NULL;
@@ -58,12 +58,12 @@ static void make(struct watch *watch, const char *path, const char *links, const
   static const char *const views[] = {"both", "masters", "ports"}, *const orders[] = {"accept", "reply"};
   struct tlx_system system;
   size_t length = 0;
-  char why[MOST_TEXT / 2] = "";
+  char why[MAX_TEXT / 2] = "";
   uint8_t view = place_of(links, views, 3), when = place_of(order, orders, 2);
   char *script = read_script(path, &length);
   memset(&system, 0, sizeof system);
   if (!script) {
-    snprintf(watch->text, MOST_TEXT, "judge: %s: could not be read\n", path);
+    snprintf(watch->text, MAX_TEXT, "judge: %s: could not be read\n", path);
     return;
   }
   uint32_t fault = tlx_system_read(&system, script, length, why, sizeof why);
@@ -77,12 +77,12 @@ static void make(struct watch *watch, const char *path, const char *links, const
     return;
   }
   if (!why[0]) tlx_fault_text(fault, why, sizeof why);
-  snprintf(watch->text, MOST_TEXT, "judge: %s, links %s, order %s: %s\n", path, links, order, why);
+  snprintf(watch->text, MAX_TEXT, "judge: %s, links %s, order %s: %s\n", path, links, order, why);
 }
 
 /* A judge for the crossbar that a script describes: its number, which the other calls take. */
 int tl_judge_open(const char *path, const char *links, const char *order) {
-  if (opened == MOST_JUDGES) return -1;
+  if (opened == MAX_JUDGES) return -1;
   make(&watches[opened], path, links, order);
   return opened++;
 }
@@ -92,8 +92,8 @@ static struct tlx_beat *next_beat(int judge, const char *link, uint64_t time, ui
   struct watch *watch = watch_of(judge);
   char *end;
   if (!watch || watch->text[0]) return NULL;
-  if (watch->held == MOST_BEATS || (link[0] != 'm' && link[0] != 'p')) {
-    snprintf(watch->text, MOST_TEXT, "judge: link %s: %s\n", link, watch->held == MOST_BEATS ? "too many beats in a cycle" : "its name is none");
+  if (watch->held == MAX_BEATS || (link[0] != 'm' && link[0] != 'p')) {
+    snprintf(watch->text, MAX_TEXT, "judge: link %s: %s\n", link, watch->held == MAX_BEATS ? "too many beats in a cycle" : "its name is none");
     return NULL;
   }
   struct tlx_beat *beat = &watch->beats[watch->held++];
@@ -135,7 +135,7 @@ void tl_judge_reply(int judge, const char *link, unsigned long long time, unsign
 void tl_judge_unknown(int judge, const char *link, unsigned long long time, const char *channel) {
   struct watch *watch = watch_of(judge);
   if (!watch || watch->text[0]) return;
-  snprintf(watch->text, MOST_TEXT, "judge: link %s, channel %s, time %llu: a field is unknown\n", link, channel, time);
+  snprintf(watch->text, MAX_TEXT, "judge: link %s, channel %s, time %llu: a field is unknown\n", link, channel, time);
 }
 
 /* A beat's turn within its cycle: A of the masters' links, A of the ports', D of the ports', D of the masters'. */
@@ -152,15 +152,15 @@ static int compare(const void *one, const void *other) {
 
 /* Judges a beat. Its line is the one that it has in a capture whose rows stand in the order of turns, behind the header. */
 static void step(struct watch *watch, struct tlx_beat *beat) {
-  char why[MOST_TEXT / 2];
+  char why[MAX_TEXT / 2];
   beat->line = ++watch->count + 1;
   if (watch->links == (beat->side == TLX_MASTER ? TLX_PORT_LINKS : TLX_MASTER_LINKS)) return;
   uint32_t fault = tlx_judge_step(&watch->judge, beat);
   if (fault >= TLX_FIELD_CHANGED) {
-    tlx_judge_text(&watch->judge, watch->text, MOST_TEXT);
+    tlx_judge_text(&watch->judge, watch->text, MAX_TEXT);
   } else if (fault != TLX_OK) {
     tlx_fault_text(fault, why, sizeof why);
-    snprintf(watch->text, MOST_TEXT, "judge: link %c%" PRIu64 ": %s\n", beat->side == TLX_MASTER ? 'm' : 'p', beat->number, why);
+    snprintf(watch->text, MAX_TEXT, "judge: link %c%" PRIu64 ": %s\n", beat->side == TLX_MASTER ? 'm' : 'p', beat->number, why);
   }
 }
 
@@ -185,7 +185,7 @@ void tl_judge_close(int judge) {
   struct watch *watch = watch_of(judge);
   if (!watch) return;
   if (!tl_judge_cycle(judge))
-    snprintf(watch->text, MOST_TEXT, "lawful: %" PRIu64 " beats, %" PRIu64 " requests, %" PRIu64 " answered\n", watch->count,
+    snprintf(watch->text, MAX_TEXT, "lawful: %" PRIu64 " beats, %" PRIu64 " requests, %" PRIu64 " answered\n", watch->count,
              tlx_judge_requests(&watch->judge), tlx_judge_answered(&watch->judge));
   tlx_judge_free(&watch->judge);
 }

@@ -11,14 +11,14 @@ use check_link::{Beat, Link};
 use tl_types::{MAX_MASTERS, MAX_PORTS};
 
 /// The most beats of one time: one for each channel of each link.
-const MOST_ROWS: usize = 2 * (MAX_MASTERS + MAX_PORTS);
+const MAX_ROWS: usize = 2 * (MAX_MASTERS + MAX_PORTS);
 
 /// Where a row stands among those of its time: channel A of the masters' links, A of the ports', D of the ports', D of the
 /// masters', each by rising number.
 fn place_of(row: &Row) -> usize
     requires { IsLink row.now.sighting.link }
     ensures value { result ≡ place_of row.now }
-    ensures inside { result < MOST_ROWS }
+    ensures inside { result < MAX_ROWS }
 {
     match (row.sighting.link, row.sighting.beat) {
         (Link::Master(number), Beat::A(_)) => number,
@@ -59,7 +59,7 @@ fn find_gap(rows: &[Row], place: usize) -> Option<usize>
 #[derive(Debug, Drop)]
 pub struct Moment {
     time: u64,
-    rows: ArrayVec<Row, MOST_ROWS>,
+    rows: ArrayVec<Row, MAX_ROWS>,
 }
 
 impl Model for Moment {

@@ -16,10 +16,10 @@ use tl_beats::{ABeat, DBeat};
 const COLUMNS: usize = 12;
 
 /// The largest opcode, parameter and size that a beat can have.
-const LARGEST_FIELD: u64 = u8::MAX as u64;
+const MAX_FIELD: u64 = u8::MAX as u64;
 
 /// The largest source that a beat can have.
-const LARGEST_SOURCE: u64 = u16::MAX as u64;
+const MAX_SOURCE: u64 = u16::MAX as u64;
 
 /// A row of a capture: the line on which it begins, and what was seen when.
 #[derive(Debug, Clone, Copy, PartialEq, Eq)]
@@ -48,10 +48,10 @@ impl Default for Row {
 fn read_ask(columns: &ByteRecord) -> Result<(Beat, u8), RowFault>
     ensures { result ≡ ask_of (fields_of columns.now) }
 {
-    let opcode = read_decimal(column(columns, 3), LARGEST_FIELD)?;
-    let param = read_decimal(column(columns, 4), LARGEST_FIELD)?;
-    let size = read_decimal(column(columns, 5), LARGEST_FIELD)?;
-    let source = read_decimal(column(columns, 6), LARGEST_SOURCE)?;
+    let opcode = read_decimal(column(columns, 3), MAX_FIELD)?;
+    let param = read_decimal(column(columns, 4), MAX_FIELD)?;
+    let size = read_decimal(column(columns, 5), MAX_FIELD)?;
+    let source = read_decimal(column(columns, 6), MAX_SOURCE)?;
     let address = read_address(column(columns, 7))?;
     let mask = read_mask(column(columns, 8))?;
     let lanes = read_lanes(column(columns, 9))?;
@@ -74,10 +74,10 @@ fn read_ask(columns: &ByteRecord) -> Result<(Beat, u8), RowFault>
 fn read_reply(columns: &ByteRecord) -> Result<(Beat, u8), RowFault>
     ensures { result ≡ reply_of (fields_of columns.now) }
 {
-    let opcode = read_decimal(column(columns, 3), LARGEST_FIELD)?;
+    let opcode = read_decimal(column(columns, 3), MAX_FIELD)?;
     read_nothing(column(columns, 4))?;
-    let size = read_decimal(column(columns, 5), LARGEST_FIELD)?;
-    let source = read_decimal(column(columns, 6), LARGEST_SOURCE)?;
+    let size = read_decimal(column(columns, 5), MAX_FIELD)?;
+    let source = read_decimal(column(columns, 6), MAX_SOURCE)?;
     read_nothing(column(columns, 7))?;
     read_nothing(column(columns, 8))?;
     let lanes = read_lanes(column(columns, 9))?;

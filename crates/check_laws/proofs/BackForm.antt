@@ -2,7 +2,7 @@
 use Rattle.std.proofs.Common.{◌≡◌, ◌≢◌, ◌∙◌, ℕ, ◌≤◌, Bool, true, false, if◌then◌else◌, List, [], ◌∷◌, ◌++◌, length, Some, slice_get, refl, ap, sym, subst, append-nil}
 use Rattle.std.specs.List.{AllByRecursion}
 use Rattle.tl_types.specs.Request.{Request}
-use Rattle.tl_types.specs.declared.limits.TheConstants.{LARGEST_SIZE}
+use Rattle.tl_types.specs.declared.limits.TheConstants.{MAX_SIZE}
 use Rattle.tl_beats.specs.Beats.{IsLawfulMask}
 use Rattle.tl_beats.specs.Replies.{IsLawfulFlag}
 use Rattle.tl_beats.specs.declared.beat.ABeat.{ABeat}
@@ -47,7 +47,7 @@ spelled_fits ask begun beat rest is =
       formed = record {
         op = ask.op;
         code = record { opcode_is = sym fields.opcode; param_is = sym fields.param };
-        in_limit = subst (λ n. n ≤ LARGEST_SIZE) (sym fields.size) is.0.in_limit;
+        in_limit = subst (λ n. n ≤ MAX_SIZE) (sym fields.size) is.0.in_limit;
         mask = subst (λ n. IsLawfulMask ask.op n beat.address beat.mask) (sym fields.size) (subst (λ a. IsLawfulMask ask.op ask.size a beat.mask) (sym fields.address) here.mask);
       };
       same = λ first at.
@@ -71,7 +71,7 @@ reply_spelled_fits begun beat rest spelled =
       formed = record {
         op = reply.op;
         code = sym fields.opcode;
-        in_limit = subst (λ n. n ≤ LARGEST_SIZE) (sym fields.size) is.1.in_limit;
+        in_limit = subst (λ n. n ≤ MAX_SIZE) (sym fields.size) is.1.in_limit;
         flag = subst (λ d. IsLawfulFlag reply.op d beat.corrupt) (sym fields.denied) here.corrupt;
       };
       same = λ first at.

@@ -6,7 +6,7 @@ use Rattle.tl_types.specs.Fault.{IsFirstOf}
 use Rattle.tl_types.specs.Wire.{IsCodeOf, reply_opcode_of}
 use Rattle.tl_types.specs.declared.operation.AskOp.{AskOp}
 use Rattle.tl_types.specs.declared.operation.ReplyOp.{ReplyOp}
-use Rattle.tl_types.specs.declared.limits.TheConstants.{LARGEST_SIZE}
+use Rattle.tl_types.specs.declared.limits.TheConstants.{MAX_SIZE}
 use Rattle.tl_beats.specs.Beats.{IsLawfulMask}
 use Rattle.tl_beats.specs.Replies.{IsLawfulFlag}
 use Rattle.tl_beats.specs.Faults.{SameFields, SameReplyFields}
@@ -26,7 +26,7 @@ Continues {B} Same begun beat = (first : B) → slice_get begun 0 ≡ Some first
 pub record IsFormed (beat : ABeat) : Type 0 where
   pub op : AskOp
   pub code : IsCodeOf op beat.opcode beat.param
-  pub in_limit : beat.size ≤ LARGEST_SIZE
+  pub in_limit : beat.size ≤ MAX_SIZE
   pub mask : IsLawfulMask op beat.size beat.address beat.mask
 
 -- the beat is lawful alone, and is one of the request that is under way, if one is
@@ -42,7 +42,7 @@ IsKnown beat known = beat.opcode < 4 → bit_and beat.mask known ≡ beat.mask
 abbrev pub HasAskFormFault : List ABeat → ABeat → ℕ → FormFault → Type 0
 HasAskFormFault begun beat known Changed = Continues SameFields begun beat → ⊥
 HasAskFormFault begun beat known Opcode = (op : AskOp) → IsCodeOf op beat.opcode beat.param → ⊥
-HasAskFormFault begun beat known Size = LARGEST_SIZE < beat.size
+HasAskFormFault begun beat known Size = MAX_SIZE < beat.size
 HasAskFormFault begun beat known Mask =
     (op : AskOp) × IsCodeOf op beat.opcode beat.param × (IsLawfulMask op beat.size beat.address beat.mask → ⊥)
 HasAskFormFault begun beat known CorruptFlag = ⊥
@@ -54,7 +54,7 @@ HasAskFormFault begun beat known UnknownData = (beat.opcode < 4) × (bit_and bea
 pub record IsFormedReply (beat : DBeat) : Type 0 where
   pub op : ReplyOp
   pub code : reply_opcode_of op ≡ beat.opcode
-  pub in_limit : beat.size ≤ LARGEST_SIZE
+  pub in_limit : beat.size ≤ MAX_SIZE
   pub flag : IsLawfulFlag op beat.denied beat.corrupt
 
 pub record FitsReply (begun : List DBeat) (beat : DBeat) : Type 0 where
@@ -65,7 +65,7 @@ pub record FitsReply (begun : List DBeat) (beat : DBeat) : Type 0 where
 abbrev pub HasReplyFormFault : List DBeat → DBeat → FormFault → Type 0
 HasReplyFormFault begun beat Changed = Continues SameReplyFields begun beat → ⊥
 HasReplyFormFault begun beat Opcode = (op : ReplyOp) → reply_opcode_of op ≡ beat.opcode → ⊥
-HasReplyFormFault begun beat Size = LARGEST_SIZE < beat.size
+HasReplyFormFault begun beat Size = MAX_SIZE < beat.size
 HasReplyFormFault begun beat Mask = ⊥
 HasReplyFormFault begun beat CorruptFlag =
     (op : ReplyOp) × (reply_opcode_of op ≡ beat.opcode) × (IsLawfulFlag op beat.denied beat.corrupt → ⊥)

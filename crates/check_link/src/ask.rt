@@ -8,11 +8,11 @@ ghost use Rattle.check_link.specs.Begun.{IsWhole};
 use crate::fault::FormFault;
 use arrayvec::ArrayVec;
 use tl_beats::{ABeat, MAX_BEATS, assemble_ask_into, beat_count, is_lawful_mask, same_fields};
-use tl_types::{Ask, LARGEST_SIZE, read_op};
+use tl_types::{Ask, MAX_SIZE, read_op};
 
 /// How many beats the request has that a beat is part of.
 pub fn ask_beats(beat: &ABeat) -> usize
-    requires { beat.now.size ≤ LARGEST_SIZE }
+    requires { beat.now.size ≤ MAX_SIZE }
     ensures value { result ≡ ask_beats beat.now }
     ensures in_limit { result ≤ MAX_BEATS }
 {
@@ -70,7 +70,7 @@ pub fn ask_fault(begun: &[ABeat], beat: &ABeat, known: u8) -> Option<FormFault>
     let Ok(op) = read_op(beat.opcode, beat.param) else {
         return Some(FormFault::Opcode);
     };
-    if beat.size > LARGEST_SIZE {
+    if beat.size > MAX_SIZE {
         return Some(FormFault::Size);
     }
     if !is_lawful_mask(beat.mask, op, beat.size, beat.address) {

@@ -12,11 +12,11 @@ use arrayvec::ArrayVec;
 use tl_beats::{
     DBeat, MAX_BEATS, assemble_reply_into, beat_count, is_lawful_flag, same_reply_fields,
 };
-use tl_types::{LARGEST_SIZE, Reply, read_reply_op};
+use tl_types::{MAX_SIZE, Reply, read_reply_op};
 
 /// How many beats the reply has that a beat is part of.
 pub fn reply_beats(beat: &DBeat) -> usize
-    requires { beat.now.size ≤ LARGEST_SIZE }
+    requires { beat.now.size ≤ MAX_SIZE }
     ensures value { result ≡ reply_beats beat.now }
     ensures in_limit { result ≤ MAX_BEATS }
 {
@@ -72,7 +72,7 @@ pub fn reply_fault(begun: &[DBeat], beat: &DBeat) -> Option<FormFault>
     let Ok(op) = read_reply_op(beat.opcode) else {
         return Some(FormFault::Opcode);
     };
-    if beat.size > LARGEST_SIZE {
+    if beat.size > MAX_SIZE {
         return Some(FormFault::Size);
     }
     if !is_lawful_flag(op, beat.denied, beat.corrupt) {

@@ -1,7 +1,7 @@
 //! The messages that are under way at a link.
 ghost use Rattle.std.specs.Prelude.{◌≡◌, ◌≤◌, ◌↔◌, ◌++◌, ◌∷◌, [], IsTrue, IfSome, IfNone};
 ghost use Rattle.tl_types.specs.Response.{Response, IsLawfulResponse};
-ghost use Rattle.tl_types.specs.declared.limits.TheConstants.{LARGEST_SIZE};
+ghost use Rattle.tl_types.specs.declared.limits.TheConstants.{MAX_SIZE};
 ghost use Rattle.tl_beats.specs.Replies.{SpellsReply};
 ghost use Rattle.check_link.specs.Message.{ask_of};
 ghost use Rattle.check_link.specs.Past.{ends_ask, ends_reply, asks_after, replies_after, nothing_under};

@@ -7,7 +7,7 @@ use Rattle.csv.specs.declared.parser.Action.TheVariants as act
 use Rattle.check_records.specs.Draft.{EndsWith, GoesOn, Partial, action_at, becomes, behind, full_size}
 use Rattle.check_records.specs.Text.{bytes_from}
 use Rattle.check_records.proofs.TextLemmas.{split-at}
-use Rattle.check_records.specs.declared.draft.TheConstants.{MOST_ROW}
+use Rattle.check_records.specs.declared.draft.TheConstants.{MAX_ROW}
 
 pub goes-none : (p : Partial) → GoesOn p [] p
 goes-none p = record { becomes = λ rest. refl; size = λ rest. refl }
@@ -49,8 +49,8 @@ pub ends-more : (p q : Partial) (xs : List ℕ) (byte : ℕ) → GoesOn p xs q �
 ends-more p q xs byte so_far end = ends-behind p q xs (byte ∷ []) (q.fields ++ (q.field ∷ [])) q.size so_far (ends-byte q byte end)
 
 -- a byte more than a record may have
-pub long-more : (p q : Partial) (xs : List ℕ) (byte : ℕ) (rest : List ℕ) → GoesOn p xs q → is_end (action_at q byte) ≡ false → MOST_ROW ≤ q.size
-    → MOST_ROW < full_size p (xs ++ (byte ∷ rest))
+pub long-more : (p q : Partial) (xs : List ℕ) (byte : ℕ) (rest : List ℕ) → GoesOn p xs q → is_end (action_at q byte) ≡ false → MAX_ROW ≤ q.size
+    → MAX_ROW < full_size p (xs ++ (byte ∷ rest))
 unfolding bytes_from
 long-more p q xs byte rest so_far on full =
     let size = so_far.size (byte ∷ rest) in
@@ -68,9 +68,9 @@ pub feed-ends : (p q : Partial) (text : List ℕ) (i : ℕ) → i < length text 
 feed-ends p q text i inside so_far end = rw (take_more text i 0 inside) (ends-more p q (take i text) (get_or text i 0) so_far end)
 
 pub feed-long : (p q : Partial) (text : List ℕ) (i : ℕ) → i < length text → GoesOn p (take i text) q → is_end (action_at q (get_or text i 0)) ≡ false
-    → MOST_ROW ≤ q.size → (rest : List ℕ) → MOST_ROW < full_size p (text ++ rest)
+    → MAX_ROW ≤ q.size → (rest : List ℕ) → MAX_ROW < full_size p (text ++ rest)
 feed-long p q text i inside so_far on full rest =
     let parts : text ++ rest ≡ take i text ++ (get_or text i 0 ∷ (drop (i + 1) text ++ rest)) =
     ap (λ (xs : List ℕ). xs ++ rest) (split-at text i inside) ∙ append_assoc (take i text) (get_or text i 0 ∷ drop (i + 1) text) rest in
     let long = long-more p q (take i text) (get_or text i 0) (drop (i + 1) text ++ rest) so_far on full in
-    subst (λ (xs : List ℕ). MOST_ROW < full_size p xs) (sym parts) long
+    subst (λ (xs : List ℕ). MAX_ROW < full_size p xs) (sym parts) long

@@ -9,7 +9,7 @@ use Rattle.check_records.specs.Draft.{EndsWith, GoesOn, Partial, full_size}
 use Rattle.check_records.specs.Reading.{Answers, StopsLong}
 use Rattle.check_records.specs.Source.{Between, HasFirst, HasSameNext, Left, at_hand, left, left_of}
 use Rattle.check_records.specs.Text.{Ends, Gives, Place, Row, is_line_end, line_feeds}
-use Rattle.check_records.specs.declared.draft.TheConstants.{MOST_ROW}
+use Rattle.check_records.specs.declared.draft.TheConstants.{MAX_ROW}
 use Rattle.check_records.specs.declared.fault.RecordFault.{RecordFault}
 use Rattle.check_records.specs.declared.source.Source.{Source}
 use Rattle.check_records.proofs.KnownLemmas.{between-trans, both-hand, prepend-none}
@@ -105,7 +105,7 @@ within-advance remaining from old new p q row count feeds so_far is all on =
 -- the bytes that were taken end it
 pub gives-advance : {R : Type 0} (remaining : R → Option (List ℕ)) (from : Left) (old new : Source R) (p : Partial) (row count feeds size : ℕ)
     (fields : List (List ℕ)) → Between from (left remaining old) (λ a b. IsWithin a p row b) → IsAdvance old count feeds new
-    → EndsWith p (take count (at_hand old)) fields size → size ≤ MOST_ROW
+    → EndsWith p (take count (at_hand old)) fields size → size ≤ MAX_ROW
     → Between from (left remaining new) (λ a b. Gives a (record { line = row; fields = fields }) b)
 gives-advance remaining from old new p row count feeds size fields so_far is ends short =
     between-trans from (left remaining old) (left remaining new) (λ a b. IsWithin a p row b)
@@ -117,7 +117,7 @@ gives-advance remaining from old new p row count feeds size fields so_far is end
 -- it gets too long
 long-known : (from : Left) (line : ℕ) (hand : List ℕ) (known : Option (List ℕ)) (p : Partial) (row : ℕ)
     → Between from (record { line = line; text = prepend_known hand known }) (λ a b. IsWithin a p row b)
-    → ((rest : List ℕ) → MOST_ROW < full_size p (hand ++ rest)) → StopsLong from row
+    → ((rest : List ℕ) → MAX_ROW < full_size p (hand ++ rest)) → StopsLong from row
 long-known from line hand known p row so_far long = go from.text known so_far
   where
     go : (text known : Option (List ℕ))
@@ -128,7 +128,7 @@ long-known from line hand known p row so_far long = go from.text known so_far
     go (Some xs) (Some rest) within = long-within (record { line = from.line; text = xs }) p row line (hand ++ rest) within (long rest)
 
 pub long-hand : {R : Type 0} (remaining : R → Option (List ℕ)) (from : Left) (source : Source R) (p : Partial) (row : ℕ)
-    → Between from (left remaining source) (λ a b. IsWithin a p row b) → ((rest : List ℕ) → MOST_ROW < full_size p (at_hand source ++ rest))
+    → Between from (left remaining source) (λ a b. IsWithin a p row b) → ((rest : List ℕ) → MAX_ROW < full_size p (at_hand source ++ rest))
     → StopsLong from row
 long-hand remaining from source p row so_far long =
     long-known from source.line (at_hand source) (remaining source.reader) p row so_far long
@@ -149,7 +149,7 @@ at-end remaining source P none end is = rw none (go (remaining source.reader) en
 -- it ends there
 pub gives-at-end : {R : Type 0} (remaining : R → Option (List ℕ)) (from : Left) (source : Source R) (p : Partial) (row : ℕ)
     → Between from (left remaining source) (λ a b. IsWithin a p row b) → at_hand source ≡ [] → IsAtEnd (remaining source.reader)
-    → ends_at_end p.state ≡ true → p.size ≤ MOST_ROW
+    → ends_at_end p.state ≡ true → p.size ≤ MAX_ROW
     → Between from (left remaining source) (λ a b. Gives a (record { line = row; fields = p.fields ++ (p.field ∷ []) }) b)
 gives-at-end remaining from source p row so_far none end ends short =
     between-trans from (left remaining source) (left remaining source) (λ a b. IsWithin a p row b)
@@ -197,7 +197,7 @@ stops-behind-lines from here line same long = go from.text here.text same long
 
 pub answers-at-end : {R : Type 0} (remaining : R → Option (List ℕ)) (from : Left) (source : Source R) (p : Partial) (line : ℕ) (row : Row)
     (r : Result Bool RecordFault) → Between from (left remaining source) (λ a b. IsWithin a p line b) → at_hand source ≡ []
-    → IsAtEnd (remaining source.reader) → p.size ≤ MOST_ROW → IfOk r (λ ends. ends ≡ ends_at_end p.state)
+    → IsAtEnd (remaining source.reader) → p.size ≤ MAX_ROW → IfOk r (λ ends. ends ≡ ends_at_end p.state)
     → (r ≡ Ok true → row.fields ≡ p.fields ++ (p.field ∷ [])) → row.line ≡ line → IfOk r (Answers from (left remaining source) row)
 answers-at-end remaining from source p line row (Ok true) within none end short ends fields same =
     let make : ℕ → List (List ℕ) → Row = λ at of. record { line = at; fields = of } in

@@ -6,7 +6,7 @@ use Rattle.csv.specs.declared.parser.State.TheVariants as st
 use Rattle.check_records.specs.Draft.{EndsWith, GoesOn, Partial, becomes, full_size}
 use Rattle.check_records.specs.Source.{HasSameNext}
 use Rattle.check_records.specs.Text.{Ends, Gives, IsTooLong, Place, Row, bytes_from, is_line_end, line_feeds, record_bytes, record_line}
-use Rattle.check_records.specs.declared.draft.TheConstants.{MOST_ROW}
+use Rattle.check_records.specs.declared.draft.TheConstants.{MAX_ROW}
 use Rattle.check_records.proofs.TextLemmas.{feeds-append, from-first, line-first}
 
 -- the record at hand, which begins on this line, is the next of the one place, and the other place is within it
@@ -49,7 +49,7 @@ within-more from p q row line bytes rest within on =
 
 -- bytes that end it
 pub gives-end : (from : Place) (p : Partial) (row line size n : ℕ) (fields : List (List ℕ)) (hand rest : List ℕ)
-    → IsWithin from p row (record { line = line; text = hand ++ rest }) → EndsWith p (take n hand) fields size → size ≤ MOST_ROW
+    → IsWithin from p row (record { line = line; text = hand ++ rest }) → EndsWith p (take n hand) fields size → size ≤ MAX_ROW
     → Gives from (record { line = row; fields = fields }) (record { line = line + line_feeds (take n hand); text = drop n hand ++ rest })
 gives-end from p row line size n fields hand rest within ends short =
     let parts : hand ++ rest ≡ take n hand ++ (drop n hand ++ rest) =
@@ -68,7 +68,7 @@ gives-end from p row line size n fields hand rest within ends short =
 
 -- the end of the text ends it
 pub gives-last : (from : Place) (p : Partial) (row line : ℕ) → IsWithin from p row (record { line = line; text = [] }) → ends_at_end p.state ≡ true
-    → p.size ≤ MOST_ROW → Gives from (record { line = row; fields = p.fields ++ (p.field ∷ []) }) (record { line = line; text = [] })
+    → p.size ≤ MAX_ROW → Gives from (record { line = row; fields = p.fields ++ (p.field ∷ []) }) (record { line = line; text = [] })
 unfolding next_record bytes_from
 gives-last from p row line within ends short =
     let whole = within.size in
@@ -87,7 +87,7 @@ ends-last from p row line within ends = record { none = within.reads ∙ rw ends
 
 -- it gets too long
 pub long-within : (from : Place) (p : Partial) (row line : ℕ) (text : List ℕ) → IsWithin from p row (record { line = line; text = text })
-    → MOST_ROW < full_size p text → IsTooLong from row
+    → MAX_ROW < full_size p text → IsTooLong from row
 long-within from p row line text within long =
     let whole = within.size in record { begins = within.begins; long = omega (arith, whole, long) }
 

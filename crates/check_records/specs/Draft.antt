@@ -8,7 +8,7 @@ use Rattle.csv.specs.declared.parser.Action.{Action}
 use Rattle.csv.specs.declared.parser.Action.TheVariants as act
 use Rattle.check_records.specs.Machine.{state_of}
 use Rattle.check_records.specs.Text.{bytes_from}
-use Rattle.check_records.specs.declared.draft.TheConstants.{MOST_ROW}
+use Rattle.check_records.specs.declared.draft.TheConstants.{MAX_ROW}
 use Rattle.check_records.specs.declared.draft.Draft.{Draft}
 use Rattle.check_records.specs.declared.draft.Fed.{Fed}
 
@@ -68,7 +68,7 @@ pub record EndsWith (old : Partial) (bytes : List ℕ) (fields : List (List ℕ)
 pub record IsDraft (draft : Draft) : Type 0 where
   pub whole : partial_of draft.columns ≡ []
   pub room : length draft.field.items ≤ draft.size
-  pub short : draft.size ≤ MOST_ROW
+  pub short : draft.size ≤ MAX_ROW
 
 -- a byte ends it, or else it goes on
 abbrev pub TakesByte : Draft → ℕ → Draft → Bool → Type 0
@@ -81,5 +81,5 @@ TakesByte old byte new false =
 -- so many bytes of a text end it, with no more bytes than it may have, or else it goes on behind all of them
 abbrev pub FeedsTo : Draft → List ℕ → Draft → Fed → Bool → Type 0
 FeedsTo old text new fed true =
-    (size : ℕ) × EndsWith (partial old) (take fed.taken text) (fields_of new.columns) size × (size ≤ MOST_ROW)
+    (size : ℕ) × EndsWith (partial old) (take fed.taken text) (fields_of new.columns) size × (size ≤ MAX_ROW)
 FeedsTo old text new fed false = (fed.taken ≡ length text) × GoesOn (partial old) text (partial new) × IsDraft new

@@ -5,7 +5,7 @@ use Rattle.csv.specs.Machine.{is_end, next_record, step}
 use Rattle.csv.specs.Reading.{default_config, strip_bom}
 use Rattle.csv.specs.declared.parser.State.{State}
 use Rattle.csv.specs.declared.parser.State.TheVariants as st
-use Rattle.check_records.specs.declared.draft.TheConstants.{MOST_ROW}
+use Rattle.check_records.specs.declared.draft.TheConstants.{MAX_ROW}
 
 -- ---- lines
 
@@ -58,7 +58,7 @@ pub record Gives (from : Place) (row : Row) (to : Place) : Type 0 where
   pub state : State
   pub reads : next_record default_config st.StartRecord [] [] from.text ≡ Some (row.fields, state, to.text)
   pub begins : row.line ≡ record_line from
-  pub short : length (record_bytes from.text) ≤ MOST_ROW
+  pub short : length (record_bytes from.text) ≤ MAX_ROW
   pub lines : to.line + line_feeds to.text ≡ from.line + line_feeds from.text
 
 -- there is no next record, and the text is used up
@@ -69,7 +69,7 @@ pub record Ends (from to : Place) : Type 0 where
 -- the next record begins on this line and is too long
 pub record IsTooLong (place : Place) (line : ℕ) : Type 0 where
   pub begins : line ≡ record_line place
-  pub long : MOST_ROW < length (record_bytes place.text)
+  pub long : MAX_ROW < length (record_bytes place.text)
 
 -- ---- whole texts
 

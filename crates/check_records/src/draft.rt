@@ -14,10 +14,10 @@ use csv::ByteRecord;
 use std::alloc::Global;
 
 /// The most bytes of a record: from its first to before the one that ends it. Quotes and commas count.
-pub const MOST_ROW: usize = 4096;
+pub const MAX_ROW: usize = 4096;
 
 /// The most fields of a record of that many bytes, all of which are commas.
-const MOST_FIELDS: usize = MOST_ROW + 1;
+const MAX_FIELDS: usize = MAX_ROW + 1;
 
 /// A record while it is read: the line on which it begins, where the machine stands in it, the fields that have ended,
 /// the bytes of the field at hand, and how many bytes it has so far.
@@ -26,7 +26,7 @@ pub(crate) struct Draft {
     pub(crate) line: u64,
     state: State,
     pub(crate) columns: ByteRecord,
-    field: ArrayVec<u8, MOST_ROW>,
+    field: ArrayVec<u8, MAX_ROW>,
     size: usize,
 }
 
@@ -50,7 +50,7 @@ impl Draft {
         Ok(Draft {
             line: 1,
             state: State::StartRecord,
-            columns: ByteRecord::with_capacity(alloc, MOST_ROW, MOST_FIELDS)?,
+            columns: ByteRecord::with_capacity(alloc, MAX_ROW, MAX_FIELDS)?,
             field: ArrayVec::new(),
             size: 0,
         })
@@ -92,7 +92,7 @@ impl Draft {
         ensures ok { IfOk result (TakesByte self.old byte self.new) }
         ensures line { self.new.line ≡ self.old.line }
         ensures long { (line : ℕ) → result ≡ Err (RecordFault.TooLong line) → (line ≡ self.old.line)
-            × (is_end (action_at (partial self.old) byte) ≡ false) × (MOST_ROW ≤ self.old.size) }
+            × (is_end (action_at (partial self.old) byte) ≡ false) × (MAX_ROW ≤ self.old.size) }
     {
         let (state, action) = step(self.state, byte);
         self.state = state;
@@ -100,7 +100,7 @@ impl Draft {
             self.end_field()?;
             return Ok(true);
         }
-        if self.size >= MOST_ROW {
+        if self.size >= MAX_ROW {
             return Err(RecordFault::TooLong(self.line));
         }
         self.size += 1;
@@ -121,7 +121,7 @@ impl Draft {
         ensures feeds { IfOk result (λ fed. fed.feeds ≡ line_feeds (take fed.taken text.now)) }
         ensures line { self.new.line ≡ self.old.line }
         ensures long { (line : ℕ) → result ≡ Err (RecordFault.TooLong line) → (line ≡ self.old.line)
-            × ((rest : List ℕ) → MOST_ROW < full_size (partial self.old) (text.now ++ rest)) }
+            × ((rest : List ℕ) → MAX_ROW < full_size (partial self.old) (text.now ++ rest)) }
     {
         let mut feeds = 0;
         for (i, byte) in text.iter().enumerate() {

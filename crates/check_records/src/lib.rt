@@ -2,7 +2,7 @@
 //!
 //! A [`Records`] reads CSV by the defaults of crate `csv`: commas, double quotes, lines that end in CR, LF or CR LF, empty
 //! lines that are no records, and a byte order mark that is dropped (`specs/Text.antt`). [`Records::read`] goes on to the
-//! next record, of which it has the line and the columns, or answers that there is none; a record of more than [`MOST_ROW`]
+//! next record, of which it has the line and the columns, or answers that there is none; a record of more than [`MAX_ROW`]
 //! bytes is a fault that tells its line, found as soon as its next byte is seen. What a read does to the text that is left
 //! is a relation from view to view (`specs/Reading.antt`), and one record after another is told by `HaveRead`.
 //!
@@ -17,6 +17,6 @@ mod machine;
 mod records;
 mod source;
 
-pub use draft::MOST_ROW;
+pub use draft::MAX_ROW;
 pub use fault::RecordFault;
 pub use records::Records;

@@ -13,7 +13,7 @@ use std::io::{ErrorKind, Read};
 const CHUNK: usize = 65_536;
 
 /// How many times in a row a read is made that is interrupted.
-const MOST_TRIES: u32 = 1_048_576;
+const MAX_TRIES: u32 = 1_048_576;
 
 /// The bytes of the byte order mark.
 const MARK: [u8; 3] = [0xef, 0xbb, 0xbf];
@@ -70,7 +70,7 @@ fn read_some<R: Read>(reader: &mut R, buffer: &mut [u8]) -> Result<usize, Record
         → IsAtEnd (R.remaining reader.new)) }
     ensures fault { (line : ℕ) → result ≡ Err (RecordFault.TooLong line) → ⊥ }
 {
-    for _ in 0..MOST_TRIES {
+    for _ in 0..MAX_TRIES {
         match reader.read(buffer) {
             Ok(count) => return Ok(count),
             Err(error) if error.kind() == ErrorKind::Interrupted => {}

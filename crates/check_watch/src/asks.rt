@@ -1,7 +1,7 @@
 //! Judging beats of channel A.
 ghost use Rattle.std.specs.Prelude.{◌≡◌, ◌<◌, ◌≤◌, ◌↔◌, ◌++◌, ◌∷◌, [], length, IsTrue, IfOk, OnOk, IfErr};
 ghost use Rattle.check_link.specs.declared.beat.Beat.TheVariants.{A};
-ghost use Rattle.tl_types.specs.declared.limits.TheConstants.{LARGEST_SIZE};
+ghost use Rattle.tl_types.specs.declared.limits.TheConstants.{MAX_SIZE};
 ghost use Rattle.check_link.specs.Message.{ask_of};
 ghost use Rattle.check_link.specs.Past.{ends_ask};
 ghost use Rattle.check_link.specs.Form.{FitsAsk};
@@ -82,7 +82,7 @@ fn begins_free(watch: &Watch, link: Link, wide: u16) -> bool
 
 /// Whether the address map has a request with the port of a link.
 fn is_placed(watch: &Watch, link: Link, beat: &ABeat) -> bool
-    requires { beat.now.size ≤ LARGEST_SIZE }
+    requires { beat.now.size ≤ MAX_SIZE }
     ensures { IsTrue result ↔ IsPlaced watch.now.layout link beat.now }
 {
     match link {
@@ -94,7 +94,7 @@ fn is_placed(watch: &Watch, link: Link, beat: &ABeat) -> bool
 /// Whether a beat of a request is at its port, where it begins one.
 fn begins_placed(watch: &Watch, link: Link, beat: &ABeat) -> bool
     requires known { HasLink watch.now.layout link }
-    requires in_limit { beat.now.size ≤ LARGEST_SIZE }
+    requires in_limit { beat.now.size ≤ MAX_SIZE }
     ensures { IsTrue result
         ↔ ((under_in watch.now link).asking ≡ [] → IsPlaced watch.now.layout link beat.now) }
 {

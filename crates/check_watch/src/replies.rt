@@ -3,7 +3,7 @@ ghost use Rattle.std.specs.Prelude.{◌≡◌, ◌<◌, ◌≤◌, ◌↔◌, �
 ghost use Rattle.tl_types.specs.Fault.{IsFirstOf};
 ghost use Rattle.tl_types.specs.Request.{Request};
 ghost use Rattle.tl_types.specs.Response.{Response, IsLawfulResponse};
-ghost use Rattle.tl_types.specs.declared.limits.TheConstants.{LARGEST_SIZE};
+ghost use Rattle.tl_types.specs.declared.limits.TheConstants.{MAX_SIZE};
 ghost use Rattle.tl_beats.specs.Replies.{SpellsReply};
 ghost use Rattle.check_link.specs.declared.beat.Beat.TheVariants.{D};
 ghost use Rattle.check_link.specs.Past.{ends_reply};

@@ -32,7 +32,7 @@ use std::marker::Model;
 use tl_beats::{ABeat, DBeat};
 use tl_map::{Map, Sources};
 use tl_ops::Bank;
-use tl_types::{Ask, LARGEST_SIZE};
+use tl_types::{Ask, MAX_SIZE};
 
 /// What a judge keeps of the beats so far.
 #[derive(Drop)]
@@ -246,7 +246,7 @@ impl Watch {
     /// The port that requests at a link go to, of this address and size.
     pub(crate) fn port(&self, link: Link, address: u64, size: u8) -> usize
         requires known { HasLink self.now.layout link }
-        requires in_limit { size ≤ LARGEST_SIZE }
+        requires in_limit { size ≤ MAX_SIZE }
         ensures master { (number port : ℕ) → link ≡ Link.Master number
             → (result ≡ port) ↔ RoutesBytes self.now.layout.ranges address size port }
         ensures port { (number : ℕ) → link ≡ Link.Port number → result ≡ number }
@@ -276,7 +276,7 @@ impl Watch {
 
     /// Whether the address map has bytes with the port of a link.
     pub(crate) fn is_at_port(&self, port: usize, address: u64, size: u8) -> bool
-        requires { size ≤ LARGEST_SIZE }
+        requires { size ≤ MAX_SIZE }
         ensures { IsTrue result ↔ RoutesBytes self.now.layout.ranges address size port }
     {
         self.map.route_bytes(address, size) == port

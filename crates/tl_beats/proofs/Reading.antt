@@ -8,7 +8,7 @@ use Rattle.tl_types.specs.Request.{Request, IsLawfulRequest}
 use Rattle.tl_types.specs.Operation.{carries_bytes, byte_count, may_leave_unset}
 use Rattle.tl_types.specs.Wire.{IsCodeOf, IsFirstOpFault}
 use Rattle.tl_types.specs.declared.operation.AskOp.{AskOp}
-use Rattle.tl_types.specs.declared.limits.TheConstants.{LARGEST_SIZE}
+use Rattle.tl_types.specs.declared.limits.TheConstants.{MAX_SIZE}
 use Rattle.tl_types.proofs.Operations.{no_fault_of_code}
 use Rattle.tl_beats.specs.Beats.{low, lane_of, beat_count, active_mask, IsLawfulMask, StandsAt, SpellsAsk}
 use Rattle.tl_beats.specs.Faults.{SameFields, HasBeatFault, beat_fault_rank, IsFirstBeatFault}
@@ -116,7 +116,7 @@ module _ (beats : List ABeat) (first : ABeat) (op : AskOp) (begun : IsBegun beat
   no_earlier : (other : BeatFault) → beat_fault_rank other < 5 → HasBeatFault beats other → ⊥
   no_earlier NoBeat rank h = let none : slice_get beats 0 ≡ None = ap (λ xs. slice_get xs 0) h in absurd (cc)
   no_earlier (Op fault) rank h = no_fault_of_code op first.opcode first.param fault begun.code (of_first (λ x. IsFirstOpFault x.opcode x.param fault) h).applies
-  no_earlier Size rank h = omega (arith, begun.in_limit, of_first (λ x. LARGEST_SIZE < x.size) h)
+  no_earlier Size rank h = omega (arith, begun.in_limit, of_first (λ x. MAX_SIZE < x.size) h)
   no_earlier Count rank h =
       let named = of_first (λ x. (o : AskOp) × IsCodeOf o x.opcode x.param × (length beats ≢ beat_count (carries_bytes o) x.size)) h in
       let same : op ≡ named.0 = same_op op named.0 first.opcode first.param begun.code named.1 in

@@ -9,7 +9,7 @@ use Rattle.tl_types.specs.Wire.{reply_opcode_of, IsFirstReplyOpFault}
 use Rattle.tl_types.specs.declared.operation.ReplyOp.{ReplyOp}
 use Rattle.tl_types.specs.declared.wire.OpFault.{OpFault}
 use Rattle.tl_types.specs.declared.wire.OpFault.TheVariants.{Cached, UnknownOpcode, UnknownParam}
-use Rattle.tl_types.specs.declared.limits.TheConstants.{LARGEST_SIZE}
+use Rattle.tl_types.specs.declared.limits.TheConstants.{MAX_SIZE}
 use Rattle.tl_beats.specs.Beats.{beat_count}
 use Rattle.tl_beats.specs.Replies.{IsLawfulFlag, SpellsReply}
 use Rattle.tl_beats.specs.Faults.{SameReplyFields, HasReplyBeatFault, beat_fault_rank, IsFirstReplyBeatFault}
@@ -78,7 +78,7 @@ module _ (beats : List DBeat) (first : DBeat) (op : ReplyOp) (begun : IsReplyBeg
   no_earlier : (other : BeatFault) → beat_fault_rank other < 5 → HasReplyBeatFault beats other → ⊥
   no_earlier NoBeat rank h = let none : slice_get beats 0 ≡ None = ap (λ xs. slice_get xs 0) h in absurd (cc)
   no_earlier (Op fault) rank h = no_reply_op_fault op first.opcode fault begun.code (of_first (λ x. IsFirstReplyOpFault x.opcode fault) h)
-  no_earlier Size rank h = omega (arith, begun.in_limit, of_first (λ x. LARGEST_SIZE < x.size) h)
+  no_earlier Size rank h = omega (arith, begun.in_limit, of_first (λ x. MAX_SIZE < x.size) h)
   no_earlier Count rank h =
       let named = of_first (λ x. (o : ReplyOp) × (reply_opcode_of o ≡ x.opcode) × (length beats ≢ beat_count (reply_carries_bytes o) x.size)) h in
       let same : op ≡ named.0 = same_reply_op op named.0 first.opcode begun.code named.1 in

@@ -7,7 +7,7 @@ use Rattle.tl_types.specs.Operation.{carries_bytes, reply_carries_bytes}
 use Rattle.tl_types.specs.Wire.{IsCodeOf, IsFirstOpFault, reply_opcode_of, IsFirstReplyOpFault}
 use Rattle.tl_types.specs.declared.operation.AskOp.{AskOp}
 use Rattle.tl_types.specs.declared.operation.ReplyOp.{ReplyOp}
-use Rattle.tl_types.specs.declared.limits.TheConstants.{LARGEST_SIZE}
+use Rattle.tl_types.specs.declared.limits.TheConstants.{MAX_SIZE}
 use Rattle.tl_beats.specs.Beats.{beat_count, IsLawfulMask}
 use Rattle.tl_beats.specs.Replies.{IsLawfulFlag}
 use Rattle.tl_beats.specs.declared.beat.ABeat.{ABeat}
@@ -46,7 +46,7 @@ OfFirstReplyOp beats P = OfFirst beats (λ first. (op : ReplyOp) × (reply_opcod
 abbrev pub HasBeatFault : List ABeat → BeatFault → Type 0
 HasBeatFault beats NoBeat = beats ≡ []
 HasBeatFault beats (Op fault) = OfFirst beats (λ first. IsFirstOpFault first.opcode first.param fault)
-HasBeatFault beats Size = OfFirst beats (λ first. LARGEST_SIZE < first.size)
+HasBeatFault beats Size = OfFirst beats (λ first. MAX_SIZE < first.size)
 HasBeatFault beats Count = OfFirstOp beats (λ first op. length beats ≢ beat_count (carries_bytes op) first.size)
 HasBeatFault beats (Changed b) = OfFirst beats (λ first. FailsFirstAt (SameFields first) beats b)
 HasBeatFault beats (Mask b) =
@@ -57,7 +57,7 @@ HasBeatFault beats (CorruptFlag b) = ⊥
 abbrev pub HasReplyBeatFault : List DBeat → BeatFault → Type 0
 HasReplyBeatFault beats NoBeat = beats ≡ []
 HasReplyBeatFault beats (Op fault) = OfFirst beats (λ first. IsFirstReplyOpFault first.opcode fault)
-HasReplyBeatFault beats Size = OfFirst beats (λ first. LARGEST_SIZE < first.size)
+HasReplyBeatFault beats Size = OfFirst beats (λ first. MAX_SIZE < first.size)
 HasReplyBeatFault beats Count =
     OfFirstReplyOp beats (λ first op. length beats ≢ beat_count (reply_carries_bytes op) first.size)
 HasReplyBeatFault beats (Changed b) = OfFirst beats (λ first. FailsFirstAt (SameReplyFields first) beats b)

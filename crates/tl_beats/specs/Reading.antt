@@ -12,13 +12,13 @@ use Rattle.tl_beats.specs.declared.beat.ABeat.{ABeat}
 use Rattle.tl_beats.specs.declared.beat.DBeat.{DBeat}
 use Rattle.tl_beats.specs.declared.beat.BeatFault.{BeatFault}
 use Rattle.tl_beats.specs.declared.beat.BeatFault.TheVariants.{NoBeat, Op, Size, Count, Changed, Mask, CorruptFlag}
-use Rattle.tl_types.specs.declared.limits.TheConstants.{BUS_BYTES, LARGEST_SIZE}
+use Rattle.tl_types.specs.declared.limits.TheConstants.{BUS_BYTES, MAX_SIZE}
 
 -- beats whose first one has no fault
 pub record IsBegun (beats : List ABeat) (first : ABeat) (op : AskOp) : Type 0 where
   pub head : slice_get beats 0 ≡ Some first
   pub code : IsCodeOf op first.opcode first.param
-  pub in_limit : first.size ≤ LARGEST_SIZE
+  pub in_limit : first.size ≤ MAX_SIZE
   pub count : length beats ≡ beat_count (carries_bytes op) first.size
 
 -- a list has gained this many elements at its end, of which the k-th has the property `P k`, and kept the others
@@ -69,7 +69,7 @@ IsFaultOfBeats beats first op (CorruptFlag b) = ⊥
 pub record IsReplyBegun (beats : List DBeat) (first : DBeat) (op : ReplyOp) : Type 0 where
   pub head : slice_get beats 0 ≡ Some first
   pub code : reply_opcode_of op ≡ first.opcode
-  pub in_limit : first.size ≤ LARGEST_SIZE
+  pub in_limit : first.size ≤ MAX_SIZE
   pub count : length beats ≡ beat_count (reply_carries_bytes op) first.size
 
 -- a byte of a reply stands at a lane, or is zero where the reply is denied

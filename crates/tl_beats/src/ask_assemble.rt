@@ -9,7 +9,7 @@ ghost use Rattle.tl_beats.specs.Reading.{GainsLanes, AreFaultless, AreBytesOf, I
 
 use crate::beat::{ABeat, BeatFault};
 use crate::bus::{active_mask, beat_count, first_lane};
-use tl_types::{Ask, AskOp, BUS_BYTES, Bytes, LARGEST_SIZE, MAX_BYTES, read_op};
+use tl_types::{Ask, AskOp, BUS_BYTES, Bytes, MAX_BYTES, MAX_SIZE, read_op};
 
 /// Whether two beats have the same shared fields.
 pub fn same_fields(first: &ABeat, beat: &ABeat) -> bool
@@ -24,7 +24,7 @@ pub fn same_fields(first: &ABeat, beat: &ABeat) -> bool
 
 /// Whether a mask is lawful.
 pub fn is_lawful_mask(mask: u8, op: AskOp, size: u8, address: u64) -> bool
-    requires { size ≤ LARGEST_SIZE }
+    requires { size ≤ MAX_SIZE }
     ensures { IsTrue result ↔ IsLawfulMask op size address mask }
 {
     sets_active(mask, op, active_mask(address, size))
@@ -87,7 +87,7 @@ fn first_changed(beats: &[ABeat], first: &ABeat, from: usize) -> Option<usize>
 /// Tries the beats of a request one by one, and names the first fault that shows.
 // An unlawful mask comes behind a changed field of a later beat, so the beats after it are tried for that alone.
 fn check_beats(beats: &[ABeat], first: &ABeat, op: AskOp) -> Result<(), BeatFault>
-    requires { first.now.size ≤ LARGEST_SIZE }
+    requires { first.now.size ≤ MAX_SIZE }
     ensures ok { OnOk result (AreFaultless beats.now first.now op) }
     ensures fault { IfErr result (IsFaultOfBeats beats.now first.now op) }
 {
@@ -108,7 +108,7 @@ fn check_beats(beats: &[ABeat], first: &ABeat, op: AskOp) -> Result<(), BeatFaul
 
 /// Gathers the bytes that stand in the beats of a request, where there are none yet.
 fn gather_bytes(beats: &[ABeat], first: &ABeat, op: AskOp, bytes: &mut Bytes)
-    requires in_limit { first.now.size ≤ LARGEST_SIZE }
+    requires in_limit { first.now.size ≤ MAX_SIZE }
     requires count { length beats.now ≡ beat_count (carries_bytes op) first.now.size }
     requires none { bytes.old ≡ [] }
     ensures { AreBytesOf beats.now first.now op bytes.new }
@@ -172,7 +172,7 @@ pub fn assemble_ask_into(beats: &[ABeat], ask: &mut Ask) -> Result<(), BeatFault
 {
     let first = beats.first().ok_or(BeatFault::NoBeat)?;
     let op = read_op(first.opcode, first.param).map_err(BeatFault::Op)?;
-    if first.size > LARGEST_SIZE {
+    if first.size > MAX_SIZE {
         return Err(BeatFault::Size);
     }
     if beats.len() != beat_count(op.carries_bytes(), first.size) {

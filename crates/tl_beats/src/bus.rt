@@ -4,11 +4,11 @@ ghost use Rattle.tl_beats.specs.Beats.{low, beat_count, active_mask};
 ghost use Rattle.tl_beats.specs.Packing.{plain_at_place};
 
 use crate::beat::MAX_BEATS;
-use tl_types::{BUS_BYTES, LARGEST_SIZE, width};
+use tl_types::{BUS_BYTES, MAX_SIZE, width};
 
 /// How many beats a message has.
 pub fn beat_count(carries: bool, size: u8) -> usize
-    requires { size ≤ LARGEST_SIZE }
+    requires { size ≤ MAX_SIZE }
     ensures value { result ≡ beat_count carries size }
     ensures in_limit { result ≤ MAX_BEATS }
 {
@@ -21,7 +21,7 @@ pub fn beat_count(carries: bool, size: u8) -> usize
 
 /// The lane at which a message begins.
 pub fn first_lane(address: u64, size: u8) -> usize
-    requires { size ≤ LARGEST_SIZE }
+    requires { size ≤ MAX_SIZE }
     ensures value { result ≡ low address size % BUS_BYTES }
     ensures in_bus { result < BUS_BYTES }
 {
@@ -31,7 +31,7 @@ pub fn first_lane(address: u64, size: u8) -> usize
 
 /// The mask of the active lanes.
 pub fn active_mask(address: u64, size: u8) -> u8
-    requires { size ≤ LARGEST_SIZE }
+    requires { size ≤ MAX_SIZE }
     ensures { result ≡ active_mask address size }
 {
     let first = first_lane(address, size);

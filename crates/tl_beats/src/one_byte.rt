@@ -5,7 +5,7 @@ ghost use Rattle.tl_beats.specs.Replies.{SpellsReply};
 
 use crate::beat::DBeat;
 use crate::bus::first_lane;
-use tl_types::{BUS_BYTES, LARGEST_SIZE, read_reply_op};
+use tl_types::{BUS_BYTES, MAX_SIZE, read_reply_op};
 
 /// A byte of the reply to a request at the address that beats spell, by its place; `None` where the reply has no byte
 /// there. Nothing else of the beats is read but the first one's shared fields.
@@ -19,7 +19,7 @@ pub fn reply_byte(beats: &[DBeat], address: u64, place: usize) -> Option<u8>
     let Ok(op) = read_reply_op(first.opcode) else {
         return None;
     };
-    if first.size > LARGEST_SIZE {
+    if first.size > MAX_SIZE {
         return None;
     }
     if place >= op.byte_count(first.size) {

@@ -9,7 +9,7 @@ ghost use Rattle.tl_beats.specs.Reading.{AreFaultlessReply, AreLanesOf, IsReplyB
 
 use crate::beat::{BeatFault, DBeat, MAX_BEATS};
 use crate::bus::{beat_count, first_lane};
-use tl_types::{BUS_BYTES, LARGEST_SIZE, MAX_BYTES, Reply, ReplyOp, read_reply_op};
+use tl_types::{BUS_BYTES, MAX_BYTES, MAX_SIZE, Reply, ReplyOp, read_reply_op};
 
 /// The opcode, size and source of a beat as one number. They lie side by side, so that they are read at once.
 fn shared_word(beat: &DBeat) -> u32
@@ -152,7 +152,7 @@ pub fn assemble_reply_into(
 {
     let first = beats.first().ok_or(BeatFault::NoBeat)?;
     let op = read_reply_op(first.opcode).map_err(BeatFault::Op)?;
-    if first.size > LARGEST_SIZE {
+    if first.size > MAX_SIZE {
         return Err(BeatFault::Size);
     }
     if beats.len() != beat_count(op.carries_bytes(), first.size) {

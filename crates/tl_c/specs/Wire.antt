@@ -6,7 +6,7 @@ use Rattle.check_link.specs.declared.beat.Beat.TheVariants.{A, D}
 use Rattle.check_link.specs.declared.beat.Link.{Link}
 use Rattle.check_link.specs.declared.beat.Link.TheVariants.{Master, Port}
 use Rattle.check_link.specs.declared.beat.Sighting.{Sighting}
-use Rattle.tl_types.specs.declared.limits.TheConstants.{LARGEST_SIZE}
+use Rattle.tl_types.specs.declared.limits.TheConstants.{MAX_SIZE}
 use Rattle.tl_types.specs.declared.operation.AskOp.{AskOp}
 use Rattle.tl_types.specs.Operation.{byte_count, may_leave_unset}
 use Rattle.tl_types.specs.Request.{Request}
@@ -36,7 +36,7 @@ NamesNone wire = (op : AskOp) → IsCodeOf op wire.opcode wire.param → ⊥
 pub record IsTooLarge (wire : WireAsk) : Type 0 where
   pub op : AskOp
   pub code : IsCodeOf op wire.opcode wire.param
-  pub over : LARGEST_SIZE < wire.size
+  pub over : MAX_SIZE < wire.size
 
 -- a flag as a number
 abbrev pub number_of : Bool → ℕ

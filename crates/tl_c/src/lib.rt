@@ -7,7 +7,7 @@
 
 ghost use Rattle.std.specs.Prelude.{◌≡◌};
 
-use tl_types::LARGEST_SIZE;
+use tl_types::MAX_SIZE;
 
 mod fault;
 mod handle;
@@ -23,7 +23,7 @@ mod wire;
 /// `tlx_largest_size` of the header: the largest size of a message.
 #[unsafe(no_mangle)]
 pub extern "C" fn tlx_largest_size() -> u8
-    ensures { result ≡ LARGEST_SIZE }
+    ensures { result ≡ MAX_SIZE }
 {
-    LARGEST_SIZE
+    MAX_SIZE
 }

@@ -6,7 +6,7 @@ ghost use Rattle.tl_c.specs.Wire.{IsAnswerOf, IsAskOf, IsTooLarge, NamesNone, be
 use check_link::{Beat, Link, Sighting};
 use crate::fault::{NO_OPERATION, OK, SIZE};
 use tl_beats::{ABeat, DBeat};
-use tl_types::{Ask, AskOp, BUS_BYTES, LARGEST_SIZE, Reply, read_op, reply_opcode, write_over};
+use tl_types::{Ask, AskOp, BUS_BYTES, MAX_SIZE, Reply, read_op, reply_opcode, write_over};
 
 /// The room of a message's bytes in the header's structs.
 pub const ROOM: usize = 256;
@@ -70,7 +70,7 @@ pub(crate) fn read_ask(wire: &WireAsk, ask: &mut Ask) -> u32
     let Ok(op) = read_op(wire.opcode, wire.param) else {
         return NO_OPERATION;
     };
-    if wire.size > LARGEST_SIZE {
+    if wire.size > MAX_SIZE {
         return SIZE;
     }
     fill_ask(wire, op, ask);
@@ -80,7 +80,7 @@ pub(crate) fn read_ask(wire: &WireAsk, ask: &mut Ask) -> u32
 /// Puts a request of this operation, with the other fields of a struct, in the place of another.
 fn fill_ask(wire: &WireAsk, op: AskOp, ask: &mut Ask)
     requires code { IsCodeOf op wire.now.opcode wire.now.param }
-    requires in_limit { wire.now.size ≤ LARGEST_SIZE }
+    requires in_limit { wire.now.size ≤ MAX_SIZE }
     ensures { IsAskOf wire.now ask.new }
 {
     let bytes = &wire.bytes[..op.byte_count(wire.size)];

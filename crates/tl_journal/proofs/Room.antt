@@ -6,11 +6,11 @@ use Rattle.tl_types.specs.Bytes.{plain_of}
 use Rattle.tl_types.specs.Operation.{carries_bytes, reply_carries_bytes}
 use Rattle.tl_types.specs.Request.{Request, IsLawfulRequest}
 use Rattle.tl_types.specs.Response.{Response, IsLawfulResponse}
-use Rattle.tl_types.specs.declared.limits.TheConstants.{LARGEST_SIZE, MAX_BYTES}
+use Rattle.tl_types.specs.declared.limits.TheConstants.{MAX_SIZE, MAX_BYTES}
 use Rattle.tl_journal.specs.Pools.{PoolsView, IsKept, IsPlainKept, KeepsRoom, pool_len, pool_room}
 use Rattle.tl_journal.specs.Headers.{HasRoom}
 
-few_bytes : (carries : Bool) (size : ℕ) → size ≤ LARGEST_SIZE → (if carries then 2 ^ size else 0) ≤ MAX_BYTES
+few_bytes : (carries : Bool) (size : ℕ) → size ≤ MAX_SIZE → (if carries then 2 ^ size else 0) ≤ MAX_BYTES
 few_bytes true size in_limit = pow-le-pow_right (lit≤ tt) in_limit
 few_bytes false size in_limit = omega arith
 

@@ -6,7 +6,7 @@ use Rattle.tl_types.specs.Response.{Response, IsLawfulResponse}
 use Rattle.tl_types.specs.declared.limits.TheConstants.{MAX_BYTES}
 use Rattle.tl_journal.specs.Pools.{PoolsView, AreIn, bytes_in, plain_in}
 use Rattle.tl_journal.specs.declared.journal.Header.{Header}
-use Rattle.tl_journal.specs.declared.journal.TheConstants.{MOST_WHOLE}
+use Rattle.tl_journal.specs.declared.journal.TheConstants.{MAX_WHOLE}
 
 -- the request that a header stands for
 abbrev pub ask_in : PoolsView → Header → Request
@@ -39,7 +39,7 @@ pub record IsEntryIn (pools : PoolsView) (header : Header) : Type 0 where
 
 -- the pools have room for the longest messages of so many more entries
 pub record HasRoom (pools : PoolsView) (left : ℕ) : Type 0 where
-  pub whole : length pools.whole + left * MOST_WHOLE ≤ pools.whole_room
+  pub whole : length pools.whole + left * MAX_WHOLE ≤ pools.whole_room
   pub partial : length pools.partial + left * MAX_BYTES ≤ pools.partial_room
 
 -- all entries are in the pools, and there is room for the headers and bytes of those that are still to come

@@ -9,7 +9,7 @@ use std::mem::size_of;
 use tl_types::{Ask, AskOp, MAX_BYTES, Reply, ReplyOp};
 
 /// The most bytes of an entry that are all given: the request's and the reply's.
-const MOST_WHOLE: usize = 2 * MAX_BYTES;
+const MAX_WHOLE: usize = 2 * MAX_BYTES;
 
 /// What is kept of a request and its reply beside the bytes that they carry.
 // The fields stand in an order that leaves few gaps.
@@ -67,7 +67,7 @@ impl Journal {
         ensures { IfOk result (λ journal. journal ≡ record { items = []; room = entries }) }
     {
         let headers = Vec::with_capacity(alloc, entries)?;
-        let whole = entries.checked_mul(MOST_WHOLE).ok_or(AllocError)?;
+        let whole = entries.checked_mul(MAX_WHOLE).ok_or(AllocError)?;
         let mut pools = Pools::new(alloc);
         pools.reserve(whole, entries * MAX_BYTES)?;
         Ok(Journal {
@@ -103,7 +103,7 @@ impl Journal {
             return Ok(());
         }
         self.headers.reserve(1)?;
-        self.pools.reserve(MOST_WHOLE, MAX_BYTES)?;
+        self.pools.reserve(MAX_WHOLE, MAX_BYTES)?;
         self.room = self.headers.len() + 1;
         Ok(())
     }

@@ -10,7 +10,7 @@ use Rattle.tl_model.specs.Ports.{state_of}
 use Rattle.tl_model.specs.declared.fault.ServeFault.{ServeFault}
 use Rattle.tl_model.specs.declared.fault.ServeFault.TheVariants.{NoSuchMaster, NoSuchSource, Uncountable}
 use Rattle.tl_model.specs.declared.port.Port.{Port}
-use Rattle.tl_model.specs.declared.port.TheConstants.{MOST_SERVED}
+use Rattle.tl_model.specs.declared.port.TheConstants.{MAX_SERVED}
 
 -- the state of a port that was read
 pub state_at : (ports : List Port) (n number : ℕ) (port : Port) → n ≡ length ports → number < n → port ≡ get_or ports number port → slice_get (map state_of ports) number ≡ Some (state_of port)
@@ -37,7 +37,7 @@ byte_at store address byte inside below = search rules
 -- a request whose port can count no more is not
 pub full_is_refused : (c : CrossbarState) (master number : ℕ) (ask : Request) (state : PortState) → Routes c.ranges ask number → slice_get c.ports number ≡ Some state → IsFull state → Accepts c master ask → ⊥
 full_is_refused c master number ask state routed at full accepts =
-    let below : state.served < MOST_SERVED = rw at at (accepts.counted number routed) in
+    let below : state.served < MAX_SERVED = rw at at (accepts.counted number routed) in
     omega (arith, below, full)
 
 -- that is its first fault, where its master has its source
@@ -53,14 +53,14 @@ first_is_full c master count number ask state counted source only at full = reco
     none Uncountable rank _ = omega (arith, rank)
 
 -- one whose master has its source and whose port can count it is
-pub is_accepted : (c : CrossbarState) (master count number : ℕ) (ask : Request) (state : PortState) → slice_get c.counts master ≡ Some count → (count ≤ ask.source → ⊥) → ((port : ℕ) → Routes c.ranges ask port → number ≡ port) → slice_get c.ports number ≡ Some state → state.served ≤ MOST_SERVED → (IsFull state → ⊥) → Accepts c master ask
+pub is_accepted : (c : CrossbarState) (master count number : ℕ) (ask : Request) (state : PortState) → slice_get c.counts master ≡ Some count → (count ≤ ask.source → ⊥) → ((port : ℕ) → Routes c.ranges ask port → number ≡ port) → slice_get c.ports number ≡ Some state → state.served ≤ MAX_SERVED → (IsFull state → ⊥) → Accepts c master ask
 is_accepted c master count number ask state counted source only at fits spare = record {
   source = rw counted (omega (arith, source));
   counted = λ port routes. rw (← only port routes, at) (omega (arith, fits, spare));
 }
 
 -- so its port may serve it
-pub can_serve : (c : CrossbarState) (number : ℕ) (ask : Request) (state : PortState) → Routes c.ranges ask number → slice_get c.ports number ≡ Some state → state.served ≤ MOST_SERVED → (IsFull state → ⊥) → CanServe c ask number
+pub can_serve : (c : CrossbarState) (number : ℕ) (ask : Request) (state : PortState) → Routes c.ranges ask number → slice_get c.ports number ≡ Some state → state.served ≤ MAX_SERVED → (IsFull state → ⊥) → CanServe c ask number
 can_serve c number ask state routed at fits spare = record {
   routed = routed;
   counted = rw (at) (omega (arith, fits, spare));

@@ -8,7 +8,7 @@ use Rattle.tl_map.specs.declared.map.Range.{Range}
 use Rattle.tl_map.specs.Map.{Routes}
 use Rattle.tl_script.specs.System.{System, resets}
 use Rattle.tl_model.specs.declared.crossbar.Answer.{Answer}
-use Rattle.tl_model.specs.declared.port.TheConstants.{MOST_SERVED}
+use Rattle.tl_model.specs.declared.port.TheConstants.{MAX_SERVED}
 use Rattle.tl_model.specs.declared.fault.ServeFault.{ServeFault}
 use Rattle.tl_model.specs.declared.fault.ServeFault.TheVariants.{NoSuchMaster, NoSuchSource, Uncountable}
 
@@ -35,7 +35,7 @@ at_reset s = record { ranges = s.ranges; counts = s.counts; ports = map fresh (r
 
 -- the port has served as many requests as can be counted
 abbrev pub IsFull : PortState → Type 0
-IsFull port = port.served ≡ MOST_SERVED
+IsFull port = port.served ≡ MAX_SERVED
 
 -- the fault is one of a request of this master
 abbrev pub HasServeFault : CrossbarState → ℕ → Request → ServeFault → Type 0
@@ -56,12 +56,12 @@ IsFirstServeFault c master ask = IsFirstOf (HasServeFault c master ask) serve_fa
 -- the request is of a source that the master has, and its port can count it
 pub record Accepts (c : CrossbarState) (master : ℕ) (ask : Request) : Type 0 where
   pub source : IsSomeAnd (slice_get c.counts master) (λ count. ask.source < count)
-  pub counted : (port : ℕ) → Routes c.ranges ask port → IsSomeAnd (slice_get c.ports port) (λ state. state.served < MOST_SERVED)
+  pub counted : (port : ℕ) → Routes c.ranges ask port → IsSomeAnd (slice_get c.ports port) (λ state. state.served < MAX_SERVED)
 
 -- the port is that of the request, and can count it
 pub record CanServe (c : CrossbarState) (ask : Request) (port : ℕ) : Type 0 where
   pub routed : Routes c.ranges ask port
-  pub counted : IsSomeAnd (slice_get c.ports port) (λ state. state.served < MOST_SERVED)
+  pub counted : IsSomeAnd (slice_get c.ports port) (λ state. state.served < MAX_SERVED)
 
 -- so many requests has the port served
 abbrev pub IsCountAt : CrossbarState → ℕ → ℕ → Type 0

@@ -4,7 +4,7 @@ ghost use Rattle.tl_map.specs.Map.{RoutesBytes};
 ghost use Rattle.tl_model.specs.Crossbar.{Accepts, CanServe, IsCountAt, IsFirstServeFault, IsServed, at_reset, byte_in};
 
 use crate::fault::ServeFault;
-use crate::port::{MOST_SERVED, Port, ports_of};
+use crate::port::{MAX_SERVED, Port, ports_of};
 use std::alloc::Global;
 use std::marker::Model;
 use tl_map::{Map, Sources};
@@ -81,7 +81,7 @@ impl Crossbar {
             return Err(ServeFault::NoSuchSource);
         }
         let port = self.ranges.route(ask);
-        if self.ports[port].served == MOST_SERVED {
+        if self.ports[port].served == MAX_SERVED {
             return Err(ServeFault::Uncountable);
         }
         Ok(port)

@@ -4,7 +4,7 @@ ghost use Rattle.tl_ops.specs.Store.{Store};
 ghost use Rattle.tl_script.specs.System.{System, resets};
 ghost use Rattle.tl_model.specs.Crossbar.{CrossbarState, PortState, at_reset, fresh};
 ghost use Rattle.tl_model.specs.Calls.{AreServed, Call, IsAnswerOf, after_all, asks_at};
-ghost use Rattle.tl_model.specs.declared.port.TheConstants.{MOST_SERVED};
+ghost use Rattle.tl_model.specs.declared.port.TheConstants.{MAX_SERVED};
 
 /// Each port is the one before the calls, once it has served those requests in turn that came to it.
 pub fn calls_in_a_row()
@@ -30,5 +30,5 @@ pub fn ports_at_reset()
 /// The most requests that a port counts are as many as a number of 64 bits can count. Contracts name the constant, so without this law
 /// a wrong constant would change what they promise.
 pub fn limits_in_numbers()
-    ensures served { MOST_SERVED + 1 ≡ 2 ^ 64 }
+    ensures served { MAX_SERVED + 1 ≡ 2 ^ 64 }
 {}

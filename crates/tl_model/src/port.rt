@@ -11,7 +11,7 @@ use tl_script::{Device, banks_of};
 use tl_types::{Ask, Memory, Reply};
 
 /// The most requests that a port counts.
-pub const MOST_SERVED: usize = usize::MAX;
+pub const MAX_SERVED: usize = usize::MAX;
 
 /// A slave port.
 #[derive(Drop)]
@@ -23,7 +23,7 @@ pub(crate) struct Port {
 impl Port {
     /// Serves a request, and counts it: the reply stands in the place of another.
     pub(crate) fn serve(&mut self, ask: &Ask, answer: &mut Reply)
-        requires { self.old.served < MOST_SERVED }
+        requires { self.old.served < MAX_SERVED }
         ensures bank { self.new.bank ≡ after self.old.bank ask.now }
         ensures counted { self.new.served ≡ self.old.served + 1 }
         ensures reply { answer.new ≡ reply self.old.bank ask.now }

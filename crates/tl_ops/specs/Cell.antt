@@ -2,12 +2,12 @@
 -- number, the lowest byte first.
 use Rattle.std.specs.Prelude.{◌≡◌, ℕ, zero, suc, ◌<◌, ◌≤◌, ◌+◌, ◌*◌, ◌/◌, ◌%◌, ◌^◌, ◌-◌, List, map, take, drop, Option, None, Some}
 use Rattle.std.specs.List.{flat_map}
-use Rattle.tl_types.specs.declared.limits.TheConstants.{BUS_BYTES}
+use Rattle.tl_types.specs.declared.limits.TheConstants.{WORD_BYTES}
 use Rattle.tl_ops.specs.Number.{low_bytes}
 
 -- the bytes of a word: byte k stands at lane k
 unfoldable pub word_bytes : ℕ → List ℕ
-word_bytes word = low_bytes BUS_BYTES word
+word_bytes word = low_bytes WORD_BYTES word
 
 -- the bytes of words
 unfoldable pub lanes_of : List ℕ → List ℕ
@@ -24,7 +24,7 @@ with_cell word lane width cell =
 
 -- the part of a request's bytes that one word has
 abbrev pub word_of : List (Option ℕ) → ℕ → List (Option ℕ)
-word_of given word = take BUS_BYTES (drop (BUS_BYTES * word) given)
+word_of given word = take WORD_BYTES (drop (WORD_BYTES * word) given)
 
 -- a byte of a mask: all bits where the old byte is kept, since none is given
 abbrev pub keep_byte : Option ℕ → ℕ
@@ -42,11 +42,11 @@ keep_of given = map keep_byte given
 
 -- how many lanes are left in the last word after this many bytes
 abbrev pub spare_after : ℕ → ℕ
-spare_after count = (BUS_BYTES - count % BUS_BYTES) % BUS_BYTES
+spare_after count = (WORD_BYTES - count % WORD_BYTES) % WORD_BYTES
 
 -- bytes that words hold without a part of one left over: a cell of one word, or whole words
 pub record FitsWords (start width : ℕ) : Type 0 where
   pub some : 0 < width
-  pub cell : width < BUS_BYTES → start % BUS_BYTES + width ≤ BUS_BYTES
-  pub whole_start : BUS_BYTES ≤ width → start % BUS_BYTES ≡ 0
-  pub whole_width : BUS_BYTES ≤ width → width % BUS_BYTES ≡ 0
+  pub cell : width < WORD_BYTES → start % WORD_BYTES + width ≤ WORD_BYTES
+  pub whole_start : WORD_BYTES ≤ width → start % WORD_BYTES ≡ 0
+  pub whole_width : WORD_BYTES ≤ width → width % WORD_BYTES ≡ 0

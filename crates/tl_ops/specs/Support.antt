@@ -2,7 +2,7 @@
 use Rattle.std.specs.Prelude.{ℕ, Bool, false, ◌&&◌, nat_le}
 use Rattle.tl_types.specs.declared.operation.AskOp.{AskOp}
 use Rattle.tl_types.specs.declared.operation.AskOp.TheVariants.{PutFull, PutPartial, Arithmetic, Logical, Get, Intent}
-use Rattle.tl_types.specs.declared.limits.TheConstants.{LARGEST_SIZE}
+use Rattle.tl_types.specs.declared.limits.TheConstants.{MAX_SIZE}
 use Rattle.tl_ops.specs.declared.kind.Kind.{Kind}
 use Rattle.tl_ops.specs.declared.kind.Kind.TheVariants.{Ram, Rom, Regs, ClearRegs, NoDevice}
 
@@ -12,7 +12,7 @@ is_word_size size = nat_le 2 size && nat_le size 3
 
 -- the sizes of any message
 abbrev pub is_any_size : ℕ → Bool
-is_any_size size = nat_le size LARGEST_SIZE
+is_any_size size = nat_le size MAX_SIZE
 
 -- a Ram: every operation, and the atomics at the size of a word
 abbrev pub ram_supports : AskOp → ℕ → Bool

@@ -6,12 +6,12 @@ ghost use Rattle.tl_ops.specs.Window.{operand_of, combine_arith, combine_logic, 
 ghost use Rattle.tl_ops.specs.Cell.{cell_of, with_cell, keep_bit, keep_of, word_of};
 ghost use Rattle.tl_ops.specs.declared.kind.Kind.TheVariants.{Ram};
 
-use tl_types::{Arith, AskOp, BUS_BYTES, Bytes, Logic};
+use tl_types::{Arith, AskOp, Bytes, Logic, WORD_BYTES};
 
 /// The mask of a cell of so many bytes, at the lowest lanes.
 fn cell_mask(width: usize) -> u64
     requires some { 0 < width }
-    requires in_word { width ≤ BUS_BYTES }
+    requires in_word { width ≤ WORD_BYTES }
     ensures { result ≡ 2 ^ (8 * width) - 1 }
 {
     u64::MAX >> (64 - 8 * width)
@@ -20,7 +20,7 @@ fn cell_mask(width: usize) -> u64
 /// The cell of `width` bytes that a word has from `lane` on.
 pub fn cell_of(word: u64, lane: usize, width: usize) -> u64
     requires some { 0 < width }
-    requires in_word { lane + width ≤ BUS_BYTES }
+    requires in_word { lane + width ≤ WORD_BYTES }
     ensures value { result ≡ cell_of word lane width }
     ensures fits { result < 2 ^ (8 * width) }
 {
@@ -30,7 +30,7 @@ pub fn cell_of(word: u64, lane: usize, width: usize) -> u64
 /// The word with another cell there. All other lanes stay as they are.
 pub fn with_cell(word: u64, lane: usize, width: usize, cell: u64) -> u64
     requires some { 0 < width }
-    requires in_word { lane + width ≤ BUS_BYTES }
+    requires in_word { lane + width ≤ WORD_BYTES }
     requires fits { cell < 2 ^ (8 * width) }
     ensures { result ≡ with_cell word lane width cell }
 {
@@ -67,7 +67,7 @@ const KEPT: [u32; 16] = [
 
 /// The mask of the lanes that keep their byte, where a word has this mask of those that are given.
 fn kept_lanes(mask: u8) -> u64
-    ensures { (lane : ℕ) → lane < BUS_BYTES → slice_index (low_bytes BUS_BYTES result) lane ≡ keep_bit (bit_at mask lane) }
+    ensures { (lane : ℕ) → lane < WORD_BYTES → slice_index (low_bytes WORD_BYTES result) lane ≡ keep_bit (bit_at mask lane) }
 {
     let low = u64::from(KEPT[usize::from(mask & 0xf)]);
     let high = u64::from(KEPT[usize::from(mask >> 4)]);
@@ -76,11 +76,11 @@ fn kept_lanes(mask: u8) -> u64
 
 /// The cell that these bytes spell.
 fn spelled(bytes: &[u8]) -> u64
-    requires { length bytes.now ≤ BUS_BYTES }
+    requires { length bytes.now ≤ WORD_BYTES }
     ensures fits { result < 2 ^ (8 * length bytes.now) }
     ensures value { low_bytes (length bytes.now) result ≡ bytes.now }
 {
-    if bytes.len() == BUS_BYTES {
+    if bytes.len() == WORD_BYTES {
         return u64::from_le_bytes([
             bytes[0], bytes[1], bytes[2], bytes[3], bytes[4], bytes[5], bytes[6], bytes[7],
         ]);
@@ -94,7 +94,7 @@ fn spelled(bytes: &[u8]) -> u64
 
 /// What a word of a request's bytes gives.
 fn given_word(bytes: &Bytes, word: usize) -> Given
-    requires { BUS_BYTES * word < length bytes.now }
+    requires { WORD_BYTES * word < length bytes.now }
     ensures fits { result.bytes < 2 ^ (8 * length (word_of bytes.now word)) }
     ensures bytes { let given = word_of bytes.now word in
         low_bytes (length given) result.bytes ≡ operand_of given }
@@ -102,8 +102,8 @@ fn given_word(bytes: &Bytes, word: usize) -> Given
         low_bytes (length given) result.keep ≡ keep_of given }
 {
     let len = bytes.len();
-    let from = BUS_BYTES * word;
-    let count = (len - from).min(BUS_BYTES);
+    let from = WORD_BYTES * word;
+    let count = (len - from).min(WORD_BYTES);
     Given {
         bytes: spelled(&bytes.plain()[from..from + count]),
         keep: kept_lanes(bytes.mask(word)),
@@ -112,7 +112,7 @@ fn given_word(bytes: &Bytes, word: usize) -> Given
 
 /// A cell of so many bytes in two's complement.
 fn signed(cell: u64, width: usize) -> i128
-    requires in_word { width ≤ BUS_BYTES }
+    requires in_word { width ≤ WORD_BYTES }
     requires fits { cell < 2 ^ (8 * width) }
     ensures { result ≡ signed (low_bytes width cell) }
 {
@@ -144,7 +144,7 @@ fn combine_logic(op: Logic, old: u64, operand: u64, width: usize) -> u64
 /// The cell after an arithmetic operation.
 fn combine_arith(op: Arith, old: u64, operand: u64, width: usize) -> u64
     requires some { 0 < width }
-    requires in_word { width ≤ BUS_BYTES }
+    requires in_word { width ≤ WORD_BYTES }
     requires old { old < 2 ^ (8 * width) }
     requires operand { operand < 2 ^ (8 * width) }
     ensures fits { result < 2 ^ (8 * width) }
@@ -164,7 +164,7 @@ fn combine_arith(op: Arith, old: u64, operand: u64, width: usize) -> u64
 /// The cell after a put where writing a one clears.
 pub fn cleared_cell(old: u64, given: &Bytes) -> u64
     requires some { 0 < length given.now }
-    requires in_word { length given.now ≤ BUS_BYTES }
+    requires in_word { length given.now ≤ WORD_BYTES }
     requires old { old < 2 ^ (8 * length given.now) }
     ensures fits { result < 2 ^ (8 * length given.now) }
     ensures bytes { low_bytes (length given.now) result
@@ -176,14 +176,14 @@ pub fn cleared_cell(old: u64, given: &Bytes) -> u64
 
 /// The cell after a legal request, of whose bytes it takes a word, where a put leaves what it gives.
 pub fn new_cell(op: AskOp, old: u64, bytes: &Bytes, word: usize) -> u64
-    requires some { BUS_BYTES * word < length bytes.now }
+    requires some { WORD_BYTES * word < length bytes.now }
     requires old { old < 2 ^ (8 * length (word_of bytes.now word)) }
     ensures fits { result < 2 ^ (8 * length (word_of bytes.now word)) }
     ensures bytes { let given = word_of bytes.now word in
         low_bytes (length given) result ≡ new_window Ram op (low_bytes (length given) old) given }
 {
     let len = bytes.len();
-    let width = (len - BUS_BYTES * word).min(BUS_BYTES);
+    let width = (len - WORD_BYTES * word).min(WORD_BYTES);
     let Given {
         bytes: operand,
         keep,

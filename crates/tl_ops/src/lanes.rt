@@ -11,7 +11,7 @@ use crate::cell::{cell_of, cleared_cell, new_cell, with_cell};
 use arrayvec::ArrayVec;
 use std::alloc::{AllocError, Global};
 use std::marker::Model;
-use tl_types::{AskOp, BUS_BYTES, Bytes, MAX_BYTES};
+use tl_types::{AskOp, Bytes, MAX_BYTES, WORD_BYTES};
 
 /// The bytes of a window.
 pub type Window = ArrayVec<u8, MAX_BYTES>;
@@ -34,7 +34,7 @@ impl Model for Lanes {
 impl Lanes {
     /// As many words of zeros.
     fn zeros(alloc: Global, count: usize) -> Result<Lanes, AllocError>
-        ensures { IfOk result (λ lanes. lanes ≡ replicate (BUS_BYTES * count) 0) }
+        ensures { IfOk result (λ lanes. lanes ≡ replicate (WORD_BYTES * count) 0) }
     {
         Ok(Lanes {
             words: vec![in alloc; 0; count]?,
@@ -44,32 +44,32 @@ impl Lanes {
     /// The cell of `width` bytes from a place on.
     pub fn cell(&self, start: usize, width: usize) -> u64
         requires some { 0 < width }
-        requires in_word { start % BUS_BYTES + width ≤ BUS_BYTES }
+        requires in_word { start % WORD_BYTES + width ≤ WORD_BYTES }
         requires inside { start + width ≤ length self.now }
         ensures bytes { low_bytes width result ≡ take width (drop start self.now) }
         ensures fits { result < 2 ^ (8 * width) }
     {
-        cell_of(self.words[start / BUS_BYTES], start % BUS_BYTES, width)
+        cell_of(self.words[start / WORD_BYTES], start % WORD_BYTES, width)
     }
 
     /// Replaces the cell of `width` bytes from a place on.
     fn set_cell(&mut self, start: usize, width: usize, cell: u64)
         requires some { 0 < width }
-        requires in_word { start % BUS_BYTES + width ≤ BUS_BYTES }
+        requires in_word { start % WORD_BYTES + width ≤ WORD_BYTES }
         requires inside { start + width ≤ length self.old }
         requires fits { cell < 2 ^ (8 * width) }
         ensures after { self.new ≡ with_window self.old start (low_bytes width cell) }
         ensures len { length self.new ≡ length self.old }
     {
-        let word = self.words[start / BUS_BYTES];
-        self.words[start / BUS_BYTES] = with_cell(word, start % BUS_BYTES, width, cell);
+        let word = self.words[start / WORD_BYTES];
+        self.words[start / WORD_BYTES] = with_cell(word, start % WORD_BYTES, width, cell);
     }
 
     /// Serves a request on bytes that one word holds, where a put leaves what it gives, and answers the cell that was
     /// there.
     pub fn update(&mut self, start: usize, op: AskOp, given: &Bytes) -> u64
         requires some { 0 < length given.now }
-        requires in_word { start % BUS_BYTES + length given.now ≤ BUS_BYTES }
+        requires in_word { start % WORD_BYTES + length given.now ≤ WORD_BYTES }
         requires inside { start + length given.now ≤ length self.old }
         ensures after { let old = take (length given.now) (drop start self.old) in
             self.new ≡ with_window self.old start (new_window Ram op old given.now) }
@@ -86,7 +86,7 @@ impl Lanes {
     /// Clears the bits that are given as ones, in bytes that one word holds.
     pub fn clear(&mut self, start: usize, given: &Bytes)
         requires some { 0 < length given.now }
-        requires in_word { start % BUS_BYTES + length given.now ≤ BUS_BYTES }
+        requires in_word { start % WORD_BYTES + length given.now ≤ WORD_BYTES }
         requires inside { start + length given.now ≤ length self.old }
         ensures { let old = take (length given.now) (drop start self.old) in
             self.new ≡ with_window self.old start (cleared old (operand_of given.now)) }
@@ -106,12 +106,12 @@ impl Lanes {
 
     /// The bytes in memory, after `lead` zeros and before as many as fill the last word.
     pub fn new(alloc: Global, lead: usize, bytes: &[u8]) -> Result<Lanes, AllocError>
-        requires lead { lead < BUS_BYTES }
+        requires lead { lead < WORD_BYTES }
         requires in_limit { length bytes.now ≤ 2 ^ 32 }
         ensures { IfOk result (λ lanes. lanes ≡ replicate lead 0
             ++ (bytes.now ++ replicate (spare_after (lead + length bytes.now)) 0)) }
     {
-        let mut lanes = Lanes::zeros(alloc, (lead + bytes.len()).div_ceil(BUS_BYTES))?;
+        let mut lanes = Lanes::zeros(alloc, (lead + bytes.len()).div_ceil(WORD_BYTES))?;
         for k in 0..bytes.len() {
             lanes.put_byte(lead + k, bytes[k]);
         }
@@ -128,10 +128,10 @@ impl Lanes {
 
     /// Puts word number `k` of the given bytes into word number `i`.
     fn put_word(&mut self, i: usize, given: &Bytes, k: usize)
-        requires width { BUS_BYTES * k + BUS_BYTES ≤ length given.now }
-        requires inside { BUS_BYTES * i + BUS_BYTES ≤ length self.old }
-        ensures after { let old = take BUS_BYTES (drop (BUS_BYTES * i) self.old) in
-            self.new ≡ with_window self.old (BUS_BYTES * i) (merged old (word_of given.now k)) }
+        requires width { WORD_BYTES * k + WORD_BYTES ≤ length given.now }
+        requires inside { WORD_BYTES * i + WORD_BYTES ≤ length self.old }
+        ensures after { let old = take WORD_BYTES (drop (WORD_BYTES * i) self.old) in
+            self.new ≡ with_window self.old (WORD_BYTES * i) (merged old (word_of given.now k)) }
         ensures len { length self.new ≡ length self.old }
     {
         let word = self.words[i];
@@ -140,11 +140,11 @@ impl Lanes {
 
     /// So many words from a place on.
     pub fn words(&self, start: usize, count: usize) -> &[u64]
-        requires whole { start % BUS_BYTES ≡ 0 }
-        requires inside { start + BUS_BYTES * count ≤ length self.now }
-        ensures { bytes_of_words result.now ≡ take (BUS_BYTES * count) (drop start self.now) }
+        requires whole { start % WORD_BYTES ≡ 0 }
+        requires inside { start + WORD_BYTES * count ≤ length self.now }
+        ensures { bytes_of_words result.now ≡ take (WORD_BYTES * count) (drop start self.now) }
     {
-        let first = start / BUS_BYTES;
+        let first = start / WORD_BYTES;
         &self.words[first..first + count]
     }
 
@@ -156,12 +156,12 @@ impl Lanes {
             self.new ≡ with_window self.old start (merged old given.now) }
     {
         let width = given.len();
-        if width < BUS_BYTES {
+        if width < WORD_BYTES {
             self.update(start, AskOp::PutPartial, given);
             return;
         }
-        for k in 0..width / BUS_BYTES {
-            self.put_word(start / BUS_BYTES + k, given, k);
+        for k in 0..width / WORD_BYTES {
+            self.put_word(start / WORD_BYTES + k, given, k);
         }
     }
 }

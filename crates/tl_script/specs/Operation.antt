@@ -5,7 +5,7 @@ use Rattle.std.specs.Str.{bytes_eq}
 use Rattle.tl_types.specs.Operation.{carries_bytes, may_leave_unset}
 use Rattle.tl_types.specs.Request.{Request, IsLawfulRequest}
 use Rattle.tl_types.specs.declared.operation.AskOp.{AskOp}
-use Rattle.tl_types.specs.declared.limits.TheConstants.{LARGEST_SIZE}
+use Rattle.tl_types.specs.declared.limits.TheConstants.{MAX_SIZE}
 use Rattle.tl_script.specs.Data.{data_of}
 use Rattle.tl_text.specs.Name.{name_of}
 use Rattle.tl_text.specs.Number.{number_of}
@@ -29,7 +29,7 @@ address_of word = if starts_with nat_eq word (codes "0x") then number_of 16 16 (
 
 -- SIZE: one decimal digit, not over the limit
 unfoldable pub size_of : List ℕ → Option ℕ
-size_of word = number_of 10 1 word >>= (λ size. if nat_le size LARGEST_SIZE then Some size else None)
+size_of word = number_of 10 1 word >>= (λ size. if nat_le size MAX_SIZE then Some size else None)
 
 -- DATA of this many bytes
 unfoldable pub counted_data_of : ℕ → List ℕ → Option (List (Option ℕ))

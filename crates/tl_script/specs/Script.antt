@@ -21,7 +21,7 @@ use Rattle.tl_script.specs.declared.fault.Key.TheVariants.{Slots}
 use Rattle.tl_script.specs.declared.fault.ScriptFault.{ScriptFault}
 use Rattle.tl_script.specs.declared.fault.ScriptFault.TheVariants.{TooLong, NotToml, Map, Sources}
 use Rattle.tl_script.specs.declared.parts.Parts as code_parts
-use Rattle.tl_script.specs.declared.script.TheConstants.{SCRIPT_LIMIT}
+use Rattle.tl_script.specs.declared.script.TheConstants.{MAX_SCRIPT}
 
 -- ---- the parts that a script names
 
@@ -34,7 +34,7 @@ pub record Parts : Type 0 where
 -- the table of a script, which is a TOML document of at most so many bytes of UTF-8
 unfoldable pub document_of : List ℕ → Result Members ScriptFault
 document_of bytes =
-    if nat_lt SCRIPT_LIMIT (length bytes) then Err TooLong
+    if nat_lt MAX_SCRIPT (length bytes) then Err TooLong
     else if is_utf8 bytes then ok_or (parse_document bytes) NotToml
     else Err NotToml
 

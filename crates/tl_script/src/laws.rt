@@ -5,12 +5,12 @@ ghost use Rattle.tl_script.specs.Data.{data_of, data_text};
 ghost use Rattle.tl_map.specs.Range.{HoldsAsk};
 ghost use Rattle.tl_ops.specs.Store.{Store, contains_window};
 ghost use Rattle.tl_script.specs.System.{range_of};
-ghost use Rattle.tl_script.specs.declared.script.TheConstants.{SCRIPT_LIMIT};
+ghost use Rattle.tl_script.specs.declared.script.TheConstants.{MAX_SCRIPT};
 ghost use Rattle.tl_script.specs.declared.system.TheConstants.{MAX_JOBS};
 
 /// The limits of this crate in numbers: contracts name the constants, so a wrong one would change what they promise.
 pub fn limits_in_numbers()
-    ensures script { SCRIPT_LIMIT ≡ 1048576 }
+    ensures script { MAX_SCRIPT ≡ 1048576 }
     ensures operations { MAX_JOBS ≡ 4096 }
 {}
 

@@ -31,5 +31,5 @@ pub use history::{push_account, push_history, write_account, write_history};
 pub use operation::{Job, read_operation};
 pub use operations::Operations;
 pub use print::{push_entry, push_reply, push_trace, push_traces, write_trace};
-pub use script::{SCRIPT_LIMIT, read_system};
+pub use script::{MAX_SCRIPT, read_system};
 pub use system::{Crossbar, Device, MAX_JOBS, System, banks_of};

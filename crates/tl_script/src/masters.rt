@@ -16,7 +16,7 @@ use tl_types::Bytes;
 use toml::Table;
 
 /// The most sources that a script may say.
-const MOST_SOURCES: u64 = 65_535;
+const MAX_COUNT: u64 = 65_535;
 
 /// The lines of a master's operations.
 #[tactic(auto, unfolding(crate::specs::Master::lines_at))]
@@ -37,7 +37,7 @@ fn read_lines<'a>(alloc: Global, table: &'a Table) -> Result<Vec<&'a str>, Scrip
 fn read_master<'a>(alloc: Global, table: &'a Table) -> Result<Master<'a>, ScriptFault>
     ensures value { Gives master_view result (master_of (table_view table.now)) }
 {
-    let sources = number_at(table, Key::Sources, 0, MOST_SOURCES)?;
+    let sources = number_at(table, Key::Sources, 0, MAX_COUNT)?;
     let lines = read_lines(alloc, table)?;
     Ok(Master {
         sources: sources as u16,

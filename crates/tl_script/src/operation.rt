@@ -9,7 +9,7 @@ ghost use Rattle.tl_script.specs.declared.operation.Job.TheVariants.{Send};
 
 use crate::data::read_data;
 use tl_text::{read_name, read_number, split_words};
-use tl_types::{Ask, AskOp, Bytes, LARGEST_SIZE, width};
+use tl_types::{Ask, AskOp, Bytes, MAX_SIZE, width};
 
 /// One step of a master.
 #[derive(Debug, Drop)]
@@ -124,10 +124,10 @@ fn read_address(word: &[u8]) -> Option<u64>
 #[tactic(auto, unfolding(crate::specs::Operation::size_of))]
 fn read_size(word: &[u8]) -> Option<u8>
     ensures value { result ≡ size_of word.now }
-    ensures limit { IfSome result (λ size. size ≤ LARGEST_SIZE) }
+    ensures limit { IfSome result (λ size. size ≤ MAX_SIZE) }
 {
     let size = read_number(word, 10, 1)?;
-    if size <= u64::from(LARGEST_SIZE) {
+    if size <= u64::from(MAX_SIZE) {
         Some(size as u8)
     } else {
         None
@@ -137,7 +137,7 @@ fn read_size(word: &[u8]) -> Option<u8>
 /// Reads the bytes that the words after the size spell in the place of those that there were.
 #[tactic(auto, unfolding(crate::specs::Operation::bytes_of))]
 fn read_bytes(op: AskOp, size: u8, words: &[&[u8]], bytes: &mut Bytes) -> Option<()>
-    requires { size ≤ LARGEST_SIZE }
+    requires { size ≤ MAX_SIZE }
     ensures value { option_map (λ _. bytes.new) result ≡ bytes_of op size (map (λ word. word.now) words.now) }
     ensures lawful { IfSome result (λ _. IsLawfulRequest op size bytes.new) }
 {

@@ -17,7 +17,7 @@ use tl_ops::{Kind, MAX_LENGTH};
 use toml::Table;
 
 /// The last address that a range may start at: the largest integer of a document.
-const LAST_BASE: u64 = i64::MAX as u64;
+const MAX_BASE: u64 = i64::MAX as u64;
 
 /// The kind that a word names.
 fn read_kind(word: &[u8]) -> Option<Kind>
@@ -100,7 +100,7 @@ fn read_port(alloc: Global, table: &Table) -> Result<Device, ScriptFault>
     ensures in_limit { IfOk result (λ device. length device.reset.items ≤ LONGEST) }
 {
     let kind = kind_of_port(table)?;
-    let base = number_at(table, Key::Base, 0, LAST_BASE)?;
+    let base = number_at(table, Key::Base, 0, MAX_BASE)?;
     let count = number_at(table, Key::Length, 0, MAX_LENGTH as u64)?;
     let reset = reset_of_port(alloc, count as usize, table)?;
     Ok(Device { kind, base, reset })

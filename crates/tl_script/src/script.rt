@@ -19,14 +19,14 @@ use tl_types::MAX_SLOTS;
 use toml::Table;
 
 /// The most bytes of a script.
-pub const SCRIPT_LIMIT: usize = 1_048_576;
+pub const MAX_SCRIPT: usize = 1_048_576;
 
 /// The table of a script.
 #[tactic(auto, using(crate::proofs::Views::text_tests), unfolding(crate::specs::Script::document_of))]
 fn read_document(alloc: Global, bytes: &[u8]) -> Result<Table, ScriptFault>
     ensures { Gives table_view result (document_of bytes.now) }
 {
-    if bytes.len() > SCRIPT_LIMIT {
+    if bytes.len() > MAX_SCRIPT {
         return Err(ScriptFault::TooLong);
     }
     let Ok(text) = std::str::from_utf8(bytes) else {

@@ -4,7 +4,7 @@ use Rattle.tl_script.specs.Script.{Spells, IsFirstScriptFault}
 use Rattle.tl_script.specs.System.{System}
 use Rattle.tl_script.specs.declared.fault.ScriptFault.{ScriptFault}
 use Rattle.tl_script.specs.declared.fault.ScriptFault.TheVariants as script
-use Rattle.tl_script.specs.declared.script.TheConstants.{SCRIPT_LIMIT}
+use Rattle.tl_script.specs.declared.script.TheConstants.{MAX_SCRIPT}
 use Rattle.tl_streams.specs.Streams.{ReadsAll, ReadsUpTo}
 use Rattle.tl_streams.specs.declared.input.InputFault.{InputFault}
 use Rattle.tl_streams.specs.declared.input.InputFault.TheVariants.{Script, Read, Memory}
@@ -20,7 +20,7 @@ pub record GivesSystem (old new : Option (List ℕ)) (system : System) : Type 0 
 -- the fault is the first of what was read: of all that the reader had, or of a byte more than a script may have
 pub record HasScriptFault (old new : Option (List ℕ)) (fault : ScriptFault) : Type 0 where
   pub script : List ℕ
-  pub read : ReadsUpTo (SCRIPT_LIMIT + 1) old new script
+  pub read : ReadsUpTo (MAX_SCRIPT + 1) old new script
   pub first : IsFirstScriptFault script fault
 
 -- want of memory is one fault, whichever layer met it

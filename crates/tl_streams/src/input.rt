@@ -9,7 +9,7 @@ use crate::streams::{ReadFault, read_up_to};
 use std::alloc::Global;
 use std::io::Read;
 use thiserror::Error;
-use tl_script::{SCRIPT_LIMIT, ScriptFault, System, read_system};
+use tl_script::{MAX_SCRIPT, ScriptFault, System, read_system};
 
 /// Why no system was read.
 #[derive(Debug, Drop, Error)]
@@ -58,10 +58,10 @@ pub fn read_whole_system<R: Read>(
         → HasScriptFault (R.remaining reader.old.reader.now) (R.remaining reader.new.reader.now) fault }
 
     // No more is taken than makes a script too long, whether a fault comes of it or not.
-    ensures taken { TakesUpTo (SCRIPT_LIMIT + 1) (R.remaining reader.old.reader.now)
+    ensures taken { TakesUpTo (MAX_SCRIPT + 1) (R.remaining reader.old.reader.now)
         (R.remaining reader.new.reader.now) }
 {
-    let script = read_up_to(alloc, reader, SCRIPT_LIMIT + 1)?;
+    let script = read_up_to(alloc, reader, MAX_SCRIPT + 1)?;
     let system = read_system(alloc, &script)?;
     Ok(system)
 }

@@ -7,7 +7,7 @@ use itoa::Buffer;
 use std::alloc::AllocError;
 
 /// The most hexadecimal digits of a number.
-const MOST_DIGITS: usize = 16;
+const MAX_DIGITS: usize = 16;
 
 /// The character of a hexadecimal digit.
 pub fn hex_digit(digit: u8) -> u8
@@ -51,8 +51,8 @@ pub fn push_hex(text: &mut Vec<u8>, number: u64) -> Result<(), AllocError>
     ensures ok { OnOk result (text.new.items ≡ text.old.items ++ digits 16 false number) }
     ensures err { OnErr result (BeginsWith text.old.items text.new.items) }
 {
-    let mut digits = [0; MOST_DIGITS];
-    let mut first = MOST_DIGITS - 1;
+    let mut digits = [0; MAX_DIGITS];
+    let mut first = MAX_DIGITS - 1;
     let mut left = number;
     while left >= 16 {
         digits[first] = hex_digit((left % 16) as u8);

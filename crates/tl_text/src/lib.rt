@@ -17,4 +17,4 @@ mod words;
 pub use digits::{hex_digit, push_decimal, push_field, push_hex};
 pub use name::{read_name, reply_word, word};
 pub use number::read_number;
-pub use words::{MOST_WORDS, split_words};
+pub use words::{MAX_WORDS, split_words};

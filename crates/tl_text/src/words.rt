@@ -5,7 +5,7 @@ ghost use Rattle.tl_text.specs.Word.{BeginsWithWord, IsFront, is_blank, words_of
 use arrayvec::ArrayVec;
 
 /// The most words of a line that are looked at: one more than the longest operation has.
-pub const MOST_WORDS: usize = 6;
+pub const MAX_WORDS: usize = 6;
 
 /// Whether a byte stands between words: a space or a tab.
 fn is_blank(byte: u8) -> bool
@@ -54,8 +54,8 @@ fn split_word(line: &[u8]) -> Option<(&[u8], &[u8])>
 }
 
 /// The first words of a line, which stand between spaces and tabs.
-pub fn split_words(line: &[u8]) -> ArrayVec<&[u8], MOST_WORDS>
-    ensures { map (λ word. word.now) result.items ≡ take MOST_WORDS (words_of line.now) }
+pub fn split_words(line: &[u8]) -> ArrayVec<&[u8], MAX_WORDS>
+    ensures { map (λ word. word.now) result.items ≡ take MAX_WORDS (words_of line.now) }
 {
     let mut words = ArrayVec::new();
     let mut rest = line;

@@ -22,9 +22,9 @@ impl Gate for OpenGate {
 }
 
 /// How often a gate is asked at one ring.
-const MOST_ASKED: u32 = 1_000_000;
+const MAX_ASKED: u32 = 1_000_000;
 
 /// Asks a gate that has said no, until it says yes. False where it never did.
 pub(crate) fn opens<G: Gate>(gate: &G, port: usize) -> bool {
-    (1..MOST_ASKED).any(|_| gate.may_serve(port))
+    (1..MAX_ASKED).any(|_| gate.may_serve(port))
 }

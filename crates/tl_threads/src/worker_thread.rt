@@ -11,10 +11,10 @@ use tl_arena::ArenaName;
 use tl_map::Sources;
 
 /// The most rings that a port's thread owes masters at a time.
-const MOST_OWED: usize = 16;
+const MAX_OWED: usize = 16;
 
 /// The masters whose requests a port's thread has answered and whom it has not rung since.
-type Owed = ArrayVec<usize, MOST_OWED>;
+type Owed = ArrayVec<usize, MAX_OWED>;
 
 /// Rings each master that is owed a ring.
 fn ring_owed<R: Wait>(rt: &R, masters: &mut [Ringer], owed: &mut Owed)
@@ -31,7 +31,7 @@ fn ring_owed<R: Wait>(rt: &R, masters: &mut [Ringer], owed: &mut Owed)
 /// it wakes a master once for several replies: waking a thread costs more than serving a request.
 fn next_ring<R: Wait>(rt: &R, bells: &mut Bells, owed: &mut Owed) -> Ring
     requires { All (λ master. master < vec_len bells.old.others) owed.old.items }
-    ensures room { array_vec_len owed.new < MOST_OWED }
+    ensures room { array_vec_len owed.new < MAX_OWED }
     ensures owed { All (λ master. master < vec_len bells.new.others) owed.new.items }
     ensures bells { vec_len bells.new.others ≡ vec_len bells.old.others }
 {
@@ -52,9 +52,9 @@ fn may_serve<R: Wait, G: Gate>(
     masters: &mut [Ringer],
     owed: &mut Owed,
 ) -> bool
-    requires room { array_vec_len owed.old < MOST_OWED }
+    requires room { array_vec_len owed.old < MAX_OWED }
     requires owed { All (λ master. master < length masters.old) owed.old.items }
-    ensures room { array_vec_len owed.new < MOST_OWED }
+    ensures room { array_vec_len owed.new < MAX_OWED }
     ensures owed { All (λ master. master < length masters.old) owed.new.items }
 {
     if gate.may_serve(port) {

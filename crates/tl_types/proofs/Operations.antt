@@ -2,7 +2,7 @@
 use Rattle.std.proofs.Common.{◌≡◌, ℕ, ◌^◌, ◌≤◌, Bool, true, false, if◌then◌else◌, refl, inl, inr, arith, lit≤}
 use Rattle.std.proofs.Math.Nat.{pow-le-pow_right}
 use Rattle.tl_types.specs.Operation.{byte_count, carries_bytes, may_leave_unset}
-use Rattle.tl_types.specs.declared.limits.TheConstants.{LARGEST_SIZE, MAX_BYTES}
+use Rattle.tl_types.specs.declared.limits.TheConstants.{MAX_SIZE, MAX_BYTES}
 use Rattle.tl_types.specs.Wire.{opcode_of, IsCodeOf, HasOpFault}
 use Rattle.tl_types.specs.declared.wire.OpFault.{OpFault}
 use Rattle.tl_types.specs.declared.wire.OpFault.TheVariants.{Cached, UnknownOpcode, UnknownParam}
@@ -27,7 +27,7 @@ opcode_of-le Get = omega arith
 opcode_of-le (Intent _) = omega arith
 
 -- no request carries more bytes than a message has room for
-pub byte_count-le : (op : AskOp) (size : ℕ) → size ≤ LARGEST_SIZE → byte_count op size ≤ MAX_BYTES
+pub byte_count-le : (op : AskOp) (size : ℕ) → size ≤ MAX_SIZE → byte_count op size ≤ MAX_BYTES
 byte_count-le op size in_limit = go (carries_bytes op)
   where
     go : (carries : Bool) → (if carries then 2 ^ size else 0) ≤ MAX_BYTES

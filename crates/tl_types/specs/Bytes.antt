@@ -3,7 +3,7 @@
 use Rattle.std.specs.Prelude.{◌≡◌, ℕ, zero, suc, ◌+◌, ◌*◌, ◌/◌, ◌%◌, ◌^◌, ◌<◌, ◌≤◌, List, [], ◌∷◌, length, map, Option, None, Some, slice_get, slice_index, unwrap_or}
 use Rattle.std.specs.Int.{bit_at, to_le_bytes, w64}
 use Rattle.std.specs.List.{flat_map}
-use Rattle.tl_types.specs.declared.limits.TheConstants.{BUS_BYTES}
+use Rattle.tl_types.specs.declared.limits.TheConstants.{WORD_BYTES}
 use Rattle.tl_types.specs.declared.bytes.TheConstants.{MAX_WORDS}
 
 -- the bit of a mask for a byte that may be there
@@ -33,16 +33,16 @@ plain_of given = map (λ byte. unwrap_or byte 0) given
 -- the mask of a word of the bytes: a bit for each byte that is given, and none for one that is left unset or is not there
 abbrev pub IsMaskOf : List (Option ℕ) → ℕ → ℕ → Type 0
 IsMaskOf given word mask =
-    (k : ℕ) → k < BUS_BYTES → bit_at mask k ≡ mask_bit (unwrap_or (slice_get given (BUS_BYTES * word + k)) None)
+    (k : ℕ) → k < WORD_BYTES → bit_at mask k ≡ mask_bit (unwrap_or (slice_get given (WORD_BYTES * word + k)) None)
 
 -- the bit of a place among masks of words
 unfoldable pub bit_in : List ℕ → ℕ → ℕ
-bit_in masks place = bit_at (slice_index masks (place / BUS_BYTES)) (place % BUS_BYTES)
+bit_in masks place = bit_at (slice_index masks (place / WORD_BYTES)) (place % WORD_BYTES)
 
 -- there is a mask for each word, of a bit for each of its bytes; a byte that is left unset is zero, and no bit is set past the last byte
 pub record AreKept (plain masks : List ℕ) : Type 0 where
   pub counted : length masks ≡ MAX_WORDS
-  pub small : (word : ℕ) → slice_index masks word < 2 ^ BUS_BYTES
+  pub small : (word : ℕ) → slice_index masks word < 2 ^ WORD_BYTES
   pub unset : (place : ℕ) → bit_in masks place ≡ 0 → slice_index plain place ≡ 0
   pub past : (place : ℕ) → length plain ≤ place → bit_in masks place ≡ 0
 

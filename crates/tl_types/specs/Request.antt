@@ -5,7 +5,7 @@ use Rattle.std.specs.Prelude.{◌≡◌, ℕ, ◌≢◌, ◌≤◌, ◌<◌, fal
 use Rattle.tl_types.specs.Fault.{IsFirstOf}
 use Rattle.tl_types.specs.Operation.{byte_count, may_leave_unset}
 use Rattle.tl_types.specs.declared.operation.AskOp.{AskOp}
-use Rattle.tl_types.specs.declared.limits.TheConstants.{LARGEST_SIZE}
+use Rattle.tl_types.specs.declared.limits.TheConstants.{MAX_SIZE}
 use Rattle.tl_types.specs.declared.request.AskFault.{AskFault}
 use Rattle.tl_types.specs.declared.request.AskFault.TheVariants.{TooLarge, WrongCount, HoleInFull}
 
@@ -20,13 +20,13 @@ pub record Request : Type 0 where
 
 -- the rule of requests: as many bytes as the operation carries, and all of them given but in a partial put
 pub record IsLawfulRequest (op : AskOp) (size : ℕ) (bytes : List (Option ℕ)) : Type 0 where
-  pub in_limit : size ≤ LARGEST_SIZE
+  pub in_limit : size ≤ MAX_SIZE
   pub counted : length bytes ≡ byte_count op size
   pub whole : may_leave_unset op ≡ false → All (λ b. IsSome b) bytes
 
 -- the fault is one of a request with these parts
 abbrev pub HasAskFault : AskOp → ℕ → List (Option ℕ) → AskFault → Type 0
-HasAskFault op size bytes TooLarge = LARGEST_SIZE < size
+HasAskFault op size bytes TooLarge = MAX_SIZE < size
 HasAskFault op size bytes WrongCount = length bytes ≢ byte_count op size
 HasAskFault op size bytes HoleInFull = (may_leave_unset op ≡ false) × Any (λ b. IsNone b) bytes
 

@@ -5,7 +5,7 @@ use Rattle.std.specs.Prelude.{◌≡◌, ℕ, ◌≢◌, ◌≤◌, ◌<◌, Boo
 use Rattle.tl_types.specs.declared.operation.ReplyOp.{ReplyOp}
 use Rattle.tl_types.specs.Fault.{IsFirstOf}
 use Rattle.tl_types.specs.Operation.{reply_byte_count}
-use Rattle.tl_types.specs.declared.limits.TheConstants.{LARGEST_SIZE}
+use Rattle.tl_types.specs.declared.limits.TheConstants.{MAX_SIZE}
 use Rattle.tl_types.specs.declared.reply.ReplyFault.{ReplyFault}
 use Rattle.tl_types.specs.declared.reply.ReplyFault.TheVariants.{TooLarge, WrongCount, DirtyDenied}
 
@@ -19,13 +19,13 @@ pub record Response : Type 0 where
 
 -- the rule of replies: as many bytes as the opcode carries, all of them zero where it is denied
 pub record IsLawfulResponse (op : ReplyOp) (size : ℕ) (denied : Bool) (bytes : List ℕ) : Type 0 where
-  pub in_limit : size ≤ LARGEST_SIZE
+  pub in_limit : size ≤ MAX_SIZE
   pub counted : length bytes ≡ reply_byte_count op size
   pub clean : IsTrue denied → All (λ b. b ≡ 0) bytes
 
 -- the fault is one of a reply with these parts
 abbrev pub HasReplyFault : ReplyOp → ℕ → Bool → List ℕ → ReplyFault → Type 0
-HasReplyFault op size denied bytes TooLarge = LARGEST_SIZE < size
+HasReplyFault op size denied bytes TooLarge = MAX_SIZE < size
 HasReplyFault op size denied bytes WrongCount = length bytes ≢ reply_byte_count op size
 HasReplyFault op size denied bytes DirtyDenied = IsTrue denied × Any (λ b. b ≢ 0) bytes
 

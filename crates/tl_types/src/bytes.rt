@@ -3,14 +3,14 @@ ghost use Rattle.std.specs.Prelude.{◌≡◌, ◌↔◌, ℕ, ◌+◌, ◌*◌,
 ghost use Rattle.std.specs.Int.{bit_at};
 ghost use Rattle.tl_types.specs.Bytes.{IsMaskOf, bit_in, flag_bit, given_in, plain_of};
 
-use crate::limits::{BUS_BYTES, MAX_BYTES};
+use crate::limits::{MAX_BYTES, WORD_BYTES};
 use crate::room::refill_room;
 use arrayvec::ArrayVec;
 use std::marker::Model;
 use std::simd::prelude::*;
 
 /// The most words of the bus that a message has.
-const MAX_WORDS: usize = MAX_BYTES / BUS_BYTES;
+const MAX_WORDS: usize = MAX_BYTES / WORD_BYTES;
 
 /// The bytes of a request, of which some may be left unset.
 ///
@@ -51,7 +51,7 @@ impl Bytes {
         let place = self.plain.len();
         match byte {
             Some(byte) => {
-                self.masks[place / BUS_BYTES] |= 1 << (place % BUS_BYTES);
+                self.masks[place / WORD_BYTES] |= 1 << (place % WORD_BYTES);
                 self.plain.push(byte);
             }
             None => self.plain.push(0),
@@ -61,13 +61,13 @@ impl Bytes {
     /// Appends a word, or the front of one, all of whose bytes are given.
     pub fn push_given(&mut self, bytes: &[u8])
         requires some { 0 < length bytes.now }
-        requires aligned { length self.old % BUS_BYTES ≡ 0 }
-        requires in_word { length bytes.now ≤ BUS_BYTES }
+        requires aligned { length self.old % WORD_BYTES ≡ 0 }
+        requires in_word { length bytes.now ≤ WORD_BYTES }
         requires room { length self.old + length bytes.now ≤ MAX_BYTES }
         ensures { self.new ≡ self.old ++ map (λ byte. Some byte) bytes.now }
     {
-        let word = self.plain.len() / BUS_BYTES;
-        self.masks[word] = u8::MAX >> (BUS_BYTES - bytes.len());
+        let word = self.plain.len() / WORD_BYTES;
+        self.masks[word] = u8::MAX >> (WORD_BYTES - bytes.len());
         self.plain.try_extend_from_slice(bytes).unwrap();
     }
 
@@ -160,7 +160,7 @@ impl Bytes {
         ensures { slice_get self.now place ≡ Some result }
     {
         let byte = self.plain[place];
-        if self.masks[place / BUS_BYTES] >> (place % BUS_BYTES) & 1 == 1 {
+        if self.masks[place / WORD_BYTES] >> (place % WORD_BYTES) & 1 == 1 {
             Some(byte)
         } else {
             None
@@ -176,7 +176,7 @@ impl Bytes {
 
     /// The mask of a word of the bytes: bit k is set where its byte k is given.
     pub fn mask(&self, word: usize) -> u8
-        requires { BUS_BYTES * word < MAX_BYTES }
+        requires { WORD_BYTES * word < MAX_BYTES }
         ensures { IsMaskOf self.now word result }
     {
         self.masks[word]
@@ -206,16 +206,16 @@ impl Bytes {
 fn put_given_masks(masks: &mut [u8; MAX_WORDS], count: usize)
     requires { count ≤ MAX_BYTES }
     ensures counted { length masks.new ≡ MAX_WORDS }
-    ensures small { (word : ℕ) → slice_index masks.new word < 2 ^ BUS_BYTES }
+    ensures small { (word : ℕ) → slice_index masks.new word < 2 ^ WORD_BYTES }
     ensures given { (place : ℕ) → place < count → bit_in masks.new place ≡ 1 }
     ensures past { (place : ℕ) → count ≤ place → bit_in masks.new place ≡ 0 }
 {
-    if count > BUS_BYTES {
+    if count > WORD_BYTES {
         *masks = given_words(count);
         return;
     }
     *masks = [0; MAX_WORDS];
-    masks[0] = (u16::from(u8::MAX) >> (BUS_BYTES - count)) as u8;
+    masks[0] = (u16::from(u8::MAX) >> (WORD_BYTES - count)) as u8;
 }
 
 /// The masks of so many bytes that are all given, word by word.
@@ -224,17 +224,17 @@ fn put_given_masks(masks: &mut [u8; MAX_WORDS], count: usize)
 fn given_words(count: usize) -> [u8; MAX_WORDS]
     requires { count ≤ MAX_BYTES }
     ensures counted { length result ≡ MAX_WORDS }
-    ensures small { (word : ℕ) → slice_index result word < 2 ^ BUS_BYTES }
+    ensures small { (word : ℕ) → slice_index result word < 2 ^ WORD_BYTES }
     ensures given { (place : ℕ) → place < count → bit_in result place ≡ 1 }
     ensures past { (place : ℕ) → count ≤ place → bit_in result place ≡ 0 }
 {
     let mut masks = [0; MAX_WORDS];
-    let words = count / BUS_BYTES;
+    let words = count / WORD_BYTES;
     for word in 0..words {
         masks[word] = u8::MAX;
     }
-    if count % BUS_BYTES > 0 {
-        masks[words] = u8::MAX >> (BUS_BYTES - count % BUS_BYTES);
+    if count % WORD_BYTES > 0 {
+        masks[words] = u8::MAX >> (WORD_BYTES - count % WORD_BYTES);
     }
     masks
 }
@@ -245,7 +245,7 @@ fn clear_unset(bytes: &mut [u8], flags: &[u8])
     requires { length bytes.old ≤ length flags.now }
     ensures { bytes.new ≡ plain_of (given_in (slice_index flags.now) bytes.old) }
 {
-    if bytes.len() == BUS_BYTES {
+    if bytes.len() == WORD_BYTES {
         clear_word(bytes, flags);
         return;
     }
@@ -256,8 +256,8 @@ fn clear_unset(bytes: &mut [u8], flags: &[u8])
 
 /// Puts zero in the place of each byte of a word whose flag is zero.
 fn clear_word(bytes: &mut [u8], flags: &[u8])
-    requires word { length bytes.old ≡ BUS_BYTES }
-    requires flags { BUS_BYTES ≤ length flags.now }
+    requires word { length bytes.old ≡ WORD_BYTES }
+    requires flags { WORD_BYTES ≤ length flags.now }
     ensures { bytes.new ≡ plain_of (given_in (slice_index flags.now) bytes.old) }
 {
     let none = u8x8::splat(0);
@@ -271,10 +271,10 @@ fn clear_word(bytes: &mut [u8], flags: &[u8])
 fn put_flagged_masks(masks: &mut [u8; MAX_WORDS], flags: &[u8])
     requires { length flags.now ≤ MAX_BYTES }
     ensures counted { length masks.new ≡ MAX_WORDS }
-    ensures small { (word : ℕ) → slice_index masks.new word < 2 ^ BUS_BYTES }
+    ensures small { (word : ℕ) → slice_index masks.new word < 2 ^ WORD_BYTES }
     ensures bits { (place : ℕ) → bit_in masks.new place ≡ flag_bit (slice_index flags.now place) }
 {
-    if flags.len() > BUS_BYTES {
+    if flags.len() > WORD_BYTES {
         *masks = flagged_words(flags);
         return;
     }
@@ -288,13 +288,13 @@ fn put_flagged_masks(masks: &mut [u8; MAX_WORDS], flags: &[u8])
 fn flagged_words(flags: &[u8]) -> [u8; MAX_WORDS]
     requires { length flags.now ≤ MAX_BYTES }
     ensures counted { length result ≡ MAX_WORDS }
-    ensures small { (word : ℕ) → slice_index result word < 2 ^ BUS_BYTES }
+    ensures small { (word : ℕ) → slice_index result word < 2 ^ WORD_BYTES }
     ensures bits { (place : ℕ) → bit_in result place ≡ flag_bit (slice_index flags.now place) }
 {
     let mut masks = [0; MAX_WORDS];
-    for word in 0..flags.len().div_ceil(BUS_BYTES) {
-        let from = BUS_BYTES * word;
-        masks[word] = flag_mask(&flags[from..flags.len().min(from + BUS_BYTES)]);
+    for word in 0..flags.len().div_ceil(WORD_BYTES) {
+        let from = WORD_BYTES * word;
+        masks[word] = flag_mask(&flags[from..flags.len().min(from + WORD_BYTES)]);
     }
     masks
 }
@@ -302,10 +302,10 @@ fn flagged_words(flags: &[u8]) -> [u8; MAX_WORDS]
 /// The mask of a word, or of the front of one: a bit is set where its flag is not zero.
 // the flags of a whole word are looked at side by side
 fn flag_mask(flags: &[u8]) -> u8
-    requires { length flags.now ≤ BUS_BYTES }
+    requires { length flags.now ≤ WORD_BYTES }
     ensures { (k : ℕ) → bit_at result k ≡ flag_bit (slice_index flags.now k) }
 {
-    if flags.len() == BUS_BYTES {
+    if flags.len() == WORD_BYTES {
         let set = u8x8::from_slice(flags).simd_ne(u8x8::splat(0));
         return set.to_bitmask() as u8;
     }

@@ -26,7 +26,7 @@ mod wire;
 pub use bytes::Bytes;
 pub use fault::Memory;
 pub use limits::{
-    BUS_BYTES, LARGEST_SIZE, MAX_BYTES, MAX_MASTERS, MAX_PORTS, MAX_SLOTS, MAX_WORKERS,
+    BUS_BYTES, MAX_BYTES, MAX_MASTERS, MAX_PORTS, MAX_SIZE, MAX_SLOTS, MAX_WORKERS, WORD_BYTES,
 };
 pub use operation::{Arith, AskOp, Hint, Logic, ReplyOp, width};
 pub use reply::{Reply, ReplyFault};

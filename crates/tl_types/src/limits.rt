@@ -1,13 +1,16 @@
 //! The limits of the crossbar that several crates share. Code and contracts name them; `laws` says them in numbers.
 
 /// The largest size of a message, as the base-2 logarithm of its bytes.
-pub const LARGEST_SIZE: u8 = 8;
+pub const MAX_SIZE: u8 = 8;
 
 /// The most bytes that a message carries.
-pub const MAX_BYTES: usize = 1 << LARGEST_SIZE;
+pub const MAX_BYTES: usize = 1 << MAX_SIZE;
 
 /// The lanes of the bus, each of one byte.
 pub const BUS_BYTES: usize = 8;
+
+/// The bytes of a word in which bytes are kept. It has nothing to do with the bus.
+pub const WORD_BYTES: usize = 8;
 
 /// The most masters of a crossbar.
 pub const MAX_MASTERS: usize = 16;

@@ -3,7 +3,7 @@ ghost use Rattle.std.specs.Prelude.{◌≡◌, ◌<◌, ◌≤◌, ◌^◌};
 ghost use Rattle.tl_types.specs.Operation.{carries_bytes, byte_count, may_leave_unset, reply_op_of};
 ghost use Rattle.tl_types.specs.Operation.{reply_carries_bytes, reply_byte_count};
 
-use crate::limits::{LARGEST_SIZE, MAX_BYTES};
+use crate::limits::{MAX_BYTES, MAX_SIZE};
 
 /// The arithmetic atomics.
 #[derive(Debug, Clone, Copy, PartialEq, Eq)]
@@ -63,7 +63,7 @@ impl AskOp {
 
     /// How many bytes a request of this operation and size carries.
     pub fn byte_count(self, size: u8) -> usize
-        requires { size ≤ LARGEST_SIZE }
+        requires { size ≤ MAX_SIZE }
         ensures value { result ≡ byte_count self size }
         ensures in_limit { result ≤ MAX_BYTES }
     {
@@ -91,7 +91,7 @@ impl AskOp {
 
 /// The number of bytes that a size stands for.
 pub fn width(size: u8) -> usize
-    requires { size ≤ LARGEST_SIZE }
+    requires { size ≤ MAX_SIZE }
     ensures value { result ≡ 2 ^ size }
     ensures some { 0 < result }
     ensures in_limit { result ≤ MAX_BYTES }
@@ -109,7 +109,7 @@ impl ReplyOp {
 
     /// How many bytes a reply of this opcode and size carries.
     pub fn byte_count(self, size: u8) -> usize
-        requires { size ≤ LARGEST_SIZE }
+        requires { size ≤ MAX_SIZE }
         ensures value { result ≡ reply_byte_count self size }
         ensures in_limit { result ≤ MAX_BYTES }
     {

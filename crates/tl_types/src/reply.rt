@@ -4,7 +4,7 @@ ghost use Rattle.tl_types.specs.Bytes.{bytes_of_words};
 ghost use Rattle.tl_types.specs.declared.operation.ReplyOp.TheVariants.{AccessAck};
 ghost use Rattle.tl_types.specs.Response.{IsLawfulResponse, IsFirstReplyFault};
 
-use crate::limits::{BUS_BYTES, LARGEST_SIZE, MAX_BYTES};
+use crate::limits::{MAX_BYTES, MAX_SIZE, WORD_BYTES};
 use crate::operation::ReplyOp;
 use crate::room::refill_room;
 use arrayvec::ArrayVec;
@@ -71,7 +71,7 @@ impl Reply {
         }) }
         ensures fault { IfErr result (IsFirstReplyFault op size denied bytes.now) }
     {
-        if size > LARGEST_SIZE {
+        if size > MAX_SIZE {
             return Err(ReplyFault::TooLarge);
         }
         if bytes.len() != op.byte_count(size) {
@@ -181,7 +181,7 @@ impl Reply {
     /// The size, as the base-2 logarithm of a number of bytes.
     pub fn size(&self) -> u8
         ensures value { result ≡ self.now.size }
-        ensures in_limit { result ≤ LARGEST_SIZE }
+        ensures in_limit { result ≤ MAX_SIZE }
     {
         self.size
     }
@@ -235,7 +235,7 @@ fn refill_words(bytes: &mut ArrayVec<u8, MAX_BYTES>, words: &[u64])
     requires { length (bytes_of_words words.now) ≤ MAX_BYTES }
     ensures { bytes.new.items ≡ bytes_of_words words.now }
 {
-    let count = BUS_BYTES * words.len();
+    let count = WORD_BYTES * words.len();
     if bytes.len() != count {
         bytes.clear();
         bytes.try_extend_from_slice(&ZEROS[..count]).unwrap();
@@ -245,11 +245,11 @@ fn refill_words(bytes: &mut ArrayVec<u8, MAX_BYTES>, words: &[u64])
 
 /// Writes the bytes of words over as many others.
 fn write_words(bytes: &mut [u8], words: &[u64])
-    requires { length bytes.old ≡ BUS_BYTES * length words.now }
+    requires { length bytes.old ≡ WORD_BYTES * length words.now }
     ensures { bytes.new ≡ bytes_of_words words.now }
 {
     for k in 0..words.len() {
-        let place = BUS_BYTES * k;
-        bytes[place..place + BUS_BYTES].copy_from_slice(&words[k].to_le_bytes());
+        let place = WORD_BYTES * k;
+        bytes[place..place + WORD_BYTES].copy_from_slice(&words[k].to_le_bytes());
     }
 }

@@ -6,7 +6,7 @@ ghost use Rattle.tl_types.specs.declared.operation.AskOp.TheVariants.{Get};
 ghost use Rattle.tl_types.specs.Request.{IsLawfulRequest, IsFirstAskFault};
 
 use crate::bytes::Bytes;
-use crate::limits::{LARGEST_SIZE, MAX_BYTES};
+use crate::limits::{MAX_BYTES, MAX_SIZE};
 use crate::operation::{AskOp, width};
 use std::marker::Model;
 use thiserror::Error;
@@ -69,7 +69,7 @@ impl Ask {
         }) }
         ensures fault { IfErr result (IsFirstAskFault op size bytes.now) }
     {
-        if size > LARGEST_SIZE {
+        if size > MAX_SIZE {
             return Err(AskFault::TooLarge);
         }
         if bytes.len() != op.byte_count(size) {
@@ -218,7 +218,7 @@ impl Ask {
     /// The size, as the base-2 logarithm of a number of bytes.
     pub fn size(&self) -> u8
         ensures value { result ≡ self.now.size }
-        ensures in_limit { result ≤ LARGEST_SIZE }
+        ensures in_limit { result ≤ MAX_SIZE }
     {
         self.size
     }

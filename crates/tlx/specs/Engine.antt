@@ -11,7 +11,7 @@ use Rattle.tl_audit.specs.declared.fault.AuditFault.TheVariants as audit
 use Rattle.tl_script.specs.History.{account_text}
 use Rattle.tl_script.specs.System.{System}
 use Rattle.tl_script.specs.declared.fault.ScriptFault.{ScriptFault}
-use Rattle.tl_script.specs.declared.script.TheConstants.{SCRIPT_LIMIT}
+use Rattle.tl_script.specs.declared.script.TheConstants.{MAX_SCRIPT}
 use Rattle.tl_serial.specs.Text.{run_text}
 use Rattle.tl_streams.specs.Input.{GivesSystem, HasScriptFault}
 use Rattle.tl_streams.specs.Streams.{AppendsPart, TakesUpTo}
@@ -78,7 +78,7 @@ pub record IsAnswered (IsText : System → List ℕ → Type 0) (HasFault : Syst
   -- a fault of an audit is one of a run
   pub audit : (fault : AuditFault) → result ≡ Err (run.Audit fault) → FailsAudit HasFault read_old read_new fault
   -- no more is read than makes a script too long, whether a fault comes of it or not
-  pub taken : TakesUpTo (SCRIPT_LIMIT + 1) read_old read_new
+  pub taken : TakesUpTo (MAX_SCRIPT + 1) read_old read_new
   -- nothing is written but by an Ok or before a failed write
   pub quiet : IfErr result (λ fault. fault ≢ run.Write → Keeps written_old written_new)
   -- and that leaves a front of such a text

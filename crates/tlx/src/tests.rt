@@ -11,7 +11,7 @@ use std::io;
 use std::io::{ErrorKind, Read, Write};
 use std::test::Fail;
 use tl_audit::AuditFault;
-use tl_script::{Key, SCRIPT_LIMIT, ScriptFault};
+use tl_script::{Key, MAX_SCRIPT, ScriptFault};
 
 /// The first example, and what it must print.
 const FIRST: &[u8] =
@@ -214,7 +214,7 @@ fn a_script_without_a_system_prints_nothing(rt: HostRuntime) -> Result<(), Fail>
 
 #[test]
 fn the_limit_on_bytes(rt: HostRuntime) -> Result<(), Fail> {
-    let mut script = vec![in rt.alloc(); b'#'; SCRIPT_LIMIT]?;
+    let mut script = vec![in rt.alloc(); b'#'; MAX_SCRIPT]?;
     let fault = printed(rt.alloc(), &script, false);
     assert!(rt;
         matches!(
@@ -240,10 +240,10 @@ fn one_by_one(alloc: Global, length: usize) -> Result<(Option<RunFault>, u32), F
 
 #[test]
 fn the_last_read_tells_what_was_read(rt: HostRuntime) -> Result<(), Fail> {
-    let (fault, reads) = one_by_one(rt.alloc(), SCRIPT_LIMIT + 1)?;
+    let (fault, reads) = one_by_one(rt.alloc(), MAX_SCRIPT + 1)?;
     assert!(rt; matches!(&fault, Some(RunFault::Script(ScriptFault::TooLong))));
     assert_eq!(rt; reads, 2_097_154);
-    let (fault, reads) = one_by_one(rt.alloc(), SCRIPT_LIMIT)?;
+    let (fault, reads) = one_by_one(rt.alloc(), MAX_SCRIPT)?;
     assert!(rt;
         matches!(
             &fault,

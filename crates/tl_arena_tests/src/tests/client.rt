@@ -11,7 +11,7 @@ use tl_map::Sources;
 use tl_types::{Ask, Reply};
 
 /// How often a client looks for its reply before it gives up.
-const MOST_LOOKS: usize = 1_000_000_000;
+const MAX_LOOKS: usize = 1_000_000_000;
 
 #[derive(Drop)]
 pub(super) struct Client<'a> {
@@ -120,7 +120,7 @@ impl<'a> Client<'a> {
     /// One whole turn: the reply to a request.
     pub(super) fn turn(&mut self, ask: &Ask, port: usize) -> Option<Reply> {
         let mut ticket = self.send(ask, port)?;
-        for _ in 0..MOST_LOOKS {
+        for _ in 0..MAX_LOOKS {
             ticket = match self.receive(ticket) {
                 Ok(received) => return Some(received.reply),
                 Err(ticket) => ticket,

@@ -9,7 +9,7 @@ use tl_ops::Bank;
 use tl_types::Ask;
 
 /// How often a shop passes over the slots before it gives up.
-const MOST_PASSES: usize = 1_000_000_000;
+const MAX_PASSES: usize = 1_000_000_000;
 
 #[derive(Drop)]
 pub(super) struct Shop<'a> {
@@ -61,7 +61,7 @@ impl<'a> Shop<'a> {
 
     /// Passes over the slots until the port has served so many requests.
     pub(super) fn serve(&mut self, count: usize) {
-        for _ in 0..MOST_PASSES {
+        for _ in 0..MAX_PASSES {
             if self.seat.served() >= count {
                 return;
             }

@@ -3,7 +3,7 @@ use arrayvec::ArrayVec;
 use std::alloc::Global;
 use std::process::Abort;
 use tl_ops::{Bank, BankFault, Kind, MAX_LENGTH};
-use tl_types::{Arith, Ask, AskOp, Hint, LARGEST_SIZE, Logic, MAX_BYTES, ReplyOp};
+use tl_types::{Arith, Ask, AskOp, Hint, Logic, MAX_BYTES, MAX_SIZE, ReplyOp};
 
 /// A request from source 0 whose bytes are all given.
 fn whole(rt: &impl Abort, op: AskOp, size: u8, address: u64, bytes: &[u8]) -> Ask {
@@ -428,7 +428,7 @@ fn stands(plain: &Plain, ask: &Ask) -> bool {
 fn put_beside(rt: &impl Abort, bank: &mut Bank, plain: &mut Plain, size: u8, address: u64) {
     let mut byte = size;
     let mut given = ArrayVec::<Option<u8>, MAX_BYTES>::new();
-    for _ in 0..AskOp::PutPartial.byte_count(size.min(LARGEST_SIZE)) {
+    for _ in 0..AskOp::PutPartial.byte_count(size.min(MAX_SIZE)) {
         byte = byte.wrapping_mul(37).wrapping_add(11);
         let set = if byte % 3 == 0 { None } else { Some(byte) };
         given.try_push(set).ok().expect(rt, "too many bytes");
@@ -452,7 +452,7 @@ fn put_all(plain: &mut Plain, address: u64, given: &[Option<u8>]) {
 
 /// An exclusive or with ones, on the bank and byte by byte.
 fn xor_beside(rt: &impl Abort, bank: &mut Bank, plain: &mut Plain, size: u8, address: u64) {
-    let ones = &[0xff; MAX_BYTES][..AskOp::PutFull.byte_count(size.min(LARGEST_SIZE))];
+    let ones = &[0xff; MAX_BYTES][..AskOp::PutFull.byte_count(size.min(MAX_SIZE))];
     let ask = whole(rt, AskOp::Logical(Logic::Xor), size, address, ones);
     let legal = stands(plain, &ask) && matches!(size, 2 | 3);
     if legal {

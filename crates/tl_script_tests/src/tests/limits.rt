@@ -4,7 +4,7 @@ use super::systems::FIRST;
 use std::alloc::Global;
 use std::process::Abort;
 use tl_map::{MapFault, SourceFault};
-use tl_script::{Key, SCRIPT_LIMIT, ScriptFault};
+use tl_script::{Key, MAX_SCRIPT, ScriptFault};
 
 /// A script that says a part many times: its head, the part, how often, and its tail; and its fault.
 type Row = (
@@ -73,7 +73,7 @@ fn ports_masters_and_operations_have_a_most(rt: HostRuntime) {
 
 #[test]
 fn scripts_have_a_most(rt: HostRuntime) {
-    let mut script = Vec::from_elem(rt.alloc(), b'#', SCRIPT_LIMIT).expect(&rt, "memory");
+    let mut script = Vec::from_elem(rt.alloc(), b'#', MAX_SCRIPT).expect(&rt, "memory");
     let fault = fault_of(rt.alloc(), &script);
     assert_eq!(rt; fault, Some(ScriptFault::Missing(Key::Slots)));
     script.push(0xff).expect(&rt, "memory");

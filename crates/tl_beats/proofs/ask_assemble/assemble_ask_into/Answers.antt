@@ -16,8 +16,8 @@ returns-in_err-op-clause-all c ask lawful spells =
     let kept = MatchResult-at_ok _ (λ e. c.in_err-op.field-0.0 ≡ Op e) ask.op named c.in_err-op.ensures.cases in
     absurd (cc kept)
 
-pub returns-then-first-gt-LARGEST_SIZE-clause-all : goal.returns-then-first-gt-LARGEST_SIZE-clause-all
-returns-then-first-gt-LARGEST_SIZE-clause-all c ask lawful spells =
+pub returns-then-first-gt-MAX_SIZE-clause-all : goal.returns-then-first-gt-MAX_SIZE-clause-all
+returns-then-first-gt-MAX_SIZE-clause-all c ask lawful spells =
     let first = c.in_ok-first.first.now in
     let head : slice_get c.args.beats.now 0 ≡ Some first = search rules in
     absurd (omega (arith, lawful.in_limit, (spells.each 0 first head).fields.size))
@@ -37,7 +37,7 @@ returns-in_err-check_beats-clause-all c ask lawful spells =
     let begun : IsBegun c.args.beats.now c.in_ok-first.first.now c.in_ok-op.op = record {
       head = search rules;
       code = search rules;
-      in_limit = c.if-first-gt-LARGEST_SIZE.false;
+      in_limit = c.if-first-gt-MAX_SIZE.false;
       count = search rules;
     } in
     absurd (no_request c.args.beats.now c.in_ok-first.first.now c.in_ok-op.op c.in_err-check_beats.field-0.0 begun c.in_err-check_beats.ensures.fault ask spells)
@@ -47,7 +47,7 @@ returns-in_err-check_beats-clause-fault c =
     let begun : IsBegun c.args.beats.now c.in_ok-first.first.now c.in_ok-op.op = record {
       head = search rules;
       code = search rules;
-      in_limit = c.if-first-gt-LARGEST_SIZE.false;
+      in_limit = c.if-first-gt-MAX_SIZE.false;
       count = search rules;
     } in
     let exit = err_from_is_err_and c.from_residual-in_err-check_beats.result c.from_residual-in_err-check_beats.ensures.1 in
@@ -57,7 +57,7 @@ pub fill_ask-requires-clause-begun : goal.fill_ask-requires-clause-begun
 fill_ask-requires-clause-begun c = record {
   head = search rules;
   code = search rules;
-  in_limit = c.if-first-gt-LARGEST_SIZE.false;
+  in_limit = c.if-first-gt-MAX_SIZE.false;
   count = search rules;
 }
 

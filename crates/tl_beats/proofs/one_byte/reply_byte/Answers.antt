@@ -12,10 +12,10 @@ returns-in_default-read_reply_op c reply lawful spells =
     let head : slice_get c.args.beats.now 0 ≡ Some c.in-Some.first.now = search rules in
     absurd (c.in_default-read_reply_op.not-Ok reply.op (c.read_reply_op.ensures.all reply.op (sym (spells.each 0 c.in-Some.first.now head).fields.opcode)))
 
-pub returns-then-first-gt-LARGEST_SIZE : goal.returns-then-first-gt-LARGEST_SIZE
-returns-then-first-gt-LARGEST_SIZE c reply lawful spells =
+pub returns-then-first-gt-MAX_SIZE : goal.returns-then-first-gt-MAX_SIZE
+returns-then-first-gt-MAX_SIZE c reply lawful spells =
     let head : slice_get c.args.beats.now 0 ≡ Some c.in-Some.first.now = search rules in
-    absurd (omega (arith, lawful.in_limit, (spells.each 0 c.in-Some.first.now head).fields.size, c.if-first-gt-LARGEST_SIZE.true))
+    absurd (omega (arith, lawful.in_limit, (spells.each 0 c.in-Some.first.now head).fields.size, c.if-first-gt-MAX_SIZE.true))
 
 pub returns-then-place-byte_count : goal.returns-then-place-byte_count
 returns-then-place-byte_count c reply lawful spells =

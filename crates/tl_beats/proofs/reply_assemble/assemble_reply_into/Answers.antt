@@ -17,8 +17,8 @@ returns-in_err-op-clause-all c reply lawful spells =
     let kept = MatchResult-at_ok _ (λ e. c.in_err-op.field-0.0 ≡ Op e) reply.op named c.in_err-op.ensures.cases in
     absurd (cc kept)
 
-pub returns-then-first-gt-LARGEST_SIZE-clause-all : goal.returns-then-first-gt-LARGEST_SIZE-clause-all
-returns-then-first-gt-LARGEST_SIZE-clause-all c reply lawful spells =
+pub returns-then-first-gt-MAX_SIZE-clause-all : goal.returns-then-first-gt-MAX_SIZE-clause-all
+returns-then-first-gt-MAX_SIZE-clause-all c reply lawful spells =
     let first = c.in_ok-first.first.now in
     let head : slice_get c.args.beats.now 0 ≡ Some first = search rules in
     absurd (omega (arith, lawful.in_limit, (spells.each 0 first head).fields.size))
@@ -39,7 +39,7 @@ returns-in_err-check_reply_beats-clause-all c reply lawful spells =
     let begun : IsReplyBegun c.args.beats.now c.in_ok-first.first.now c.in_ok-op.op = record {
       head = search rules;
       code = search rules;
-      in_limit = c.if-first-gt-LARGEST_SIZE.false;
+      in_limit = c.if-first-gt-MAX_SIZE.false;
       count = search rules;
     } in
     absurd (no_reply c.args.beats.now c.in_ok-first.first.now c.in_ok-op.op c.in_err-check_reply_beats.field-0.0 begun c.in_err-check_reply_beats.ensures.fault reply c.args.address spells)
@@ -49,7 +49,7 @@ returns-in_err-check_reply_beats-clause-fault c =
     let begun : IsReplyBegun c.args.beats.now c.in_ok-first.first.now c.in_ok-op.op = record {
       head = search rules;
       code = search rules;
-      in_limit = c.if-first-gt-LARGEST_SIZE.false;
+      in_limit = c.if-first-gt-MAX_SIZE.false;
       count = search rules;
     } in
     let exit = err_from_is_err_and c.from_residual-in_err-check_reply_beats.result c.from_residual-in_err-check_reply_beats.ensures.1 in
@@ -59,7 +59,7 @@ pub fill_reply-requires-clause-begun : goal.fill_reply-requires-clause-begun
 fill_reply-requires-clause-begun c = record {
   head = search rules;
   code = search rules;
-  in_limit = c.if-first-gt-LARGEST_SIZE.false;
+  in_limit = c.if-first-gt-MAX_SIZE.false;
   count = search rules;
 }
 

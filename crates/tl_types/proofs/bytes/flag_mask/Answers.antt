@@ -6,8 +6,8 @@ use lib.Lanes.{mask_l}
 use Rattle.tl_types.proofs.Masks.{bit_of_flags, flag_below}
 use Rattle.tl_types.proofs.bytes.flag_mask.Goals as goal
 
-pub returns-then-flags-eq-BUS_BYTES : goal.returns-then-flags-eq-BUS_BYTES
-returns-then-flags-eq-BUS_BYTES c k =
+pub returns-then-flags-eq-WORD_BYTES : goal.returns-then-flags-eq-WORD_BYTES
+returns-then-flags-eq-WORD_BYTES c k =
     let flags = c.args.flags.now in
     let all : take 8 flags ≡ flags = take_all 8 flags (omega arith) in
     let lanes = bitmask_splat w8 (λ x y. not (x == y)) (take 8 flags) 8 0 (omega (arith, length-take 8 flags)) (omega arith) in
