@@ -9,19 +9,19 @@ use Rattle.tl_model.specs.Crossbar.{Accepts, CanServe, CrossbarState, HasServeFa
 use Rattle.tl_model.specs.Ports.{state_of}
 use Rattle.tl_model.specs.declared.fault.ServeFault.{ServeFault}
 use Rattle.tl_model.specs.declared.fault.ServeFault.TheVariants.{NoSuchMaster, NoSuchSource, Uncountable}
-use Rattle.tl_model.specs.declared.port.Port.{Port}
+use Rattle.tl_ops.specs.declared.counted.CountedBank.{CountedBank}
 use Rattle.tl_model.specs.declared.port.TheConstants.{MAX_SERVED}
 
 -- the state of a port that was read
-pub state_at : (ports : List Port) (n number : ℕ) (port : Port) → n ≡ length ports → number < n → port ≡ get_or ports number port → slice_get (map state_of ports) number ≡ Some (state_of port)
+pub state_at : (ports : List CountedBank) (n number : ℕ) (port : CountedBank) → n ≡ length ports → number < n → port ≡ get_or ports number port → slice_get (map state_of ports) number ≡ Some (state_of port)
 state_at ports n number port counted within read = slice_get-map state_of ports number ∙ ap (option_map state_of) (slice_get_read ports n number port counted within read)
 
 -- a port that there is
-pub is_within : (ports : List Port) (n number : ℕ) → n ≡ length ports → number < length (map state_of ports) → number < n
+pub is_within : (ports : List CountedBank) (n number : ℕ) → n ≡ length ports → number < length (map state_of ports) → number < n
 is_within ports n number counted within = let same = length-map ports state_of in omega (arith, counted, within, same)
 
 -- so is one of which something is so
-pub holds_within : (ports : List Port) (n number : ℕ) (Is : PortState → Type 0) → n ≡ length ports → IsSomeAnd (slice_get (map state_of ports) number) Is → number < n
+pub holds_within : (ports : List CountedBank) (n number : ℕ) (Is : PortState → Type 0) → n ≡ length ports → IsSomeAnd (slice_get (map state_of ports) number) Is → number < n
 holds_within ports n number Is counted some = go (slice_get (map state_of ports) number) refl some
   where
     go : (found : Option PortState) → slice_get (map state_of ports) number ≡ found → IsSomeAnd found Is → number < n
@@ -68,7 +68,7 @@ can_serve c number ask state routed at fits spare = record {
 
 -- ---- the ports once one of them has served
 
-pub served_at : (ports : List Port) (number : ℕ) (ask : Request) (old new : Port) → new.bank ≡ after old.bank ask → new.served ≡ old.served + 1 → map state_of (set ports number new) ≡ set (map state_of ports) number (served_more (state_of old) ask)
+pub served_at : (ports : List CountedBank) (number : ℕ) (ask : Request) (old new : CountedBank) → new.bank ≡ after old.bank ask → new.served ≡ old.served + 1 → map state_of (set ports number new) ≡ set (map state_of ports) number (served_more (state_of old) ask)
 served_at ports number ask old new bank served =
     let state : state_of new ≡ served_more (state_of old) ask = rw (bank, served) refl in
     map-set state_of ports number new ∙ ap (set (map state_of ports) number) state

@@ -4,10 +4,11 @@ ghost use Rattle.tl_map.specs.Map.{RoutesBytes};
 ghost use Rattle.tl_model.specs.Crossbar.{Accepts, CanServe, IsCountAt, IsFirstServeFault, IsServed, at_reset, byte_in};
 
 use crate::fault::ServeFault;
-use crate::port::{MAX_SERVED, Port, ports_of};
+use crate::port::{MAX_SERVED, ports_of};
 use std::alloc::Global;
 use std::marker::Model;
 use tl_map::{Map, Sources};
+use tl_ops::CountedBank;
 use tl_script::System;
 use tl_types::{Ask, Memory, Reply};
 
@@ -24,7 +25,7 @@ pub struct Answer {
 pub struct Crossbar {
     ranges: Map,
     sources: Sources,
-    ports: Vec<Port>,
+    ports: Vec<CountedBank>,
 }
 
 impl Model for Crossbar {
@@ -104,7 +105,7 @@ impl Crossbar {
           place = place;
         }) self.new }
     {
-        self.ports[port].serve(ask, reply);
+        let _place = self.ports[port].serve_into(ask, reply);
     }
 
     /// The byte that the slave of an address holds there, where it has one.

@@ -21,7 +21,7 @@ use Rattle.tl_script.specs.Trace.{trace_text}
 use Rattle.tl_serial.specs.Serial.{at_port, requests_at, log_of, IsServedAfter, AreServedInTurn, IsWidened, IsHistoryOf}
 use Rattle.tl_script.specs.System.{error_store, resets}
 use Rattle.tl_serial.specs.Text.{IsSerialText}
-use Rattle.tl_serial.specs.Slave.{AreWritten, HasServed, HaveWide, IsFresh, Stand, bank_of, history_of, kept_by}
+use Rattle.tl_serial.specs.Slave.{AreWritten, HasServed, HaveWide, IsFresh, Stand, bank_of, count_of, history_of, kept_by}
 use Rattle.tl_serial.specs.declared.run.Slave.{Slave}
 
 -- what holds of a value that is there, from what else does
@@ -89,8 +89,8 @@ in_turn_more s log m e before last k x at = ⊎_elim earlier here (slice_get-pus
 -- ---- the slaves
 
 module _ (s : System) (keeps : Bool) (log : List (ℕ × Entry)) (slaves : List Slave) (old new : Slave) (m wide : ℕ) (e : Entry)
-    (stand : Stand s keeps log slaves) (was : slice_get slaves e.port ≡ Some old) (routed : Routes s.ranges e.ask e.port) (index : e.index ≡ old.served)
-    (counted : new.served ≡ old.served + 1) (answered : e.reply ≡ reply old.bank e.ask) (bank : new.bank ≡ after old.bank e.ask)
+    (stand : Stand s keeps log slaves) (was : slice_get slaves e.port ≡ Some old) (routed : Routes s.ranges e.ask e.port) (index : e.index ≡ count_of old)
+    (counted : count_of new ≡ count_of old + 1) (answered : e.reply ≡ reply (bank_of old) e.ask) (bank : bank_of new ≡ after (bank_of old) e.ask)
     (history : kept_by new ≡ option_map (λ h. h ++ (record e.ask { source = wide }, record e.reply { source = wide }) ∷ []) (kept_by old))
     (widened : IsWide s.counts m e.ask.source wide) where
   served : HasServed s keeps log e.port old
@@ -138,7 +138,7 @@ module _ (s : System) (keeps : Bool) (log : List (ℕ × Entry)) (slaves : List 
 -- ---- at reset
 
 module _ (s : System) (keeps : Bool) (slaves : List Slave) (lawful : IsLawfulSystem s) (banks : map bank_of slaves ≡ resets s) (fresh : All (IsFresh keeps) slaves) where
-  fresh_bank : (port : ℕ) (slave : Slave) → slice_get slaves port ≡ Some slave → slice_get (resets s) port ≡ Some slave.bank
+  fresh_bank : (port : ℕ) (slave : Slave) → slice_get slaves port ≡ Some slave → slice_get (resets s) port ≡ Some (bank_of slave)
   fresh_bank port slave at =
       ap (λ (stores : List Store). slice_get stores port) (sym banks) ∙ slice_get-map bank_of slaves port ∙ ap (option_map bank_of) at
 

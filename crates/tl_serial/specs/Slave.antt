@@ -15,7 +15,11 @@ use Rattle.tl_serial.specs.declared.run.Slave.{Slave}
 
 -- what a slave port holds
 abbrev pub bank_of : Slave → Store
-bank_of slave = slave.bank
+bank_of slave = slave.counted.bank
+
+-- how many requests a slave port has served
+abbrev pub count_of : Slave → ℕ
+count_of slave = slave.counted.served
 
 -- what a slave port has served, where it keeps that
 abbrev pub kept_by : Slave → Option (List (Request × Response))
@@ -27,14 +31,14 @@ history_of slave = unwrap_or (kept_by slave) []
 
 -- nothing was served yet, and what is served is kept or not
 pub record IsFresh (keeps : Bool) (slave : Slave) : Type 0 where
-  pub served : slave.served ≡ 0
+  pub served : count_of slave ≡ 0
   pub kept : keeps ≡ true → kept_by slave ≡ Some []
 
 -- the slave of a port after these entries: its bank has replayed the requests there, it has counted them, and where
 -- histories are kept its own is those entries
 pub record HasServed (s : System) (keeps : Bool) (log : List (ℕ × Entry)) (port : ℕ) (slave : Slave) : Type 0 where
-  pub bank : IsSomeAnd (slice_get (resets s) port) (λ reset. slave.bank ≡ replay reset (requests_at port log))
-  pub served : slave.served ≡ length (at_port port log)
+  pub bank : IsSomeAnd (slice_get (resets s) port) (λ reset. bank_of slave ≡ replay reset (requests_at port log))
+  pub served : count_of slave ≡ length (at_port port log)
   pub history : keeps ≡ true → IsSomeAnd (kept_by slave) (IsHistoryOf s.counts (at_port port log))
 
 -- each entry's source has a wide one

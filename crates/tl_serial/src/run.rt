@@ -4,14 +4,14 @@ ghost use Rattle.tl_types.specs.declared.trace.Entry.{Entry};
 ghost use Rattle.tl_journal.specs.Journal.{pairs_in};
 ghost use Rattle.tl_journal.specs.Trace.{entries_in, entry_of};
 ghost use Rattle.tl_ops.specs.Store.{after, reply};
-ghost use Rattle.tl_script.specs.System.{System, sends, store_of, error_store};
+ghost use Rattle.tl_script.specs.System.{System, IsLawfulDevice, sends, store_of, error_store};
 ghost use Rattle.tl_serial.specs.Serial.{IsSerialRun, numbered, asks_in, log_of};
-ghost use Rattle.tl_serial.specs.Slave.{Stand, IsFresh, bank_of, history_of, kept_by};
+ghost use Rattle.tl_serial.specs.Slave.{Stand, IsFresh, bank_of, count_of, history_of, kept_by};
 
 use std::alloc::Global;
 use tl_journal::{Journal, Place, Trace};
-use tl_ops::{Bank, Kind};
-use tl_script::{Device, Operations, System};
+use tl_ops::{Bank, CountedBank};
+use tl_script::{Device, Operations, System, banks_of};
 use tl_types::{Ask, Memory, Reply};
 
 /// What one thread makes of a system: a trace for each master, and a history for each port.
@@ -25,10 +25,8 @@ pub struct SerialRun {
 /// A slave port as one thread serves it.
 #[derive(Drop)]
 pub(crate) struct Slave {
-    bank: Bank,
-    /// How many requests it has served.
-    served: usize,
-    /// These, where histories are kept.
+    counted: CountedBank,
+    /// The requests that it has served, where histories are kept.
     history: Option<Journal>,
 }
 
@@ -36,20 +34,22 @@ impl Slave {
     /// Serves a request, and puts it into the history with its wide source, where that is kept. The answer is how many
     /// were served before it; the reply stands in the place of another.
     fn serve(&mut self, ask: &Ask, wide: u16, answer: &mut Reply) -> Result<usize, Memory>
-        ensures bank { OnOk result (self.new.bank ≡ after self.old.bank ask.now) }
-        ensures index { IfOk result (λ served. served ≡ self.old.served) }
-        ensures counted { OnOk result (self.new.served ≡ self.old.served + 1) }
-        ensures reply { OnOk result (answer.new ≡ reply self.old.bank ask.now) }
+        ensures bank { OnOk result (bank_of self.new ≡ after (bank_of self.old) ask.now) }
+        ensures index { IfOk result (λ served. served ≡ count_of self.old) }
+        ensures counted { OnOk result (count_of self.new ≡ count_of self.old + 1) }
+        ensures reply { OnOk result (answer.new ≡ reply (bank_of self.old) ask.now) }
         ensures history { OnOk result (kept_by self.new ≡ option_map
             (λ h. h ++ (record ask.now { source = wide }, record answer.new { source = wide }) ∷ [])
             (kept_by self.old)) }
     {
-        let index = self.served;
-        self.bank.serve_into(ask, answer);
+        // one request more could not be counted
+        if self.counted.served == usize::MAX {
+            return Err(Memory);
+        }
+        let index = self.counted.serve_into(ask, answer);
         if let Some(history) = &mut self.history {
             history.push(wide, ask, answer)?;
         }
-        self.served = index.checked_add(1).ok_or(Memory)?;
         Ok(index)
     }
 }
@@ -103,24 +103,15 @@ fn run_master(
     Ok(trace)
 }
 
-/// A slave port at reset.
-fn slave_of(
-    alloc: Global,
-    kind: Kind,
-    base: u64,
-    reset: &[u8],
-    keeps: bool,
-) -> Result<Slave, Memory>
-    ensures bank { IfOk result (λ slave. slave.bank
-        ≡ record { kind = kind; base = base; bytes = reset.now }) }
-    ensures fresh { IfOk result (IsFresh keeps) }
+/// A slave port that has served nothing.
+fn slave_of(alloc: Global, bank: Bank, keeps: bool) -> Slave
+    ensures bank { bank_of result ≡ bank }
+    ensures fresh { IsFresh keeps result }
 {
-    let bank = Bank::new(alloc, kind, base, reset).map_err(|_| Memory)?;
-    Ok(Slave {
-        bank,
-        served: 0,
+    Slave {
+        counted: CountedBank::new(bank),
         history: keeps.then(|| Journal::new(alloc)),
-    })
+    }
 }
 
 /// The slave ports of these devices at reset, and the error port behind them. They keep histories or not.
@@ -129,17 +120,16 @@ pub(crate) fn slaves_of(
     devices: &[Device],
     keeps: bool,
 ) -> Result<Vec<Slave>, Memory>
+    requires { All IsLawfulDevice devices.now }
     ensures banks { IfOk result (λ slaves. map bank_of slaves.items
         ≡ map store_of devices.now ++ error_store ∷ []) }
     ensures fresh { IfOk result (λ slaves. All (IsFresh keeps) slaves.items) }
 {
-    let mut slaves = Vec::with_capacity(alloc, devices.len() + 1)?;
-    for device in devices {
-        let slave = slave_of(alloc, device.kind, device.base, &device.reset, keeps)?;
-        slaves.push(slave)?;
+    let banks = banks_of(alloc, devices)?;
+    let mut slaves = Vec::with_capacity(alloc, banks.len())?;
+    for bank in banks {
+        slaves.push(slave_of(alloc, bank, keeps))?;
     }
-    let error_port = slave_of(alloc, Kind::NoDevice, 0, &[], keeps)?;
-    slaves.push(error_port)?;
     Ok(slaves)
 }
 

@@ -5,19 +5,12 @@ use Rattle.std.proofs.lemmas.List.Elements.{All-push}
 use Rattle.tl_serial.specs.Slave.{IsFresh}
 use Rattle.tl_serial.proofs.run.slaves_of.Goals as goal
 
-pub loop-device-preserved : goal.loop-device-preserved
-loop-device-preserved c =
-    let slaves = c.loop-device.slaves.items in
-    let slave = c.in_ok-slave.slave in
+pub loop-bank-preserved : goal.loop-bank-preserved
+loop-bank-preserved c =
+    let slaves = c.loop-bank.slaves.items in
+    let slave = c.slave_of.result in
     let pushed : c.push.new.self.items ≡ slaves ++ slave ∷ [] = c.in_ok-push.ensures.items in
     record {
-      banks = grind (arith, common_steps, c.loop-device.invariant.banks, pushed);
-      fresh = rw pushed (All-push (IsFresh c.args.keeps) slaves slave c.loop-device.invariant.fresh c.in_ok-slave.ensures.fresh);
+      banks = grind (arith, common_steps, c.loop-bank.invariant.banks, c.slave_of.ensures.bank, pushed);
+      fresh = rw pushed (All-push (IsFresh c.args.keeps) slaves slave c.loop-bank.invariant.fresh c.slave_of.ensures.fresh);
     }
-
-pub returns-clause-fresh : goal.returns-clause-fresh
-returns-clause-fresh c =
-    let slaves = c.loop-device.slaves.items in
-    let slave = c.in_ok-error_port.error_port in
-    let pushed : c.push-2.new.self.items ≡ slaves ++ slave ∷ [] = c.in_ok-push-2.ensures.items in
-    rw pushed (All-push (IsFresh c.args.keeps) slaves slave c.loop-device.invariant.fresh c.in_ok-error_port.ensures.fresh)
