@@ -17,7 +17,8 @@ inside-at (Port n) (D b) h = omega (arith, h)
 inside-at (Master n) (D b) h = omega (arith, h)
 
 all-inside : (rows : List Row) → All (λ row. IsLink row.sighting.link) rows → All (λ row. place_of row < 64) rows
-all-inside rows all k d inside = let row = get_or rows k d in inside-at row.sighting.link row.sighting.beat (all k d inside)
+all-inside rows all k d inside = let row = get_or rows k d in
+    inside-at row.sighting.link row.sighting.beat (all k d inside)
 
 -- rows that cross one after the other from a place on do so from a lower one on
 cross-lower : (low higher : ℕ) (rows : List Row) → low ≤ higher → Cross higher rows → Cross low rows
@@ -26,14 +27,16 @@ cross-lower low higher [] below cross = tt
 cross-lower low higher (row ∷ more) below cross = let first = cross.0 in (omega (arith, below, first), cross.1)
 
 -- the first row behind a place
-cross-behind : (row : Row) (rows : List Row) (low : ℕ) (d : Row) → Cross low rows → (0 < length rows → place_of row < place_of (get_or rows 0 d))
+cross-behind : (row : Row) (rows : List Row) (low : ℕ) (d : Row) → Cross low rows
+    → (0 < length rows → place_of row < place_of (get_or rows 0 d))
     → Cross (place_of row + 1) rows
 unfolding Cross
 cross-behind row [] low d cross behind = tt
 cross-behind row (first ∷ more) low d cross behind = let here = behind (omega arith) in (omega (arith, here), cross.1)
 
 -- what stands among them stands at `low` or behind it
-cross-low : (low : ℕ) (rows : List Row) (i : ℕ) (d : Row) → Cross low rows → i < length rows → low ≤ place_of (get_or rows i d)
+cross-low : (low : ℕ) (rows : List Row) (i : ℕ) (d : Row) → Cross low rows → i < length rows
+    → low ≤ place_of (get_or rows i d)
 unfolding Cross
 cross-low low [] i d cross inside = absurd (omega (arith, inside))
 cross-low low (row ∷ more) zero d cross inside = cross.0
@@ -52,7 +55,8 @@ cross-first low first row d more (suc i) cross inside before =
     omega (arith, next, before)
 
 cross-insert : (low : ℕ) (rows : List Row) (i : ℕ) (row d : Row) → Cross low rows → low ≤ place_of row → i ≤ length rows
-    → ((k : ℕ) → k + 1 ≡ i → place_of (get_or rows k d) < place_of row) → (i < length rows → place_of row < place_of (get_or rows i d))
+    → ((k : ℕ) → k + 1 ≡ i → place_of (get_or rows k d) < place_of row)
+        → (i < length rows → place_of row < place_of (get_or rows i d))
     → Cross low (insert rows i row)
 unfolding Cross
 cross-insert low rows zero row d cross above inside before behind = (above, cross-behind row rows low d cross behind)
@@ -65,7 +69,8 @@ cross-insert low (first ∷ more) (suc i) row d cross above inside before behind
     )
 
 -- so many rows are no more than there are places
-cross-length : (low : ℕ) (rows : List Row) → Cross low rows → All (λ row. place_of row < 64) rows → length rows ≤ 64 - low
+cross-length : (low : ℕ) (rows : List Row) → Cross low rows → All (λ row. place_of row < 64) rows
+    → length rows ≤ 64 - low
 unfolding Cross
 cross-length low [] cross all = omega arith
 cross-length low (row ∷ more) cross all =
@@ -90,11 +95,14 @@ length-more (first ∷ more) (suc i) row = ap suc (length-more more i row)
 
 pub moment-empty : (time : ℕ) → IsMoment (record { time = time; rows = [] })
 unfolding Cross
-moment-empty time = record { in_order = tt; at_time = (λ k d inside. absurd (omega (arith, inside))); links = (λ k d inside. absurd (omega (arith, inside))) }
+moment-empty time = record { in_order = tt; at_time = (λ k d inside. absurd (omega (arith, inside)));
+    links = (λ k d inside. absurd (omega (arith, inside))) }
 
 pub moment-one : (row : Row) → IsLink row.sighting.link → IsMoment (record { time = row.time; rows = row ∷ [] })
 unfolding Cross
-moment-one row link = record { in_order = (omega arith, tt); at_time = all-one (λ other. other.time ≡ row.time) row refl; links = all-one (λ other. IsLink other.sighting.link) row link }
+moment-one row link =
+    record { in_order = (omega arith, tt); at_time = all-one (λ other. other.time ≡ row.time) row refl;
+    links = all-one (λ other. IsLink other.sighting.link) row link }
 
 -- a row that is put in where it belongs
 pub record Belongs (moment : Moment) (i : ℕ) (row : Row) : Type 0 where
@@ -106,7 +114,8 @@ pub record Belongs (moment : Moment) (i : ℕ) (row : Row) : Type 0 where
 pub moment-insert : (moment : Moment) (i : ℕ) (row : Row) → Belongs moment i row
     → IsMoment (record { time = moment.time; rows = insert moment.rows i row })
 moment-insert moment i row h = record {
-  in_order = cross-insert 0 moment.rows i row row h.lawful.in_order (omega arith) h.gap.inside (λ k is. h.gap.before k row is) (h.gap.behind row);
+  in_order = cross-insert 0 moment.rows i row row h.lawful.in_order (omega arith) h.gap.inside
+      (λ k is. h.gap.before k row is) (h.gap.behind row);
   at_time = all-insert (λ other. other.time ≡ moment.time) moment.rows i row h.lawful.at_time h.now;
   links = all-insert (λ other. IsLink other.sighting.link) moment.rows i row h.lawful.links h.link;
 }
@@ -115,6 +124,7 @@ moment-insert moment i row h = record {
 pub moment-room : (moment : Moment) (i : ℕ) (row : Row) → Belongs moment i row → length moment.rows < 64
 moment-room moment i row h =
     let more = moment-insert moment i row h in
-    let short = cross-length 0 (insert moment.rows i row) more.in_order (all-inside (insert moment.rows i row) more.links) in
+    let short = cross-length 0 (insert moment.rows i row) more.in_order
+        (all-inside (insert moment.rows i row) more.links) in
     let one_more = length-more moment.rows i row in
     omega (arith, short, one_more)

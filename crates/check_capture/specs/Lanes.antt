@@ -1,4 +1,5 @@
--- The lanes of a beat as a waveform shows a word of 64 bits: sixteen hexadecimal digits, lane 7 first. This project's own.
+-- The lanes of a beat as a waveform shows a word of 64 bits: sixteen hexadecimal digits, lane 7 first. This project's
+-- own.
 use Rattle.std.specs.Prelude.{ℕ, ◌+◌, ◌*◌, ◌-◌, Bool, ◌&&◌, ◌||◌, ◌==◌, List, [], ◌∷◌, length, get_or, map, Option, Some, None, Result, Ok, Err, if◌then◌else◌, option_and_then, option_map, ok_or}
 use Rattle.std.specs.Char.{is_digit}
 use Rattle.check_capture.specs.Number.{pair_of}

@@ -15,8 +15,8 @@ abbrev pub IsLink : Link → Type 0
 IsLink (Master number) = number < MAX_MASTERS
 IsLink (Port number) = number < MAX_PORTS
 
--- where a beat stands among those of one time: channel A of the masters' links, A of the ports', D of the ports', D of the
--- masters', each by rising number
+-- where a beat stands among those of one time: channel A of the masters' links, A of the ports', D of the ports', D of
+-- the masters', each by rising number
 abbrev pub place_at : Link → Beat → ℕ
 place_at (Master number) (A beat) = number
 place_at (Port number) (A beat) = MAX_MASTERS + number

@@ -17,7 +17,8 @@ below_64_bits n = if nat_lt n (2 ^ 64) then Some n else None
 
 -- the number that digits of this base spell; zeros may lead
 unfoldable pub number_of : ℕ → List ℕ → Result ℕ RowFault
-number_of radix word = if are_digits radix word then ok_or (below_64_bits (digits_value radix word)) Range else Err Number
+number_of radix word =
+    if are_digits radix word then ok_or (below_64_bits (digits_value radix word)) Range else Err Number
 
 -- the number that decimal digits spell, which is `most` at most
 unfoldable pub decimal_of : ℕ → List ℕ → Result ℕ RowFault

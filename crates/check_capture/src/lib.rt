@@ -1,8 +1,8 @@
 //! Captured traces: the rows of a file, each a beat that was seen at a link, in the order in which the beats cross.
 //!
-//! [`read_row`] answers the row that a record's columns spell, or the first fault that they have (`specs/Row.antt`).
-//! A [`Moment`] takes the rows of one time and has them in the order in which their beats cross; it refuses a row whose time
-//! falls, and a second beat of one channel of one link (`specs/Moment.antt`).
+//! [`read_row`] answers the row that a record's columns spell, or the first fault that they have (`specs/Row.antt`). A
+//! [`Moment`] takes the rows of one time and has them in the order in which their beats cross; it refuses a row whose
+//! time falls, and a second beat of one channel of one link (`specs/Moment.antt`).
 //!
 //! Read on in `docs/CAPTURE.md`, which has the format with examples.
 #![tactic(auto)]

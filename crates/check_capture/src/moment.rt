@@ -13,8 +13,8 @@ use tl_types::{MAX_MASTERS, MAX_PORTS};
 /// The most beats of one time: one for each channel of each link.
 const MAX_ROWS: usize = 2 * (MAX_MASTERS + MAX_PORTS);
 
-/// Where a row stands among those of its time: channel A of the masters' links, A of the ports', D of the ports', D of the
-/// masters', each by rising number.
+/// Where a row stands among those of its time: channel A of the masters' links, A of the ports', D of the ports', D of
+/// the masters', each by rising number.
 fn place_of(row: &Row) -> usize
     requires { IsLink row.now.sighting.link }
     ensures value { result ≡ place_of row.now }
@@ -28,7 +28,8 @@ fn place_of(row: &Row) -> usize
     }
 }
 
-/// How many of these rows cross before a place. The rows of one time mostly stand in order, so the last are tried first.
+/// How many of these rows cross before a place. The rows of one time mostly stand in order, so the last are tried
+/// first.
 fn count_before(rows: &[Row], place: usize) -> usize
     requires { All (λ row. IsLink row.sighting.link) rows.now }
     ensures inside { result ≤ length rows.now }

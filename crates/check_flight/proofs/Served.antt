@@ -12,10 +12,12 @@ set_own d [] k = refl
 set_own d (x ∷ xs) zero = refl
 set_own d (x ∷ xs) (suc k) = ap (λ l. x ∷ l) (set_own d xs k)
 
-pub flights_served : (flights : List Flight) (wide : ℕ) (due : Option Answer) → slice_set flights wide (flight_due (flight_at flights wide) due) ≡ flights_due flights wide due
+pub flights_served : (flights : List Flight) (wide : ℕ) (due : Option Answer)
+    → slice_set flights wide (flight_due (flight_at flights wide) due) ≡ flights_due flights wide due
 flights_served flights wide None = set_own idle flights wide
 flights_served flights wide (Some answer) = refl
 
 -- what is found at a place within a list stands there
-pub flight_found : (flights : List Flight) (wide : ℕ) (d : Flight) → wide < length flights → d ≡ get_or flights wide d → d ≡ flight_at flights wide
+pub flight_found : (flights : List Flight) (wide : ℕ) (d : Flight) → wide < length flights → d ≡ get_or flights wide d
+    → d ≡ flight_at flights wide
 flight_found flights wide d within is = is ∙ sym (ap (λ o. unwrap_or o idle) (slice_get-get_or flights wide d within))

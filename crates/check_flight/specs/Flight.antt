@@ -7,8 +7,8 @@ use Rattle.check_flight.specs.declared.flight.Stage.TheVariants.{Nothing, Begun,
 use Rattle.check_flight.specs.declared.flight.Reach.{Reach}
 use Rattle.check_flight.specs.declared.flight.Reach.TheVariants.{AtMaster, AtPort, Answered}
 
--- what is in flight of a source on one side: nothing, a request that has begun at the link of this number and not ended, or one
--- that has ended there
+-- what is in flight of a source on one side: nothing, a request that has begun at the link of this number and not
+-- ended, or one that has ended there
 pub data Turn : Type 0 where
   Idle : Turn
   Asking : ℕ → Turn
@@ -19,8 +19,8 @@ pub record Flight : Type 0 where
   pub turn : Turn
   pub due : Option Answer
 
--- how far the request in flight of a master's source has come across: it is at its master's link alone, a port has taken it, the
--- port has given this reply
+-- how far the request in flight of a master's source has come across: it is at its master's link alone, a port has
+-- taken it, the port has given this reply
 pub data Crossing : Type 0 where
   Waiting : Crossing
   Crossed : Crossing

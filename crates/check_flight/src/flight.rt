@@ -1,7 +1,7 @@
 //! What is in flight.
 //!
-//! A message is some 300 bytes long, and most beats need but a few of them. So what is in flight is kept in one place and written
-//! there: where it is nothing, what stands of a message is left as it is, and says nothing.
+//! A message is some 300 bytes long, and most beats need but a few of them. So what is in flight is kept in one place
+//! and written there: where it is nothing, what stands of a message is left as it is, and says nothing.
 ghost use Rattle.std.specs.Prelude.{◌≡◌, ◌↔◌, ◌++◌, ◌∷◌, [], IsTrue, Some, None, option_map};
 ghost use Rattle.check_link.specs.Message.{ask_of};
 ghost use Rattle.check_link.specs.Past.{ends_ask};

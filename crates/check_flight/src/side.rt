@@ -156,7 +156,8 @@ impl Side {
         self.flights[wide as usize].clear();
     }
 
-    /// The slave of this port serves the request in flight of a wide source, if it has ended: what it answers must come.
+    /// The slave of this port serves the request in flight of a wide source, if it has ended: what it answers must
+    /// come.
     pub fn serve(&mut self, wide: u16, port: usize, slave: &mut Slave)
         requires { wide < WIDES }
         ensures slave { slave.new ≡ slave_by slave.old (asked (flight_at self.old.flights wide).turn) }

@@ -23,53 +23,67 @@ use Rattle.check_judge.proofs.Watched.{seen_one, seen_other}
 -- ---- the line of a beat
 
 -- the source of a lawful beat is one that its link has
-source_of_beat : (plan : Plan) (here : Scene) (x : Sighting) (beat : Beat) → IsAllowedBeat plan here x beat → HasSource plan.layout x.link (source_of beat)
+source_of_beat : (plan : Plan) (here : Scene) (x : Sighting) (beat : Beat) → IsAllowedBeat plan here x beat
+    → HasSource plan.layout x.link (source_of beat)
 source_of_beat plan here x (A beat) allowed = allowed.source
 source_of_beat plan here x (D beat) allowed = allowed.source
 
-pub has_source : (plan : Plan) (here : Scene) (x : Sighting) → IsAllowed plan here x → HasSource plan.layout x.link (source_of x.beat)
+pub has_source : (plan : Plan) (here : Scene) (x : Sighting) → IsAllowed plan here x
+    → HasSource plan.layout x.link (source_of x.beat)
 has_source plan here x allowed = source_of_beat plan here x x.beat allowed
 
-pub has_owner : (layout : Layout) (link : Link) (source : ℕ) → HasSource layout link source → HasOwner layout.counts link source
+pub has_owner : (layout : Layout) (link : Link) (source : ℕ) → HasSource layout link source
+    → HasOwner layout.counts link source
 has_owner layout (Master m) source has = tt
 has_owner layout (Port p) source has = let is = has.1 in is.1
 
-pub line_is_told : (counts : List ℕ) (link : Link) (source : ℕ) (entry : Entry) (old new : List ℕ) → HasOwner counts link source → AppendsLine counts link source entry old new
+pub line_is_told : (counts : List ℕ) (link : Link) (source : ℕ) (entry : Entry) (old new : List ℕ)
+    → HasOwner counts link source → AppendsLine counts link source entry old new
     → (line : List ℕ) × (new ≡ old ++ line) × IsLine counts link source entry line
 line_is_told counts link source entry old new owner (inl line) = line
 line_is_told counts link source entry old new owner (inr none) = absurd (none.1 owner)
 
 -- what is told at the judge's layout is told at the plan's
-pub tells_step : (trace other : Bool) (plan : Plan) (past : List Sighting) (x : Sighting) (layout : Layout) (sees : Seen) (old new : List ℕ)
+pub tells_step : (trace other : Bool) (plan : Plan) (past : List Sighting) (x : Sighting) (layout : Layout)
+    (sees : Seen) (old new : List ℕ)
     → other ≡ trace → layout ≡ plan.layout → sees ≡ what_is_seen plan past x → IsAllowed plan (scene plan past x) x
-    → (HasSource layout x.link (source_of x.beat) → AppendsToldOf (other && is_counted layout.links x.link) layout.counts x.link (source_of x.beat) sees old new)
-    → AppendsToldOf (trace && is_counted plan.layout.links x.link) plan.layout.counts x.link (source_of x.beat) (what_is_seen plan past x) old new
+    → (HasSource layout x.link (source_of x.beat)
+        → AppendsToldOf (other && is_counted layout.links x.link) layout.counts x.link (source_of x.beat) sees old new)
+    → AppendsToldOf (trace && is_counted plan.layout.links x.link) plan.layout.counts x.link (source_of x.beat)
+        (what_is_seen plan past x) old new
 tells_step trace other plan past x layout sees old new same_trace same_layout same_seen allowed tells =
-    let P : Bool → Layout → Seen → Type 0 = λ t l s. HasSource l x.link (source_of x.beat) → AppendsToldOf (t && is_counted l.links x.link) l.counts x.link (source_of x.beat) s old new in
+    let P : Bool → Layout → Seen → Type 0 =
+        λ t l s. HasSource l x.link (source_of x.beat)
+        → AppendsToldOf (t && is_counted l.links x.link) l.counts x.link (source_of x.beat) s old new in
     let by_trace : P trace layout sees = subst (λ t. P t layout sees) same_trace tells in
     let by_layout : P trace plan.layout sees = subst (λ l. P trace l sees) same_layout by_trace in
-    let by_seen : P trace plan.layout (what_is_seen plan past x) = subst (λ s. P trace plan.layout s) same_seen by_layout in
+    let by_seen : P trace plan.layout (what_is_seen plan past x) =
+        subst (λ s. P trace plan.layout s) same_seen by_layout in
     by_seen (has_source plan (scene plan past x) x allowed)
 
 -- ---- a text that grows
 
-pub tells_nothing : (trace : Bool) (plan : Plan) (past : List Sighting) (text : List ℕ) → AppendsTold trace plan past past text text
+pub tells_nothing : (trace : Bool) (plan : Plan) (past : List Sighting) (text : List ℕ)
+    → AppendsTold trace plan past past text text
 tells_nothing trace plan past text = record {
   more = [];
   grown = sym (append-nil text);
   told = λ so_far is. subst (IsTold trace plan past) (sym (append-nil so_far)) is;
 }
 
-pub tells_then : (trace : Bool) (plan : Plan) (past mid now : List Sighting) (old between new : List ℕ) → AppendsTold trace plan past mid old between → AppendsTold trace plan mid now between new
+pub tells_then : (trace : Bool) (plan : Plan) (past mid now : List Sighting) (old between new : List ℕ)
+    → AppendsTold trace plan past mid old between → AppendsTold trace plan mid now between new
     → AppendsTold trace plan past now old new
 tells_then trace plan past mid now old between new one two = record {
   more = one.more ++ two.more;
   grown = two.grown ∙ ap (λ l. l ++ two.more) one.grown ∙ append_assoc old one.more two.more;
-  told = λ so_far is. subst (IsTold trace plan now) (append_assoc so_far one.more two.more) (two.told (so_far ++ one.more) (one.told so_far is));
+  told = λ so_far is. subst (IsTold trace plan now) (append_assoc so_far one.more two.more)
+      (two.told (so_far ++ one.more) (one.told so_far is));
 }
 
 tells_one : (trace : Bool) (plan : Plan) (past : List Sighting) (x : Sighting) (old new : List ℕ)
-    → AppendsToldOf (trace && is_counted plan.layout.links x.link) plan.layout.counts x.link (source_of x.beat) (what_is_seen plan past x) old new
+    → AppendsToldOf (trace && is_counted plan.layout.links x.link) plan.layout.counts x.link (source_of x.beat)
+        (what_is_seen plan past x) old new
     → AppendsTold trace plan past (x ∷ past) old new
 tells_one trace plan past x old new one = record {
   more = one.0;
@@ -78,54 +92,69 @@ tells_one trace plan past x old new one = record {
 }
 
 -- a row whose link is watched, and one whose link is not
-pub tells_row : (trace : Bool) (plan : Plan) (before : List Row) (row : Row) (old new : List ℕ) → is_watched plan.layout row.sighting.link ≡ true
-    → AppendsToldOf (trace && is_counted plan.layout.links row.sighting.link) plan.layout.counts row.sighting.link (source_of row.sighting.beat)
+pub tells_row : (trace : Bool) (plan : Plan) (before : List Row) (row : Row) (old new : List ℕ)
+    → is_watched plan.layout row.sighting.link ≡ true
+    → AppendsToldOf (trace && is_counted plan.layout.links row.sighting.link) plan.layout.counts row.sighting.link
+        (source_of row.sighting.beat)
     (what_is_seen plan (seen plan.layout before) row.sighting) old new
     → AppendsTold trace plan (seen plan.layout before) (seen plan.layout (row ∷ before)) old new
 tells_row trace plan before row old new watched one =
-    subst (λ now. AppendsTold trace plan (seen plan.layout before) now old new) (sym (seen_one plan.layout row before watched))
+    subst (λ now. AppendsTold trace plan (seen plan.layout before) now old new)
+        (sym (seen_one plan.layout row before watched))
     (tells_one trace plan (seen plan.layout before) row.sighting old new one)
 
 -- nothing is told of a row where replies are not told
-pub tells_quietly : (plan : Plan) (before : List Row) (row : Row) (text : List ℕ) → is_watched plan.layout row.sighting.link ≡ true
+pub tells_quietly : (plan : Plan) (before : List Row) (row : Row) (text : List ℕ)
+    → is_watched plan.layout row.sighting.link ≡ true
     → AppendsTold false plan (seen plan.layout before) (seen plan.layout (row ∷ before)) text text
-tells_quietly plan before row text watched = tells_row false plan before row text text watched ([], sym (append-nil text), refl)
+tells_quietly plan before row text watched =
+    tells_row false plan before row text text watched ([], sym (append-nil text), refl)
 
-pub tells_no_row : (trace : Bool) (plan : Plan) (before : List Row) (row : Row) (text : List ℕ) → is_watched plan.layout row.sighting.link ≡ false
+pub tells_no_row : (trace : Bool) (plan : Plan) (before : List Row) (row : Row) (text : List ℕ)
+    → is_watched plan.layout row.sighting.link ≡ false
     → AppendsTold trace plan (seen plan.layout before) (seen plan.layout (row ∷ before)) text text
 tells_no_row trace plan before row text watched =
-    subst (λ now. AppendsTold trace plan (seen plan.layout before) now text text) (sym (seen_other plan.layout row before watched))
+    subst (λ now. AppendsTold trace plan (seen plan.layout before) now text text)
+        (sym (seen_other plan.layout row before watched))
     (tells_nothing trace plan (seen plan.layout before) text)
 
 -- ---- one text is told
 
-one_line : (counts : List ℕ) (link : Link) (source : ℕ) (entry : Entry) (line other : List ℕ) → IsLine counts link source entry line → IsLine counts link source entry other → line ≡ other
+one_line : (counts : List ℕ) (link : Link) (source : ℕ) (entry : Entry) (line other : List ℕ)
+    → IsLine counts link source entry line → IsLine counts link source entry other → line ≡ other
 one_line counts (Master m) source entry line other one two = one ∙ sym two
 one_line counts (Port p) source entry line other one two =
     let master : one.0 ≡ two.0 = one_master counts one.0 one.1 two.0 two.1 source one.2 two.2 in
     let own : one.1 ≡ two.1 = one_source counts one.0 one.1 two.0 two.1 source one.2 two.2 in
     one.3 ∙ (λ i. trace_line (master i) (sent_by (own i) entry)) ∙ sym two.3
 
-one_told_of : (counted : Bool) (counts : List ℕ) (link : Link) (source : ℕ) (sees : Seen) (text other : List ℕ) → IsToldOf counted counts link source sees text
+one_told_of : (counted : Bool) (counts : List ℕ) (link : Link) (source : ℕ) (sees : Seen) (text other : List ℕ)
+    → IsToldOf counted counts link source sees text
     → IsToldOf counted counts link source sees other → text ≡ other
-one_told_of true counts link source (WholeReply entry) text other one two = one_line counts link source entry text other one two
+one_told_of true counts link source (WholeReply entry) text other one two =
+    one_line counts link source entry text other one two
 one_told_of true counts link source WholeAsk text other one two = one ∙ sym two
 one_told_of true counts link source Part text other one two = one ∙ sym two
 one_told_of false counts link source sees text other one two = one ∙ sym two
 
-pub one_told : (trace : Bool) (plan : Plan) (past : List Sighting) (text other : List ℕ) → IsTold trace plan past text → IsTold trace plan past other → text ≡ other
+pub one_told : (trace : Bool) (plan : Plan) (past : List Sighting) (text other : List ℕ) → IsTold trace plan past text
+    → IsTold trace plan past other → text ≡ other
 one_told trace plan [] text other one two = one ∙ sym two
 one_told trace plan (x ∷ past) text other one two =
     let so_far : one.0 ≡ two.0 = one_told trace plan past one.0 two.0 one.3 two.3 in
-    let more : one.1 ≡ two.1 = one_told_of (trace && is_counted plan.layout.links x.link) plan.layout.counts x.link (source_of x.beat) (what_is_seen plan past x) one.1 two.1 one.4 two.4 in
+    let more : one.1 ≡ two.1 =
+        one_told_of (trace && is_counted plan.layout.links x.link) plan.layout.counts x.link (source_of x.beat)
+        (what_is_seen plan past x) one.1 two.1 one.4 two.4 in
     one.2 ∙ (λ i. so_far i ++ more i) ∙ sym two.2
 
 -- ---- where replies are not traced nothing is told
 
-none_of : (counts : List ℕ) (link : Link) (source : ℕ) (sees : Seen) (text : List ℕ) → IsToldOf false counts link source sees text → text ≡ []
+none_of : (counts : List ℕ) (link : Link) (source : ℕ) (sees : Seen) (text : List ℕ)
+    → IsToldOf false counts link source sees text → text ≡ []
 none_of counts link source sees text is = is
 
 pub untraced : (plan : Plan) (past : List Sighting) (text : List ℕ) → IsTold false plan past text → text ≡ []
 untraced plan [] text is = is
 untraced plan (x ∷ past) text is =
-    is.2 ∙ ap (λ l. l ++ is.1) (untraced plan past is.0 is.3) ∙ none_of plan.layout.counts x.link (source_of x.beat) (what_is_seen plan past x) is.1 is.4
+    is.2 ∙ ap (λ l. l ++ is.1) (untraced plan past is.0 is.3)
+        ∙ none_of plan.layout.counts x.link (source_of x.beat) (what_is_seen plan past x) is.1 is.4

@@ -25,7 +25,8 @@ contains (first ∷ more) row (inr has) =
     (suc rest.0, omega (arith, inside), rest.2)
 
 carried : (a b : List Row) → IsPermutation a b → (row : Row) → Has a row → Has b row
-carried a b same row has = let there = Contains-permutation a b row same (contains a row has) in has_at b row there.0 there.1 there.2
+carried a b same row has = let there = Contains-permutation a b row same (contains a row has) in
+    has_at b row there.0 there.1 there.2
 
 at : (P : Row → Type 0) (rows : List Row) (row : Row) → AllByRecursion P rows → Has rows row → P row
 at P [] row all has = absurd has
@@ -38,7 +39,8 @@ not_both one other (inl a) (inr b) = let same = b.0 in omega (arith, a, same)
 not_both one other (inr a) (inl b) = let same = a.0 in omega (arith, b, same)
 not_both one other (inr a) (inr b) = let lower = a.1 in let higher = b.1 in omega (arith, lower, higher)
 
-latest_by : (x y : Row) (a b : List Row) → AreInOrder (x ∷ a) → AreInOrder (y ∷ b) → (y ≡ x) ⊎ Has b x → (x ≡ y) ⊎ Has a y → x ≡ y
+latest_by : (x y : Row) (a b : List Row) → AreInOrder (x ∷ a) → AreInOrder (y ∷ b) → (y ≡ x) ⊎ Has b x → (x ≡ y)
+    ⊎ Has a y → x ≡ y
 latest_by x y a b oa ob (inl is) back = sym is
 latest_by x y a b oa ob (inr in_b) (inl is) = is
 latest_by x y a b oa ob (inr in_b) (inr in_a) =
@@ -52,7 +54,8 @@ rest_by x y z a b oa same has (inl is) =
     absurd (not_both x x itself itself)
 rest_by x y z a b oa same has (inr there) = there
 
-one_order : (a b : List Row) → AreInOrder a → AreInOrder b → ((row : Row) → Has a row → Has b row) → ((row : Row) → Has b row → Has a row) → a ≡ b
+one_order : (a b : List Row) → AreInOrder a → AreInOrder b → ((row : Row) → Has a row → Has b row)
+    → ((row : Row) → Has b row → Has a row) → a ≡ b
 one_order [] [] oa ob to back = refl
 one_order [] (y ∷ b) oa ob to back = absurd (back y (inl refl))
 one_order (x ∷ a) [] oa ob to back = absurd (to x (inl refl))

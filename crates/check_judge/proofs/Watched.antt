@@ -16,17 +16,20 @@ below m count is = grind (arith, nat_tests)
 is_below : (m count : ℕ) → m < count → IsTrue (nat_lt m count)
 is_below m count lt = grind (arith, nat_tests)
 
-master_watched : (links : Links) (m count : ℕ) → IsTrue (are_masters_watched links && nat_lt m count) ↔ ((m < count) × IsWatched links (Master m))
+master_watched : (links : Links) (m count : ℕ) → IsTrue (are_masters_watched links && nat_lt m count)
+    ↔ ((m < count) × IsWatched links (Master m))
 master_watched Both m count = ((λ h. (below m count h, tt)), λ h. is_below m count h.0)
 master_watched Masters m count = ((λ h. (below m count h, tt)), λ h. is_below m count h.0)
 master_watched Ports m count = ((λ h. absurd (cc)), λ h. absurd h.1)
 
-port_watched : (links : Links) (p count : ℕ) → IsTrue (are_ports_watched links && nat_lt p count) ↔ ((p < count) × IsWatched links (Port p))
+port_watched : (links : Links) (p count : ℕ) → IsTrue (are_ports_watched links && nat_lt p count)
+    ↔ ((p < count) × IsWatched links (Port p))
 port_watched Both p count = ((λ h. (below p count h, tt)), λ h. is_below p count h.0)
 port_watched Masters p count = ((λ h. absurd (cc)), λ h. absurd h.1)
 port_watched Ports p count = ((λ h. (below p count h, tt)), λ h. is_below p count h.0)
 
-pub watched_is : (layout : Layout) (link : Link) → IsTrue (is_watched layout link) ↔ (HasLink layout link × IsWatched layout.links link)
+pub watched_is : (layout : Layout) (link : Link) → IsTrue (is_watched layout link)
+    ↔ (HasLink layout link × IsWatched layout.links link)
 watched_is layout (Master m) = master_watched layout.links m (length layout.counts)
 watched_is layout (Port p) = port_watched layout.links p (length layout.ranges)
 
@@ -37,13 +40,16 @@ same_answer false true p q = p.1 (q.0 refl)
 same_answer false false p q = refl
 
 -- what a judge of beats answers
-pub watches_by : (layout : Layout) (link : Link) (r : Bool) → (IsTrue r ↔ (HasLink layout link × IsWatched layout.links link)) → r ≡ is_watched layout link
+pub watches_by : (layout : Layout) (link : Link) (r : Bool)
+    → (IsTrue r ↔ (HasLink layout link × IsWatched layout.links link)) → r ≡ is_watched layout link
 watches_by layout link r h = same_answer r (is_watched layout link) h (watched_is layout link)
 
-pub seen_one : (layout : Layout) (row : Row) (before : List Row) → is_watched layout row.sighting.link ≡ true → seen layout (row ∷ before) ≡ row.sighting ∷ seen layout before
+pub seen_one : (layout : Layout) (row : Row) (before : List Row) → is_watched layout row.sighting.link ≡ true
+    → seen layout (row ∷ before) ≡ row.sighting ∷ seen layout before
 seen_one layout row before is = rw is refl
 
-pub seen_other : (layout : Layout) (row : Row) (before : List Row) → is_watched layout row.sighting.link ≡ false → seen layout (row ∷ before) ≡ seen layout before
+pub seen_other : (layout : Layout) (row : Row) (before : List Row) → is_watched layout row.sighting.link ≡ false
+    → seen layout (row ∷ before) ≡ seen layout before
 seen_other layout row before is = rw is refl
 
 -- ---- a beginning of what is lawful is lawful
@@ -51,10 +57,13 @@ seen_other layout row before is = rw is refl
 drop_first : (plan : Plan) (row : Row) (rest : List Row) (b : Bool) → is_watched plan.layout row.sighting.link ≡ b
     → IsLawful plan (seen plan.layout (row ∷ rest)) → IsLawful plan (seen plan.layout rest)
 drop_first plan row rest true is lawful =
-    let all : IsLawful plan (row.sighting ∷ seen plan.layout rest) = subst (IsLawful plan) (seen_one plan.layout row rest is) lawful in all.0
+    let all : IsLawful plan (row.sighting ∷ seen plan.layout rest) =
+        subst (IsLawful plan) (seen_one plan.layout row rest is) lawful in all.0
 drop_first plan row rest false is lawful = subst (IsLawful plan) (seen_other plan.layout row rest is) lawful
 
-pub lawful_rest : (plan : Plan) (after before : List Row) → IsLawful plan (seen plan.layout (after ++ before)) → IsLawful plan (seen plan.layout before)
+pub lawful_rest : (plan : Plan) (after before : List Row) → IsLawful plan (seen plan.layout (after ++ before))
+    → IsLawful plan (seen plan.layout before)
 lawful_rest plan [] before lawful = lawful
 lawful_rest plan (row ∷ after) before lawful =
-    lawful_rest plan after before (drop_first plan row (after ++ before) (is_watched plan.layout row.sighting.link) refl lawful)
+    lawful_rest plan after before (drop_first plan row (after ++ before)
+        (is_watched plan.layout row.sighting.link) refl lawful)

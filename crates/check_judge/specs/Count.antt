@@ -45,9 +45,11 @@ one_more false count = count
 -- how many whole requests these are
 abbrev pub asked : Plan → List Sighting → ℕ
 asked plan [] = 0
-asked plan (x ∷ past) = one_more (is_counted plan.layout.links x.link && is_whole_ask (what_is_seen plan past x)) (asked plan past)
+asked plan (x ∷ past) =
+    one_more (is_counted plan.layout.links x.link && is_whole_ask (what_is_seen plan past x)) (asked plan past)
 
 -- how many whole replies these are
 abbrev pub answered : Plan → List Sighting → ℕ
 answered plan [] = 0
-answered plan (x ∷ past) = one_more (is_counted plan.layout.links x.link && is_whole_reply (what_is_seen plan past x)) (answered plan past)
+answered plan (x ∷ past) =
+    one_more (is_counted plan.layout.links x.link && is_whole_reply (what_is_seen plan past x)) (answered plan past)

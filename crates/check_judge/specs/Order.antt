@@ -1,4 +1,5 @@
--- The rows of a capture in the order in which their beats cross. Lists of what crossed have the latest first. This project's own.
+-- The rows of a capture in the order in which their beats cross. Lists of what crossed have the latest first. This
+-- project's own.
 use Rattle.std.specs.Prelude.{◌≡◌, ◌<◌, ◌⊎◌, Bool, true, false, ◌&&◌, nat_lt, List, [], ◌∷◌, map, filter, length, All, Contains}
 use Rattle.std.specs.List.{AllByRecursion}
 use Rattle.std.specs.List.Sorted.{IsPermutation, IsNonDecreasingBy}
@@ -36,7 +37,8 @@ NeverFalls file = IsNonDecreasingBy (λ row. row.time) file
 -- why a row may not follow these
 abbrev pub HasRowFault : List Row → Row → RowFault → Type 0
 HasRowFault file row fault.TimeFalls = (other : Row) × Contains file other × (row.time < other.time)
-HasRowFault file row fault.TwoBeats = (other : Row) × Contains file other × (other.time ≡ row.time) × (place_of other ≡ place_of row)
+HasRowFault file row fault.TwoBeats =
+    (other : Row) × Contains file other × (other.time ≡ row.time) × (place_of other ≡ place_of row)
 HasRowFault file row fault.Columns = ⊥
 HasRowFault file row fault.Number = ⊥
 HasRowFault file row fault.Range = ⊥

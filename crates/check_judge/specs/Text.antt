@@ -1,5 +1,5 @@
--- The lines of verdicts: `lawful: ROWS rows, ASKED requests, ANSWERED answered` and `unlawful: line N, time T, LINK CHANNEL: FAULT`.
--- This project's own.
+-- The lines of verdicts: `lawful: ROWS rows, ASKED requests, ANSWERED answered` and `unlawful: line N, time T, LINK
+-- CHANNEL: FAULT`. This project's own.
 use Rattle.std.specs.Prelude.{ℕ, List, [], ◌∷◌, ◌++◌, codes}
 use Rattle.std.specs.Fmt.{decimal}
 use Rattle.tl_types.specs.Response.{Response}
@@ -33,7 +33,8 @@ form_text form.UnknownData = codes "unknown data"
 
 -- the reply that had to come, and the one that was captured, each as traces spell it
 unfoldable pub wrong_text : Response → Response → List ℕ
-wrong_text expected captured = codes "wrong reply: expected " ++ reply_text expected ++ codes ", captured " ++ reply_text captured
+wrong_text expected captured =
+    codes "wrong reply: expected " ++ reply_text expected ++ codes ", captured " ++ reply_text captured
 
 unfoldable pub fault_text : Fault → List ℕ
 fault_text (Form fault) = form_text fault
@@ -51,10 +52,12 @@ fault_text (WrongReply expected captured) = wrong_text expected captured
 
 unfoldable pub lawful_line : Counts → List ℕ
 lawful_line counts =
-    codes "lawful: " ++ decimal counts.rows ++ codes " rows, " ++ decimal counts.requests ++ codes " requests, " ++ decimal counts.answered ++ codes " answered"
+    codes "lawful: " ++ decimal counts.rows ++ codes " rows, " ++ decimal counts.requests ++ codes " requests, "
+        ++ decimal counts.answered ++ codes " answered"
     ++ 10 ∷ []
 
 unfoldable pub unlawful_line : Unlawful → List ℕ
 unlawful_line found =
-    codes "unlawful: line " ++ decimal found.row.line ++ codes ", time " ++ decimal found.row.time ++ codes ", " ++ link_text found.row.sighting.link
+    codes "unlawful: line " ++ decimal found.row.line ++ codes ", time " ++ decimal found.row.time ++ codes ", "
+        ++ link_text found.row.sighting.link
     ++ channel_text found.row.sighting.beat ++ fault_text found.fault ++ 10 ∷ []

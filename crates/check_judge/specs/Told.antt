@@ -1,5 +1,5 @@
--- What is told of beats that crossed: a line for each whole reply that is counted, in the order in which the replies end. Lists of
--- sightings have the latest first. This project's own.
+-- What is told of beats that crossed: a line for each whole reply that is counted, in the order in which the replies
+-- end. Lists of sightings have the latest first. This project's own.
 use Rattle.std.specs.Prelude.{◌≡◌, ◌⊎◌, ℕ, Bool, true, false, ◌&&◌, List, [], ◌∷◌, ◌++◌}
 use Rattle.tl_types.specs.declared.trace.Entry.{Entry}
 use Rattle.tl_map.specs.Block.{IsWide}
@@ -15,10 +15,12 @@ use Rattle.check_judge.specs.Count.{is_counted}
 
 -- the entry with this source
 abbrev pub sent_by : ℕ → Entry → Entry
-sent_by source entry = record { ask = record entry.ask { source = source }; reply = record entry.reply { source = source }; port = entry.port; index = entry.index }
+sent_by source entry =
+    record { ask = record entry.ask { source = source }; reply = record entry.reply { source = source };
+    port = entry.port; index = entry.index }
 
--- the line of an entry whose reply was seen at a link, to this source of the link. At a port's link that is a wide source, and the
--- line has the master that owns it and the master's own source
+-- the line of an entry whose reply was seen at a link, to this source of the link. At a port's link that is a wide
+-- source, and the line has the master that owns it and the master's own source
 abbrev pub IsLine : List ℕ → Link → ℕ → Entry → List ℕ → Type 0
 IsLine counts (Master m) source entry line = line ≡ trace_line m entry
 IsLine counts (Port p) source entry line =
@@ -36,19 +38,22 @@ IsToldOf true counts link source WholeAsk text = text ≡ []
 IsToldOf true counts link source Part text = text ≡ []
 IsToldOf false counts link source seen text = text ≡ []
 
--- what is told of beats that crossed, if they are traced: of none nothing; of one more the text so far, and then what is told of it
+-- what is told of beats that crossed, if they are traced: of none nothing; of one more the text so far, and then what
+-- is told of it
 abbrev pub IsTold : Bool → Plan → List Sighting → List ℕ → Type 0
 IsTold trace plan [] text = text ≡ []
 IsTold trace plan (x ∷ past) text =
     (so_far : List ℕ) × (more : List ℕ) × (text ≡ so_far ++ more) × IsTold trace plan past so_far
-    × IsToldOf (trace && is_counted plan.layout.links x.link) plan.layout.counts x.link (source_of x.beat) (what_is_seen plan past x) more
+    × IsToldOf (trace && is_counted plan.layout.links x.link) plan.layout.counts x.link (source_of x.beat)
+        (what_is_seen plan past x) more
 
 -- ---- for the proofs: a text that grows
 
 -- a text grew by the line of an entry, or by nothing where its source is nobody's
 abbrev pub AppendsLine : List ℕ → Link → ℕ → Entry → List ℕ → List ℕ → Type 0
 AppendsLine counts link source entry old new =
-    ((line : List ℕ) × (new ≡ old ++ line) × IsLine counts link source entry line) ⊎ ((new ≡ old) × (HasOwner counts link source → ⊥))
+    ((line : List ℕ) × (new ≡ old ++ line) × IsLine counts link source entry line)
+        ⊎ ((new ≡ old) × (HasOwner counts link source → ⊥))
 
 -- a text grew by what is told of a beat that ends this
 abbrev pub AppendsToldOf : Bool → List ℕ → Link → ℕ → Seen → List ℕ → List ℕ → Type 0

@@ -81,12 +81,13 @@ pub record StopsAt (plan : Plan) (rows before : List Row) (found : Unlawful) : T
   pub is : IsUnlawfulAfter plan (reverse done ++ before) found
 
 -- and a text grew by what is told of those that cross before it
-pub record StopsTelling (trace : Bool) (plan : Plan) (rows before : List Row) (old new : List ℕ) (found : Unlawful) : Type 0 where
+pub record StopsTelling (trace : Bool) (plan : Plan) (rows before : List Row) (old new : List ℕ)
+    (found : Unlawful) : Type 0 where
   pub stops : StopsAt plan rows before found
   pub told : AppendsTold trace plan (seen plan.layout before) (seen plan.layout (reverse stops.done ++ before)) old new
 
--- why a row is not taken behind those of the file: it may not stand there, or it is of a later time, and they are not lawful, or
--- memory was refused
+-- why a row is not taken behind those of the file: it may not stand there, or it is of a later time, and they are not
+-- lawful, or memory was refused
 abbrev pub IsStop : Plan → List Row → Row → Stop → Type 0
 IsStop plan file row (stop.Row fault) = HasRowFault file row fault
 IsStop plan file row (stop.Beat found) = IsLater file row × IsFirstUnlawful plan file found

@@ -47,8 +47,8 @@ pub record TellsOn (plan : Plan) (file : List Row) (judge : Judge) (so_far old n
   pub grown : new ≡ old ++ more
   pub told : HasTold plan file judge (so_far ++ more)
 
--- what is told where a row is not taken: nothing where it may not stand there; where the rows before it are not lawful, what
--- crosses before the first that is not
+-- what is told where a row is not taken: nothing where it may not stand there; where the rows before it are not lawful,
+-- what crosses before the first that is not
 abbrev pub TellsStop : Bool → Plan → List Row → List ℕ → List ℕ → List ℕ → Stop → Type 0
 TellsStop trace plan file so_far old new (stop.Row fault) = new ≡ old
 TellsStop trace plan file so_far old new (stop.Beat found) =

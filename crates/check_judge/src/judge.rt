@@ -77,8 +77,8 @@ impl Judge {
         Ok(())
     }
 
-    /// Takes the next row of the file. The rows of one time are judged once a row of a later time comes, and what is told of
-    /// them is appended.
+    /// Takes the next row of the file. The rows of one time are judged once a row of a later time comes, and what is
+    /// told of them is appended.
     pub fn take(&mut self, row: Row, text: &mut Vec<u8>) -> Result<(), Stop>
         requires { IsLink row.sighting.link }
         ensures trace { is_traced self.new ≡ is_traced self.old }

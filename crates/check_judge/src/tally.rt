@@ -79,8 +79,8 @@ impl Tally {
         }
     }
 
-    /// Takes the beat of a row behind those before it, if it is lawful, and tells nothing: whether it is. Most beats of a file are,
-    /// and where nothing is told of them nobody asks for their replies.
+    /// Takes the beat of a row behind those before it, if it is lawful, and tells nothing: whether it is. Most beats of
+    /// a file are, and where nothing is told of them nobody asks for their replies.
     fn take_row(&mut self, row: &Row) -> bool
         requires known { HasLink self.old.watch.layout row.now.sighting.link }
         requires watched { IsWatched self.old.watch.layout.links row.now.sighting.link }
@@ -152,8 +152,8 @@ impl Tally {
         self.tell_row(row, text)
     }
 
-    /// Judges the beats of rows that cross in this order behind those before them, up to the first that is not lawful, and
-    /// appends what is told of them.
+    /// Judges the beats of rows that cross in this order behind those before them, up to the first that is not lawful,
+    /// and appends what is told of them.
     pub fn judge_rows(&mut self, rows: &[Row], text: &mut Vec<u8>) -> Result<(), Refusal>
         ensures trace { self.new.trace ≡ self.old.trace }
         ensures keeps { (plan : Plan) (before : List Row) → Kept plan before self.old

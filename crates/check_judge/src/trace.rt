@@ -20,8 +20,9 @@ pub fn source_of(beat: &Beat) -> u16
     }
 }
 
-/// Appends the line of an entry whose reply was seen at a link, to this source of the link, as a trace has it. At a port's link
-/// that is a wide source, and the line has its master and the master's own source; where nobody has the source, there is none.
+/// Appends the line of an entry whose reply was seen at a link, to this source of the link, as a trace has it. At a
+/// port's link that is a wide source, and the line has its master and the master's own source; where nobody has the
+/// source, there is none.
 pub fn push_answer(
     text: &mut Vec<u8>,
     sources: &Sources,

@@ -20,14 +20,17 @@ use Rattle.check_laws.proofs.Standing.{IsOut, is_out, Stands}
 use Rattle.check_laws.proofs.Crossing.{story_at}
 use Rattle.check_laws.proofs.BackTurns.{asks_with_ask}
 
-requests_more : (seen : List AskSeen) (last : AskSeen) → requests_of (seen ++ last ∷ []) ≡ requests_of seen ++ last.ask ∷ []
+requests_more : (seen : List AskSeen) (last : AskSeen)
+    → requests_of (seen ++ last ∷ []) ≡ requests_of seen ++ last.ask ∷ []
 requests_more seen last = map-append (λ (one : AskSeen). one.ask) seen (last ∷ [])
 
 abbrev head_of : Request → List Request → Request
 head_of other [] = other
 head_of other (ask ∷ more) = ask
 
-module _ (plan : Plan) (past : List Sighting) (p known : ℕ) (beat : ABeat) (ends : ends_ask (asking (beats_at (Port p) past)) beat ≡ true) (crossing : MessagesCross plan (ask_at (Port p) known beat ∷ past) beat.source) where
+module _ (plan : Plan) (past : List Sighting) (p known : ℕ) (beat : ABeat)
+    (ends : ends_ask (asking (beats_at (Port p) past)) beat ≡ true)
+    (crossing : MessagesCross plan (ask_at (Port p) known beat ∷ past) beat.source) where
   abbrev wide : ℕ
   wide = beat.source
 
@@ -42,7 +45,8 @@ module _ (plan : Plan) (past : List Sighting) (p known : ℕ) (beat : ABeat) (en
   sent_is =
       let last : AskSeen = record { link = Port p; ask = ask } in
       crossing.requests
-      ∙ ap (λ l. requests_of l ++ crossing.waiting) (asks_with_ask plan past (Port p) known beat ∙ ap (λ b. taken ++ (if b then last ∷ [] else [])) ends)
+      ∙ ap (λ l. requests_of l ++ crossing.waiting)
+          (asks_with_ask plan past (Port p) known beat ∙ ap (λ b. taken ++ (if b then last ∷ [] else [])) ends)
       ∙ ap (λ l. l ++ crossing.waiting) (requests_more taken last)
       ∙ append_assoc (requests_of taken) (ask ∷ []) crossing.waiting
 
@@ -50,18 +54,22 @@ module _ (plan : Plan) (past : List Sighting) (p known : ℕ) (beat : ABeat) (en
   too_few : sent_out plan wide (asks plan AtMasters wide past) ≡ requests_of taken → ⊥
   too_few same =
       let both : requests_of taken ≡ requests_of taken ++ (ask ∷ [] ++ crossing.waiting) = sym same ∙ sent_is in
-      absurd (omega (arith, ap (λ (l : List Request). length l) both, length-append (requests_of taken) (ask ∷ [] ++ crossing.waiting), length-append (ask ∷ []) crossing.waiting))
+      absurd (omega (arith, ap (λ (l : List Request). length l) both,
+          length-append (requests_of taken) (ask ∷ [] ++ crossing.waiting), length-append (ask ∷ []) crossing.waiting))
 
-  pub sent_back : (turn : Turn) (far : Crossing) (there : Turn) → Stands plan wide (story_at plan wide past) turn far there → IsAskedAs turn ask × (far ≡ Waiting)
+  pub sent_back : (turn : Turn) (far : Crossing) (there : Turn)
+      → Stands plan wide (story_at plan wide past) turn far there → IsAskedAs turn ask × (far ≡ Waiting)
   sent_back Idle far there stands = absurd (too_few stands.same)
   sent_back (Asking n) far there stands = absurd (too_few stands.same)
   sent_back (Asked n sent) far there stands = go (is_out plan wide sent) far stands
     where
-      go : (out : Bool) (far : Crossing) → IsOut plan wide (story_at plan wide past) out sent far there → (record sent { source = ask.source } ≡ ask) × (far ≡ Waiting)
+      go : (out : Bool) (far : Crossing) → IsOut plan wide (story_at plan wide past) out sent far there
+          → (record sent { source = ask.source } ≡ ask) × (far ≡ Waiting)
       go false far stands = absurd (too_few stands.same)
       go true Crossed stands = absurd (too_few stands.same)
       go true (Given answer) stands = absurd (too_few stands.same)
       go true Waiting stands =
           let lists : record sent { source = wide } ∷ [] ≡ ask ∷ [] ++ crossing.waiting =
-          append_cancel_left (requests_of taken) (record sent { source = wide } ∷ []) (ask ∷ [] ++ crossing.waiting) (sym stands.same ∙ sent_is) in
+          append_cancel_left (requests_of taken) (record sent { source = wide } ∷ []) (ask ∷ [] ++ crossing.waiting)
+              (sym stands.same ∙ sent_is) in
           (ap (head_of ask) lists, refl)

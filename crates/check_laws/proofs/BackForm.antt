@@ -34,12 +34,14 @@ slice_at : {X : Type 0} (xs : List X) (y : X) (rest : List X) → slice_get ((xs
 slice_at [] y rest = refl
 slice_at (x ∷ xs) y rest = slice_at xs y rest
 
-slice_front : {X : Type 0} (xs : List X) (y first : X) (rest : List X) → slice_get xs 0 ≡ Some first → slice_get ((xs ++ y ∷ []) ++ rest) 0 ≡ Some first
+slice_front : {X : Type 0} (xs : List X) (y first : X) (rest : List X) → slice_get xs 0 ≡ Some first
+    → slice_get ((xs ++ y ∷ []) ++ rest) 0 ≡ Some first
 slice_front [] y first rest at = absurd (cc)
 slice_front (x ∷ xs) y first rest at = at
 
 -- a beat of a request that is spelled fits behind those before it
-spelled_fits : (ask : Request) (begun : List ABeat) (beat : ABeat) (rest : List ABeat) → IsSpelled (ask, (begun ++ beat ∷ []) ++ rest) → FitsAsk begun beat
+spelled_fits : (ask : Request) (begun : List ABeat) (beat : ABeat) (rest : List ABeat)
+    → IsSpelled (ask, (begun ++ beat ∷ []) ++ rest) → FitsAsk begun beat
 spelled_fits ask begun beat rest is =
     let here = is.1.each (length begun) beat (slice_at begun beat rest) in
     let fields = here.fields in
@@ -48,7 +50,8 @@ spelled_fits ask begun beat rest is =
         op = ask.op;
         code = record { opcode_is = sym fields.opcode; param_is = sym fields.param };
         in_limit = subst (λ n. n ≤ MAX_SIZE) (sym fields.size) is.0.in_limit;
-        mask = subst (λ n. IsLawfulMask ask.op n beat.address beat.mask) (sym fields.size) (subst (λ a. IsLawfulMask ask.op ask.size a beat.mask) (sym fields.address) here.mask);
+        mask = subst (λ n. IsLawfulMask ask.op n beat.address beat.mask) (sym fields.size)
+            (subst (λ a. IsLawfulMask ask.op ask.size a beat.mask) (sym fields.address) here.mask);
       };
       same = λ first at.
           let front = (is.1.each 0 first (slice_front begun beat first rest at)).fields in
@@ -61,7 +64,8 @@ spelled_fits ask begun beat rest is =
           };
     }
 
-reply_spelled_fits : (begun : List DBeat) (beat : DBeat) (rest : List DBeat) → IsReplySpelled ((begun ++ beat ∷ []) ++ rest) → FitsReply begun beat
+reply_spelled_fits : (begun : List DBeat) (beat : DBeat) (rest : List DBeat)
+    → IsReplySpelled ((begun ++ beat ∷ []) ++ rest) → FitsReply begun beat
 reply_spelled_fits begun beat rest spelled =
     let is = spelled 0 in
     let reply = is.0 in
@@ -93,31 +97,50 @@ some_reply [] beat is = absurd (cc)
 some_reply (b ∷ begun) beat is = absurd (cc)
 
 module _ (past : List Sighting) (link : Link) (known : ℕ) where
-  pub ask_fits : (beat : ABeat) → CarriesMessages (record { link = link; beat = A beat; known = known } ∷ past) link → FitsAsk (asking (beats_at link past)) beat
+  pub ask_fits : (beat : ABeat) → CarriesMessages (record { link = link; beat = A beat; known = known } ∷ past) link
+      → FitsAsk (asking (beats_at link past)) beat
   ask_fits beat carries =
       let x : Sighting = record { link = link; beat = A beat; known = known } in
-      go (ends_ask (asking (beats_at link past)) beat) (subst (λ l. AllByRecursion IsSpelled (ended l)) (beats_here x past) carries.asks_spelled) (subst (λ l. asking l ≢ [] → CanEnd (asking l)) (beats_here x past) carries.ask_begun)
+      go (ends_ask (asking (beats_at link past)) beat)
+          (subst (λ l. AllByRecursion IsSpelled (ended l)) (beats_here x past) carries.asks_spelled)
+          (subst (λ l. asking l ≢ [] → CanEnd (asking l)) (beats_here x past) carries.ask_begun)
     where
-      go : (ends : Bool) → AllByRecursion IsSpelled (if ends then ended (beats_at link past) ++ (ask_of beat (asking (beats_at link past) ++ beat ∷ []), asking (beats_at link past) ++ beat ∷ []) ∷ [] else ended (beats_at link past))
-          → ((if ends then [] else asking (beats_at link past) ++ beat ∷ []) ≢ [] → CanEnd (if ends then [] else asking (beats_at link past) ++ beat ∷ []))
+      go : (ends : Bool) → AllByRecursion IsSpelled
+          (if ends then ended (beats_at link past)
+          ++ (ask_of beat (asking (beats_at link past) ++ beat ∷ []), asking (beats_at link past) ++ beat ∷ [])
+          ∷ [] else ended (beats_at link past))
+          → ((if ends then [] else asking (beats_at link past) ++ beat ∷ []) ≢ []
+              → CanEnd (if ends then [] else asking (beats_at link past) ++ beat ∷ []))
           → FitsAsk (asking (beats_at link past)) beat
       go true all can =
           let message : List ABeat = asking (beats_at link past) ++ beat ∷ [] in
-          let is : IsSpelled (ask_of beat message, message) = last_of_all IsSpelled (ended (beats_at link past)) (ask_of beat message, message) all in
-          spelled_fits (ask_of beat message) (asking (beats_at link past)) beat [] (subst (λ (l : List ABeat). IsSpelled (ask_of beat message, l)) (sym (append-nil message)) is)
+          let is : IsSpelled (ask_of beat message, message) =
+              last_of_all IsSpelled (ended (beats_at link past)) (ask_of beat message, message) all in
+          spelled_fits (ask_of beat message) (asking (beats_at link past)) beat []
+              (subst (λ (l : List ABeat). IsSpelled (ask_of beat message, l)) (sym (append-nil message)) is)
       go false all can =
-          let end = can (some_ask (asking (beats_at link past)) beat) in spelled_fits end.0 (asking (beats_at link past)) beat end.1 end.2
+          let end = can (some_ask (asking (beats_at link past)) beat) in
+              spelled_fits end.0 (asking (beats_at link past)) beat end.1 end.2
 
-  pub reply_fits : (beat : DBeat) → CarriesMessages (record { link = link; beat = D beat; known = known } ∷ past) link → FitsReply (replying (beats_at link past)) beat
+  pub reply_fits : (beat : DBeat) → CarriesMessages (record { link = link; beat = D beat; known = known } ∷ past) link
+      → FitsReply (replying (beats_at link past)) beat
   reply_fits beat carries =
       let x : Sighting = record { link = link; beat = D beat; known = known } in
-      go (ends_reply (replying (beats_at link past)) beat) (subst (λ l. AllByRecursion IsReplySpelled (ended_replies l)) (beats_here x past) carries.replies_spelled) (subst (λ l. replying l ≢ [] → ReplyCanEndSo (replying l)) (beats_here x past) carries.reply_begun)
+      go (ends_reply (replying (beats_at link past)) beat)
+          (subst (λ l. AllByRecursion IsReplySpelled (ended_replies l)) (beats_here x past) carries.replies_spelled)
+          (subst (λ l. replying l ≢ [] → ReplyCanEndSo (replying l)) (beats_here x past) carries.reply_begun)
     where
-      go : (ends : Bool) → AllByRecursion IsReplySpelled (if ends then ended_replies (beats_at link past) ++ (replying (beats_at link past) ++ beat ∷ []) ∷ [] else ended_replies (beats_at link past))
-          → ((if ends then [] else replying (beats_at link past) ++ beat ∷ []) ≢ [] → ReplyCanEndSo (if ends then [] else replying (beats_at link past) ++ beat ∷ []))
+      go : (ends : Bool) → AllByRecursion IsReplySpelled
+          (if ends then ended_replies (beats_at link past)
+          ++ (replying (beats_at link past) ++ beat ∷ []) ∷ [] else ended_replies (beats_at link past))
+          → ((if ends then [] else replying (beats_at link past) ++ beat ∷ []) ≢ []
+              → ReplyCanEndSo (if ends then [] else replying (beats_at link past) ++ beat ∷ []))
           → FitsReply (replying (beats_at link past)) beat
       go true all can =
           let message : List DBeat = replying (beats_at link past) ++ beat ∷ [] in
-          reply_spelled_fits (replying (beats_at link past)) beat [] (subst (λ (l : List DBeat). IsReplySpelled l) (sym (append-nil message)) (last_of_all IsReplySpelled (ended_replies (beats_at link past)) message all))
+          reply_spelled_fits (replying (beats_at link past)) beat []
+              (subst (λ (l : List DBeat). IsReplySpelled l) (sym (append-nil message))
+              (last_of_all IsReplySpelled (ended_replies (beats_at link past)) message all))
       go false all can =
-          let end = can (some_reply (replying (beats_at link past)) beat) in reply_spelled_fits (replying (beats_at link past)) beat end.0 end.1
+          let end = can (some_reply (replying (beats_at link past)) beat) in
+              reply_spelled_fits (replying (beats_at link past)) beat end.0 end.1

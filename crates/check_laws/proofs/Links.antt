@@ -22,18 +22,23 @@ under_more : (before : List Beat) (beat : Beat) → under_after (under before) b
 under_more before (A beat) = refl
 under_more before (D beat) = refl
 
-under_found : (plan : Plan) (s : State) (x : Sighting) (beat : Beat) → (answering plan.layout x.link (found_in plan s x) beat).under ≡ s.links (side_of x.link) (number_of x.link)
+under_found : (plan : Plan) (s : State) (x : Sighting) (beat : Beat)
+    → (answering plan.layout x.link (found_in plan s x) beat).under ≡ s.links (side_of x.link) (number_of x.link)
 under_found plan s x (A beat) = refl
 under_found plan s x (D beat) = refl
 
 -- what is under way at a link is so by the beats of that link alone
-pub links_are : (plan : Plan) (past : List Sighting) (link : Link) → (state plan past).links (side_of link) (number_of link) ≡ under (beats_at link past)
+pub links_are : (plan : Plan) (past : List Sighting) (link : Link)
+    → (state plan past).links (side_of link) (number_of link) ≡ under (beats_at link past)
 links_are plan [] link = refl
-links_are plan (x ∷ past) link = go (is_link x.link (side_of link) (number_of link)) refl (links_are plan past x.link) (links_are plan past link)
+links_are plan (x ∷ past) link =
+    go (is_link x.link (side_of link) (number_of link)) refl (links_are plan past x.link) (links_are plan past link)
   where
     go : (here : Bool) → is_link x.link (side_of link) (number_of link) ≡ here
-        → (state plan past).links (side_of x.link) (number_of x.link) ≡ under (beats_at x.link past) → (state plan past).links (side_of link) (number_of link) ≡ under (beats_at link past)
-        → (if here then under_after (scene plan past x).under x.beat else (state plan past).links (side_of link) (number_of link))
+        → (state plan past).links (side_of x.link) (number_of x.link) ≡ under (beats_at x.link past)
+            → (state plan past).links (side_of link) (number_of link) ≡ under (beats_at link past)
+        → (if here then under_after (scene plan past x).under x.beat else (state plan past).links (side_of link)
+            (number_of link))
         ≡ under (if here then x.beat ∷ beats_at link past else beats_at link past)
     go true is there before =
         let at : x.link ≡ link = same_link x.link link is in

@@ -10,7 +10,8 @@ zip_past [] more (y ∷ ys) same = absurd (omega (arith, same))
 zip_past (x ∷ xs) more [] same = absurd (omega (arith, same))
 zip_past (x ∷ xs) more (y ∷ ys) same = ap (λ l. (x, y) ∷ l) (zip_past xs more ys (omega (arith, same)))
 
-pub zip_more : {X Y : Type 0} (xs : List X) (ys : List Y) (x : X) (y : Y) → length xs ≡ length ys → zip (xs ++ x ∷ []) (ys ++ y ∷ []) ≡ zip xs ys ++ (x, y) ∷ []
+pub zip_more : {X Y : Type 0} (xs : List X) (ys : List Y) (x : X) (y : Y) → length xs ≡ length ys
+    → zip (xs ++ x ∷ []) (ys ++ y ∷ []) ≡ zip xs ys ++ (x, y) ∷ []
 zip_more [] [] x y same = refl
 zip_more [] (v ∷ ys) x y same = absurd (omega (arith, same))
 zip_more (u ∷ xs) [] x y same = absurd (omega (arith, same))

@@ -10,17 +10,22 @@ use Rattle.check_laws.proofs.Turned.{messages}
 use Rattle.check_laws.proofs.Sequential.{done_at}
 use Rattle.check_laws.proofs.Crossing.{crossing}
 
-earlier_watched : (layout : Layout) (later earlier : List Sighting) → AreWatched layout (later ++ earlier) → AreWatched layout earlier
+earlier_watched : (layout : Layout) (later earlier : List Sighting) → AreWatched layout (later ++ earlier)
+    → AreWatched layout earlier
 earlier_watched layout [] earlier are = are
 earlier_watched layout (x ∷ later) earlier are = earlier_watched layout later earlier are.1
 
-keeps : (plan : Plan) (past : List Sighting) → IsPlan plan → AreWatched plan.layout past → IsLawful plan past → KeepsRules plan past
+keeps : (plan : Plan) (past : List Sighting) → IsPlan plan → AreWatched plan.layout past → IsLawful plan past
+    → KeepsRules plan past
 keeps plan past is watched lawful = record {
   messages = messages plan past lawful;
   memories = done_at plan past watched lawful;
   crossings = λ both wide. crossing plan past is both watched lawful wide;
 }
 
-pub always_keeps : (plan : Plan) (past : List Sighting) → IsPlan plan → AreWatched plan.layout past → IsLawful plan past → AlwaysKeepsRules plan past
+pub always_keeps : (plan : Plan) (past : List Sighting) → IsPlan plan → AreWatched plan.layout past → IsLawful plan past
+    → AlwaysKeepsRules plan past
 always_keeps plan past is watched lawful later earlier so =
-    keeps plan earlier is (earlier_watched plan.layout later earlier (subst (λ l. AreWatched plan.layout l) (sym so) watched)) (earlier_is_lawful plan later earlier (subst (λ l. IsLawful plan l) (sym so) lawful))
+    keeps plan earlier is (earlier_watched plan.layout later earlier
+        (subst (λ l. AreWatched plan.layout l) (sym so) watched))
+        (earlier_is_lawful plan later earlier (subst (λ l. IsLawful plan l) (sym so) lawful))

@@ -17,17 +17,20 @@ use Rattle.check_laws.proofs.Told.{asks_told, told_lawful, matched_but_one}
 use Rattle.check_laws.proofs.Memory.{owed, history_at}
 use Rattle.check_laws.proofs.Telling.{are_told}
 
-few_owed : (plan : Plan) (port wide : ℕ) (side : Side) (turn : Turn) (due : Option Answer) → length (owed plan port wide side turn due) ≤ 1
+few_owed : (plan : Plan) (port wide : ℕ) (side : Side) (turn : Turn) (due : Option Answer)
+    → length (owed plan port wide side turn due) ≤ 1
 few_owed plan port wide side Idle due = omega arith
 few_owed plan port wide side (Asking n) due = omega arith
 few_owed plan port wide side (Asked n ask) None = omega arith
 few_owed plan port wide side (Asked n ask) (Some answer) = go (port_for plan (link_on side n) ask == port)
   where
-    go : (here : Bool) → length {A = Request × Response} (if here then (record ask { source = wide }, record answer.reply { source = wide }) ∷ [] else []) ≤ 1
+    go : (here : Bool) → length {A = Request × Response}
+        (if here then (record ask { source = wide }, record answer.reply { source = wide }) ∷ [] else []) ≤ 1
     go true = omega arith
     go false = omega arith
 
-pub done_at : (plan : Plan) (past : List Sighting) → AreWatched plan.layout past → IsLawful plan past → (port : ℕ) → (history : List (Request × Response)) × IsDoneAt plan past port history
+pub done_at : (plan : Plan) (past : List Sighting) → AreWatched plan.layout past → IsLawful plan past → (port : ℕ)
+    → (history : List (Request × Response)) × IsDoneAt plan past port history
 done_at plan past watched lawful port = (
   history_at plan port past,
   record {
@@ -38,6 +41,8 @@ done_at plan past watched lawful port = (
         let flight = (state plan past).flights side wide in
         let so = are_told plan past watched lawful port wide in
         subst (λ l. AreEntries wide (exchanges_at plan port wide past) l) (sym so.entries_are)
-        (matched_but_one wide (exchanges_at plan port wide past) so.front (owed plan port wide side flight.turn flight.due) so.matched (few_owed plan port wide side flight.turn flight.due));
+        (matched_but_one wide (exchanges_at plan port wide past) so.front
+            (owed plan port wide side flight.turn flight.due) so.matched
+            (few_owed plan port wide side flight.turn flight.due));
   },
 )

@@ -27,7 +27,8 @@ told_lawful store (first ∷ asks) zero ask response at =
     sym (ap (λ (e : Request × Response). e.1) same) ∙ ap (λ (e : Request × Response). reply store e.0) same
 told_lawful store (first ∷ asks) (suc k) ask response at = told_lawful (after store first) asks k ask response at
 
-pub told_more : (store : Store) (asks : List Request) (ask : Request) → told store (asks ++ ask ∷ []) ≡ told store asks ++ (ask, reply (replay store asks) ask) ∷ []
+pub told_more : (store : Store) (asks : List Request) (ask : Request)
+    → told store (asks ++ ask ∷ []) ≡ told store asks ++ (ask, reply (replay store asks) ask) ∷ []
 unfolding told
 told_more store [] ask = refl
 told_more store (first ∷ asks) ask = ap (λ l. (first, reply store first) ∷ l) (told_more (after store first) asks ask)
@@ -36,7 +37,8 @@ pub told_none : (store : Store) → told store [] ≡ []
 unfolding told
 told_none store = refl
 
-pub told_cons : (store : Store) (ask : Request) (asks : List Request) → told store (ask ∷ asks) ≡ (ask, reply store ask) ∷ told (after store ask) asks
+pub told_cons : (store : Store) (ask : Request) (asks : List Request)
+    → told store (ask ∷ asks) ≡ (ask, reply store ask) ∷ told (after store ask) asks
 unfolding told
 told_cons store ask asks = refl
 
@@ -50,10 +52,13 @@ entry_list wide bank (Some ask) = (record ask { source = wide }, record (reply b
 -- one more is done, or none
 pub entries_more : (store : Store) (asks : List Request) (wide other : ℕ) (here : Bool) (did : Option Request)
     → entries_of wide (told store (asks ++ (if here then list_of other did else [])))
-    ≡ entries_of wide (told store asks) ++ (if here then (if other == wide then entry_list other (replay store asks) did else []) else [])
-entries_more store asks wide other false did = ap (λ l. entries_of wide (told store l)) (append-nil asks) ∙ sym (append-nil (entries_of wide (told store asks)))
+    ≡ entries_of wide (told store asks) ++ (if here then
+        (if other == wide then entry_list other (replay store asks) did else []) else [])
+entries_more store asks wide other false did =
+    ap (λ l. entries_of wide (told store l)) (append-nil asks) ∙ sym (append-nil (entries_of wide (told store asks)))
 entries_more store asks wide other true None =
-    ap (λ l. entries_of wide (told store l)) (append-nil asks) ∙ sym (append-nil (entries_of wide (told store asks))) ∙ ap (λ l. entries_of wide (told store asks) ++ l) (both (other == wide))
+    ap (λ l. entries_of wide (told store l)) (append-nil asks) ∙ sym (append-nil (entries_of wide (told store asks)))
+        ∙ ap (λ l. entries_of wide (told store asks) ++ l) (both (other == wide))
   where
     both : (b : Bool) → ◌≡◌ {A = List (Request × Response)} [] (if b then [] else [])
     both true = refl
@@ -61,7 +66,8 @@ entries_more store asks wide other true None =
 entries_more store asks wide other true (Some ask) =
     let wide_ask : Request = record ask { source = other } in
     ap (λ l. entries_of wide l) (told_more store asks wide_ask)
-    ∙ filter-append (λ (entry : Request × Response). entry.0.source == wide) (told store asks) ((wide_ask, reply (replay store asks) wide_ask) ∷ [])
+    ∙ filter-append (λ (entry : Request × Response). entry.0.source == wide) (told store asks)
+        ((wide_ask, reply (replay store asks) wide_ask) ∷ [])
 
 -- ---- captured entries, one by one
 
@@ -71,14 +77,18 @@ AreMatched wide [] (entry ∷ entries) = ⊥
 AreMatched wide (seen ∷ more) [] = ⊥
 AreMatched wide (seen ∷ more) (entry ∷ entries) = IsEntry wide seen entry × AreMatched wide more entries
 
-pub matched_more : (wide : ℕ) (seen : List (AskSeen × ReplySeen)) (entries : List (Request × Response)) (last : AskSeen × ReplySeen) (entry : Request × Response)
-    → AreMatched wide seen entries → IsEntry wide last entry → AreMatched wide (seen ++ last ∷ []) (entries ++ entry ∷ [])
+pub matched_more : (wide : ℕ) (seen : List (AskSeen × ReplySeen)) (entries : List (Request × Response))
+    (last : AskSeen × ReplySeen) (entry : Request × Response)
+    → AreMatched wide seen entries → IsEntry wide last entry
+        → AreMatched wide (seen ++ last ∷ []) (entries ++ entry ∷ [])
 matched_more wide [] [] last entry all is = (is, tt)
 matched_more wide [] (e ∷ entries) last entry all is = absurd all
 matched_more wide (x ∷ seen) [] last entry all is = absurd all
-matched_more wide (x ∷ seen) (e ∷ entries) last entry all is = (all.0, matched_more wide seen entries last entry all.1 is)
+matched_more wide (x ∷ seen) (e ∷ entries) last entry all is =
+    (all.0, matched_more wide seen entries last entry all.1 is)
 
-pub matched_but_one : (wide : ℕ) (seen : List (AskSeen × ReplySeen)) (entries rest : List (Request × Response)) → AreMatched wide seen entries → length rest ≤ 1 → AreEntries wide seen (entries ++ rest)
+pub matched_but_one : (wide : ℕ) (seen : List (AskSeen × ReplySeen)) (entries rest : List (Request × Response))
+    → AreMatched wide seen entries → length rest ≤ 1 → AreEntries wide seen (entries ++ rest)
 matched_but_one wide [] [] rest all few = few
 matched_but_one wide [] (e ∷ entries) rest all few = absurd all
 matched_but_one wide (x ∷ seen) [] rest all few = absurd all

@@ -1,6 +1,6 @@
--- What lawful beats say of memories: each port's replies are those of a memory that does one request at a time. What a memory does is
--- the chapter "TL-UL and TL-UH operations" of the TileLink specification (`Store.antt` of `tl_ops`); in which order, and where this is
--- seen, is this project's own.
+-- What lawful beats say of memories: each port's replies are those of a memory that does one request at a time. What a
+-- memory does is the chapter "TL-UL and TL-UH operations" of the TileLink specification (`Store.antt` of `tl_ops`); in
+-- which order, and where this is seen, is this project's own.
 use Rattle.std.specs.Prelude.{◌≡◌, ℕ, ◌≤◌, Bool, true, false, ◌&&◌, ◌==◌, if◌then◌else◌, nat_lt, List, [], ◌∷◌, ◌++◌, length, map, filter, unwrap_or, slice_get}
 use Rattle.tl_types.specs.Request.{Request}
 use Rattle.tl_types.specs.Response.{Response, IsLawfulResponse}
@@ -25,7 +25,8 @@ use Rattle.check_laws.specs.Crossed.{AskSeen, ReplySeen, beats_at, ask_ended, ex
 
 -- ---- where a port's memory is seen
 
--- at the port's own link where ports' links are watched, else at all masters' links; the error port has no link of its own
+-- at the port's own link where ports' links are watched, else at all masters' links; the error port has no link of its
+-- own
 abbrev pub side_by : Links → Bool → Side
 side_by Both true = AtPorts
 side_by Both false = AtMasters
@@ -42,7 +43,8 @@ port_for plan (Master m) ask = plan.route ask.address ask.size
 
 -- the request is one that this port's memory has to do, as it is seen at this link
 abbrev pub is_for : Plan → ℕ → AskSeen → Bool
-is_for plan port seen = same_side (side_of seen.link) (side_for plan.layout port) && (port_for plan seen.link seen.ask == port)
+is_for plan port seen =
+    same_side (side_of seen.link) (side_for plan.layout port) && (port_for plan seen.link seen.ask == port)
 
 -- ---- in which order the memory does its requests
 
@@ -50,7 +52,8 @@ is_for plan port seen = same_side (side_of seen.link) (side_for plan.layout port
 abbrev pub ask_answered : Plan → List Sighting → Sighting → Beat → List AskSeen
 ask_answered plan past x (A beat) = []
 ask_answered plan past x (D beat) =
-    if begins_reply (replying (beats_at x.link past)) then next_answered plan (side_of x.link) (wide_of plan x.link beat.source) past else []
+    if begins_reply (replying (beats_at x.link past)) then next_answered plan (side_of x.link)
+        (wide_of plan x.link beat.source) past else []
 
 -- the request that is done as this beat crosses: the one that it ends, or the one whose reply it begins
 abbrev pub ask_done : Plan → Order → List Sighting → Sighting → List AskSeen
@@ -66,7 +69,8 @@ abbrev pub asks_done : Plan → ℕ → List Sighting → List Request
 asks_done plan port [] = []
 asks_done plan port (x ∷ past) =
     asks_done plan port past
-    ++ map (widened (wide_of plan x.link (source_of x.beat))) (filter (is_for plan port) (ask_done plan plan.layout.order past x))
+    ++ map (widened (wide_of plan x.link (source_of x.beat)))
+        (filter (is_for plan port) (ask_done plan plan.layout.order past x))
 
 -- ---- the replies
 
@@ -74,14 +78,15 @@ asks_done plan port (x ∷ past) =
 abbrev pub reset_of : Plan → ℕ → Store
 reset_of plan port = unwrap_or (slice_get plan.resets port) no_store
 
--- the captured request is the one of the history, and the captured reply is the one of the history: but for the source, which is the
--- master's own where they were seen at a master's link
+-- the captured request is the one of the history, and the captured reply is the one of the history: but for the source,
+-- which is the master's own where they were seen at a master's link
 pub record IsEntry (wide : ℕ) (seen : AskSeen × ReplySeen) (entry : Request × Response) : Type 0 where
   pub ask : entry.0 ≡ widened wide seen.0
   pub lawful : IsLawfulResponse entry.1.op entry.1.size entry.1.denied entry.1.bytes
   pub spelled : SpellsReply (record entry.1 { source = seen.0.ask.source }) seen.0.ask.address seen.1.beats
 
--- entries of a history are those of captured requests and replies, one by one; one request more may be done, and not answered yet
+-- entries of a history are those of captured requests and replies, one by one; one request more may be done, and not
+-- answered yet
 abbrev pub AreEntries : ℕ → List (AskSeen × ReplySeen) → List (Request × Response) → Type 0
 AreEntries wide [] entries = length entries ≤ 1
 AreEntries wide (seen ∷ more) [] = ⊥
@@ -90,13 +95,14 @@ AreEntries wide (seen ∷ more) (entry ∷ entries) = IsEntry wide seen entry ×
 -- the requests of a wide source to a port, with their replies
 abbrev pub exchanges_at : Plan → ℕ → ℕ → List Sighting → List (AskSeen × ReplySeen)
 exchanges_at plan port wide past =
-    filter (λ (seen : AskSeen × ReplySeen). is_for plan port seen.0) (exchanges plan (side_for plan.layout port) wide past)
+    filter (λ (seen : AskSeen × ReplySeen). is_for plan port seen.0)
+        (exchanges plan (side_for plan.layout port) wide past)
 
 abbrev pub entries_of : ℕ → List (Request × Response) → List (Request × Response)
 entries_of wide history = filter (λ (entry : Request × Response). entry.0.source == wide) history
 
--- this is what a port's memory has done: the requests to it in order, each with the reply that the memory gives after those before it,
--- from reset on; and what was captured of each source are these replies
+-- this is what a port's memory has done: the requests to it in order, each with the reply that the memory gives after
+-- those before it, from reset on; and what was captured of each source are these replies
 pub record IsDoneAt (plan : Plan) (past : List Sighting) (port : ℕ) (history : List (Request × Response)) : Type 0 where
   pub order : asks_of history ≡ asks_done plan port past
   pub lawful : IsLawfulHistory (reset_of plan port) history

@@ -1,6 +1,6 @@
--- What lawful beats say of messages: each channel of a link carries whole messages one after the other, and the requests and replies of
--- a source come in turn. This is the chapters "Beats and bursts" and "TL-UL and TL-UH operations" of the TileLink specification;
--- sources and the address map are this project's own.
+-- What lawful beats say of messages: each channel of a link carries whole messages one after the other, and the
+-- requests and replies of a source come in turn. This is the chapters "Beats and bursts" and "TL-UL and TL-UH
+-- operations" of the TileLink specification; sources and the address map are this project's own.
 use Rattle.std.specs.Prelude.{◌≡◌, ◌≢◌, ℕ, ◌==◌, ◌+◌, ◌≤◌, List, [], ◌∷◌, ◌++◌, length, map, filter, flat_map}
 use Rattle.std.specs.List.{AllByRecursion}
 use Rattle.tl_types.specs.Operation.{reply_op_of}
@@ -19,15 +19,16 @@ use Rattle.check_laws.specs.Crossed.{AskSeen, ReplySeen, beats_at, asks, replies
 
 -- ---- a link
 
--- the beats of channel A are those of whole requests, one after the other, each spelled by its beats, and those of one more that has
--- begun and can end; and so on channel D
+-- the beats of channel A are those of whole requests, one after the other, each spelled by its beats, and those of one
+-- more that has begun and can end; and so on channel D
 pub record CarriesMessages (past : List Sighting) (link : Link) : Type 0 where
   pub asks : ask_channel (beats_at link past)
       ≡ flat_map (λ (entry : Request × List ABeat). entry.1) (ended (beats_at link past)) ++ asking (beats_at link past)
   pub asks_spelled : AllByRecursion IsSpelled (ended (beats_at link past))
   pub ask_begun : asking (beats_at link past) ≢ [] → CanEnd (asking (beats_at link past))
   pub replies : reply_channel (beats_at link past)
-      ≡ flat_map (λ (message : List DBeat). message) (ended_replies (beats_at link past)) ++ replying (beats_at link past)
+      ≡ flat_map (λ (message : List DBeat). message) (ended_replies (beats_at link past))
+          ++ replying (beats_at link past)
   pub replies_spelled : AllByRecursion IsReplySpelled (ended_replies (beats_at link past))
   pub reply_begun : replying (beats_at link past) ≢ [] → ReplyCanEndSo (replying (beats_at link past))
 
@@ -69,7 +70,8 @@ pub record TakeTurns (plan : Plan) (past : List Sighting) (side : Side) (wide : 
       → AsksAt plan past wide other → link ≡ other
   -- a reply begins where a request has none, at the link that this crossed
   pub replies_asked : (link : Link) → side_of link ≡ side → (at : RepliesAt plan past wide link)
-      → (ask : Request) × (next_answered plan side wide past ≡ record { link = link; ask = ask } ∷ []) × Answers ask at.first
+      → (ask : Request) × (next_answered plan side wide past ≡ record { link = link; ask = ask } ∷ [])
+          × Answers ask at.first
 
 -- ---- links and sources
 
@@ -80,12 +82,14 @@ asks_at link seen =
 
 abbrev pub replies_at : Link → List ReplySeen → List (List DBeat)
 replies_at link seen =
-    map (λ (one : ReplySeen). one.beats) (filter (λ (one : ReplySeen). is_link one.link (side_of link) (number_of link)) seen)
+    map (λ (one : ReplySeen). one.beats) (filter
+        (λ (one : ReplySeen). is_link one.link (side_of link) (number_of link)) seen)
 
 -- of the whole messages of a link those of this wide source
 abbrev pub asks_of_source : Plan → Link → ℕ → List (Request × List ABeat) → List Request
 asks_of_source plan link wide whole =
-    map (λ (one : Request × List ABeat). one.0) (filter (λ (one : Request × List ABeat). wide_of plan link one.0.source == wide) whole)
+    map (λ (one : Request × List ABeat). one.0)
+        (filter (λ (one : Request × List ABeat). wide_of plan link one.0.source == wide) whole)
 
 -- the source of a reply is that of its first beat
 abbrev pub source_of_reply : List DBeat → ℕ
@@ -93,7 +97,8 @@ source_of_reply [] = 0
 source_of_reply (first ∷ more) = first.source
 
 abbrev pub replies_of_source : Plan → Link → ℕ → List (List DBeat) → List (List DBeat)
-replies_of_source plan link wide whole = filter (λ (one : List DBeat). wide_of plan link (source_of_reply one) == wide) whole
+replies_of_source plan link wide whole =
+    filter (λ (one : List DBeat). wide_of plan link (source_of_reply one) == wide) whole
 
 -- ---- places
 
@@ -109,7 +114,8 @@ pub record AreMessages (plan : Plan) (past : List Sighting) : Type 0 where
   pub asks_sorted : (link : Link) (wide : ℕ)
       → asks_at link (asks plan (side_of link) wide past) ≡ asks_of_source plan link wide (ended (beats_at link past))
   pub replies_sorted : (link : Link) (wide : ℕ)
-      → replies_at link (replies plan (side_of link) wide past) ≡ replies_of_source plan link wide (ended_replies (beats_at link past))
+      → replies_at link (replies plan (side_of link) wide past) ≡ replies_of_source plan link wide
+          (ended_replies (beats_at link past))
   -- each beat is of a source that the system has at its link
   pub known : AllByRecursion (λ (x : Sighting). HasSource plan.layout x.link (source_of x.beat)) past
   -- each request at a port's link is one of the port, once it has begun

@@ -14,14 +14,15 @@ use Rattle.check_laws.specs.Crossings.{MessagesCross}
 use Rattle.check_laws.specs.Memories.{IsDoneAt}
 use Rattle.check_laws.specs.Messages.{AreMessages}
 
--- the beats are whole messages that come in turn; each port's replies are those of a memory that does one request at a time; and where
--- both sides are watched, what ports are asked and answer is what masters asked and are answered
+-- the beats are whole messages that come in turn; each port's replies are those of a memory that does one request at a
+-- time; and where both sides are watched, what ports are asked and answer is what masters asked and are answered
 pub record KeepsRules (plan : Plan) (past : List Sighting) : Type 0 where
   pub messages : AreMessages plan past
   pub memories : (port : ℕ) → (history : List (Request × Response)) × IsDoneAt plan past port history
   pub crossings : plan.layout.links ≡ Both → (wide : ℕ) → MessagesCross plan past wide
 
--- so it is at each moment: lists of sightings have the latest first, so what crossed up to a moment is an end of the list
+-- so it is at each moment: lists of sightings have the latest first, so what crossed up to a moment is an end of the
+-- list
 abbrev pub AlwaysKeepsRules : Plan → List Sighting → Type 0
 AlwaysKeepsRules plan past = (later earlier : List Sighting) → later ++ earlier ≡ past → KeepsRules plan earlier
 
@@ -31,7 +32,8 @@ AlwaysKeepsRules plan past = (later earlier : List Sighting) → later ++ earlie
 abbrev pub IsSeenWhole : Plan → List Sighting → Sighting → Beat → Type 0
 IsSeenWhole plan past x (A beat) = IsKnown beat x.known
 IsSeenWhole plan past x (D beat) =
-    (ask : Request) → next_answered plan (side_of x.link) (wide_of plan x.link beat.source) past ≡ record { link = x.link; ask = ask } ∷ []
+    (ask : Request) → next_answered plan (side_of x.link)
+        (wide_of plan x.link beat.source) past ≡ record { link = x.link; ask = ask } ∷ []
     → IsKnownReply ask beat x.known
 
 abbrev pub AreSeenWhole : Plan → List Sighting → Type 0

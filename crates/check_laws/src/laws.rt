@@ -14,14 +14,15 @@ ghost use Rattle.check_laws.specs.Messages.{AreMessages};
 ghost use Rattle.check_laws.specs.Rules.{AlwaysKeepsRules, AreSeenWhole};
 ghost use Rattle.check_laws.specs.Memories.{IsDoneAt, asks_done, reset_of};
 
-/// Each channel of a link carries whole messages one after the other, and a beginning of one more; each reply answers a request that
-/// had ended, no request is answered twice, and none of a source begins before the one before it is answered.
+/// Each channel of a link carries whole messages one after the other, and a beginning of one more; each reply answers a
+/// request that had ended, no request is answered twice, and none of a source begins before the one before it is
+/// answered.
 pub fn beats_are_messages()
     ensures { (plan : Plan) (past : List Sighting) → IsLawful plan past → AreMessages plan past }
 {}
 
-/// Each port's replies are those of a memory that does one request at a time, in the order of the plan; and what the judge
-/// keeps of the port's slave is what these requests leave.
+/// Each port's replies are those of a memory that does one request at a time, in the order of the plan; and what the
+/// judge keeps of the port's slave is what these requests leave.
 pub fn memories_are_sequential()
     ensures done { (plan : Plan) (past : List Sighting) → AreWatched plan.layout past → IsLawful plan past
         → (port : ℕ) → (history : List (Request × Response)) × IsDoneAt plan past port history }
@@ -29,15 +30,15 @@ pub fn memories_are_sequential()
         → (port : ℕ) → ((state plan past).slaves port).bank ≡ replay (reset_of plan port) (asks_done plan port past) }
 {}
 
-/// Where both sides are watched, what a port is asked is what a master asked, each request once, and what a master is answered is what
-/// the port answered.
+/// Where both sides are watched, what a port is asked is what a master asked, each request once, and what a master is
+/// answered is what the port answered.
 pub fn messages_cross()
     ensures { (plan : Plan) (past : List Sighting) → IsPlan plan → plan.layout.links ≡ Both → AreWatched plan.layout past
         → IsLawful plan past → (wide : ℕ) → MessagesCross plan past wide }
 {}
 
-/// What `lawful` means: at each moment the beats so far are whole messages that come in turn, the replies are those of memories, and
-/// messages cross; and each lane that carries a byte was seen.
+/// What `lawful` means: at each moment the beats so far are whole messages that come in turn, the replies are those of
+/// memories, and messages cross; and each lane that carries a byte was seen.
 pub fn lawful_beats_keep_the_rules()
     ensures rules { (plan : Plan) (past : List Sighting) → IsPlan plan → AreWatched plan.layout past → IsLawful plan past
         → AlwaysKeepsRules plan past }

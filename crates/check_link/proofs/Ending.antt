@@ -14,7 +14,8 @@ use Rattle.check_link.proofs.Reading.{kept_of_fitting}
 use Rattle.check_link.proofs.Spelled.{spelled}
 use Rattle.check_link.proofs.ReplySpelled.{reply_spelled}
 
-each_of_both : {X : Type 0} (P : X → Type 0) (xs ys : List X) → ((b : ℕ) (x : X) → slice_get xs b ≡ Some x → P x) → ((b : ℕ) (x : X) → slice_get ys b ≡ Some x → P x)
+each_of_both : {X : Type 0} (P : X → Type 0) (xs ys : List X) → ((b : ℕ) (x : X) → slice_get xs b ≡ Some x → P x)
+    → ((b : ℕ) (x : X) → slice_get ys b ≡ Some x → P x)
     → (b : ℕ) (x : X) → slice_get (xs ++ ys) b ≡ Some x → P x
 each_of_both P [] ys front back b x at = back b x at
 each_of_both P (y ∷ xs) ys front back zero x at = front zero x at
@@ -25,7 +26,8 @@ each_again zero v b x at = absurd (cc)
 each_again (suc n) v zero x at = cc
 each_again (suc n) v (suc b) x at = each_again n v b x at
 
-ends : (begun : List ABeat) → ((first : ABeat) → slice_get begun 0 ≡ Some first → IsBegun begun first) → begun ≢ [] → CanEnd begun
+ends : (begun : List ABeat) → ((first : ABeat) → slice_get begun 0 ≡ Some first → IsBegun begun first) → begun ≢ []
+    → CanEnd begun
 ends [] kept some = absurd (some refl)
 ends (first ∷ more) kept some =
     let begun : List ABeat = first ∷ more in
@@ -44,7 +46,8 @@ ends (first ∷ more) kept some =
 pub can_end : (past : List Beat) → AreFitting past → asking past ≢ [] → CanEnd (asking past)
 can_end past fitting some = ends (asking past) (kept_of_fitting past fitting).asks some
 
-reply_ends : (begun : List DBeat) → ((first : DBeat) → slice_get begun 0 ≡ Some first → IsReplyBegun begun first) → begun ≢ [] → ReplyCanEndSo begun
+reply_ends : (begun : List DBeat) → ((first : DBeat) → slice_get begun 0 ≡ Some first → IsReplyBegun begun first)
+    → begun ≢ [] → ReplyCanEndSo begun
 reply_ends [] kept some = absurd (some refl)
 reply_ends (first ∷ more) kept some =
     let begun : List DBeat = first ∷ more in

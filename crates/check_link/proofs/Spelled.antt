@@ -60,22 +60,26 @@ carries_named op opcode param code = rw (← code.opcode_is) (carries-code op)
 byte_stands : (beat : ABeat) (lane : ℕ) → StandsAt beat.mask beat.lanes lane (byte_at (Some beat) lane)
 byte_stands beat lane = go (bit_at beat.mask lane == 1) refl
   where
-    go : (set : Bool) → (bit_at beat.mask lane == 1) ≡ set → StandsAt beat.mask beat.lanes lane (if set then Some (slice_index beat.lanes lane) else None)
+    go : (set : Bool) → (bit_at beat.mask lane == 1) ≡ set
+        → StandsAt beat.mask beat.lanes lane (if set then Some (slice_index beat.lanes lane) else None)
     go true is = (eqb-true (bit_at beat.mask lane) 1 is, refl)
     go false is = omega (arith, bit_at-lt beat.mask lane, eqb-false (bit_at beat.mask lane) 1 is)
 
 -- the byte at a place of what beats spell
-byte_in : (beat : ABeat) (message : List ABeat) (j : ℕ) (given : Option ℕ) (here : ABeat) → slice_get (bytes_of beat message) j ≡ Some given → slice_get message (j / 8) ≡ Some here
+byte_in : (beat : ABeat) (message : List ABeat) (j : ℕ) (given : Option ℕ) (here : ABeat)
+    → slice_get (bytes_of beat message) j ≡ Some given → slice_get message (j / 8) ≡ Some here
     → given ≡ byte_at (Some here) (lane_of beat.address beat.size j)
 byte_in beat message j given here at found =
     let count = byte_count (op_of beat.opcode beat.param) beat.size in
     let f : ℕ → Option ℕ = λ k. byte_at (slice_get message (k / 8)) (lane_of beat.address beat.size k) in
-    let within : j < count = rw (← length-map-range_with_len f 0 count) (slice_get_within (bytes_of beat message) j given at) in
+    let within : j < count =
+        rw (← length-map-range_with_len f 0 count) (slice_get_within (bytes_of beat message) j given at) in
     sym (get_or_from_slice_get (bytes_of beat message) j given None at)
     ∙ get_or-map-range_with_len f 0 count j j None within (omega arith)
     ∙ ap (λ o. byte_at o (lane_of beat.address beat.size j)) found
 
-same_mask : (first other : ABeat) (op named : AskOp) → named ≡ op → SameFields first other → IsLawfulMask named other.size other.address other.mask → IsLawfulMask op first.size first.address other.mask
+same_mask : (first other : ABeat) (op named : AskOp) → named ≡ op → SameFields first other
+    → IsLawfulMask named other.size other.address other.mask → IsLawfulMask op first.size first.address other.mask
 same_mask first other op named is same mask = rw (← is, ← same.size, ← same.address) mask
 
 from_first : (beat first other : ABeat) → SameFields beat first → SameFields beat other → SameFields first other
@@ -87,13 +91,17 @@ from_first beat first other p q = record {
   address = q.address ∙ sym p.address;
 }
 
-same_request : (beat first : ABeat) (op : AskOp) (bytes : List (Option ℕ)) → SameFields beat first → op_of beat.opcode beat.param ≡ op
-    → ◌≡◌ {A = Request} (read_request first op bytes) (record { op = op_of beat.opcode beat.param; size = beat.size; source = beat.source; address = beat.address; bytes = bytes })
+same_request : (beat first : ABeat) (op : AskOp) (bytes : List (Option ℕ)) → SameFields beat first
+    → op_of beat.opcode beat.param ≡ op
+    → ◌≡◌ {A = Request} (read_request first op bytes)
+        (record { op = op_of beat.opcode beat.param; size = beat.size; source = beat.source; address = beat.address;
+        bytes = bytes })
 same_request beat first op bytes same is = rw (same.size, same.source, same.address, ← is) refl
 
 -- all beats of a message spell the request that is read from them
 pub spelled : (message : List ABeat) (beat : ABeat) → IsWhole message beat
-    → IsLawfulRequest (ask_of beat message).op (ask_of beat message).size (ask_of beat message).bytes × SpellsAsk (ask_of beat message) message
+    → IsLawfulRequest (ask_of beat message).op (ask_of beat message).size (ask_of beat message).bytes
+        × SpellsAsk (ask_of beat message) message
 spelled [] beat whole = absurd (omega (arith, whole.counted, some_beat (nat_lt beat.opcode 4) beat.size))
 spelled (first ∷ rest) beat whole =
     let message : List ABeat = first ∷ rest in
@@ -104,22 +112,33 @@ spelled (first ∷ rest) beat whole =
     let carries : nat_lt beat.opcode 4 ≡ carries_bytes op = carries_named op beat.opcode beat.param whole.formed.code in
     let begun : IsBegunAs message first op = record {
       head = refl;
-      code = record { opcode_is = whole.formed.code.opcode_is ∙ sym same.opcode; param_is = whole.formed.code.param_is ∙ sym same.param };
+      code = record { opcode_is = whole.formed.code.opcode_is ∙ sym same.opcode;
+          param_is = whole.formed.code.param_is ∙ sym same.param };
       in_limit = head.0.in_limit;
-      count = whole.counted ∙ ap (λ b. beat_count b beat.size) carries ∙ ap (λ n. beat_count (carries_bytes op) n) (sym same.size);
+      count = whole.counted ∙ ap (λ b. beat_count b beat.size) carries
+          ∙ ap (λ n. beat_count (carries_bytes op) n) (sym same.size);
     } in
     let read : IsReadFrom message first op (bytes_of beat message) = record {
       same = λ k other within at. from_first beat first other same (whole.each k other at).1;
       masks = λ k other within at.
           let there = whole.each k other at in
-          let code : IsCodeOf op other.opcode other.param = record { opcode_is = whole.formed.code.opcode_is ∙ sym there.1.opcode; param_is = whole.formed.code.param_is ∙ sym there.1.param } in
-          same_mask first other op there.0.op (same_op there.0.op op other.opcode other.param there.0.code code) (from_first beat first other same there.1) there.0.mask;
-      counted = length-map-range_with_len (λ j. byte_at (slice_get message (j / 8)) (lane_of beat.address beat.size j)) 0 (byte_count (op_of beat.opcode beat.param) beat.size)
+          let code : IsCodeOf op other.opcode other.param =
+              record { opcode_is = whole.formed.code.opcode_is ∙ sym there.1.opcode;
+              param_is = whole.formed.code.param_is ∙ sym there.1.param } in
+          same_mask first other op there.0.op (same_op there.0.op op other.opcode other.param there.0.code code)
+              (from_first beat first other same there.1) there.0.mask;
+      counted = length-map-range_with_len (λ j. byte_at (slice_get message (j / 8))
+          (lane_of beat.address beat.size j)) 0 (byte_count (op_of beat.opcode beat.param) beat.size)
           ∙ ap (λ o. byte_count o beat.size) named ∙ ap (λ n. byte_count op n) (sym same.size);
       each = λ j given here at found.
           let is = byte_in beat message j given here at found in
-          let lane : lane_of beat.address beat.size j ≡ lane_of first.address first.size j = rw (same.size, same.address) refl in
-          subst (λ (l : ℕ). StandsAt here.mask here.lanes l given) lane (subst (λ (g : Option ℕ). StandsAt here.mask here.lanes (lane_of beat.address beat.size j) g) (sym is) (byte_stands here (lane_of beat.address beat.size j)));
+          let lane : lane_of beat.address beat.size j ≡ lane_of first.address first.size j =
+              rw (same.size, same.address) refl in
+          subst (λ (l : ℕ). StandsAt here.mask here.lanes l given) lane
+              (subst (λ (g : Option ℕ). StandsAt here.mask here.lanes (lane_of beat.address beat.size j) g) (sym is)
+              (byte_stands here (lane_of beat.address beat.size j)));
     } in
     let P : Request → Type 0 = λ ask. IsLawfulRequest ask.op ask.size ask.bytes × SpellsAsk ask message in
-    subst P (same_request beat first op (bytes_of beat message) same named) (read_lawful message first op begun (bytes_of beat message) read, read_spells message first op begun (bytes_of beat message) read)
+    subst P (same_request beat first op (bytes_of beat message) same named)
+        (read_lawful message first op begun (bytes_of beat message) read,
+        read_spells message first op begun (bytes_of beat message) read)

@@ -23,7 +23,8 @@ pub record IsReplyBegun (begun : List DBeat) (first : DBeat) : Type 0 where
 
 pub record IsWholeReply (message : List DBeat) (beat : DBeat) : Type 0 where
   pub formed : IsFormedReply beat
-  pub each : (b : ℕ) (other : DBeat) → slice_get message b ≡ Some other → IsFormedReply other × SameReplyFields beat other
+  pub each : (b : ℕ) (other : DBeat) → slice_get message b ≡ Some other → IsFormedReply other
+      × SameReplyFields beat other
   pub counted : length message ≡ reply_beats beat
 
 -- what is under way on both channels has begun

@@ -1,6 +1,6 @@
--- When a beat is one of a lawful message, after the beats of the message that is under way on its channel: the chapter "Beats
--- and bursts" of the TileLink specification. That lanes may be unknown, and which fault is named where several apply, is this
--- project's own.
+-- When a beat is one of a lawful message, after the beats of the message that is under way on its channel: the chapter
+-- "Beats and bursts" of the TileLink specification. That lanes may be unknown, and which fault is named where several
+-- apply, is this project's own.
 use Rattle.std.specs.Prelude.{◌≡◌, ◌≢◌, ℕ, ◌<◌, ◌≤◌, List, Some, slice_get, bit_and}
 use Rattle.tl_types.specs.Fault.{IsFirstOf}
 use Rattle.tl_types.specs.Wire.{IsCodeOf, reply_opcode_of}
@@ -21,8 +21,8 @@ Continues {B} Same begun beat = (first : B) → slice_get begun 0 ≡ Some first
 
 -- ---- requests
 
--- a beat of a request is lawful alone: its opcode and parameter name an operation, its size is within the limit, and its
--- mask is that of a request of this operation, size and address
+-- a beat of a request is lawful alone: its opcode and parameter name an operation, its size is within the limit, and
+-- its mask is that of a request of this operation, size and address
 pub record IsFormed (beat : ABeat) : Type 0 where
   pub op : AskOp
   pub code : IsCodeOf op beat.opcode beat.param
@@ -61,7 +61,8 @@ pub record FitsReply (begun : List DBeat) (beat : DBeat) : Type 0 where
   pub formed : IsFormedReply beat
   pub same : Continues SameReplyFields begun beat
 
--- the beat has this fault as one of a reply; which of its lanes carry a byte is said by the request that it answers, and so not here
+-- the beat has this fault as one of a reply; which of its lanes carry a byte is said by the request that it answers,
+-- and so not here
 abbrev pub HasReplyFormFault : List DBeat → DBeat → FormFault → Type 0
 HasReplyFormFault begun beat Changed = Continues SameReplyFields begun beat → ⊥
 HasReplyFormFault begun beat Opcode = (op : ReplyOp) → reply_opcode_of op ≡ beat.opcode → ⊥
@@ -73,8 +74,8 @@ HasReplyFormFault begun beat UnknownData = ⊥
 
 -- ---- the order of faults
 
--- the place of a fault in the order in which faults are tried. A beat behind the first of its message is compared with that one
--- before all else, and a first beat has none to be compared with.
+-- the place of a fault in the order in which faults are tried. A beat behind the first of its message is compared with
+-- that one before all else, and a first beat has none to be compared with.
 abbrev pub form_rank : FormFault → ℕ
 form_rank Changed = 1
 form_rank Opcode = 2

@@ -1,5 +1,5 @@
--- What follows for beats that fit one after the other, in the words of whole messages: the chapter "Beats and bursts" of the
--- TileLink specification.
+-- What follows for beats that fit one after the other, in the words of whole messages: the chapter "Beats and bursts"
+-- of the TileLink specification.
 use Rattle.std.specs.Prelude.{◌≡◌, ◌≢◌, ℕ, if◌then◌else◌, List, [], ◌∷◌, ◌++◌}
 use Rattle.std.specs.List.{flat_map, AllByRecursion}
 use Rattle.tl_types.specs.Request.{Request, IsLawfulRequest}
@@ -32,7 +32,8 @@ ask_channel (D beat ∷ past) = ask_channel past
 abbrev pub ended : List Beat → List (Request × List ABeat)
 ended [] = []
 ended (A beat ∷ past) =
-    if ends_ask (asking past) beat then ended past ++ (ask_of beat (asking past ++ beat ∷ []), asking past ++ beat ∷ []) ∷ [] else ended past
+    if ends_ask (asking past) beat then ended past
+        ++ (ask_of beat (asking past ++ beat ∷ []), asking past ++ beat ∷ []) ∷ [] else ended past
 ended (D beat ∷ past) = ended past
 
 -- the beats spell the request, which is lawful
@@ -41,7 +42,8 @@ IsSpelled entry = IsLawfulRequest entry.0.op entry.0.size entry.0.bytes × Spell
 
 -- the beats of channel A are those of requests, one after the other, and those of the request that is under way
 abbrev pub ChannelIsCutUp : Type 0
-ChannelIsCutUp = (past : List Beat) → ask_channel past ≡ flat_map (λ (entry : Request × List ABeat). entry.1) (ended past) ++ asking past
+ChannelIsCutUp = (past : List Beat) → ask_channel past ≡ flat_map (λ (entry : Request × List ABeat). entry.1)
+    (ended past) ++ asking past
 
 -- each request that has ended is spelled by its beats
 abbrev pub AskIsSpelled : Type 0
@@ -67,17 +69,21 @@ reply_channel (D beat ∷ past) = reply_channel past ++ beat ∷ []
 abbrev pub ended_replies : List Beat → List (List DBeat)
 ended_replies [] = []
 ended_replies (A beat ∷ past) = ended_replies past
-ended_replies (D beat ∷ past) = if ends_reply (replying past) beat then ended_replies past ++ (replying past ++ beat ∷ []) ∷ [] else ended_replies past
+ended_replies (D beat ∷ past) =
+    if ends_reply (replying past) beat then ended_replies past
+    ++ (replying past ++ beat ∷ []) ∷ [] else ended_replies past
 
 -- whatever the address of the request, the beats spell a lawful reply to it
 abbrev pub IsReplySpelled : List DBeat → Type 0
 IsReplySpelled message =
-    (address : ℕ) → (reply : Response) × IsLawfulResponse reply.op reply.size reply.denied reply.bytes × SpellsReply reply address message
+    (address : ℕ) → (reply : Response) × IsLawfulResponse reply.op reply.size reply.denied reply.bytes
+        × SpellsReply reply address message
 
 -- the beats of channel D are those of replies, one after the other, and those of the reply that is under way
 abbrev pub ReplyChannelIsCutUp : Type 0
 ReplyChannelIsCutUp =
-    (past : List Beat) → reply_channel past ≡ flat_map (λ (message : List DBeat). message) (ended_replies past) ++ replying past
+    (past : List Beat) → reply_channel past ≡ flat_map (λ (message : List DBeat). message) (ended_replies past)
+        ++ replying past
 
 -- each reply that has ended is spelled by its beats
 abbrev pub ReplyIsSpelled : Type 0

@@ -1,5 +1,5 @@
--- What the beats say that crossed a link so far, by the chapter "Beats and bursts" of the TileLink specification: the beats of a
--- message cross one after the other. Lists of what crossed have the latest first.
+-- What the beats say that crossed a link so far, by the chapter "Beats and bursts" of the TileLink specification: the
+-- beats of a message cross one after the other. Lists of what crossed have the latest first.
 use Rattle.std.specs.Prelude.{Bool, if◌then◌else◌, ◌==◌, List, [], ◌∷◌, ◌++◌, length}
 use Rattle.tl_beats.specs.declared.beat.ABeat.{ABeat}
 use Rattle.tl_beats.specs.declared.beat.DBeat.{DBeat}

@@ -10,8 +10,8 @@ pub fn beats_are_requests()
     ensures end { AskCanEnd }
 {}
 
-/// The beats of channel D are those of replies, one after the other, and those of the reply that is under way; each reply that
-/// has ended is spelled by its beats, and the one that is under way can end.
+/// The beats of channel D are those of replies, one after the other, and those of the reply that is under way; each
+/// reply that has ended is spelled by its beats, and the one that is under way can end.
 pub fn beats_are_replies()
     ensures cut { ReplyChannelIsCutUp }
     ensures spelled { ReplyIsSpelled }

@@ -6,8 +6,8 @@
 //! of its message ([`FormFault`]), and says what a beat ends. All beats of a message share its fields, so any of them
 //! says how many there are.
 //!
-//! Contracts see what crossed as a list of beats, the latest first (`specs/Past.antt`). That a channel is so cut up into
-//! the beats of lawful messages, one after the other, and a beginning of one, is a law ([`laws`]).
+//! Contracts see what crossed as a list of beats, the latest first (`specs/Past.antt`). That a channel is so cut up
+//! into the beats of lawful messages, one after the other, and a beginning of one, is a law ([`laws`]).
 #![tactic(auto)]
 
 mod ask;

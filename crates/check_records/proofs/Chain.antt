@@ -5,7 +5,8 @@ use Rattle.check_records.specs.Source.{Between}
 use Rattle.check_records.specs.Text.{Gives, Place, Reads, Row}
 use Rattle.check_records.proofs.KnownLemmas.{between-trans}
 
-pub reads-more : (a b c : Place) (rows : List Row) (row : Row) → Reads a rows b → Gives b row c → Reads a (rows ++ row ∷ []) c
+pub reads-more : (a b c : Place) (rows : List Row) (row : Row) → Reads a rows b → Gives b row c
+    → Reads a (rows ++ row ∷ []) c
 unfolding Reads
 reads-more a b c [] row so_far next = rw so_far (c, next, refl)
 reads-more a b c (first ∷ rows) row so_far next = (so_far.0, so_far.1, reads-more so_far.0 b c rows row so_far.2 next)
@@ -15,13 +16,16 @@ pub have-read-none : (a : Reading) → HaveRead a [] a
 unfolding Reads
 have-read-none a = none a.left.text
   where
-    none : (text : Option (List ℕ)) → Between (record { line = a.left.line; text = text }) (record { line = a.left.line; text = text }) (λ from to. Reads from [] to)
+    none : (text : Option (List ℕ)) → Between (record { line = a.left.line; text = text })
+        (record { line = a.left.line; text = text }) (λ from to. Reads from [] to)
     none None = tt
     none (Some text) = refl
 
 -- a read that answered true
-pub have-read-more : (a b c : Reading) (rows : List Row) → HaveRead a rows b → Between b.left c.left (λ from to. Gives from c.row to)
+pub have-read-more : (a b c : Reading) (rows : List Row) → HaveRead a rows b
+    → Between b.left c.left (λ from to. Gives from c.row to)
     → HaveRead a (rows ++ c.row ∷ []) c
 have-read-more a b c rows so_far next =
-    between-trans a.left b.left c.left (λ from to. Reads from rows to) (λ from to. Gives from c.row to) (λ from to. Reads from (rows ++ c.row ∷ []) to)
+    between-trans a.left b.left c.left (λ from to. Reads from rows to) (λ from to. Gives from c.row to)
+        (λ from to. Reads from (rows ++ c.row ∷ []) to)
     (λ x y z. reads-more x y z rows c.row) so_far next

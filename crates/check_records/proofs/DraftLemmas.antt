@@ -28,7 +28,8 @@ pub goes-more : (p q : Partial) (xs : List ℕ) (byte : ℕ) → GoesOn p xs q �
 goes-more p q xs byte so_far on = goes-trans p q (behind q byte) xs (byte ∷ []) so_far (goes-byte q byte on)
 
 -- a byte that ends it
-ends-byte : (p : Partial) (byte : ℕ) → action_at p byte ≡ act.EndRecord → EndsWith p (byte ∷ []) (p.fields ++ (p.field ∷ [])) p.size
+ends-byte : (p : Partial) (byte : ℕ) → action_at p byte ≡ act.EndRecord
+    → EndsWith p (byte ∷ []) (p.fields ++ (p.field ∷ [])) p.size
 unfolding next_record bytes_from
 ends-byte p byte end = record {
   state = (step default_config p.state byte).0;
@@ -36,7 +37,8 @@ ends-byte p byte end = record {
   has_size = λ rest. rw end (omega arith);
 }
 
-pub ends-behind : (p q : Partial) (xs ys : List ℕ) (fields : List (List ℕ)) (size : ℕ) → GoesOn p xs q → EndsWith q ys fields size
+pub ends-behind : (p q : Partial) (xs ys : List ℕ) (fields : List (List ℕ)) (size : ℕ) → GoesOn p xs q
+    → EndsWith q ys fields size
     → EndsWith p (xs ++ ys) fields size
 ends-behind p q xs ys fields size so_far ends = record {
   state = ends.state;
@@ -46,31 +48,40 @@ ends-behind p q xs ys fields size so_far ends = record {
 
 pub ends-more : (p q : Partial) (xs : List ℕ) (byte : ℕ) → GoesOn p xs q → action_at q byte ≡ act.EndRecord
     → EndsWith p (xs ++ byte ∷ []) (q.fields ++ (q.field ∷ [])) q.size
-ends-more p q xs byte so_far end = ends-behind p q xs (byte ∷ []) (q.fields ++ (q.field ∷ [])) q.size so_far (ends-byte q byte end)
+ends-more p q xs byte so_far end =
+    ends-behind p q xs (byte ∷ []) (q.fields ++ (q.field ∷ [])) q.size so_far (ends-byte q byte end)
 
 -- a byte more than a record may have
-pub long-more : (p q : Partial) (xs : List ℕ) (byte : ℕ) (rest : List ℕ) → GoesOn p xs q → is_end (action_at q byte) ≡ false → MAX_ROW ≤ q.size
+pub long-more : (p q : Partial) (xs : List ℕ) (byte : ℕ) (rest : List ℕ) → GoesOn p xs q
+    → is_end (action_at q byte) ≡ false → MAX_ROW ≤ q.size
     → MAX_ROW < full_size p (xs ++ (byte ∷ rest))
 unfolding bytes_from
 long-more p q xs byte rest so_far on full =
     let size = so_far.size (byte ∷ rest) in
-    let more : full_size q (byte ∷ rest) ≡ q.size + suc (length (bytes_from (step default_config q.state byte).0 rest)) = rw on refl in
+    let more : full_size q (byte ∷ rest) ≡ q.size + suc
+        (length (bytes_from (step default_config q.state byte).0 rest)) = rw on refl in
     omega (arith, size, more, full)
 
 -- ---- the next byte of a text
 
-pub feed-more : (p q : Partial) (text : List ℕ) (i : ℕ) → i < length text → GoesOn p (take i text) q → is_end (action_at q (get_or text i 0)) ≡ false
+pub feed-more : (p q : Partial) (text : List ℕ) (i : ℕ) → i < length text → GoesOn p (take i text) q
+    → is_end (action_at q (get_or text i 0)) ≡ false
     → GoesOn p (take (i + 1) text) (behind q (get_or text i 0))
-feed-more p q text i inside so_far on = rw (take_more text i 0 inside) (goes-more p q (take i text) (get_or text i 0) so_far on)
+feed-more p q text i inside so_far on =
+    rw (take_more text i 0 inside) (goes-more p q (take i text) (get_or text i 0) so_far on)
 
-pub feed-ends : (p q : Partial) (text : List ℕ) (i : ℕ) → i < length text → GoesOn p (take i text) q → action_at q (get_or text i 0) ≡ act.EndRecord
+pub feed-ends : (p q : Partial) (text : List ℕ) (i : ℕ) → i < length text → GoesOn p (take i text) q
+    → action_at q (get_or text i 0) ≡ act.EndRecord
     → EndsWith p (take (i + 1) text) (q.fields ++ (q.field ∷ [])) q.size
-feed-ends p q text i inside so_far end = rw (take_more text i 0 inside) (ends-more p q (take i text) (get_or text i 0) so_far end)
+feed-ends p q text i inside so_far end =
+    rw (take_more text i 0 inside) (ends-more p q (take i text) (get_or text i 0) so_far end)
 
-pub feed-long : (p q : Partial) (text : List ℕ) (i : ℕ) → i < length text → GoesOn p (take i text) q → is_end (action_at q (get_or text i 0)) ≡ false
+pub feed-long : (p q : Partial) (text : List ℕ) (i : ℕ) → i < length text → GoesOn p (take i text) q
+    → is_end (action_at q (get_or text i 0)) ≡ false
     → MAX_ROW ≤ q.size → (rest : List ℕ) → MAX_ROW < full_size p (text ++ rest)
 feed-long p q text i inside so_far on full rest =
     let parts : text ++ rest ≡ take i text ++ (get_or text i 0 ∷ (drop (i + 1) text ++ rest)) =
-    ap (λ (xs : List ℕ). xs ++ rest) (split-at text i inside) ∙ append_assoc (take i text) (get_or text i 0 ∷ drop (i + 1) text) rest in
+    ap (λ (xs : List ℕ). xs ++ rest) (split-at text i inside)
+        ∙ append_assoc (take i text) (get_or text i 0 ∷ drop (i + 1) text) rest in
     let long = long-more p q (take i text) (get_or text i 0) (drop (i + 1) text ++ rest) so_far on full in
     subst (λ (xs : List ℕ). MAX_ROW < full_size p xs) (sym parts) long

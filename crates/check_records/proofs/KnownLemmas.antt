@@ -5,7 +5,8 @@ use Rattle.std.specs.Io.KnownBytes.{Consumes, Keeps, prepend_known}
 use Rattle.check_records.specs.Source.{Between, Both, Left}
 use Rattle.check_records.specs.Text.{Place}
 
-pub both-trans : (a b c : Option (List ℕ)) (P Q S : List ℕ → List ℕ → Type 0) → ((x y z : List ℕ) → P x y → Q y z → S x z)
+pub both-trans : (a b c : Option (List ℕ)) (P Q S : List ℕ → List ℕ → Type 0)
+    → ((x y z : List ℕ) → P x y → Q y z → S x z)
     → Both a b P → Both b c Q → Both a c S
 both-trans None b c P Q S join one two = tt
 both-trans (Some x) None c P Q S join one two = absurd one
@@ -19,17 +20,20 @@ between-trans a b c P Q S join one two =
     (λ from to. P (record { line = a.line; text = from }) (record { line = b.line; text = to }))
     (λ from to. Q (record { line = b.line; text = from }) (record { line = c.line; text = to }))
     (λ from to. S (record { line = a.line; text = from }) (record { line = c.line; text = to }))
-    (λ x y z. join (record { line = a.line; text = x }) (record { line = b.line; text = y }) (record { line = c.line; text = z }))
+    (λ x y z. join (record { line = a.line; text = x }) (record { line = b.line; text = y })
+        (record { line = c.line; text = z }))
     one two
 
 -- bytes at hand, and then those of a reader: a relation that holds whatever the reader has
-pub both-hand : (old new : List ℕ) (known : Option (List ℕ)) (P : List ℕ → List ℕ → Type 0) → ((rest : List ℕ) → P (old ++ rest) (new ++ rest))
+pub both-hand : (old new : List ℕ) (known : Option (List ℕ)) (P : List ℕ → List ℕ → Type 0)
+    → ((rest : List ℕ) → P (old ++ rest) (new ++ rest))
     → Both (prepend_known old known) (prepend_known new known) P
 both-hand old new None P all = tt
 both-hand old new (Some rest) P all = all rest
 
 -- a known text that stays as it is
-pub both-keeps : (a b : Option (List ℕ)) (P : List ℕ → List ℕ → Type 0) → ((x : List ℕ) → P x x) → Keeps a b → Both a b P
+pub both-keeps : (a b : Option (List ℕ)) (P : List ℕ → List ℕ → Type 0) → ((x : List ℕ) → P x x) → Keeps a b
+    → Both a b P
 both-keeps None b P all kept = tt
 both-keeps (Some x) None P all kept = absurd kept
 both-keeps (Some x) (Some y) P all kept = rw kept (all x)
@@ -63,7 +67,8 @@ consumes-behind (Some x) (Some y) None bytes kept taken = absurd taken
 consumes-behind (Some x) (Some y) (Some z) bytes kept taken = sym kept ∙ taken
 
 -- a part of a list from further on
-pub part-rest : (xs : List ℕ) (from to count : ℕ) → count ≤ to - from → slice_range xs (from + count) to ≡ drop count (slice_range xs from to)
+pub part-rest : (xs : List ℕ) (from to count : ℕ) → count ≤ to - from
+    → slice_range xs (from + count) to ≡ drop count (slice_range xs from to)
 part-rest xs from to count inside =
     let rest = to - (from + count) in
     let whole : count + rest ≡ to - from = omega (arith, inside) in

@@ -9,7 +9,8 @@ abbrev pub mark : List ℕ
 mark = 239 ∷ 187 ∷ 191 ∷ []
 
 -- the mark is dropped
-pub strip-yes : (a known : Option (List ℕ)) (hand : List ℕ) → hand ≡ mark → Keeps a (prepend_known hand known) → Keeps (option_map strip_bom a) known
+pub strip-yes : (a known : Option (List ℕ)) (hand : List ℕ) → hand ≡ mark → Keeps a (prepend_known hand known)
+    → Keeps (option_map strip_bom a) known
 unfolding strip_bom
 strip-yes None known hand is kept = tt
 strip-yes (Some xs) None hand is kept = absurd kept
@@ -33,7 +34,8 @@ strip-same (a ∷ b ∷ c ∷ []) rest few end other =
     let not_bom : is_bom a b c ≡ false = others (a == 239) (b == 187) (c == 191) other in rw not_bom refl
 strip-same (a ∷ b ∷ c ∷ d ∷ more) rest few end other = absurd (omega (arith, few))
 
-pub strip-no : (a known : Option (List ℕ)) (hand : List ℕ) → length hand ≤ 3 → (length hand < 3 → IsAtEnd known) → pointwise ◌==◌ hand mark ≡ false
+pub strip-no : (a known : Option (List ℕ)) (hand : List ℕ) → length hand ≤ 3 → (length hand < 3 → IsAtEnd known)
+    → pointwise ◌==◌ hand mark ≡ false
     → Keeps a (prepend_known hand known) → Keeps (option_map strip_bom a) (prepend_known hand known)
 strip-no None known hand few end other kept = tt
 strip-no (Some xs) None hand few end other kept = absurd kept

@@ -23,15 +23,19 @@ pub feeds-split : (n : ℕ) (xs : List ℕ) → line_feeds (take n xs) + line_fe
 feeds-split n xs = sym (feeds-append (take n xs) (drop n xs)) ∙ ap line_feeds (take-append-drop n xs)
 
 -- one byte more
-pub feeds-more : (xs : List ℕ) (i : ℕ) → i < length xs → line_feeds (take (i + 1) xs) ≡ line_feeds (take i xs) + cond (get_or xs i 0 == 10) 1 0
+pub feeds-more : (xs : List ℕ) (i : ℕ) → i < length xs
+    → line_feeds (take (i + 1) xs) ≡ line_feeds (take i xs) + cond (get_or xs i 0 == 10) 1 0
 feeds-more xs i inside = sum_by_more (λ (byte : ℕ). cond (byte == 10) 1 0) xs i 0 inside
 
-pub feeds-yes : (xs : List ℕ) (i : ℕ) → i < length xs → get_or xs i 0 ≡ 10 → line_feeds (take (i + 1) xs) ≡ line_feeds (take i xs) + 1
+pub feeds-yes : (xs : List ℕ) (i : ℕ) → i < length xs → get_or xs i 0 ≡ 10
+    → line_feeds (take (i + 1) xs) ≡ line_feeds (take i xs) + 1
 feeds-yes xs i inside is = feeds-more xs i inside ∙ ap (λ (byte : ℕ). line_feeds (take i xs) + cond (byte == 10) 1 0) is
 
-pub feeds-no : (xs : List ℕ) (i : ℕ) → i < length xs → (get_or xs i 0 ≡ 10 → ⊥) → line_feeds (take (i + 1) xs) ≡ line_feeds (take i xs)
+pub feeds-no : (xs : List ℕ) (i : ℕ) → i < length xs → (get_or xs i 0 ≡ 10 → ⊥)
+    → line_feeds (take (i + 1) xs) ≡ line_feeds (take i xs)
 feeds-no xs i inside not =
-    let more = feeds-more xs i inside ∙ ap (λ (b : Bool). line_feeds (take i xs) + cond b 1 0) (ne_eqb (get_or xs i 0) 10 not) in
+    let more = feeds-more xs i inside ∙ ap (λ (b : Bool). line_feeds (take i xs) + cond b 1 0)
+        (ne_eqb (get_or xs i 0) 10 not) in
     omega (arith, more)
 
 -- ---- ends of lines
@@ -46,7 +50,8 @@ ends-no byte rest h = take_while-cons is_line_end byte rest ∙ ap (λ (b : Bool
 pub from-first : (byte : ℕ) (rest : List ℕ) → is_line_end byte ≡ false → from_record (byte ∷ rest) ≡ byte ∷ rest
 from-first byte rest h = ap (λ (ends : List ℕ). drop (length ends) (byte ∷ rest)) (ends-no byte rest h)
 
-pub line-first : (line byte : ℕ) (rest : List ℕ) → is_line_end byte ≡ false → record_line (record { line = line; text = byte ∷ rest }) ≡ line
+pub line-first : (line byte : ℕ) (rest : List ℕ) → is_line_end byte ≡ false
+    → record_line (record { line = line; text = byte ∷ rest }) ≡ line
 line-first line byte rest h =
     let none : line_feeds (ends_before (byte ∷ rest)) ≡ 0 = ap line_feeds (ends-no byte rest h) in omega (arith, none)
 
@@ -61,25 +66,30 @@ all-one byte here zero d inside = here
 all-one byte here (suc k) d inside = absurd (omega (arith, inside))
 
 -- one byte more
-pub all-more : (xs : List ℕ) (i : ℕ) → i < length xs → AllPass is_line_end (take i xs) → is_line_end (get_or xs i 0) ≡ true
+pub all-more : (xs : List ℕ) (i : ℕ) → i < length xs → AllPass is_line_end (take i xs)
+    → is_line_end (get_or xs i 0) ≡ true
     → AllPass is_line_end (take (i + 1) xs)
 all-more xs i inside all here =
     rw (take_more xs i 0 inside)
-    (All-append (λ (byte : ℕ). is_line_end byte ≡ true) (take i xs) (get_or xs i 0 ∷ []) all (all-one (get_or xs i 0) here))
+    (All-append (λ (byte : ℕ). is_line_end byte ≡ true) (take i xs) (get_or xs i 0 ∷ []) all
+        (all-one (get_or xs i 0) here))
 
 ends-skip : (front rest : List ℕ) → AllPass is_line_end front → ends_before (front ++ rest) ≡ front ++ ends_before rest
 ends-skip [] rest all = refl
 ends-skip (byte ∷ front) rest all =
-    ends-yes byte (front ++ rest) (head-of byte front all) ∙ ap (λ (xs : List ℕ). byte ∷ xs) (ends-skip front rest (tail-of byte front all))
+    ends-yes byte (front ++ rest) (head-of byte front all)
+        ∙ ap (λ (xs : List ℕ). byte ∷ xs) (ends-skip front rest (tail-of byte front all))
 
 from-skip : (front rest : List ℕ) → AllPass is_line_end front → from_record (front ++ rest) ≡ from_record rest
 from-skip [] rest all = refl
 from-skip (byte ∷ front) rest all =
-    ap (λ (ends : List ℕ). drop (length ends) (byte ∷ (front ++ rest))) (ends-yes byte (front ++ rest) (head-of byte front all))
+    ap (λ (ends : List ℕ). drop (length ends) (byte ∷ (front ++ rest)))
+        (ends-yes byte (front ++ rest) (head-of byte front all))
     ∙ from-skip front rest (tail-of byte front all)
 
 reads-skip : (front rest : List ℕ) → AllPass is_line_end front
-    → next_record default_config st.StartRecord [] [] (front ++ rest) ≡ next_record default_config st.StartRecord [] [] rest
+    → next_record default_config st.StartRecord [] []
+        (front ++ rest) ≡ next_record default_config st.StartRecord [] [] rest
 unfolding next_record
 reads-skip [] rest all = refl
 reads-skip (byte ∷ front) rest all =
@@ -87,7 +97,8 @@ reads-skip (byte ∷ front) rest all =
 
 -- ends of lines are skipped
 pub same-skip : (line : ℕ) (front rest : List ℕ) → AllPass is_line_end front
-    → HasSameNext (record { line = line; text = front ++ rest }) (record { line = line + line_feeds front; text = rest })
+    → HasSameNext (record { line = line; text = front ++ rest })
+        (record { line = line + line_feeds front; text = rest })
 same-skip line front rest all =
     let before : line_feeds (ends_before (front ++ rest)) ≡ line_feeds front + line_feeds (ends_before rest) =
     ap line_feeds (ends-skip front rest all) ∙ feeds-append front (ends_before rest) in

@@ -24,7 +24,8 @@ pub within-begin : (line : ℕ) (hand rest : List ℕ) → 0 < length hand → i
     → IsWithin (record { line = line; text = hand ++ rest }) blank line (record { line = line; text = hand ++ rest })
 within-begin line [] rest some first = absurd (omega (arith, some))
 within-begin line (byte ∷ more) rest some first =
-    let same : length (record_bytes (byte ∷ (more ++ rest))) ≡ length (bytes_from st.StartRecord (byte ∷ (more ++ rest))) =
+    let same : length (record_bytes (byte ∷ (more ++ rest))) ≡ length
+        (bytes_from st.StartRecord (byte ∷ (more ++ rest))) =
     ap (λ (text : List ℕ). length (bytes_from st.StartRecord text)) (from-first byte (more ++ rest) first) in
     record {
       reads = refl;
@@ -49,15 +50,18 @@ within-more from p q row line bytes rest within on =
 
 -- bytes that end it
 pub gives-end : (from : Place) (p : Partial) (row line size n : ℕ) (fields : List (List ℕ)) (hand rest : List ℕ)
-    → IsWithin from p row (record { line = line; text = hand ++ rest }) → EndsWith p (take n hand) fields size → size ≤ MAX_ROW
-    → Gives from (record { line = row; fields = fields }) (record { line = line + line_feeds (take n hand); text = drop n hand ++ rest })
+    → IsWithin from p row (record { line = line; text = hand ++ rest }) → EndsWith p (take n hand) fields size
+        → size ≤ MAX_ROW
+    → Gives from (record { line = row; fields = fields })
+        (record { line = line + line_feeds (take n hand); text = drop n hand ++ rest })
 gives-end from p row line size n fields hand rest within ends short =
     let parts : hand ++ rest ≡ take n hand ++ (drop n hand ++ rest) =
     ap (λ (xs : List ℕ). xs ++ rest) (sym (take-append-drop n hand)) ∙ append_assoc (take n hand) (drop n hand) rest in
     let feeds : line_feeds (hand ++ rest) ≡ line_feeds (take n hand) + line_feeds (drop n hand ++ rest) =
     ap line_feeds parts ∙ feeds-append (take n hand) (drop n hand ++ rest) in
     let lines = within.lines in
-    let whole : length (record_bytes from.text) ≡ size = within.size ∙ ap (full_size p) parts ∙ ends.has_size (drop n hand ++ rest) in
+    let whole : length (record_bytes from.text) ≡ size =
+        within.size ∙ ap (full_size p) parts ∙ ends.has_size (drop n hand ++ rest) in
     record {
       state = ends.state;
       reads = within.reads ∙ ap (becomes p) parts ∙ ends.becomes (drop n hand ++ rest);
@@ -67,8 +71,10 @@ gives-end from p row line size n fields hand rest within ends short =
     }
 
 -- the end of the text ends it
-pub gives-last : (from : Place) (p : Partial) (row line : ℕ) → IsWithin from p row (record { line = line; text = [] }) → ends_at_end p.state ≡ true
-    → p.size ≤ MAX_ROW → Gives from (record { line = row; fields = p.fields ++ (p.field ∷ []) }) (record { line = line; text = [] })
+pub gives-last : (from : Place) (p : Partial) (row line : ℕ) → IsWithin from p row (record { line = line; text = [] })
+    → ends_at_end p.state ≡ true
+    → p.size ≤ MAX_ROW → Gives from (record { line = row; fields = p.fields ++ (p.field ∷ []) })
+        (record { line = line; text = [] })
 unfolding next_record bytes_from
 gives-last from p row line within ends short =
     let whole = within.size in
@@ -80,13 +86,15 @@ gives-last from p row line within ends short =
       lines = within.lines;
     }
 
-pub ends-last : (from : Place) (p : Partial) (row line : ℕ) → IsWithin from p row (record { line = line; text = [] }) → ends_at_end p.state ≡ false
+pub ends-last : (from : Place) (p : Partial) (row line : ℕ) → IsWithin from p row (record { line = line; text = [] })
+    → ends_at_end p.state ≡ false
     → Ends from (record { line = line; text = [] })
 unfolding next_record
 ends-last from p row line within ends = record { none = within.reads ∙ rw ends refl; used_up = refl }
 
 -- it gets too long
-pub long-within : (from : Place) (p : Partial) (row line : ℕ) (text : List ℕ) → IsWithin from p row (record { line = line; text = text })
+pub long-within : (from : Place) (p : Partial) (row line : ℕ) (text : List ℕ)
+    → IsWithin from p row (record { line = line; text = text })
     → MAX_ROW < full_size p text → IsTooLong from row
 long-within from p row line text within long =
     let whole = within.size in record { begins = within.begins; long = omega (arith, whole, long) }

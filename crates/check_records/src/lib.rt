@@ -1,10 +1,11 @@
 //! The records of a capture, read from a stream in bounded memory, each with its line.
 //!
-//! A [`Records`] reads CSV by the defaults of crate `csv`: commas, double quotes, lines that end in CR, LF or CR LF, empty
-//! lines that are no records, and a byte order mark that is dropped (`specs/Text.antt`). [`Records::read`] goes on to the
-//! next record, of which it has the line and the columns, or answers that there is none; a record of more than [`MAX_ROW`]
-//! bytes is a fault that tells its line, found as soon as its next byte is seen. What a read does to the text that is left
-//! is a relation from view to view (`specs/Reading.antt`), and one record after another is told by `HaveRead`.
+//! A [`Records`] reads CSV by the defaults of crate `csv`: commas, double quotes, lines that end in CR, LF or CR LF,
+//! empty lines that are no records, and a byte order mark that is dropped (`specs/Text.antt`). [`Records::read`] goes
+//! on to the next record, of which it has the line and the columns, or answers that there is none; a record of more
+//! than [`MAX_ROW`] bytes is a fault that tells its line, found as soon as its next byte is seen. What a read does to
+//! the text that is left is a relation from view to view (`specs/Reading.antt`), and one record after another is told
+//! by `HaveRead`.
 //!
 //! The reader underneath is read in chunks of 64 KiB, and nothing is allocated behind [`Records::new`]. A read that is
 //! interrupted is made again, a bounded number of times in a row. Read on in `docs/CAPTURE.md`, which has the format.

@@ -30,50 +30,61 @@ use Rattle.check_verdict.proofs.Taking.{at_start, behind_start, between_map}
 
 -- a text grew by what is told of a lawful file, and by what is told before an unlawful row
 abbrev TellsFile : Bool → Plan → List Row → List ℕ → List ℕ → List ℕ → Type 0
-TellsFile trace plan rows so_far text grown = (more : List ℕ) × (grown ≡ text ++ more) × IsToldFile trace plan rows (so_far ++ more)
+TellsFile trace plan rows so_far text grown =
+    (more : List ℕ) × (grown ≡ text ++ more) × IsToldFile trace plan rows (so_far ++ more)
 
-module _ (sizes : Sizes) (first now : Judge) (old mid : Option (List ℕ)) (text grown : List ℕ) (a b : Left) (all : Between a b (AllTaken sizes first now old mid text)) where
+module _ (sizes : Sizes) (first now : Judge) (old mid : Option (List ℕ)) (text grown : List ℕ) (a b : Left)
+    (all : Between a b (AllTaken sizes first now old mid text)) where
   pub ends_lawful : (counts : Counts)
       → ((plan : Plan) (rows : List Row) → Judges plan rows now → IsLawfulFile plan rows × HasCounts plan rows counts)
-      → ((plan : Plan) (rows : List Row) (so_far : List ℕ) → HasTold plan rows now so_far → TellsFile (is_traced now) plan rows so_far text grown)
+      → ((plan : Plan) (rows : List Row) (so_far : List ℕ) → HasTold plan rows now so_far
+          → TellsFile (is_traced now) plan rows so_far text grown)
       → IsJudged sizes first old mid grown a (Ok (verdict.Lawful counts))
   ends_lawful counts lawful tells =
       at_start a b (IsJudgedAt sizes first old mid grown (Ok (verdict.Lawful counts)))
-      (between_map a b (AllTaken sizes first now old mid text) (λ from to. IsJudgedAt sizes first old mid grown (Ok (verdict.Lawful counts)) from) (λ x y taken.
+      (between_map a b (AllTaken sizes first now old mid text)
+          (λ from to. IsJudgedAt sizes first old mid grown (Ok (verdict.Lawful counts)) from) (λ x y taken.
       let took = taken.1 in record {
         rows = took.rows;
         last = taken.0;
         has = took.has;
-        answers = λ plan start. let wrote = took.told plan start in let is = lawful plan took.rows wrote.holds.judges in ((y, taken.2), is.0, is.1);
+        answers = λ plan start. let wrote = took.told plan start in
+            let is = lawful plan took.rows wrote.holds.judges in ((y, taken.2), is.0, is.1);
         told = λ plan start.
             let wrote = took.told plan start in
             let on = tells plan took.rows wrote.told wrote.holds in
-            wrote_more (HasTold plan took.rows now) old mid text wrote (IsToldFile (is_traced first) plan took.rows) on.0 grown on.1
+            wrote_more (HasTold plan took.rows now) old mid text wrote
+                (IsToldFile (is_traced first) plan took.rows) on.0 grown on.1
             (subst (λ t. IsToldFile t plan took.rows (wrote.told ++ on.0)) took.traced on.2);
       }) all)
 
   pub ends_refused : (why : Refusal)
       → ((plan : Plan) (rows : List Row) → Judges plan rows now → OfUnlawful (IsFirstUnlawful plan rows) why)
       → ((plan : Plan) (rows : List Row) (so_far : List ℕ) → HasTold plan rows now so_far
-      → OfUnlawful (λ found. (more : List ℕ) × (grown ≡ text ++ more) × IsToldBefore (is_traced now) plan rows (so_far ++ more) found) why)
+      → OfUnlawful (λ found. (more : List ℕ) × (grown ≡ text ++ more)
+          × IsToldBefore (is_traced now) plan rows (so_far ++ more) found) why)
       → IsJudged sizes first old mid grown a (refused why)
   ends_refused (refusal.Unlawful found) unlawful tells =
       at_start a b (IsJudgedAt sizes first old mid grown (refused (refusal.Unlawful found)))
-      (between_map a b (AllTaken sizes first now old mid text) (λ from to. IsJudgedAt sizes first old mid grown (refused (refusal.Unlawful found)) from) (λ x y taken.
+      (between_map a b (AllTaken sizes first now old mid text)
+          (λ from to. IsJudgedAt sizes first old mid grown (refused (refusal.Unlawful found)) from) (λ x y taken.
       let took = taken.1 in record {
         rows = took.rows;
         last = taken.0;
         has = took.has;
-        answers = λ plan start. let wrote = took.told plan start in (inl (y, taken.2), unlawful plan took.rows wrote.holds.judges);
+        answers = λ plan start. let wrote =
+            took.told plan start in (inl (y, taken.2), unlawful plan took.rows wrote.holds.judges);
         told = λ plan start.
             let wrote = took.told plan start in
             let on = tells plan took.rows wrote.told wrote.holds in
-            wrote_more (HasTold plan took.rows now) old mid text wrote (λ t. IsToldBefore (is_traced first) plan took.rows t found) on.0 grown on.1
+            wrote_more (HasTold plan took.rows now) old mid text wrote
+                (λ t. IsToldBefore (is_traced first) plan took.rows t found) on.0 grown on.1
             (subst (λ t. IsToldBefore t plan took.rows (wrote.told ++ on.0) found) took.traced on.2);
       }) all)
   ends_refused refusal.Memory unlawful tells =
       at_start a b (IsJudgedAt sizes first old mid grown (refused refusal.Memory))
-      (between_map a b (AllTaken sizes first now old mid text) (λ from to. IsJudgedAt sizes first old mid grown (refused refusal.Memory) from) (λ x y taken.
+      (between_map a b (AllTaken sizes first now old mid text)
+          (λ from to. IsJudgedAt sizes first old mid grown (refused refusal.Memory) from) (λ x y taken.
       let took = taken.1 in record {
         rows = took.rows;
         last = taken.0;
@@ -82,18 +93,21 @@ module _ (sizes : Sizes) (first now : Judge) (old mid : Option (List ℕ)) (text
         told = λ plan start.
             let wrote = took.told plan start in
             wrote_so_far (HasTold plan took.rows now) old mid text wrote (IsToldPart (is_traced first) plan took.rows)
-            (subst (λ t. IsToldPart t plan took.rows wrote.told) took.traced (told_earlier plan took.rows now wrote.told wrote.holds).part);
+            (subst (λ t. IsToldPart t plan took.rows wrote.told) took.traced
+                (told_earlier plan took.rows now wrote.told wrote.holds).part);
       }) all)
 
 -- ---- what is left is written
 
 -- whatever is told by an answer is told of a part of the rows
-part_told : (trace : Bool) (plan : Plan) (rows : List Row) (text : List ℕ) (v : Verdict) → IsToldBy trace plan v rows text → IsToldPart trace plan rows text
+part_told : (trace : Bool) (plan : Plan) (rows : List Row) (text : List ℕ) (v : Verdict)
+    → IsToldBy trace plan v rows text → IsToldPart trace plan rows text
 part_told trace plan rows text (verdict.Lawful counts) told = part_of_file trace plan rows text told
 part_told trace plan rows text (verdict.Unlawful found) told = part_before trace plan rows text found told
 
 -- where an answer was cut, what was written is written
-cut_out : (trace : Bool) (plan : Plan) (answer : Result Verdict CaptureFault) (rows : List Row) (old mid : Option (List ℕ)) (text : List ℕ) → is_cut answer ≡ true
+cut_out : (trace : Bool) (plan : Plan) (answer : Result Verdict CaptureFault) (rows : List Row)
+    (old mid : Option (List ℕ)) (text : List ℕ) → is_cut answer ≡ true
     → WroteBy trace plan answer rows old mid text → IsOut trace plan answer rows old mid
 cut_out trace plan (Ok v) rows old mid text cut wrote = absurd (cc)
 cut_out trace plan (Err (fault.Header line)) rows old mid text cut wrote = wrote
@@ -103,43 +117,57 @@ cut_out trace plan (Err fault.Read) rows old mid text cut wrote = absurd (cc)
 cut_out trace plan (Err fault.Memory) rows old mid text cut wrote = wrote
 cut_out trace plan (Err fault.Write) rows old mid text cut wrote = wrote
 
-whole_out : (trace : Bool) (plan : Plan) (answer : Result Verdict CaptureFault) (rows : List Row) (old mid new : Option (List ℕ)) (text : List ℕ) → is_cut answer ≡ false
+whole_out : (trace : Bool) (plan : Plan) (answer : Result Verdict CaptureFault) (rows : List Row)
+    (old mid new : Option (List ℕ)) (text : List ℕ) → is_cut answer ≡ false
     → WroteBy trace plan answer rows old mid text → Appends mid new text → IsOut trace plan answer rows old new
-whole_out trace plan (Ok v) rows old mid new text cut wrote written = wrote_all (IsToldBy trace plan v rows) old mid text wrote new written
+whole_out trace plan (Ok v) rows old mid new text cut wrote written =
+    wrote_all (IsToldBy trace plan v rows) old mid text wrote new written
 whole_out trace plan (Err (fault.Header line)) rows old mid new text cut wrote written = wrote
-whole_out trace plan (Err (fault.TooLong line)) rows old mid new text cut wrote written = wrote_all (IsToldEarlier trace plan rows) old mid text wrote new written
-whole_out trace plan (Err (fault.Row line why)) rows old mid new text cut wrote written = wrote_all (IsToldEarlier trace plan rows) old mid text wrote new written
-whole_out trace plan (Err fault.Read) rows old mid new text cut wrote written = wrote_all (IsToldEarlier trace plan rows) old mid text wrote new written
+whole_out trace plan (Err (fault.TooLong line)) rows old mid new text cut wrote written =
+    wrote_all (IsToldEarlier trace plan rows) old mid text wrote new written
+whole_out trace plan (Err (fault.Row line why)) rows old mid new text cut wrote written =
+    wrote_all (IsToldEarlier trace plan rows) old mid text wrote new written
+whole_out trace plan (Err fault.Read) rows old mid new text cut wrote written =
+    wrote_all (IsToldEarlier trace plan rows) old mid text wrote new written
 whole_out trace plan (Err fault.Memory) rows old mid new text cut wrote written = absurd (cc)
 whole_out trace plan (Err fault.Write) rows old mid new text cut wrote written = absurd (cc)
 
-part_out : (trace : Bool) (plan : Plan) (answer : Result Verdict CaptureFault) (rows : List Row) (old mid new : Option (List ℕ)) (text : List ℕ) → is_cut answer ≡ false
-    → WroteBy trace plan answer rows old mid text → AppendsPart mid new text → WritesPart (IsToldPart trace plan rows) old new
+part_out : (trace : Bool) (plan : Plan) (answer : Result Verdict CaptureFault) (rows : List Row)
+    (old mid new : Option (List ℕ)) (text : List ℕ) → is_cut answer ≡ false
+    → WroteBy trace plan answer rows old mid text → AppendsPart mid new text
+        → WritesPart (IsToldPart trace plan rows) old new
 part_out trace plan (Ok v) rows old mid new text cut wrote front =
-    wrote_part (IsToldBy trace plan v rows) old mid text wrote (IsToldPart trace plan rows) new front (part_told trace plan rows wrote.told v wrote.holds)
+    wrote_part (IsToldBy trace plan v rows) old mid text wrote (IsToldPart trace plan rows) new front
+        (part_told trace plan rows wrote.told v wrote.holds)
 part_out trace plan (Err (fault.Header line)) rows old mid new text cut wrote front = absurd wrote
 part_out trace plan (Err (fault.TooLong line)) rows old mid new text cut wrote front =
-    wrote_part (IsToldEarlier trace plan rows) old mid text wrote (IsToldPart trace plan rows) new front wrote.holds.part
+    wrote_part (IsToldEarlier trace plan rows) old mid text wrote
+        (IsToldPart trace plan rows) new front wrote.holds.part
 part_out trace plan (Err (fault.Row line why)) rows old mid new text cut wrote front =
-    wrote_part (IsToldEarlier trace plan rows) old mid text wrote (IsToldPart trace plan rows) new front wrote.holds.part
+    wrote_part (IsToldEarlier trace plan rows) old mid text wrote
+        (IsToldPart trace plan rows) new front wrote.holds.part
 part_out trace plan (Err fault.Read) rows old mid new text cut wrote front =
-    wrote_part (IsToldEarlier trace plan rows) old mid text wrote (IsToldPart trace plan rows) new front wrote.holds.part
+    wrote_part (IsToldEarlier trace plan rows) old mid text wrote
+        (IsToldPart trace plan rows) new front wrote.holds.part
 part_out trace plan (Err fault.Memory) rows old mid new text cut wrote front = absurd (cc)
 part_out trace plan (Err fault.Write) rows old mid new text cut wrote front = absurd (cc)
 
 -- ---- the whole
 
 -- what the contract says of an answer, at the place where the text begins
-pub record Says (trace : Bool) (plan : Plan) (sizes : Sizes) (old new : Option (List ℕ)) (answer : Result Verdict CaptureFault) (from : Place) : Type 0 where
+pub record Says (trace : Bool) (plan : Plan) (sizes : Sizes) (old new : Option (List ℕ))
+    (answer : Result Verdict CaptureFault) (from : Place) : Type 0 where
   pub verdict : IfOk answer (IsVerdict plan sizes from)
   pub fault : IfErr answer (IsFault plan sizes from)
   pub written : IsWritten trace plan sizes from old new answer
 
 -- an answer behind the header and some rows
-says_behind : (trace : Bool) (plan : Plan) (sizes : Sizes) (old new : Option (List ℕ)) (answer : Result Verdict CaptureFault) (from : Place)
+says_behind : (trace : Bool) (plan : Plan) (sizes : Sizes) (old new : Option (List ℕ))
+    (answer : Result Verdict CaptureFault) (from : Place)
     → IsWrittenOf trace plan sizes from old new answer → Says trace plan sizes old new answer from
 says_behind trace plan sizes old new (Ok (verdict.Lawful counts)) from is = record {
-  verdict = (is.rows, record { last = is.at; end = is.answers.0.0; begins = is.begins; ends = is.answers.0.1 }, is.answers.1, is.answers.2);
+  verdict = (is.rows, record { last = is.at; end = is.answers.0.0; begins = is.begins; ends = is.answers.0.1 },
+      is.answers.1, is.answers.2);
   fault = tt;
   written = is;
 }
@@ -149,14 +177,18 @@ says_behind trace plan sizes old new (Ok (verdict.Unlawful found)) from is = rec
   written = is;
 }
 says_behind trace plan sizes old new (Err (fault.Header line)) from is = absurd is.answers
-says_behind trace plan sizes old new (Err (fault.TooLong line)) from is = record { verdict = tt; fault = inr (is.rows, is.at, is.begins, is.answers); written = inr is }
-says_behind trace plan sizes old new (Err (fault.Row line why)) from is = record { verdict = tt; fault = (is.rows, is.at, is.answers.0, is.begins, is.answers.1); written = is }
+says_behind trace plan sizes old new (Err (fault.TooLong line)) from is =
+    record { verdict = tt; fault = inr (is.rows, is.at, is.begins, is.answers); written = inr is }
+says_behind trace plan sizes old new (Err (fault.Row line why)) from is =
+    record { verdict = tt; fault = (is.rows, is.at, is.answers.0, is.begins, is.answers.1); written = is }
 says_behind trace plan sizes old new (Err fault.Read) from is = record { verdict = tt; fault = tt; written = inr is }
 says_behind trace plan sizes old new (Err fault.Memory) from is = record { verdict = tt; fault = tt; written = inr is }
 says_behind trace plan sizes old new (Err fault.Write) from is = record { verdict = tt; fault = tt; written = is }
 
-finished : (trace : Bool) (plan : Plan) (sizes : Sizes) (from behind : Place) (old mid new : Option (List ℕ)) (text : List ℕ) (answer result : Result Verdict CaptureFault) (first : Judge)
-    → is_traced first ≡ trace → Judges plan [] first → HasHeader from behind → IsJudgedAt sizes first old mid text answer behind → Finishes mid new text answer result
+finished : (trace : Bool) (plan : Plan) (sizes : Sizes) (from behind : Place) (old mid new : Option (List ℕ))
+    (text : List ℕ) (answer result : Result Verdict CaptureFault) (first : Judge)
+    → is_traced first ≡ trace → Judges plan [] first → HasHeader from behind
+        → IsJudgedAt sizes first old mid text answer behind → Finishes mid new text answer result
     → IsWrittenOf trace plan sizes from old new result
 finished trace plan sizes from behind old mid new text answer result first traced start top judged (inl cut) =
     let P : Result Verdict CaptureFault → Type 0 = λ r. IsWrittenOf trace plan sizes from old new r in
@@ -166,14 +198,17 @@ finished trace plan sizes from behind old mid new text answer result first trace
       begins = record { behind = behind; top = top; has = judged.has };
       answers = judged.answers plan start;
       out = subst (λ (o : Option (List ℕ)). IsOut trace plan answer judged.rows old o) (sym cut.2)
-          (cut_out trace plan answer judged.rows old mid text cut.0 (subst (λ t. WroteBy t plan answer judged.rows old mid text) traced (judged.told plan start)));
+          (cut_out trace plan answer judged.rows old mid text cut.0
+              (subst (λ t. WroteBy t plan answer judged.rows old mid text) traced (judged.told plan start)));
     })
-finished trace plan sizes from behind old mid new text answer result first traced start top judged (inr whole) = go whole.1
+finished trace plan sizes from behind old mid new text answer result first traced start top judged (inr whole) =
+    go whole.1
   where
     wrote : WroteBy trace plan answer judged.rows old mid text
     wrote = subst (λ t. WroteBy t plan answer judged.rows old mid text) traced (judged.told plan start)
 
-    go : ((result ≡ answer) × Appends mid new text) ⊎ ((result ≡ Err fault.Write) × AppendsPart mid new text) → IsWrittenOf trace plan sizes from old new result
+    go : ((result ≡ answer) × Appends mid new text) ⊎ ((result ≡ Err fault.Write) × AppendsPart mid new text)
+        → IsWrittenOf trace plan sizes from old new result
     go (inl all) =
         let P : Result Verdict CaptureFault → Type 0 = λ r. IsWrittenOf trace plan sizes from old new r in
         subst P (sym all.0) (record {
@@ -193,20 +228,26 @@ finished trace plan sizes from behind old mid new text answer result first trace
           out = part_out trace plan answer judged.rows old mid new text whole.0 wrote front.1;
         })
 
-pub says_judged : (plan : Plan) (sizes : Sizes) (a b : Left) (old mid new : Option (List ℕ)) (text : List ℕ) (answer result : Result Verdict CaptureFault) (first : Judge)
-    → Judges plan [] first → Between a b HasHeader → IsJudged sizes first old mid text b answer → Finishes mid new text answer result
+pub says_judged : (plan : Plan) (sizes : Sizes) (a b : Left) (old mid new : Option (List ℕ)) (text : List ℕ)
+    (answer result : Result Verdict CaptureFault) (first : Judge)
+    → Judges plan [] first → Between a b HasHeader → IsJudged sizes first old mid text b answer
+        → Finishes mid new text answer result
     → IfSome a.text (λ t. Says (is_traced first) plan sizes old new result (record { line = a.line; text = t }))
 says_judged plan sizes a b old mid new text answer result first start header judged finishes =
-    behind_start a b HasHeader (IsJudgedAt sizes first old mid text answer) (Says (is_traced first) plan sizes old new result)
-    (λ x y top is. says_behind (is_traced first) plan sizes old new result x (finished (is_traced first) plan sizes x y old mid new text answer result first refl start top is finishes))
+    behind_start a b HasHeader (IsJudgedAt sizes first old mid text answer)
+        (Says (is_traced first) plan sizes old new result)
+    (λ x y top is. says_behind (is_traced first) plan sizes old new result x
+        (finished (is_traced first) plan sizes x y old mid new text answer result first refl start top is finishes))
     header judged
 
 -- is said of the start of what a reader gives
-pub told : (known : Option (List ℕ)) (a : Left) (Q : Place → Type 0) → Keeps (option_map strip_bom known) a.text → a.line ≡ 1
+pub told : (known : Option (List ℕ)) (a : Left) (Q : Place → Type 0) → Keeps (option_map strip_bom known) a.text
+    → a.line ≡ 1
     → IfSome a.text (λ text. Q (record { line = a.line; text = text })) → IfSome known (λ text. Q (start_of text))
 told known a Q keeps line_is holds = go known a.text keeps holds
   where
-    go : (known from : Option (List ℕ)) → Keeps (option_map strip_bom known) from → IfSome from (λ text. Q (record { line = a.line; text = text }))
+    go : (known from : Option (List ℕ)) → Keeps (option_map strip_bom known) from
+        → IfSome from (λ text. Q (record { line = a.line; text = text }))
         → IfSome known (λ text. Q (start_of text))
     go None from keeps holds = tt
     go (Some text) None keeps holds = absurd keeps
@@ -214,28 +255,34 @@ told known a Q keeps line_is holds = go known a.text keeps holds
 
 -- and so each clause
 module _ (trace : Bool) (plan : Plan) (sizes : Sizes) (old new : Option (List ℕ)) (known : Option (List ℕ)) where
-  pub says_verdict : (answer : Result Verdict CaptureFault) → IfSome known (λ text. Says trace plan sizes old new answer (start_of text))
+  pub says_verdict : (answer : Result Verdict CaptureFault)
+      → IfSome known (λ text. Says trace plan sizes old new answer (start_of text))
       → IfOk answer (λ v. IfSome known (λ text. IsVerdict plan sizes (start_of text) v))
   says_verdict (Ok v) says = go known says
     where
-      go : (known : Option (List ℕ)) → IfSome known (λ text. Says trace plan sizes old new (Ok v) (start_of text)) → IfSome known (λ text. IsVerdict plan sizes (start_of text) v)
+      go : (known : Option (List ℕ)) → IfSome known (λ text. Says trace plan sizes old new (Ok v) (start_of text))
+          → IfSome known (λ text. IsVerdict plan sizes (start_of text) v)
       go None says = tt
       go (Some text) says = says.verdict
   says_verdict (Err why) says = tt
 
-  pub says_fault : (answer : Result Verdict CaptureFault) → IfSome known (λ text. Says trace plan sizes old new answer (start_of text))
+  pub says_fault : (answer : Result Verdict CaptureFault)
+      → IfSome known (λ text. Says trace plan sizes old new answer (start_of text))
       → IfErr answer (λ why. IfSome known (λ text. IsFault plan sizes (start_of text) why))
   says_fault (Ok v) says = tt
   says_fault (Err why) says = go known says
     where
-      go : (known : Option (List ℕ)) → IfSome known (λ text. Says trace plan sizes old new (Err why) (start_of text)) → IfSome known (λ text. IsFault plan sizes (start_of text) why)
+      go : (known : Option (List ℕ)) → IfSome known (λ text. Says trace plan sizes old new (Err why) (start_of text))
+          → IfSome known (λ text. IsFault plan sizes (start_of text) why)
       go None says = tt
       go (Some text) says = says.fault
 
-  pub says_written : (answer : Result Verdict CaptureFault) → IfSome known (λ text. Says trace plan sizes old new answer (start_of text))
+  pub says_written : (answer : Result Verdict CaptureFault)
+      → IfSome known (λ text. Says trace plan sizes old new answer (start_of text))
       → IfSome known (λ text. IsWritten trace plan sizes (start_of text) old new answer)
   says_written answer says = go known says
     where
-      go : (known : Option (List ℕ)) → IfSome known (λ text. Says trace plan sizes old new answer (start_of text)) → IfSome known (λ text. IsWritten trace plan sizes (start_of text) old new answer)
+      go : (known : Option (List ℕ)) → IfSome known (λ text. Says trace plan sizes old new answer (start_of text))
+          → IfSome known (λ text. IsWritten trace plan sizes (start_of text) old new answer)
       go None says = tt
       go (Some text) says = says.written

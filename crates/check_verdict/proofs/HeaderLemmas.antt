@@ -11,14 +11,16 @@ field_inside (f ∷ fields) zero within = refl
 field_inside (f ∷ fields) (suc j) within = field_inside fields j (omega (arith, within))
 
 -- as many fields, each the same
-pub same_fields : (xs ys : List (List ℕ)) → length xs ≡ length ys → ((j : ℕ) → j < length ys → field_at xs j ≡ Some (get_or ys j [])) → xs ≡ ys
+pub same_fields : (xs ys : List (List ℕ)) → length xs ≡ length ys
+    → ((j : ℕ) → j < length ys → field_at xs j ≡ Some (get_or ys j [])) → xs ≡ ys
 unfolding field_at
 same_fields [] [] counted same = refl
 same_fields [] (y ∷ ys) counted same = absurd (omega (arith, counted))
 same_fields (x ∷ xs) [] counted same = absurd (omega (arith, counted))
 same_fields (x ∷ xs) (y ∷ ys) counted same =
     let first : x ≡ y = cc (same 0 (omega arith)) in
-    let more : xs ≡ ys = same_fields xs ys (omega (arith, counted)) (λ j within. same (suc j) (omega (arith, within))) in
+    let more : xs ≡ ys = same_fields xs ys (omega (arith, counted))
+        (λ j within. same (suc j) (omega (arith, within))) in
     rw (first, more) refl
 
 -- one field more

@@ -11,7 +11,8 @@ wrote_none P at holds = record { told = []; front = []; holds = holds; is = refl
 
 module _ (P : List ℕ → Type 0) (old mid : Option (List ℕ)) (text : List ℕ) (wrote : Wrote P old mid text) where
   -- the text grows by what is told
-  pub wrote_more : (Q : List ℕ → Type 0) (more next : List ℕ) → next ≡ text ++ more → Q (wrote.told ++ more) → Wrote Q old mid next
+  pub wrote_more : (Q : List ℕ → Type 0) (more next : List ℕ) → next ≡ text ++ more → Q (wrote.told ++ more)
+      → Wrote Q old mid next
   wrote_more Q more next grown holds = record {
     told = wrote.told ++ more;
     front = wrote.front;
@@ -22,7 +23,9 @@ module _ (P : List ℕ → Type 0) (old mid : Option (List ℕ)) (text : List �
 
   -- nothing more is told
   pub wrote_as : (Q : List ℕ → Type 0) (next : List ℕ) → next ≡ text → Q wrote.told → Wrote Q old mid next
-  wrote_as Q next same holds = record { told = wrote.told; front = wrote.front; holds = holds; is = wrote.is ∙ ap (λ l. wrote.front ++ l) (sym same); written = wrote.written }
+  wrote_as Q next same holds =
+      record { told = wrote.told; front = wrote.front; holds = holds;
+      is = wrote.is ∙ ap (λ l. wrote.front ++ l) (sym same); written = wrote.written }
 
   -- a front of the text is written
   pub wrote_moved : (new : Option (List ℕ)) (left : List ℕ) → Moves mid new text left → Wrote P old new left
@@ -39,11 +42,13 @@ module _ (P : List ℕ → Type 0) (old mid : Option (List ℕ)) (text : List �
   wrote_all new written = record {
     told = wrote.told;
     holds = wrote.holds;
-    written = subst (λ l. Appends old new l) (sym wrote.is) (Appends-trans old mid new wrote.front text wrote.written written);
+    written = subst (λ l. Appends old new l) (sym wrote.is)
+        (Appends-trans old mid new wrote.front text wrote.written written);
   }
 
   -- a write fails
-  pub wrote_part : (Q : List ℕ → Type 0) (new : Option (List ℕ)) → AppendsPart mid new text → Q wrote.told → WritesPart Q old new
+  pub wrote_part : (Q : List ℕ → Type 0) (new : Option (List ℕ)) → AppendsPart mid new text → Q wrote.told
+      → WritesPart Q old new
   wrote_part Q new front holds = record {
     told = wrote.told;
     holds = holds;

@@ -24,14 +24,16 @@ use Rattle.check_verdict.specs.declared.rows.Halt.TheVariants as halt
 use Rattle.check_verdict.specs.declared.rows.Sizes.{Sizes}
 use Rattle.check_verdict.proofs.OutLemmas.{wrote_as, wrote_more, wrote_moved, wrote_none, wrote_part, wrote_so_far}
 
-spell_more : (sizes : Sizes) (records : List Record) (rows : List Row) (r : Record) (row : Row) → SpellAll sizes records rows → Spells sizes r row
+spell_more : (sizes : Sizes) (records : List Record) (rows : List Row) (r : Record) (row : Row)
+    → SpellAll sizes records rows → Spells sizes r row
     → SpellAll sizes (records ++ r ∷ []) (rows ++ row ∷ [])
 spell_more sizes [] [] r row all one = (one, tt)
 spell_more sizes [] (x ∷ rows) r row all one = absurd all
 spell_more sizes (q ∷ records) [] r row all one = absurd all
 spell_more sizes (q ∷ records) (x ∷ rows) r row all one = (all.0, spell_more sizes records rows r row all.1 one)
 
-rows_more : (sizes : Sizes) (rows : List Row) (row : Row) (from at to : Place) → HasRows sizes rows from at → GivesRow sizes row at to
+rows_more : (sizes : Sizes) (rows : List Row) (row : Row) (from at to : Place) → HasRows sizes rows from at
+    → GivesRow sizes row at to
     → HasRows sizes (rows ++ row ∷ []) from to
 rows_more sizes rows row from at to has next = record {
   records = has.records ++ next.next ∷ [];
@@ -47,65 +49,83 @@ no_rows sizes from = record { records = []; reads = refl; spell = tt }
 between_same : (a : Left) (P : Place → Place → Type 0) → ((x : Place) → P x x) → Between a a P
 between_same a P all = go a.text
   where
-    go : (text : Option (List ℕ)) → Between (record { line = a.line; text = text }) (record { line = a.line; text = text }) P
+    go : (text : Option (List ℕ)) → Between (record { line = a.line; text = text })
+        (record { line = a.line; text = text }) P
     go None = tt
     go (Some text) = all (record { line = a.line; text = text })
 
 -- what follows from a relation between two places
-pub between_map : (a b : Left) (P Q : Place → Place → Type 0) → ((x y : Place) → P x y → Q x y) → Between a b P → Between a b Q
+pub between_map : (a b : Left) (P Q : Place → Place → Type 0) → ((x y : Place) → P x y → Q x y) → Between a b P
+    → Between a b Q
 between_map a b P Q maps holds = go a.text b.text holds
   where
-    go : (from to : Option (List ℕ)) → Between (record { line = a.line; text = from }) (record { line = b.line; text = to }) P
+    go : (from to : Option (List ℕ)) → Between (record { line = a.line; text = from })
+        (record { line = b.line; text = to }) P
         → Between (record { line = a.line; text = from }) (record { line = b.line; text = to }) Q
     go None to holds = tt
     go (Some from) None holds = absurd holds
-    go (Some from) (Some to) holds = maps (record { line = a.line; text = from }) (record { line = b.line; text = to }) holds
+    go (Some from) (Some to) holds =
+        maps (record { line = a.line; text = from }) (record { line = b.line; text = to }) holds
 
 -- what is said of the place where a text begins
-pub at_start : (a c : Left) (Q : Place → Type 0) → Between a c (λ from to. Q from) → IfSome a.text (λ text. Q (record { line = a.line; text = text }))
+pub at_start : (a c : Left) (Q : Place → Type 0) → Between a c (λ from to. Q from)
+    → IfSome a.text (λ text. Q (record { line = a.line; text = text }))
 at_start a c Q holds = go a.text c.text holds
   where
-    go : (from to : Option (List ℕ)) → Between (record { line = a.line; text = from }) (record { line = c.line; text = to }) (λ from to. Q from)
+    go : (from to : Option (List ℕ)) → Between (record { line = a.line; text = from })
+        (record { line = c.line; text = to }) (λ from to. Q from)
         → IfSome from (λ text. Q (record { line = a.line; text = text }))
     go None to holds = tt
     go (Some from) None holds = absurd holds
     go (Some from) (Some to) holds = holds
 
 -- what is said of two places, and of the text at the second
-pub behind_start : (a b : Left) (P : Place → Place → Type 0) (Q : Place → Type 0) (S : Place → Type 0) → ((x y : Place) → P x y → Q y → S x) → Between a b P
-    → IfSome b.text (λ text. Q (record { line = b.line; text = text })) → IfSome a.text (λ text. S (record { line = a.line; text = text }))
+pub behind_start : (a b : Left) (P : Place → Place → Type 0) (Q : Place → Type 0) (S : Place → Type 0)
+    → ((x y : Place) → P x y → Q y → S x) → Between a b P
+    → IfSome b.text (λ text. Q (record { line = b.line; text = text }))
+        → IfSome a.text (λ text. S (record { line = a.line; text = text }))
 behind_start a b P Q S join one two = go a.text b.text one two
   where
-    go : (from to : Option (List ℕ)) → Between (record { line = a.line; text = from }) (record { line = b.line; text = to }) P
-        → IfSome to (λ text. Q (record { line = b.line; text = text })) → IfSome from (λ text. S (record { line = a.line; text = text }))
+    go : (from to : Option (List ℕ)) → Between (record { line = a.line; text = from })
+        (record { line = b.line; text = to }) P
+        → IfSome to (λ text. Q (record { line = b.line; text = text }))
+            → IfSome from (λ text. S (record { line = a.line; text = text }))
     go None to one two = tt
     go (Some from) None one two = absurd one
-    go (Some from) (Some to) one two = join (record { line = a.line; text = from }) (record { line = b.line; text = to }) one two
+    go (Some from) (Some to) one two =
+        join (record { line = a.line; text = from }) (record { line = b.line; text = to }) one two
 
 -- ---- one row
 
-module _ (sizes : Sizes) (r : Record) (row : Row) (spells : Spells sizes r row) (a b : Left) (gives : Between a b (λ from to. Gives from r to)) where
-  pub row_taken : (old new : Judge) (text grown : List ℕ) → Took old row new text grown → Between a b (TakesNext sizes old new text grown true)
+module _ (sizes : Sizes) (r : Record) (row : Row) (spells : Spells sizes r row) (a b : Left)
+    (gives : Between a b (λ from to. Gives from r to)) where
+  pub row_taken : (old new : Judge) (text grown : List ℕ) → Took old row new text grown
+      → Between a b (TakesNext sizes old new text grown true)
   row_taken old new text grown took =
-      between_map a b (λ from to. Gives from r to) (TakesNext sizes old new text grown true) (λ x y g. (row, record { next = r; gives = g; spells = spells }, took)) gives
+      between_map a b (λ from to. Gives from r to) (TakesNext sizes old new text grown true)
+          (λ x y g. (row, record { next = r; gives = g; spells = spells }, took)) gives
 
   pub row_refused : (judge : Judge) (text grown : List ℕ) (why : RowFault)
-      → ((plan : Plan) (rows : List Row) (so_far : List ℕ) → HasTold plan rows judge so_far → HasRowFault rows row why × (grown ≡ text))
+      → ((plan : Plan) (rows : List Row) (so_far : List ℕ) → HasTold plan rows judge so_far → HasRowFault rows row why
+          × (grown ≡ text))
       → StopsAt sizes judge text grown a b (halt.Fault (fault.Row r.line why))
   row_refused judge text grown why refused =
       between_map a b (λ from to. Gives from r to)
-      (λ from to. (plan : Plan) (rows : List Row) (so_far : List ℕ) → HasTold plan rows judge so_far → HasNoRow sizes rows r.line why from to × (grown ≡ text))
+      (λ from to. (plan : Plan) (rows : List Row) (so_far : List ℕ) → HasTold plan rows judge so_far
+          → HasNoRow sizes rows r.line why from to × (grown ≡ text))
       (λ x y g plan rows so_far has. let is = refused plan rows so_far has in
       (record { next = r; gives = g; on_line = refl; no_row = inr (row, spells, is.0) }, is.1)) gives
 
   pub row_unlawful : (judge : Judge) (text grown : List ℕ) (found : Unlawful)
       → ((plan : Plan) (rows : List Row) (so_far : List ℕ) → HasTold plan rows judge so_far
-      → (IsLater rows row × IsFirstUnlawful plan rows found) × TellsBefore (is_traced judge) plan rows so_far text grown found)
+      → (IsLater rows row × IsFirstUnlawful plan rows found)
+          × TellsBefore (is_traced judge) plan rows so_far text grown found)
       → StopsAt sizes judge text grown a b (halt.Unlawful found)
   row_unlawful judge text grown found unlawful =
       between_map a b (λ from to. Gives from r to)
       (λ from to. (plan : Plan) (rows : List Row) (so_far : List ℕ) → HasTold plan rows judge so_far
-      → IsUnlawfulBefore plan sizes rows found from to × TellsBefore (is_traced judge) plan rows so_far text grown found)
+      → IsUnlawfulBefore plan sizes rows found from to
+          × TellsBefore (is_traced judge) plan rows so_far text grown found)
       (λ x y g plan rows so_far has. let is = unlawful plan rows so_far has in (
         record {
           row = row;
@@ -117,11 +137,14 @@ module _ (sizes : Sizes) (r : Record) (row : Row) (spells : Spells sizes r row) 
       )) gives
 
 -- a record that spells no row
-pub no_row : (sizes : Sizes) (r : Record) (why : RowFault) (a b : Left) (judge : Judge) (text : List ℕ) → Between a b (λ from to. Gives from r to)
-    → row_of sizes.masters sizes.ports r.line r.fields ≡ Err why → StopsAt sizes judge text text a b (halt.Fault (fault.Row r.line why))
+pub no_row : (sizes : Sizes) (r : Record) (why : RowFault) (a b : Left) (judge : Judge) (text : List ℕ)
+    → Between a b (λ from to. Gives from r to)
+    → row_of sizes.masters sizes.ports r.line r.fields ≡ Err why
+        → StopsAt sizes judge text text a b (halt.Fault (fault.Row r.line why))
 no_row sizes r why a b judge text gives is =
     between_map a b (λ from to. Gives from r to)
-    (λ from to. (plan : Plan) (rows : List Row) (so_far : List ℕ) → HasTold plan rows judge so_far → HasNoRow sizes rows r.line why from to × (text ≡ text))
+    (λ from to. (plan : Plan) (rows : List Row) (so_far : List ℕ) → HasTold plan rows judge so_far
+        → HasNoRow sizes rows r.line why from to × (text ≡ text))
     (λ x y g plan rows so_far has. (record { next = r; gives = g; on_line = refl; no_row = inl is }, refl)) gives
 
 -- ---- the loop
@@ -136,10 +159,13 @@ module _ (sizes : Sizes) (first : Judge) (old : Option (List ℕ)) where
   })
 
   -- a row more, and the text grows; and then a front of it is written
-  pub took_more : (now next : Judge) (mid new : Option (List ℕ)) (text grown left : List ℕ) (a b c : Left) → Between a b (TookRows sizes first now old mid text)
-      → Between b c (TakesNext sizes now next text grown true) → Moves mid new grown left → Between a c (TookRows sizes first next old new left)
+  pub took_more : (now next : Judge) (mid new : Option (List ℕ)) (text grown left : List ℕ) (a b c : Left)
+      → Between a b (TookRows sizes first now old mid text)
+      → Between b c (TakesNext sizes now next text grown true) → Moves mid new grown left
+          → Between a c (TookRows sizes first next old new left)
   took_more now next mid new text grown left a b c so_far one moves =
-      between-trans a b c (TookRows sizes first now old mid text) (TakesNext sizes now next text grown true) (TookRows sizes first next old new left) (λ x y z took more. record {
+      between-trans a b c (TookRows sizes first now old mid text) (TakesNext sizes now next text grown true)
+          (TookRows sizes first next old new left) (λ x y z took more. record {
         rows = took.rows ++ more.0 ∷ [];
         has = rows_more sizes took.rows more.0 x y z took.has more.1;
         traced = more.2.traced ∙ took.traced;
@@ -147,28 +173,36 @@ module _ (sizes : Sizes) (first : Judge) (old : Option (List ℕ)) where
             let wrote = took.told plan start in
             let on = more.2.tells plan took.rows wrote.told wrote.holds in
             wrote_moved (HasTold plan (took.rows ++ more.0 ∷ []) next) old mid grown
-            (wrote_more (HasTold plan took.rows now) old mid text wrote (HasTold plan (took.rows ++ more.0 ∷ []) next) on.more grown on.grown on.told)
+            (wrote_more (HasTold plan took.rows now) old mid text wrote
+                (HasTold plan (took.rows ++ more.0 ∷ []) next) on.more grown on.grown on.told)
             new left moves;
       }) so_far one
 
-  pub took_all : (now next : Judge) (mid : Option (List ℕ)) (text grown : List ℕ) (a b c : Left) → Between a b (TookRows sizes first now old mid text)
+  pub took_all : (now next : Judge) (mid : Option (List ℕ)) (text grown : List ℕ) (a b c : Left)
+      → Between a b (TookRows sizes first now old mid text)
       → Between b c (TakesNext sizes now next text grown false) → Between a c (AllTaken sizes first next old mid grown)
   took_all now next mid text grown a b c so_far none =
-      between-trans a b c (TookRows sizes first now old mid text) (TakesNext sizes now next text grown false) (AllTaken sizes first next old mid grown)
+      between-trans a b c (TookRows sizes first now old mid text) (TakesNext sizes now next text grown false)
+          (AllTaken sizes first next old mid grown)
       (λ x y z took ends.
       let by_judge = subst (λ (j : Judge). TookRows sizes first j old mid text x y) (sym ends.1) took in
       (y, subst (λ (t : List ℕ). TookRows sizes first next old mid t x y) (sym ends.2) by_judge, ends.0)) so_far none
 
   -- what is told of earlier times, and a part of a file
-  earlier : (plan : Plan) (rows : List Row) (now : Judge) (text : List ℕ) → is_traced now ≡ is_traced first → HasTold plan rows now text → IsToldEarlier (is_traced first) plan rows text
-  earlier plan rows now text traced has = subst (λ t. IsToldEarlier t plan rows text) traced (told_earlier plan rows now text has)
+  earlier : (plan : Plan) (rows : List Row) (now : Judge) (text : List ℕ) → is_traced now ≡ is_traced first
+      → HasTold plan rows now text → IsToldEarlier (is_traced first) plan rows text
+  earlier plan rows now text traced has =
+      subst (λ t. IsToldEarlier t plan rows text) traced (told_earlier plan rows now text has)
 
   -- a write fails
-  pub fails : (now next : Judge) (mid new : Option (List ℕ)) (text grown left : List ℕ) (a b c : Left) → Between a b (TookRows sizes first now old mid text)
-      → Between b c (TakesNext sizes now next text grown true) → AppendsPart mid new grown → IsJudged sizes first old new left a (Err fault.Write)
+  pub fails : (now next : Judge) (mid new : Option (List ℕ)) (text grown left : List ℕ) (a b c : Left)
+      → Between a b (TookRows sizes first now old mid text)
+      → Between b c (TakesNext sizes now next text grown true) → AppendsPart mid new grown
+          → IsJudged sizes first old new left a (Err fault.Write)
   fails now next mid new text grown left a b c so_far one front =
       at_start a c (IsJudgedAt sizes first old new left (Err fault.Write))
-      (between-trans a b c (TookRows sizes first now old mid text) (TakesNext sizes now next text grown true) (λ from to. IsJudgedAt sizes first old new left (Err fault.Write) from) (λ x y z took more. record {
+      (between-trans a b c (TookRows sizes first now old mid text) (TakesNext sizes now next text grown true)
+          (λ from to. IsJudgedAt sizes first old new left (Err fault.Write) from) (λ x y z took more. record {
         rows = took.rows ++ more.0 ∷ [];
         last = z;
         has = rows_more sizes took.rows more.0 x y z took.has more.1;
@@ -177,18 +211,22 @@ module _ (sizes : Sizes) (first : Judge) (old : Option (List ℕ)) where
             let wrote = took.told plan start in
             let rows = took.rows ++ more.0 ∷ [] in
             let on = more.2.tells plan took.rows wrote.told wrote.holds in
-            let is = wrote_more (HasTold plan took.rows now) old mid text wrote (HasTold plan rows next) on.more grown on.grown on.told in
+            let is = wrote_more (HasTold plan took.rows now) old mid text wrote
+                (HasTold plan rows next) on.more grown on.grown on.told in
             wrote_part (HasTold plan rows next) old mid grown is (IsToldPart (is_traced first) plan rows) new front
             (earlier plan rows next is.told (more.2.traced ∙ took.traced) is.holds).part;
       }) so_far one)
 
   -- the rows so far, with whatever stands behind them
-  rest : (now : Judge) (mid : Option (List ℕ)) (text : List ℕ) (a b : Left) (S : Place → Type 0) → Between a b (TookRows sizes first now old mid text)
-      → ((x y : Place) → TookRows sizes first now old mid text x y → S x) → IfSome a.text (λ t. S (record { line = a.line; text = t }))
+  rest : (now : Judge) (mid : Option (List ℕ)) (text : List ℕ) (a b : Left) (S : Place → Type 0)
+      → Between a b (TookRows sizes first now old mid text)
+      → ((x y : Place) → TookRows sizes first now old mid text x y → S x)
+          → IfSome a.text (λ t. S (record { line = a.line; text = t }))
   rest now mid text a b S so_far to =
       at_start a b S (between_map a b (TookRows sizes first now old mid text) (λ from at. S from) to so_far)
 
-  pub read_fails : (now : Judge) (mid : Option (List ℕ)) (text grown : List ℕ) (a b : Left) → Between a b (TookRows sizes first now old mid text) → grown ≡ text
+  pub read_fails : (now : Judge) (mid : Option (List ℕ)) (text grown : List ℕ) (a b : Left)
+      → Between a b (TookRows sizes first now old mid text) → grown ≡ text
       → IsJudged sizes first old mid grown a (Err fault.Read)
   read_fails now mid text grown a b so_far same =
       rest now mid text a b (IsJudgedAt sizes first old mid grown (Err fault.Read)) so_far (λ x y took. record {
@@ -198,22 +236,30 @@ module _ (sizes : Sizes) (first : Judge) (old : Option (List ℕ)) where
         answers = λ plan start. tt;
         told = λ plan start.
             let wrote = took.told plan start in
-            wrote_as (HasTold plan took.rows now) old mid text wrote (IsToldEarlier (is_traced first) plan took.rows) grown same (earlier plan took.rows now wrote.told took.traced wrote.holds);
+            wrote_as (HasTold plan took.rows now) old mid text wrote
+                (IsToldEarlier (is_traced first) plan took.rows) grown same
+                (earlier plan took.rows now wrote.told took.traced wrote.holds);
       })
 
-  so_far_part : (now : Judge) (mid : Option (List ℕ)) (text : List ℕ) (x y : Place) (took : TookRows sizes first now old mid text x y) (plan : Plan) → Judges plan [] first
+  so_far_part : (now : Judge) (mid : Option (List ℕ)) (text : List ℕ) (x y : Place)
+      (took : TookRows sizes first now old mid text x y) (plan : Plan) → Judges plan [] first
       → WritesFront (IsToldPart (is_traced first) plan took.rows) old mid
   so_far_part now mid text x y took plan start =
       let wrote = took.told plan start in
-      wrote_so_far (HasTold plan took.rows now) old mid text wrote (IsToldPart (is_traced first) plan took.rows) (earlier plan took.rows now wrote.told took.traced wrote.holds).part
+      wrote_so_far (HasTold plan took.rows now) old mid text wrote (IsToldPart (is_traced first) plan took.rows)
+          (earlier plan took.rows now wrote.told took.traced wrote.holds).part
 
-  pub halts : (now : Judge) (mid : Option (List ℕ)) (text grown : List ℕ) (a b c : Left) (why : Halt) → Between a b (TookRows sizes first now old mid text)
+  pub halts : (now : Judge) (mid : Option (List ℕ)) (text grown : List ℕ) (a b c : Left) (why : Halt)
+      → Between a b (TookRows sizes first now old mid text)
       → StopsAt sizes now text grown b c why → IsJudged sizes first old mid grown a (answer_of why)
   halts now mid text grown a b c (halt.Unlawful found) so_far stop =
       at_start a c (IsJudgedAt sizes first old mid grown (answer_of (halt.Unlawful found)))
       (between-trans a b c (TookRows sizes first now old mid text)
-      (λ from to. (plan : Plan) (rows : List Row) (told : List ℕ) → HasTold plan rows now told → IsUnlawfulBefore plan sizes rows found from to × TellsBefore (is_traced now) plan rows told text grown found)
-      (λ from to. IsJudgedAt sizes first old mid grown (answer_of (halt.Unlawful found)) from) (λ x y z took stopped. record {
+      (λ from to. (plan : Plan) (rows : List Row) (told : List ℕ) → HasTold plan rows now told
+          → IsUnlawfulBefore plan sizes rows found from to
+          × TellsBefore (is_traced now) plan rows told text grown found)
+      (λ from to. IsJudgedAt sizes first old mid grown (answer_of (halt.Unlawful found)) from)
+          (λ x y z took stopped. record {
         rows = took.rows;
         last = y;
         has = took.has;
@@ -224,32 +270,39 @@ module _ (sizes : Sizes) (first : Judge) (old : Option (List ℕ)) where
         told = λ plan start.
             let wrote = took.told plan start in
             let tells = (stopped plan took.rows wrote.told wrote.holds).1 in
-            wrote_more (HasTold plan took.rows now) old mid text wrote (λ t. IsToldBefore (is_traced first) plan took.rows t found) tells.0 grown tells.1
+            wrote_more (HasTold plan took.rows now) old mid text wrote
+                (λ t. IsToldBefore (is_traced first) plan took.rows t found) tells.0 grown tells.1
             (subst (λ t. IsToldBefore t plan took.rows (wrote.told ++ tells.0) found) took.traced tells.2);
       }) so_far stop)
   halts now mid text grown a b c (halt.Fault (fault.Row line kind)) so_far stop =
       at_start a c (IsJudgedAt sizes first old mid grown (Err (fault.Row line kind)))
       (between-trans a b c (TookRows sizes first now old mid text)
-      (λ from to. (plan : Plan) (rows : List Row) (told : List ℕ) → HasTold plan rows now told → HasNoRow sizes rows line kind from to × (grown ≡ text))
+      (λ from to. (plan : Plan) (rows : List Row) (told : List ℕ) → HasTold plan rows now told
+          → HasNoRow sizes rows line kind from to × (grown ≡ text))
       (λ from to. IsJudgedAt sizes first old mid grown (Err (fault.Row line kind)) from) (λ x y z took stopped. record {
         rows = took.rows;
         last = y;
         has = took.has;
-        answers = λ plan start. let wrote = took.told plan start in (z, (stopped plan took.rows wrote.told wrote.holds).0);
+        answers = λ plan start. let wrote =
+            took.told plan start in (z, (stopped plan took.rows wrote.told wrote.holds).0);
         told = λ plan start.
             let wrote = took.told plan start in
-            wrote_as (HasTold plan took.rows now) old mid text wrote (IsToldEarlier (is_traced first) plan took.rows) grown (stopped plan took.rows wrote.told wrote.holds).1
+            wrote_as (HasTold plan took.rows now) old mid text wrote
+                (IsToldEarlier (is_traced first) plan took.rows) grown (stopped plan took.rows wrote.told wrote.holds).1
             (earlier plan took.rows now wrote.told took.traced wrote.holds);
       }) so_far stop)
   halts now mid text grown a b c (halt.Fault (fault.TooLong line)) so_far stop =
-      behind_start a b (TookRows sizes first now old mid text) (λ at. IsTooLong at line) (IsJudgedAt sizes first old mid grown (Err (fault.TooLong line))) (λ x y took long. record {
+      behind_start a b (TookRows sizes first now old mid text) (λ at. IsTooLong at line)
+          (IsJudgedAt sizes first old mid grown (Err (fault.TooLong line))) (λ x y took long. record {
         rows = took.rows;
         last = y;
         has = took.has;
         answers = λ plan start. long;
         told = λ plan start.
             let wrote = took.told plan start in
-            wrote_as (HasTold plan took.rows now) old mid text wrote (IsToldEarlier (is_traced first) plan took.rows) grown stop.1 (earlier plan took.rows now wrote.told took.traced wrote.holds);
+            wrote_as (HasTold plan took.rows now) old mid text wrote
+                (IsToldEarlier (is_traced first) plan took.rows) grown stop.1
+                (earlier plan took.rows now wrote.told took.traced wrote.holds);
       }) so_far stop.0
   halts now mid text grown a b c (halt.Fault (fault.Header line)) so_far stop = absurd stop
   halts now mid text grown a b c (halt.Fault fault.Read) so_far stop = read_fails now mid text grown a b so_far stop

@@ -1,4 +1,5 @@
--- What a text is as a capture. The format is this project's own; what the rows of a lawful one are is said in `check_judge`.
+-- What a text is as a capture. The format is this project's own; what the rows of a lawful one are is said in
+-- `check_judge`.
 use Rattle.std.specs.Prelude.{◌≡◌, ◌≢◌, ◌⊎◌, ℕ, Bool, List, [], Option, Result, Ok, Err, ⊤}
 use Rattle.std.specs.Io.KnownBytes.{Appends}
 use Rattle.check_capture.specs.declared.row.Row.{Row}
@@ -40,12 +41,14 @@ abbrev pub IsVerdict : Plan → Sizes → Place → Verdict → Type 0
 IsVerdict plan sizes from (Lawful counts) =
     (rows : List Row) × IsCapture sizes from rows × IsLawfulFile plan rows × HasCounts plan rows counts
 IsVerdict plan sizes from (Unlawful found) =
-    (rows : List Row) × (at : Place) × Begins sizes from rows at × IsTimeOver sizes rows at × IsFirstUnlawful plan rows found
+    (rows : List Row) × (at : Place) × Begins sizes from rows at × IsTimeOver sizes rows at
+        × IsFirstUnlawful plan rows found
 
 -- the first record is on this line and is not the header; or there is none, which is told of line 1
 abbrev pub HasNoHeader : Place → Place → ℕ → Type 0
 HasNoHeader from to line =
-    (Ends from to × (line ≡ 1)) ⊎ ((first : Record) × Gives from first to × (line ≡ first.line) × (first.fields ≢ header))
+    (Ends from to × (line ≡ 1)) ⊎ ((first : Record) × Gives from first to × (line ≡ first.line)
+        × (first.fields ≢ header))
 
 -- why a text is no capture: of the first record that is no row, or none that may stand there, its line
 abbrev pub IsFault : Plan → Sizes → Place → CaptureFault → Type 0
@@ -59,7 +62,8 @@ IsFault plan sizes from fault.Memory = ⊤
 IsFault plan sizes from fault.Write = ⊤
 
 -- what is written before an answer that is given behind the header and some rows
-pub record IsWrittenOf (trace : Bool) (plan : Plan) (sizes : Sizes) (from : Place) (old new : Option (List ℕ)) (answer : Result Verdict CaptureFault) : Type 0 where
+pub record IsWrittenOf (trace : Bool) (plan : Plan) (sizes : Sizes) (from : Place) (old new : Option (List ℕ))
+    (answer : Result Verdict CaptureFault) : Type 0 where
   pub rows : List Row
   pub at : Place
   pub begins : Begins sizes from rows at
@@ -67,14 +71,18 @@ pub record IsWrittenOf (trace : Bool) (plan : Plan) (sizes : Sizes) (from : Plac
   pub out : IsOut trace plan answer rows old new
 
 -- what is written before an answer: nothing before a fault of the header
-abbrev pub IsWritten : Bool → Plan → Sizes → Place → Option (List ℕ) → Option (List ℕ) → Result Verdict CaptureFault → Type 0
+abbrev pub IsWritten : Bool → Plan → Sizes → Place → Option (List ℕ) → Option (List ℕ) → Result Verdict CaptureFault
+    → Type 0
 IsWritten trace plan sizes from old new (Ok verdict) = IsWrittenOf trace plan sizes from old new (Ok verdict)
 IsWritten trace plan sizes from old new (Err (fault.Header line)) = Appends old new []
 IsWritten trace plan sizes from old new (Err (fault.TooLong line)) =
     (IsTooLong from line × Appends old new []) ⊎ IsWrittenOf trace plan sizes from old new (Err (fault.TooLong line))
-IsWritten trace plan sizes from old new (Err (fault.Row line why)) = IsWrittenOf trace plan sizes from old new (Err (fault.Row line why))
-IsWritten trace plan sizes from old new (Err fault.Read) = Appends old new [] ⊎ IsWrittenOf trace plan sizes from old new (Err fault.Read)
-IsWritten trace plan sizes from old new (Err fault.Memory) = Appends old new [] ⊎ IsWrittenOf trace plan sizes from old new (Err fault.Memory)
+IsWritten trace plan sizes from old new (Err (fault.Row line why)) =
+    IsWrittenOf trace plan sizes from old new (Err (fault.Row line why))
+IsWritten trace plan sizes from old new (Err fault.Read) =
+    Appends old new [] ⊎ IsWrittenOf trace plan sizes from old new (Err fault.Read)
+IsWritten trace plan sizes from old new (Err fault.Memory) =
+    Appends old new [] ⊎ IsWrittenOf trace plan sizes from old new (Err fault.Memory)
 IsWritten trace plan sizes from old new (Err fault.Write) = IsWrittenOf trace plan sizes from old new (Err fault.Write)
 
 -- ---- for the proofs

@@ -57,8 +57,10 @@ is_cut (Err fault.Read) = false
 is_cut (Err fault.Memory) = true
 is_cut (Err fault.Write) = true
 
--- what was left of a text was written, and the answer is the same; or the write failed; of one that was cut nothing is written
-abbrev pub Finishes : Option (List ℕ) → Option (List ℕ) → List ℕ → Result Verdict CaptureFault → Result Verdict CaptureFault → Type 0
+-- what was left of a text was written, and the answer is the same; or the write failed; of one that was cut nothing is
+-- written
+abbrev pub Finishes : Option (List ℕ) → Option (List ℕ) → List ℕ → Result Verdict CaptureFault
+    → Result Verdict CaptureFault → Type 0
 Finishes old new text answer result =
     ((is_cut answer ≡ true) × (result ≡ answer) × (new ≡ old))
     ⊎ ((is_cut answer ≡ false)

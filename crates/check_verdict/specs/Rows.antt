@@ -50,7 +50,8 @@ pub record HasRows (sizes : Sizes) (rows : List Row) (from to : Place) : Type 0 
 -- why the next record is no row behind these
 abbrev pub IsNoRow : Sizes → List Row → Record → RowFault → Type 0
 IsNoRow sizes rows r fault =
-    (row_of sizes.masters sizes.ports r.line r.fields ≡ Err fault) ⊎ ((row : Row) × Spells sizes r row × HasRowFault rows row fault)
+    (row_of sizes.masters sizes.ports r.line r.fields ≡ Err fault)
+        ⊎ ((row : Row) × Spells sizes r row × HasRowFault rows row fault)
 
 -- the record on this line, the next one behind these rows, is no row there
 pub record HasNoRow (sizes : Sizes) (rows : List Row) (line : ℕ) (fault : RowFault) (from to : Place) : Type 0 where
@@ -68,7 +69,8 @@ IsTimeOver sizes rows at =
 
 -- what is said of the rows that were taken, and of the place behind them, where this is answered
 abbrev pub IsAnswer : Plan → Sizes → Result Verdict CaptureFault → List Row → Place → Type 0
-IsAnswer plan sizes (Ok (Lawful counts)) rows at = ((end : Place) × Ends at end) × IsLawfulFile plan rows × HasCounts plan rows counts
+IsAnswer plan sizes (Ok (Lawful counts)) rows at =
+    ((end : Place) × Ends at end) × IsLawfulFile plan rows × HasCounts plan rows counts
 IsAnswer plan sizes (Ok (NotLawful found)) rows at = IsTimeOver sizes rows at × IsFirstUnlawful plan rows found
 IsAnswer plan sizes (Err (fault.Header line)) rows at = ⊥
 IsAnswer plan sizes (Err (fault.TooLong line)) rows at = IsTooLong at line
@@ -82,9 +84,9 @@ abbrev pub IsToldBy : Bool → Plan → Verdict → List Row → List ℕ → Ty
 IsToldBy trace plan (Lawful counts) rows text = IsToldFile trace plan rows text
 IsToldBy trace plan (NotLawful found) rows text = IsToldBefore trace plan rows text found
 
--- what is written of the rows that were taken, where this is answered: all that is told with a verdict; before a fault of the text,
--- or a read that failed, all that is told of those of an earlier time than the last; where memory was refused a front of what is told
--- of those that cross first; where a write failed such a front, and not all of it
+-- what is written of the rows that were taken, where this is answered: all that is told with a verdict; before a fault
+-- of the text, or a read that failed, all that is told of those of an earlier time than the last; where memory was
+-- refused a front of what is told of those that cross first; where a write failed such a front, and not all of it
 abbrev pub IsOut : Bool → Plan → Result Verdict CaptureFault → List Row → Option (List ℕ) → Option (List ℕ) → Type 0
 IsOut trace plan (Ok verdict) rows old new = WritesAll (IsToldBy trace plan verdict rows) old new
 IsOut trace plan (Err (fault.Header line)) rows old new = ⊥
@@ -97,7 +99,8 @@ IsOut trace plan (Err fault.Write) rows old new = WritesPart (IsToldPart trace p
 -- ---- for the proofs: a judge that takes rows
 
 -- rows are unlawful, the first by this one, and the next row is of a later time
-pub record IsUnlawfulBefore (plan : Plan) (sizes : Sizes) (rows : List Row) (found : Unlawful) (from to : Place) : Type 0 where
+pub record IsUnlawfulBefore (plan : Plan) (sizes : Sizes) (rows : List Row) (found : Unlawful)
+    (from to : Place) : Type 0 where
   pub row : Row
   pub next : GivesRow sizes row from to
   pub later : IsLater rows row
@@ -106,7 +109,8 @@ pub record IsUnlawfulBefore (plan : Plan) (sizes : Sizes) (rows : List Row) (fou
 -- the judge took this row, and a text grew by what is told
 pub record Took (old : Judge) (row : Row) (new : Judge) (text grown : List ℕ) : Type 0 where
   pub traced : is_traced new ≡ is_traced old
-  pub tells : (plan : Plan) (rows : List Row) (so_far : List ℕ) → HasTold plan rows old so_far → TellsOn plan (rows ++ row ∷ []) new so_far text grown
+  pub tells : (plan : Plan) (rows : List Row) (so_far : List ℕ) → HasTold plan rows old so_far
+      → TellsOn plan (rows ++ row ∷ []) new so_far text grown
 
 -- the judge took the next row, or there is none
 abbrev pub TakesNext : Sizes → Judge → Judge → List ℕ → List ℕ → Bool → Place → Place → Type 0
@@ -115,7 +119,8 @@ TakesNext sizes old new text grown false from to = Ends from to × (new ≡ old)
 
 -- a text grew by what is told before the first unlawful row
 abbrev pub TellsBefore : Bool → Plan → List Row → List ℕ → List ℕ → List ℕ → Unlawful → Type 0
-TellsBefore trace plan rows so_far text grown found = (more : List ℕ) × (grown ≡ text ++ more) × IsToldBefore trace plan rows (so_far ++ more) found
+TellsBefore trace plan rows so_far text grown found =
+    (more : List ℕ) × (grown ≡ text ++ more) × IsToldBefore trace plan rows (so_far ++ more) found
 
 -- why it did not, whatever rows it had taken
 abbrev pub StopsAt : Sizes → Judge → List ℕ → List ℕ → Left → Left → Halt → Type 0
@@ -132,7 +137,8 @@ StopsAt sizes judge text grown old new (halt.Fault fault.Memory) = ⊤
 StopsAt sizes judge text grown old new (halt.Fault fault.Write) = ⊥
 
 -- a judge of no rows took these, from one place to another; what it told was written, but for this text
-pub record TookRows (sizes : Sizes) (first now : Judge) (old new : Option (List ℕ)) (text : List ℕ) (from to : Place) : Type 0 where
+pub record TookRows (sizes : Sizes) (first now : Judge) (old new : Option (List ℕ)) (text : List ℕ)
+    (from to : Place) : Type 0 where
   pub rows : List Row
   pub has : HasRows sizes rows from to
   pub traced : is_traced now ≡ is_traced first
@@ -140,10 +146,12 @@ pub record TookRows (sizes : Sizes) (first now : Judge) (old new : Option (List 
 
 -- and then there were no more
 abbrev pub AllTaken : Sizes → Judge → Judge → Option (List ℕ) → Option (List ℕ) → List ℕ → Place → Place → Type 0
-AllTaken sizes first now old new text from to = (last : Place) × TookRows sizes first now old new text from last × Ends last to
+AllTaken sizes first now old new text from to =
+    (last : Place) × TookRows sizes first now old new text from last × Ends last to
 
 -- what is told by an answer was written, but for this text; or a front of it
-abbrev pub WroteBy : Bool → Plan → Result Verdict CaptureFault → List Row → Option (List ℕ) → Option (List ℕ) → List ℕ → Type 0
+abbrev pub WroteBy : Bool → Plan → Result Verdict CaptureFault → List Row → Option (List ℕ) → Option (List ℕ) → List ℕ
+    → Type 0
 WroteBy trace plan (Ok verdict) rows old new text = Wrote (IsToldBy trace plan verdict rows) old new text
 WroteBy trace plan (Err (fault.Header line)) rows old new text = ⊥
 WroteBy trace plan (Err (fault.TooLong line)) rows old new text = Wrote (IsToldEarlier trace plan rows) old new text
@@ -153,14 +161,16 @@ WroteBy trace plan (Err fault.Memory) rows old new text = WritesFront (IsToldPar
 WroteBy trace plan (Err fault.Write) rows old new text = WritesPart (IsToldPart trace plan rows) old new
 
 -- a judge of no rows took some and answers this
-pub record IsJudgedAt (sizes : Sizes) (first : Judge) (old new : Option (List ℕ)) (text : List ℕ) (answer : Result Verdict CaptureFault) (from : Place) : Type 0 where
+pub record IsJudgedAt (sizes : Sizes) (first : Judge) (old new : Option (List ℕ)) (text : List ℕ)
+    (answer : Result Verdict CaptureFault) (from : Place) : Type 0 where
   pub rows : List Row
   pub last : Place
   pub has : HasRows sizes rows from last
   pub answers : (plan : Plan) → Judges plan [] first → IsAnswer plan sizes answer rows last
   pub told : (plan : Plan) → Judges plan [] first → WroteBy (is_traced first) plan answer rows old new text
 
-abbrev pub IsJudged : Sizes → Judge → Option (List ℕ) → Option (List ℕ) → List ℕ → Left → Result Verdict CaptureFault → Type 0
+abbrev pub IsJudged : Sizes → Judge → Option (List ℕ) → Option (List ℕ) → List ℕ → Left → Result Verdict CaptureFault
+    → Type 0
 IsJudged sizes first old new text at answer =
     IfSome at.text (λ left. IsJudgedAt sizes first old new text answer (record { line = at.line; text = left }))
 

@@ -33,9 +33,9 @@ fn read_header<R: Read + Drop>(records: &mut Records<R>) -> Result<(), CaptureFa
     Ok(())
 }
 
-/// Judges a capture that a reader gives, of a system with so many masters and ports, by a judge that has taken no row. It
-/// reads to the end, or to the first row of a later time than one that is unlawful, or to the first record that is no row;
-/// what the judge tells of the rows by then is written.
+/// Judges a capture that a reader gives, of a system with so many masters and ports, by a judge that has taken no row.
+/// It reads to the end, or to the first row of a later time than one that is unlawful, or to the first record that is
+/// no row; what the judge tells of the rows by then is written.
 pub fn judge_capture<R: Read + Drop, W: Write>(
     alloc: Global,
     reader: R,

@@ -38,7 +38,8 @@ ports_watched Both p is = tt
 ports_watched Masters p is = cc
 ports_watched Ports p is = tt
 
-watched_link : (layout : Layout) (link : Link) → is_watched layout link ≡ true → HasLink layout link × IsWatched layout.links link
+watched_link : (layout : Layout) (link : Link) → is_watched layout link ≡ true → HasLink layout link
+    × IsWatched layout.links link
 watched_link layout (Master m) is =
     let both = both_true (are_masters_watched layout.links) (nat_lt m (length layout.counts)) is in
     (less m (length layout.counts) both.1, masters_watched layout.links m both.0)
@@ -52,7 +53,9 @@ seen_watched layout [] = tt
 seen_watched layout (row ∷ crossed) = go (seen_watched layout crossed) (is_watched layout row.sighting.link) refl
   where
     go : AreWatched layout (seen layout crossed) → (watched : Bool) → is_watched layout row.sighting.link ≡ watched
-        → AreWatched layout (map (λ (r : Row). r.sighting) (if watched then row ∷ filter (λ (r : Row). is_watched layout r.sighting.link) crossed else filter (λ (r : Row). is_watched layout r.sighting.link) crossed))
+        → AreWatched layout (map (λ (r : Row). r.sighting)
+            (if watched then row ∷ filter (λ (r : Row). is_watched layout r.sighting.link) crossed else filter
+            (λ (r : Row). is_watched layout r.sighting.link) crossed))
     go before true is = (watched_link layout row.sighting.link is, before)
     go before false is = before
 
@@ -60,19 +63,23 @@ pub file_keeps : (plan : Plan) (file : List Row) → IsPlan plan → IsLawfulFil
 file_keeps plan file is lawful = record {
   crossed = lawful.crossed;
   crossing = lawful.crossing;
-  keeps = always_keeps plan (seen plan.layout lawful.crossed) is (seen_watched plan.layout lawful.crossed) lawful.lawful;
+  keeps = always_keeps plan (seen plan.layout lawful.crossed) is
+      (seen_watched plan.layout lawful.crossed) lawful.lawful;
   whole = seen_whole plan (seen plan.layout lawful.crossed) lawful.lawful;
 }
 
-pub rules_make_lawful_file : (plan : Plan) (file : List Row) → IsPlan plan → FileKeepsRules plan file → IsLawfulFile plan file
+pub rules_make_lawful_file : (plan : Plan) (file : List Row) → IsPlan plan → FileKeepsRules plan file
+    → IsLawfulFile plan file
 rules_make_lawful_file plan file is rules = record {
   crossed = rules.crossed;
   crossing = rules.crossing;
-  lawful = rules_make_lawful plan (seen plan.layout rules.crossed) is (seen_watched plan.layout rules.crossed) rules.whole rules.keeps;
+  lawful = rules_make_lawful plan (seen plan.layout rules.crossed) is
+      (seen_watched plan.layout rules.crossed) rules.whole rules.keeps;
 }
 
 -- the first row that makes a file unlawful is the first after which the rules are not kept
-pub unlawful_breaks : (plan : Plan) (file : List Row) (found : Unlawful) → IsPlan plan → IsFirstUnlawful plan file found → BreaksRules plan file found.row
+pub unlawful_breaks : (plan : Plan) (file : List Row) (found : Unlawful) → IsPlan plan → IsFirstUnlawful plan file found
+    → BreaksRules plan file found.row
 unlawful_breaks plan file found is first =
     let before = seen plan.layout first.before in
     let watched = seen_watched plan.layout first.before in
@@ -82,10 +89,13 @@ unlawful_breaks plan file found is first =
       crossing = first.crossing;
       kept = always_keeps plan before is watched first.is.lawful;
       whole = seen_whole plan before first.is.lawful;
-      broken = λ whole keeps. first.is.unlawful (rules_make_lawful plan (found.row.sighting ∷ before) is (watched_link plan.layout found.row.sighting.link first.is.watched, watched) whole keeps);
+      broken = λ whole keeps. first.is.unlawful
+          (rules_make_lawful plan (found.row.sighting ∷ before) is
+          (watched_link plan.layout found.row.sighting.link first.is.watched, watched) whole keeps);
     }
 
-pub capture_keeps : (plan : Plan) (sizes : Sizes) (from : Place) (counts : Counts) → IsPlan plan → IsVerdict plan sizes from (Lawful counts) → CaptureKeepsRules plan sizes from counts
+pub capture_keeps : (plan : Plan) (sizes : Sizes) (from : Place) (counts : Counts) → IsPlan plan
+    → IsVerdict plan sizes from (Lawful counts) → CaptureKeepsRules plan sizes from counts
 capture_keeps plan sizes from counts is verdict = record {
   rows = verdict.0;
   is = verdict.1;
@@ -93,7 +103,8 @@ capture_keeps plan sizes from counts is verdict = record {
   counted = verdict.3;
 }
 
-pub capture_breaks : (plan : Plan) (sizes : Sizes) (from : Place) (found : Unlawful) → IsPlan plan → IsVerdict plan sizes from (Not found) → CaptureBreaksRules plan sizes from found
+pub capture_breaks : (plan : Plan) (sizes : Sizes) (from : Place) (found : Unlawful) → IsPlan plan
+    → IsVerdict plan sizes from (Not found) → CaptureBreaksRules plan sizes from found
 capture_breaks plan sizes from found is verdict = record {
   rows = verdict.0;
   place = verdict.1;

@@ -12,15 +12,16 @@ use Rattle.check_verdict.specs.Rows.{IsTimeOver}
 use Rattle.check_verdict.specs.declared.rows.Sizes.{Sizes}
 use Rattle.check_laws.specs.Rules.{AlwaysKeepsRules, AreSeenWhole}
 
--- in the order in which the rows of a file cross, what they show of the links that are watched keeps the rules at each moment, and each
--- lane that carries a byte was seen
+-- in the order in which the rows of a file cross, what they show of the links that are watched keeps the rules at each
+-- moment, and each lane that carries a byte was seen
 pub record FileKeepsRules (plan : Plan) (file : List Row) : Type 0 where
   pub crossed : List Row
   pub crossing : IsCrossing file crossed
   pub keeps : AlwaysKeepsRules plan (seen plan.layout crossed)
   pub whole : AreSeenWhole plan (seen plan.layout crossed)
 
--- up to a row the rules are kept at each moment, and with it they are not, or a lane of it that carries a byte was not seen
+-- up to a row the rules are kept at each moment, and with it they are not, or a lane of it that carries a byte was not
+-- seen
 pub record BreaksRules (plan : Plan) (file : List Row) (row : Row) : Type 0 where
   pub after : List Row
   pub before : List Row

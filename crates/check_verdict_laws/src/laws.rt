@@ -17,8 +17,8 @@ pub fn lawful_files_keep_the_rules()
     ensures lawful { (plan : Plan) (file : List Row) → IsPlan plan → FileKeepsRules plan file → IsLawfulFile plan file }
 {}
 
-/// A text whose verdict is `lawful` is a capture whose rows keep the rules at each moment; one whose verdict is `unlawful` names the
-/// first row with which they do not.
+/// A text whose verdict is `lawful` is a capture whose rows keep the rules at each moment; one whose verdict is
+/// `unlawful` names the first row with which they do not.
 pub fn lawful_captures_keep_the_rules()
     ensures lawful { (plan : Plan) (sizes : Sizes) (from : Place) (counts : Counts) → IsPlan plan
         → IsVerdict plan sizes from (Lawful counts) → CaptureKeepsRules plan sizes from counts }

@@ -11,15 +11,19 @@ use Rattle.check_watch.specs.Plan.Side.{AtMasters, AtPorts}
 use Rattle.check_watch.specs.Past.{no_store}
 use Rattle.check_watch.specs.View.{View, Keeps, side_in, crossing_at, fresh_slave, slave_at}
 
-slave_fresh : (banks : List Store) (port : ℕ) → slave_at (map fresh_slave banks) port ≡ fresh_slave (unwrap_or (slice_get banks port) no_store)
+slave_fresh : (banks : List Store) (port : ℕ)
+    → slave_at (map fresh_slave banks) port ≡ fresh_slave (unwrap_or (slice_get banks port) no_store)
 slave_fresh [] port = refl
 slave_fresh (bank ∷ banks) zero = refl
 slave_fresh (bank ∷ banks) (suc port) = slave_fresh banks port
 
 module _ (plan : Plan) (view : View) (lawful : IsPlan plan) (layout : plan.layout ≡ view.layout) where
-  pub fresh_keeps : ((number : ℕ) → under_at view.masters.links number ≡ nothing_under) → ((wide : ℕ) → flight_at view.masters.flights wide ≡ idle)
-      → ((number : ℕ) → under_at view.ports.links number ≡ nothing_under) → ((wide : ℕ) → flight_at view.ports.flights wide ≡ idle)
-      → ((wide : ℕ) → crossing_at view.crossings wide ≡ Waiting) → view.slaves ≡ map fresh_slave plan.resets → Keeps plan [] view
+  pub fresh_keeps : ((number : ℕ) → under_at view.masters.links number ≡ nothing_under)
+      → ((wide : ℕ) → flight_at view.masters.flights wide ≡ idle)
+      → ((number : ℕ) → under_at view.ports.links number ≡ nothing_under)
+          → ((wide : ℕ) → flight_at view.ports.flights wide ≡ idle)
+      → ((wide : ℕ) → crossing_at view.crossings wide ≡ Waiting) → view.slaves ≡ map fresh_slave plan.resets
+          → Keeps plan [] view
   fresh_keeps mlinks mflights plinks pflights crossings slaves = record {
     suits = record { lawful = lawful; layout = sym layout };
     lawful = tt;

@@ -4,6 +4,7 @@ use Rattle.check_link.specs.declared.beat.Sighting.{Sighting}
 use Rattle.check_watch.specs.Lawful.{IsLawful}
 use Rattle.check_watch.specs.Plan.{Plan}
 
-pub earlier_is_lawful : (plan : Plan) (later earlier : List Sighting) → IsLawful plan (later ++ earlier) → IsLawful plan earlier
+pub earlier_is_lawful : (plan : Plan) (later earlier : List Sighting) → IsLawful plan (later ++ earlier)
+    → IsLawful plan earlier
 earlier_is_lawful plan [] earlier is = is
 earlier_is_lawful plan (x ∷ later) earlier is = earlier_is_lawful plan later earlier is.0

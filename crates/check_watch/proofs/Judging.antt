@@ -29,19 +29,25 @@ use Rattle.check_link.specs.Message.{ask_of}
 use Rattle.check_link.specs.Past.{ends_ask}
 
 -- the wide source that a judge finds is that of the plan
-pub wide_is : (plan : Plan) (view : View) (link : Link) (source wide : ℕ) → Suits plan view → IsWideAt view.layout link source wide → wide ≡ wide_of plan link source
+pub wide_is : (plan : Plan) (view : View) (link : Link) (source wide : ℕ) → Suits plan view
+    → IsWideAt view.layout link source wide → wide ≡ wide_of plan link source
 wide_is plan view (Master m) source wide suits is = sym (suits.lawful.wide m source wide (rw (← suits.layout) is))
 wide_is plan view (Port p) source wide suits is = is.0
 
 -- the port that a judge finds is that of the plan
-pub port_is : (plan : Plan) (view : View) (address size port : ℕ) → Suits plan view → ((other : ℕ) → (port ≡ other) ↔ RoutesBytes view.layout.ranges address size other)
+pub port_is : (plan : Plan) (view : View) (address size port : ℕ) → Suits plan view
+    → ((other : ℕ) → (port ≡ other) ↔ RoutesBytes view.layout.ranges address size other)
     → port ≡ plan.route address size
-port_is plan view address size port suits routes = (routes (plan.route address size)).1 (rw suits.layout (suits.lawful.route address size))
+port_is plan view address size port suits routes =
+    (routes (plan.route address size)).1 (rw suits.layout (suits.lawful.route address size))
 
 pub port_found : (plan : Plan) (view : View) (link : Link) (turn : Turn) (beat : ABeat) (port : ℕ) → Suits plan view
-    → ((number other : ℕ) → link ≡ Master number → (port ≡ other) ↔ RoutesBytes view.layout.ranges beat.address beat.size other) → ((number : ℕ) → link ≡ Port number → port ≡ number)
+    → ((number other : ℕ) → link ≡ Master number → (port ≡ other)
+        ↔ RoutesBytes view.layout.ranges beat.address beat.size other)
+        → ((number : ℕ) → link ≡ Port number → port ≡ number)
     → port ≡ port_of plan link turn (A beat)
-port_found plan view (Master m) turn beat port suits master at_port = port_is plan view beat.address beat.size port suits (λ other. master m other refl)
+port_found plan view (Master m) turn beat port suits master at_port =
+    port_is plan view beat.address beat.size port suits (λ other. master m other refl)
 port_found plan view (Port p) turn beat port suits master at_port = at_port p refl
 
 -- the request in flight that has ended
@@ -51,37 +57,50 @@ asked_is (Asking at) ask is = absurd (cc)
 asked_is (Asked at other) ask is = (at, ap (λ r. Asked at r) (cc))
 
 -- the port that it goes to is that of the plan
-pub port_asked : (plan : Plan) (view : View) (link : Link) (turn : Turn) (ask : Request) (beat : DBeat) (port : ℕ) → Suits plan view → asked turn ≡ Some ask
-    → ((number other : ℕ) → link ≡ Master number → (port ≡ other) ↔ RoutesBytes view.layout.ranges ask.address ask.size other) → ((number : ℕ) → link ≡ Port number → port ≡ number)
+pub port_asked : (plan : Plan) (view : View) (link : Link) (turn : Turn) (ask : Request) (beat : DBeat) (port : ℕ)
+    → Suits plan view → asked turn ≡ Some ask
+    → ((number other : ℕ) → link ≡ Master number → (port ≡ other)
+        ↔ RoutesBytes view.layout.ranges ask.address ask.size other)
+        → ((number : ℕ) → link ≡ Port number → port ≡ number)
     → port ≡ port_of plan link turn (D beat)
 port_asked plan view (Port p) turn ask beat port suits is master at_port = at_port p refl
 port_asked plan view (Master m) turn ask beat port suits is master at_port =
     let found = asked_is turn ask is in
-    port_is plan view ask.address ask.size port suits (λ other. master m other refl) ∙ ap (λ t. port_in plan t) (sym found.1)
+    port_is plan view ask.address ask.size port suits (λ other. master m other refl)
+        ∙ ap (λ t. port_in plan t) (sym found.1)
 
 -- ---- requests
 
-module _ (plan : Plan) (view : View) (link : Link) (beat : ABeat) (wide : ℕ) (r : Bool) (suits : Suits plan view) (at : IsWideAt view.layout link beat.source wide) where
-  pub free_here : (IsTrue r ↔ ((under_in view link).asking ≡ [] → (flight_in view link wide).turn ≡ Idle)) → (IsTrue r ↔ BeginsFree (scene_in plan view link (A beat)))
+module _ (plan : Plan) (view : View) (link : Link) (beat : ABeat) (wide : ℕ) (r : Bool) (suits : Suits plan view)
+    (at : IsWideAt view.layout link beat.source wide) where
+  pub free_here : (IsTrue r ↔ ((under_in view link).asking ≡ [] → (flight_in view link wide).turn ≡ Idle))
+      → (IsTrue r ↔ BeginsFree (scene_in plan view link (A beat)))
   free_here free =
       let P : ℕ → Type 0 = λ w. IsTrue r ↔ ((under_in view link).asking ≡ [] → (flight_in view link w).turn ≡ Idle) in
       subst P (wide_is plan view link beat.source wide suits at) free
 
-  pub sent_here : (IsTrue r ↔ (IsTrue (ends_ask (under_in view link).asking beat) → IsSent view.layout link (flight_at view.masters.flights wide).turn (crossing_at view.crossings wide) (ask_of beat ((under_in view link).asking ++ beat ∷ []))))
+  pub sent_here : (IsTrue r ↔ (IsTrue (ends_ask (under_in view link).asking beat)
+      → IsSent view.layout link (flight_at view.masters.flights wide).turn (crossing_at view.crossings wide)
+      (ask_of beat ((under_in view link).asking ++ beat ∷ []))))
       → (IsTrue r ↔ EndsSent view.layout link (scene_in plan view link (A beat)) beat)
   sent_here sent =
-      let P : ℕ → Type 0 = λ w. IsTrue r ↔ (IsTrue (ends_ask (under_in view link).asking beat) → IsSent view.layout link (flight_at view.masters.flights w).turn (crossing_at view.crossings w) (ask_of beat ((under_in view link).asking ++ beat ∷ []))) in
+      let P : ℕ → Type 0 = λ w. IsTrue r ↔ (IsTrue (ends_ask (under_in view link).asking beat)
+          → IsSent view.layout link (flight_at view.masters.flights w).turn (crossing_at view.crossings w)
+          (ask_of beat ((under_in view link).asking ++ beat ∷ []))) in
       subst P (wide_is plan view link beat.source wide suits at) sent
 
-mask_same : (op other : AskOp) (size address mask : ℕ) → op ≡ other → IsLawfulMask op size address mask → IsLawfulMask other size address mask
+mask_same : (op other : AskOp) (size address mask : ℕ) → op ≡ other → IsLawfulMask op size address mask
+    → IsLawfulMask other size address mask
 mask_same op other size address mask is lawful = subst (λ (o : AskOp). IsLawfulMask o size address mask) is lawful
 
-no_form_fault : (begun : List ABeat) (beat : ABeat) (known : ℕ) → FitsAsk begun beat → IsKnown beat known → (fault : FormFault) → HasAskFormFault begun beat known fault → ⊥
+no_form_fault : (begun : List ABeat) (beat : ABeat) (known : ℕ) → FitsAsk begun beat → IsKnown beat known
+    → (fault : FormFault) → HasAskFormFault begun beat known fault → ⊥
 no_form_fault begun beat known fits lanes Changed has = has fits.same
 no_form_fault begun beat known fits lanes Opcode has = has fits.formed.op fits.formed.code
 no_form_fault begun beat known fits lanes Size has = omega (arith, fits.formed.in_limit, has)
 no_form_fault begun beat known fits lanes Mask has =
-    has.2 (mask_same fits.formed.op has.0 beat.size beat.address beat.mask (same_op fits.formed.op has.0 beat.opcode beat.param fits.formed.code has.1) fits.formed.mask)
+    has.2 (mask_same fits.formed.op has.0 beat.size beat.address beat.mask
+        (same_op fits.formed.op has.0 beat.opcode beat.param fits.formed.code has.1) fits.formed.mask)
 no_form_fault begun beat known fits lanes CorruptFlag has = has
 no_form_fault begun beat known fits lanes UnknownLanes has = has.1 (lanes has.0)
 
@@ -94,9 +113,11 @@ pub record AskUpTo (layout : Layout) (link : Link) (scene : Scene) (beat : ABeat
   pub placed : 9 < rank → BeginsPlaced layout link scene beat
   pub sent : 15 < rank → EndsSent layout link scene beat
 
-pub none_before_ask : (layout : Layout) (link : Link) (scene : Scene) (beat : ABeat) (known rank : ℕ) → AskUpTo layout link scene beat known rank
+pub none_before_ask : (layout : Layout) (link : Link) (scene : Scene) (beat : ABeat) (known rank : ℕ)
+    → AskUpTo layout link scene beat known rank
     → (other : Fault) → fault_rank other < rank → HasAskFault layout link scene beat known other → ⊥
-none_before_ask layout link scene beat known rank up (Form f) lower has = no_form_fault scene.under.asking beat known up.fits up.lanes f has
+none_before_ask layout link scene beat known rank up (Form f) lower has =
+    no_form_fault scene.under.asking beat known up.fits up.lanes f has
 none_before_ask layout link scene beat known rank up NoSuchSource lower has = has up.source
 none_before_ask layout link scene beat known rank up SourceBusy lower has = has (up.free lower)
 none_before_ask layout link scene beat known rank up WrongPort lower has = has (up.placed lower)
@@ -109,11 +130,14 @@ none_before_ask layout link scene beat known rank up NotSent lower has = has (up
 none_before_ask layout link scene beat known rank up NotGiven lower has = has
 none_before_ask layout link scene beat known rank up (WrongReply e r) lower has = has
 
-pub first_ask : (layout : Layout) (link : Link) (scene : Scene) (beat : ABeat) (known : ℕ) (fault : Fault) → HasAskFault layout link scene beat known fault
+pub first_ask : (layout : Layout) (link : Link) (scene : Scene) (beat : ABeat) (known : ℕ) (fault : Fault)
+    → HasAskFault layout link scene beat known fault
     → AskUpTo layout link scene beat known (fault_rank fault) → IsFirstAskFault layout link scene beat known fault
-first_ask layout link scene beat known fault has up = record { applies = has; first = none_before_ask layout link scene beat known (fault_rank fault) up }
+first_ask layout link scene beat known fault has up =
+    record { applies = has; first = none_before_ask layout link scene beat known (fault_rank fault) up }
 
-pub allowed_ask : (layout : Layout) (link : Link) (scene : Scene) (beat : ABeat) (known : ℕ) → AskUpTo layout link scene beat known 18 → IsAllowedAsk layout link scene beat known
+pub allowed_ask : (layout : Layout) (link : Link) (scene : Scene) (beat : ABeat) (known : ℕ)
+    → AskUpTo layout link scene beat known 18 → IsAllowedAsk layout link scene beat known
 allowed_ask layout link scene beat known up = record {
   fits = up.fits;
   lanes = up.lanes;
@@ -124,9 +148,11 @@ allowed_ask layout link scene beat known up = record {
 }
 
 -- a beat that is lawful has no fault
-pub no_ask_fault : (layout : Layout) (link : Link) (scene : Scene) (beat : ABeat) (known : ℕ) → IsAllowedAsk layout link scene beat known
+pub no_ask_fault : (layout : Layout) (link : Link) (scene : Scene) (beat : ABeat) (known : ℕ)
+    → IsAllowedAsk layout link scene beat known
     → (fault : Fault) → HasAskFault layout link scene beat known fault → ⊥
-no_ask_fault layout link scene beat known allowed (Form f) has = no_form_fault scene.under.asking beat known allowed.fits allowed.lanes f has
+no_ask_fault layout link scene beat known allowed (Form f) has =
+    no_form_fault scene.under.asking beat known allowed.fits allowed.lanes f has
 no_ask_fault layout link scene beat known allowed NoSuchSource has = has allowed.source
 no_ask_fault layout link scene beat known allowed SourceBusy has = has allowed.free
 no_ask_fault layout link scene beat known allowed WrongPort has = has allowed.placed

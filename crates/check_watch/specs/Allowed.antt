@@ -1,5 +1,5 @@
--- When a beat is lawful, by what it finds: the chapters "Beats and bursts" and "TL-UL and TL-UH operations" of the TileLink
--- specification; sources, the address map and crossing are this project's crossbar's.
+-- When a beat is lawful, by what it finds: the chapters "Beats and bursts" and "TL-UL and TL-UH operations" of the
+-- TileLink specification; sources, the address map and crossing are this project's crossbar's.
 use Rattle.std.specs.Prelude.{◌≡◌, ℕ, Bool, false, [], ◌∷◌, ◌++◌, IsTrue, IsSomeAnd, bit_and}
 use Rattle.tl_types.specs.Operation.{reply_op_of}
 use Rattle.tl_types.specs.Request.{Request}
@@ -35,8 +35,8 @@ IsAskedAs Idle ask = ⊥
 IsAskedAs (Asking number) ask = ⊥
 IsAskedAs (Asked number sent) ask = record sent { source = ask.source } ≡ ask
 
--- a request at a port's link, where both sides are watched: the master that owns its source has it in flight, ended, and it has
--- not crossed before
+-- a request at a port's link, where both sides are watched: the master that owns its source has it in flight, ended,
+-- and it has not crossed before
 abbrev pub IsSent : Layout → Link → Turn → Crossing → Request → Type 0
 IsSent layout (Master m) sent crossing ask = Unit {0}
 IsSent layout (Port p) sent crossing ask = layout.links ≡ Both → IsAskedAs sent ask × (crossing ≡ Waiting)
@@ -57,7 +57,8 @@ BeginsPlaced layout link scene beat = scene.under.asking ≡ [] → IsPlaced lay
 -- a request that ends was sent
 abbrev pub EndsSent : Layout → Link → Scene → ABeat → Type 0
 EndsSent layout link scene beat =
-    IsTrue (ends_ask scene.under.asking beat) → IsSent layout link scene.sent scene.crossing (ask_of beat (scene.under.asking ++ beat ∷ []))
+    IsTrue (ends_ask scene.under.asking beat)
+        → IsSent layout link scene.sent scene.crossing (ask_of beat (scene.under.asking ++ beat ∷ []))
 
 -- a beat of a request is lawful
 pub record IsAllowedAsk (layout : Layout) (link : Link) (scene : Scene) (beat : ABeat) (known : ℕ) : Type 0 where
@@ -80,7 +81,8 @@ OfAsked number (Asked at ask) P = (at ≡ number) × P ask
 -- each lane that carries a byte of the reply is known
 abbrev pub IsKnownReply : Request → DBeat → ℕ → Type 0
 IsKnownReply ask beat known =
-    beat.opcode ≡ 1 → beat.denied ≡ false → bit_and (active_mask ask.address ask.size) known ≡ active_mask ask.address ask.size
+    beat.opcode ≡ 1 → beat.denied ≡ false → bit_and
+        (active_mask ask.address ask.size) known ≡ active_mask ask.address ask.size
 
 -- the beat is one of a reply to this request
 pub record IsAnswer (beat : DBeat) (known : ℕ) (ask : Request) : Type 0 where

@@ -45,14 +45,15 @@ HasAnswerFault number turn beat known WrongPort = ⊥
 HasAnswerFault number turn beat known NoRequest = IsInFlight number turn → ⊥
 HasAnswerFault number turn beat known EarlyReply = turn ≡ Asking number
 HasAnswerFault number turn beat known WrongSize = OfAsked number turn (λ ask. beat.size ≢ ask.size)
-HasAnswerFault number turn beat known WrongOpcode = OfAsked number turn (λ ask. beat.opcode ≢ reply_opcode_of (reply_op_of ask.op))
+HasAnswerFault number turn beat known WrongOpcode =
+    OfAsked number turn (λ ask. beat.opcode ≢ reply_opcode_of (reply_op_of ask.op))
 HasAnswerFault number turn beat known UnknownData = OfAsked number turn (λ ask. IsKnownReply ask beat known → ⊥)
 HasAnswerFault number turn beat known NotSent = ⊥
 HasAnswerFault number turn beat known NotGiven = ⊥
 HasAnswerFault number turn beat known (WrongReply expected captured) = ⊥
 
--- a whole reply, where this one must come, has this fault. `NotGiven` is for what crosses both watched sides, `WrongReply` for
--- what a memory has to give; where nothing must come at all, nothing was given.
+-- a whole reply, where this one must come, has this fault. `NotGiven` is for what crosses both watched sides,
+-- `WrongReply` for what a memory has to give; where nothing must come at all, nothing was given.
 abbrev pub HasEndFault : Bool → Option Answer → Response → Fault → Type 0
 HasEndFault given due captured (Form fault) = ⊥
 HasEndFault given due captured NoSuchSource = ⊥
@@ -84,14 +85,20 @@ HasReplyFault layout link scene beat known (Form fault) = HasReplyFormFault scen
 HasReplyFault layout link scene beat known NoSuchSource = HasSource layout link beat.source → ⊥
 HasReplyFault layout link scene beat known SourceBusy = ⊥
 HasReplyFault layout link scene beat known WrongPort = ⊥
-HasReplyFault layout link scene beat known NoRequest = HasAnswerFault (number_of link) scene.flight.turn beat known NoRequest
-HasReplyFault layout link scene beat known EarlyReply = HasAnswerFault (number_of link) scene.flight.turn beat known EarlyReply
-HasReplyFault layout link scene beat known WrongSize = HasAnswerFault (number_of link) scene.flight.turn beat known WrongSize
-HasReplyFault layout link scene beat known WrongOpcode = HasAnswerFault (number_of link) scene.flight.turn beat known WrongOpcode
-HasReplyFault layout link scene beat known UnknownData = HasAnswerFault (number_of link) scene.flight.turn beat known UnknownData
+HasReplyFault layout link scene beat known NoRequest =
+    HasAnswerFault (number_of link) scene.flight.turn beat known NoRequest
+HasReplyFault layout link scene beat known EarlyReply =
+    HasAnswerFault (number_of link) scene.flight.turn beat known EarlyReply
+HasReplyFault layout link scene beat known WrongSize =
+    HasAnswerFault (number_of link) scene.flight.turn beat known WrongSize
+HasReplyFault layout link scene beat known WrongOpcode =
+    HasAnswerFault (number_of link) scene.flight.turn beat known WrongOpcode
+HasReplyFault layout link scene beat known UnknownData =
+    HasAnswerFault (number_of link) scene.flight.turn beat known UnknownData
 HasReplyFault layout link scene beat known NotSent = ⊥
 HasReplyFault layout link scene beat known NotGiven = EndsWith layout link scene beat NotGiven
-HasReplyFault layout link scene beat known (WrongReply expected captured) = EndsWith layout link scene beat (WrongReply expected captured)
+HasReplyFault layout link scene beat known (WrongReply expected captured) =
+    EndsWith layout link scene beat (WrongReply expected captured)
 
 -- the fault that a reason is
 abbrev pub fault_of : Reason → Fault

@@ -1,5 +1,5 @@
--- Which lists of sightings are lawful, the latest first: each beat is lawful after those before it, so a beginning of a lawful
--- list is lawful.
+-- Which lists of sightings are lawful, the latest first: each beat is lawful after those before it, so a beginning of a
+-- lawful list is lawful.
 use Rattle.std.specs.Prelude.{List, [], ◌∷◌}
 use Rattle.check_link.specs.declared.beat.Beat.{Beat}
 use Rattle.check_link.specs.declared.beat.Beat.TheVariants.{A, D}

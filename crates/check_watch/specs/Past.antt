@@ -17,8 +17,8 @@ use Rattle.check_watch.specs.Plan.{Plan, Side, side_of, number_of, source_of, wi
 use Rattle.check_watch.specs.Plan.Side.{AtMasters}
 use Rattle.check_watch.specs.Scene.{Scene, effect, answering, flight_after, crossing_after}
 
--- the messages under way at each link, what is in flight of each wide source on each side, how far it has come across, and what
--- each port's slave holds
+-- the messages under way at each link, what is in flight of each wide source on each side, how far it has come across,
+-- and what each port's slave holds
 pub record State : Type 0 where
   pub links : Side → ℕ → Under
   pub flights : Side → ℕ → Flight
@@ -75,8 +75,10 @@ state_after plan state x =
     record {
       links = λ side number. if is_link x.link side number then under_after scene.under x.beat else state.links side number;
       flights = λ side wide. if is_of plan x side wide then flight_after plan.layout x.link scene x.beat else state.flights side wide;
-      crossings = λ wide. if wide_of plan x.link (source_of x.beat) == wide then crossing_after x.link scene x.beat else state.crossings wide;
-      slaves = λ port. if scene.port == port then slave_by scene.slave (effect plan.layout x.link scene x.beat) else state.slaves port;
+      crossings = λ wide. if wide_of plan x.link
+          (source_of x.beat) == wide then crossing_after x.link scene x.beat else state.crossings wide;
+      slaves = λ port. if scene.port == port then slave_by scene.slave
+          (effect plan.layout x.link scene x.beat) else state.slaves port;
     }
 
 abbrev pub state : Plan → List Sighting → State

@@ -1,5 +1,5 @@
--- What a judge knows of a crossbar ahead: which links are watched, which sources the masters have, and which port serves which
--- addresses. It is this project's own.
+-- What a judge knows of a crossbar ahead: which links are watched, which sources the masters have, and which port
+-- serves which addresses. It is this project's own.
 use Rattle.std.specs.Prelude.{◌≡◌, ℕ, ◌<◌, Bool, true, false, ◌&&◌, ◌==◌, nat_lt, List, length}
 use Rattle.tl_ops.specs.Store.{Store}
 use Rattle.tl_map.specs.Block.{IsWide}
@@ -22,8 +22,8 @@ pub record Layout : Type 0 where
   pub counts : List ℕ
   pub ranges : List Range
 
--- what each port's slave holds at reset, the error port's last; and as functions the wide source of a master's source, and the
--- port of the 2 ^ size bytes from an address on
+-- what each port's slave holds at reset, the error port's last; and as functions the wide source of a master's source,
+-- and the port of the 2 ^ size bytes from an address on
 pub record Plan : Type 0 where
   pub layout : Layout
   pub resets : List Store

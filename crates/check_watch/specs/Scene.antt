@@ -1,5 +1,6 @@
--- What a beat finds at its link and in its port, and what it makes of that: messages and their order by the chapters "Beats and
--- bursts" and "TL-UL and TL-UH operations" of the TileLink specification; when a request takes effect is the system's own affair.
+-- What a beat finds at its link and in its port, and what it makes of that: messages and their order by the chapters
+-- "Beats and bursts" and "TL-UL and TL-UH operations" of the TileLink specification; when a request takes effect is the
+-- system's own affair.
 use Rattle.std.specs.Prelude.{ℕ, Bool, true, false, ◌&&◌, if◌then◌else◌, List, [], ◌∷◌, ◌++◌, Option, Some, None}
 use Rattle.tl_types.specs.Request.{Request}
 use Rattle.tl_types.specs.declared.trace.Entry.{Entry}
@@ -23,8 +24,8 @@ use Rattle.check_watch.specs.declared.seen.Ended.{Ended}
 use Rattle.check_watch.specs.declared.seen.Ended.TheVariants as ends
 use Rattle.check_watch.specs.Plan.{Layout, number_of, crosses, is_at_acceptance, is_at_reply}
 
--- the messages under way at its link, what is in flight of its source on its side and on the masters' side, how far that has
--- come across, and the port that its request goes to, with what the slave there holds
+-- the messages under way at its link, what is in flight of its source on its side and on the masters' side, how far
+-- that has come across, and the port that its request goes to, with what the slave there holds
 pub record Scene : Type 0 where
   pub under : Under
   pub flight : Flight
@@ -39,8 +40,9 @@ ask_by begun beat = if ends_ask begun beat then Some (ask_of beat (begun ++ beat
 
 -- ---- memory
 
--- requests to this port take effect as they are seen at this link: a port's own where the ports' links are watched, else, and
--- for the error port, all masters'. (What a request leaves and what it is answered does not depend on its source.)
+-- requests to this port take effect as they are seen at this link: a port's own where the ports' links are watched,
+-- else, and for the error port, all masters'. (What a request leaves and what it is answered does not depend on its
+-- source.)
 abbrev pub takes_effect : Layout → Link → ℕ → Bool
 takes_effect layout (Port p) port = true
 takes_effect layout (Master m) port = if crosses layout port then false else true
@@ -101,7 +103,8 @@ abbrev pub crossing_after : Link → Scene → Beat → Crossing
 crossing_after (Master m) scene (A beat) = Waiting
 crossing_after (Master m) scene (D beat) = scene.crossing
 crossing_after (Port p) scene (A beat) = if ends_ask scene.under.asking beat then Crossed else scene.crossing
-crossing_after (Port p) scene (D beat) = if ends_reply scene.under.replying beat then given_by scene.flight.due scene.crossing else scene.crossing
+crossing_after (Port p) scene (D beat) =
+    if ends_reply scene.under.replying beat then given_by scene.flight.due scene.crossing else scene.crossing
 
 -- ---- the reply that must come
 
@@ -141,7 +144,9 @@ seen_ask (Some ask) = WholeAsk
 -- what the beat ends: a part of a message ends none, a request, or a reply, told with its request
 abbrev pub seen : Layout → Link → Scene → Beat → Seen
 seen layout link scene (A beat) = seen_ask (ask_by scene.under.asking beat)
-seen layout link scene (D beat) = if ends_reply scene.under.replying beat then seen_reply scene.flight.turn (must_come layout link scene beat.source) else Part
+seen layout link scene (D beat) =
+    if ends_reply scene.under.replying beat then seen_reply scene.flight.turn
+    (must_come layout link scene beat.source) else Part
 
 -- the same, without the reply
 abbrev pub ended : Seen → Ended

@@ -81,7 +81,8 @@ scene_in plan view link beat = scene_of plan (state_in view) (record { link = li
 
 -- the request in flight of a wide source that takes effect as its reply begins at a link
 abbrev pub late_in : View → Link → ℕ → ℕ → Option Request
-late_in view link wide port = late_effect view.layout link port (under_in view link).replying (flight_in view link wide).turn
+late_in view link wide port =
+    late_effect view.layout link port (under_in view link).replying (flight_in view link wide).turn
 
 -- requests to a port take effect as the next beat of channel D crosses at a link
 abbrev pub is_late_in : View → Link → ℕ → Bool
@@ -114,7 +115,8 @@ IsEndFault plan view link wide beat ask fault =
     × ((captured : Response)
     × IsLawfulResponse captured.op captured.size captured.denied captured.bytes
     × SpellsReply captured ask.address ((under_in view link).replying ++ beat ∷ [])
-    × HasEndFault (is_given view.layout link (port_of plan link (flight_in view link wide).turn (D beat))) (due_at plan view link wide beat) captured fault)
+    × HasEndFault (is_given view.layout link (port_of plan link (flight_in view link wide).turn (D beat)))
+        (due_at plan view link wide beat) captured fault)
 
 -- the reply to this request that a beat ends, if it ends one, is the one that must come
 abbrev pub IsEndWell : Plan → View → Link → ℕ → DBeat → Request → Type 0
@@ -194,12 +196,14 @@ with_due view (Port p) wide answer = record view { ports = side_due view.ports w
 -- this request of what is in flight takes effect, if any
 abbrev pub with_answer : View → Link → ℕ → ℕ → Option Request → View
 with_answer view link wide port ask =
-    with_due (record view { slaves = slaves_with view.slaves port ask }) link wide (answer_by port (slave_at view.slaves port) ask)
+    with_due (record view { slaves = slaves_with view.slaves port ask }) link wide
+        (answer_by port (slave_at view.slaves port) ask)
 
 -- the request in flight takes effect, if it does so as its reply begins
 abbrev pub with_late : View → Link → ℕ → ℕ → View
 with_late view link wide port =
-    with_due (record view { slaves = slaves_with view.slaves port (late_in view link wide port) }) link wide (late_answer view link wide port)
+    with_due (record view { slaves = slaves_with view.slaves port (late_in view link wide port) }) link wide
+        (late_answer view link wide port)
 
 -- a beat of a reply crosses that does not end it
 abbrev pub with_part : View → Link → DBeat → View

@@ -36,8 +36,8 @@ pub enum Fault {
     WrongReply(Reply, Reply),
 }
 
-/// Why a beat is not lawful, but for the reply that it ends. A fault of that tells both replies, which are some 600 bytes long: it is
-/// made where a beat is refused, and this is what the judge hands on.
+/// Why a beat is not lawful, but for the reply that it ends. A fault of that tells both replies, which are some 600
+/// bytes long: it is made where a beat is refused, and this is what the judge hands on.
 #[derive(Debug, Clone, Copy, PartialEq, Eq)]
 pub enum Reason {
     Form(FormFault),

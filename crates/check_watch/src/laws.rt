@@ -4,7 +4,8 @@ ghost use Rattle.check_link.specs.declared.beat.Sighting.{Sighting};
 ghost use Rattle.check_watch.specs.Lawful.{IsLawful};
 ghost use Rattle.check_watch.specs.Plan.{Plan};
 
-/// A beginning of what is lawful is lawful. Lists of sightings have the latest first, so a beginning is the end of the list.
+/// A beginning of what is lawful is lawful. Lists of sightings have the latest first, so a beginning is the end of the
+/// list.
 pub fn a_beginning_is_lawful()
     ensures { (plan : Plan) (later earlier : List Sighting)
         → IsLawful plan (later ++ earlier) → IsLawful plan earlier }

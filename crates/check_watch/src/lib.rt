@@ -1,15 +1,16 @@
-//! The judge of what crossed the links of a crossbar, anyone's: which beat is the first that no lawful crossbar could have
-//! shown?
+//! The judge of what crossed the links of a crossbar, anyone's: which beat is the first that no lawful crossbar could
+//! have shown?
 //!
 //! A [`Watch`] is made of a system's address map, its sources and its slaves at reset, and of which links are watched
-//! ([`Links`]). [`Watch::step`] takes one beat more. For every past that the judge keeps it answers `Ok` exactly where the list
-//! with this beat is lawful, and keeps that list then; an `Err` changes nothing, and is the first [`Fault`] that the beat has.
-//! An `Ok` says what the beat ends ([`Seen`]). [`Watch::take`] takes a lawful beat too, and makes neither the fault nor the reply.
+//! ([`Links`]). [`Watch::step`] takes one beat more. For every past that the judge keeps it answers `Ok` exactly where
+//! the list with this beat is lawful, and keeps that list then; an `Err` changes nothing, and is the first [`Fault`]
+//! that the beat has. An `Ok` says what the beat ends ([`Seen`]). [`Watch::take`] takes a lawful beat too, and makes
+//! neither the fault nor the reply.
 //!
-//! What is lawful is said beat by beat (`specs/Allowed.antt`) by what the beat finds: the messages under way at its link, what
-//! is in flight of its source, how far that has come across, and its port's slave (`specs/Scene.antt`, `specs/Past.antt`); what is
-//! kept of these is `check_flight`'s. A request takes effect with its last beat, or with the first beat of its reply ([`Order`]). No
-//! step takes memory.
+//! What is lawful is said beat by beat (`specs/Allowed.antt`) by what the beat finds: the messages under way at its
+//! link, what is in flight of its source, how far that has come across, and its port's slave (`specs/Scene.antt`,
+//! `specs/Past.antt`); what is kept of these is `check_flight`'s. A request takes effect with its last beat, or with
+//! the first beat of its reply ([`Order`]). No step takes memory.
 //!
 //! Read on in `docs/MODEL.md`, "Traces of others".
 #![tactic(auto)]

@@ -308,8 +308,8 @@ pub fn seen_end(watch: &Watch, link: Link, wide: u16, port: usize, beat: &DBeat)
     }
 }
 
-/// The wide source and the port of the request that a beat of a reply answers, or the first fault that the beat has, but for that
-/// of the reply that it ends.
+/// The wide source and the port of the request that a beat of a reply answers, or the first fault that the beat has,
+/// but for that of the reply that it ends.
 fn place_reply(watch: &Watch, link: Link, beat: &DBeat, known: u8) -> Result<Place, Reason>
     requires { HasLink watch.now.layout link }
     ensures fault { (plan : Plan) → Suits plan watch.now

@@ -107,8 +107,8 @@ fn fresh_crossings(alloc: Global) -> Result<Vec<Crossing>, AllocError>
 }
 
 impl Watch {
-    /// The judge of a crossbar with these ports and sources, at whose ports requests take effect in this order, and whose slaves
-    /// hold this at reset, the error port's last, before any beat.
+    /// The judge of a crossbar with these ports and sources, at whose ports requests take effect in this order, and
+    /// whose slaves hold this at reset, the error port's last, before any beat.
     pub fn new(
         alloc: Global,
         links: Links,
@@ -576,7 +576,8 @@ impl Watch {
         Some(Ended::Reply)
     }
 
-    /// Takes one beat more, at a link that is watched, where it is lawful: what it ends. Where it is not, nothing changes.
+    /// Takes one beat more, at a link that is watched, where it is lawful: what it ends. Where it is not, nothing
+    /// changes.
     ///
     /// It costs less than [`Watch::step`], which makes the fault or the reply that a beat ends, too.
     pub fn take(&mut self, sighting: &Sighting) -> Option<Ended>

@@ -14,7 +14,9 @@ use Rattle.tl_arena.specs.Kept.{IsMasterKept, IsPortKept}
 
 -- ---- one seat
 
-pub new_master_kept : (a : About) (me : Seat) (order : List ℕ) (capacity number : ℕ) → me ≡ (Master (new_hands a number), []) → order ≡ [] → number < a.masters → a.masters ≤ MAX_MASTERS → a.slots ≤ capacity
+pub new_master_kept : (a : About) (me : Seat) (order : List ℕ) (capacity number : ℕ)
+    → me ≡ (Master (new_hands a number), []) → order ≡ [] → number < a.masters → a.masters ≤ MAX_MASTERS
+    → a.slots ≤ capacity
     → IsMasterKept me order capacity number 0 0
 new_master_kept a me order capacity number e empty more few room =
     subst (λ (y : Seat). IsMasterKept y order capacity number 0 0) (sym e)
@@ -45,7 +47,9 @@ new_desk_lawful a number more = record {
   served = λ i ask e. absurd (cc);
 }
 
-pub new_port_kept : (a : About) (me : Seat) (order : List ℕ) (capacity : ℕ) (owners : List ℕ) (number : ℕ) → me ≡ (Port (new_desk a number), []) → order ≡ [] → number < a.ports → a.ports ≤ MAX_PORTS → a.slots ≤ capacity → length owners ≡ a.slots
+pub new_port_kept : (a : About) (me : Seat) (order : List ℕ) (capacity : ℕ) (owners : List ℕ) (number : ℕ)
+    → me ≡ (Port (new_desk a number), []) → order ≡ [] → number < a.ports → a.ports ≤ MAX_PORTS → a.slots ≤ capacity
+    → length owners ≡ a.slots
     → IsPortKept me order capacity owners number 0
 new_port_kept a me order capacity owners number e empty more few room wide =
     subst (λ (y : Seat). IsPortKept y order capacity owners number 0) (sym e)
@@ -65,14 +69,18 @@ new_port_kept a me order capacity owners number e empty more few room wide =
 
 -- ---- lists of seats
 
-pub masters_more : (a : ArenaId) (n : ℕ) (vs : List MasterView) (v : MasterView) → v ≡ new_master a n → AreNewMasters a n vs → AreNewMasters a (n + 1) (vs ++ v ∷ [])
+pub masters_more : (a : ArenaId) (n : ℕ) (vs : List MasterView) (v : MasterView) → v ≡ new_master a n
+    → AreNewMasters a n vs → AreNewMasters a (n + 1) (vs ++ v ∷ [])
 masters_more a n vs v is A = record {
   many = let l = length-append vs (v ∷ []) in let m = A.many in omega arith;
-  each = λ m w e. elim (slice_get-push vs v w m e) [ inl e ↦ A.each m w e | inr p ↦ sym p.1 ∙ is ∙ ap (λ (k : ℕ). new_master a k) (sym A.many ∙ sym p.0) ];
+  each = λ m w e. elim (slice_get-push vs v w m e) [ inl e ↦ A.each m w e | inr p ↦ sym p.1 ∙ is
+      ∙ ap (λ (k : ℕ). new_master a k) (sym A.many ∙ sym p.0) ];
 }
 
-pub ports_more : (a : ArenaId) (n : ℕ) (us : List PortView) (u : PortView) → u ≡ new_port a n → AreNewPorts a n us → AreNewPorts a (n + 1) (us ++ u ∷ [])
+pub ports_more : (a : ArenaId) (n : ℕ) (us : List PortView) (u : PortView) → u ≡ new_port a n → AreNewPorts a n us
+    → AreNewPorts a (n + 1) (us ++ u ∷ [])
 ports_more a n us u is A = record {
   many = let l = length-append us (u ∷ []) in let m = A.many in omega arith;
-  each = λ p w e. elim (slice_get-push us u w p e) [ inl e ↦ A.each p w e | inr q ↦ sym q.1 ∙ is ∙ ap (λ (k : ℕ). new_port a k) (sym A.many ∙ sym q.0) ];
+  each = λ p w e. elim (slice_get-push us u w p e) [ inl e ↦ A.each p w e | inr q ↦ sym q.1 ∙ is
+      ∙ ap (λ (k : ℕ). new_port a k) (sym A.many ∙ sym q.0) ];
 }

@@ -1,6 +1,6 @@
 -- What the calls of the arena ask and promise. All of it is this project's own, but for two rules of the TileLink
--- specification: a source has one request out at a time (the chapter on channels), and a reply is the memory's (the chapter
--- "TL-UL and TL-UH operations").
+-- specification: a source has one request out at a time (the chapter on channels), and a reply is the memory's (the
+-- chapter "TL-UL and TL-UH operations").
 use Rattle.std.specs.Prelude.{◌≡◌, ◌≢◌, ℕ, List, take}
 use Rattle.tl_types.specs.Request.{Request}
 use Rattle.tl_types.specs.Response.{Response}
@@ -20,8 +20,8 @@ use Rattle.tl_arena.specs.Views.{MasterView, PortView, TicketView, ServedView, h
 abbrev pub IsIdleSource : MasterView → ℕ → Type 0
 IsIdleSource v source = (i p known : ℕ) (ask : Request) → hand_at v i ≡ Sent ask p known → source ≢ ask.source
 
--- what is so of every port's seat: no slot and no source is served twice, its list is true of its memory, and what it has
--- served and serves are requests of masters alone
+-- what is so of every port's seat: no slot and no source is served twice, its list is true of its memory, and what it
+-- has served and serves are requests of masters alone
 abbrev pub IsLawfulPort : PortView → Type 0
 IsLawfulPort u = IsLawfulDesk (desk_of u)
 
@@ -29,9 +29,9 @@ IsLawfulPort u = IsLawfulDesk (desk_of u)
 abbrev pub memory_of : PortView → store.Store
 memory_of u = replay (reset_of u.arena.about u.number) (asks_of u.list)
 
--- The reply to what was posted is collected. In one lawful history of the port's reset, of requests of masters alone, it
--- stands after all that had been collected there when it was posted, and of the master's own requests that history has
--- just those that it made
+-- The reply to what was posted is collected. In one lawful history of the port's reset, of requests of masters alone,
+-- it stands after all that had been collected there when it was posted, and of the master's own requests that history
+-- has just those that it made
 pub record IsCollected (v : MasterView) (t : TicketView) (s : ServedView) (w : MasterView) : Type 0 where
   pub slot : s.slot ≡ t.slot
   pub ask : s.ask ≡ t.ask

@@ -27,7 +27,8 @@ pub record MasterView : Type 0 where
   pub hand : List Held
   pub got : List Entry
 
--- a port's seat: its requests with their replies in the order served, and what it has accepted and not answered, in the order accepted
+-- a port's seat: its requests with their replies in the order served, and what it has accepted and not answered, in the
+-- order accepted
 pub record PortView : Type 0 where
   pub arena : ArenaId
   pub number : ℕ
@@ -53,7 +54,8 @@ pub record ServedView : Type 0 where
 
 -- the counts, the blocks of the sources and the resets of the ports
 abbrev pub about_of : ℕ → List ℕ → List Store → About
-about_of slots counts resets = record { slots = slots; masters = length counts; ports = length resets; counts = counts; resets = resets }
+about_of slots counts resets =
+    record { slots = slots; masters = length counts; ports = length resets; counts = counts; resets = resets }
 
 -- ---- a master's seat
 
@@ -75,7 +77,8 @@ with_held v i x = record { arena = v.arena; number = v.number; hand = slice_set 
 
 -- the slot is taken, the entry is the last that was collected, and all else is as it was
 abbrev pub with_collected : MasterView → ℕ → Entry → MasterView
-with_collected v i e = record { arena = v.arena; number = v.number; hand = slice_set v.hand i (Taken e.port); got = v.got ++ e ∷ [] }
+with_collected v i e =
+    record { arena = v.arena; number = v.number; hand = slice_set v.hand i (Taken e.port); got = v.got ++ e ∷ [] }
 
 abbrev pub entry_of : ServedView → Entry
 entry_of s = record { ask = s.ask; reply = s.reply; port = s.port; index = s.index }
@@ -100,7 +103,8 @@ with_accepted u f = record { arena = u.arena; number = u.number; list = u.list; 
 
 -- the slot is served no longer, its request and reply are the last of the list, and all else is as it was
 abbrev pub with_answered : PortView → ℕ × Request → Response → PortView
-with_answered u f reply = record { arena = u.arena; number = u.number; list = u.list ++ (f.1, reply) ∷ []; serving = drop_slot f.0 u.serving }
+with_answered u f reply =
+    record { arena = u.arena; number = u.number; list = u.list ++ (f.1, reply) ∷ []; serving = drop_slot f.0 u.serving }
 
 abbrev pub new_port : ArenaId → ℕ → PortView
 new_port a p = record { arena = a; number = p; list = []; serving = [] }

@@ -1,9 +1,9 @@
 //! The running arena: slots in which masters post requests and ports answer them, shared by any number of threads.
 //!
 //! [`Arena::new`] makes an arena with one seat for each master and each port. A master claims a free slot, posts a
-//! request of its own source to a port, collects the reply and releases the slot; a port accepts what is posted for
-//! it and answers it with its memory's reply. Every call takes `&Arena` and the caller's own seat, waits for nobody
-//! and takes no memory, and moves a slot by one atomic step on its word, which keeps the rule of `tl_rule`. That step is
+//! request of its own source to a port, collects the reply and releases the slot; a port accepts what is posted for it
+//! and answers it with its memory's reply. Every call takes `&Arena` and the caller's own seat, waits for nobody and
+//! takes no memory, and moves a slot by one atomic step on its word, which keeps the rule of `tl_rule`. That step is
 //! one event of the core of `tl_slots`: the clause `event` of each call names it.
 //!
 //! A collected reply stands in one lawful history of the port, which begins with what the port's bank held when the

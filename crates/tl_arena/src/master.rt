@@ -23,8 +23,8 @@ const FREE: u64 = 0;
 const LEFT: u64 = 1;
 
 impl Arena {
-    /// A free slot, by one pass over all of them: from the master's own part of the slots upward, and then from slot 0 on.
-    /// So masters look for slots at different places as long as there are enough.
+    /// A free slot, by one pass over all of them: from the master's own part of the slots upward, and then from slot 0
+    /// on. So masters look for slots at different places as long as there are enough.
     pub fn claim(&self, master: &mut MasterSeat) -> Option<Claim>
         requires arena { master.old.arena ≡ self.now }
         ensures some { IfSome result

@@ -31,24 +31,28 @@ once p i e is = rw is refl
 never : (p i : ℕ) (e : Entry) → names p i e ≡ false → times_in p i (e ∷ []) ≡ 0
 never p i e is = rw is refl
 
-next_in : (n : ℕ) (o : Option Mark) (mark : Mark) → option_map (next_times n) o ≡ Some mark → option_map (next_times (n + 1)) o ≡ Some (next_of mark)
+next_in : (n : ℕ) (o : Option Mark) (mark : Mark) → option_map (next_times n) o ≡ Some mark
+    → option_map (next_times (n + 1)) o ≡ Some (next_of mark)
 next_in n None mark is = absurd cc
 next_in n (Some m) mark is =
     let same : next_times n m ≡ mark = cc in
     let next : n + 1 ≡ suc n = omega arith in
     rw (next, same) refl
 
-pub marked_more : (old rows new : List (List Mark)) (trace : List Entry) (k : ℕ) (e : Entry) (mark : Mark) → slice_get trace k ≡ Some e
+pub marked_more : (old rows new : List (List Mark)) (trace : List Entry) (k : ℕ) (e : Entry) (mark : Mark)
+    → slice_get trace k ≡ Some e
     → AreMarkedBy (λ p i. times_in p i (take k trace)) old rows → cell rows e.port e.index ≡ Some mark
     → IsSetAt e.port e.index (next_of mark) rows new → AreMarkedBy (λ p i. times_in p i (take (k + 1) trace)) old new
 marked_more old rows new trace k e mark here before at put p i = by_name (names p i e) refl where
-  by_name : (b : Bool) → names p i e ≡ b → cell new p i ≡ option_map (next_times (times_in p i (take (k + 1) trace))) (cell old p i)
+  by_name : (b : Bool) → names p i e ≡ b → cell new p i ≡ option_map (next_times (times_in p i (take (k + 1) trace)))
+      (cell old p i)
   by_name true is =
       let parts = and_parts (e.port == p) (e.index == i) is in
       let port = eqb-true e.port p parts.0 in
       let index = eqb-true e.index i parts.1 in
       let marked : cell rows p i ≡ Some mark = rw (← port, ← index) at in
-      let was : option_map (next_times (times_in p i (take k trace))) (cell old p i) ≡ Some mark = rw (← before p i) marked in
+      let was : option_map (next_times (times_in p i (take k trace))) (cell old p i) ≡ Some mark =
+          rw (← before p i) marked in
       let now = next_in (times_in p i (take k trace)) (cell old p i) mark was in
       rw (counted_last p i k trace e here, once p i e is, now, put p i, is, marked) refl
   by_name false is =
@@ -64,16 +68,20 @@ next_sum a (suc b) mark =
     let same : suc b + a ≡ suc (b + a) = omega arith in
     rw (same, next_sum a b mark) refl
 
-both_times : (a b : ℕ) (o : Option Mark) → option_map (next_times b) (option_map (next_times a) o) ≡ option_map (next_times (a + b)) o
+both_times : (a b : ℕ) (o : Option Mark)
+    → option_map (next_times b) (option_map (next_times a) o) ≡ option_map (next_times (a + b)) o
 both_times a b None = refl
 both_times a b (Some mark) = let same : a + b ≡ b + a = omega arith in rw (same, next_sum a b mark) refl
 
-times_last : (p i : ℕ) (traces : List (List Entry)) (trace : List Entry) → times_named (traces ++ trace ∷ []) p i ≡ times_named traces p i + times_in p i trace
+times_last : (p i : ℕ) (traces : List (List Entry)) (trace : List Entry)
+    → times_named (traces ++ trace ∷ []) p i ≡ times_named traces p i + times_in p i trace
 times_last p i [] trace = omega arith
 times_last p i (first ∷ traces) trace = rw (times_last p i traces trace) (omega arith)
 
-pub marked_with : (old rows new : List (List Mark)) (traces : List (List Entry)) (k : ℕ) (trace : List Entry) → slice_get traces k ≡ Some trace
-    → AreMarkedBy (times_named (take k traces)) old rows → AreMarkedBy (λ p i. times_in p i trace) rows new → AreMarkedBy (times_named (take (k + 1) traces)) old new
+pub marked_with : (old rows new : List (List Mark)) (traces : List (List Entry)) (k : ℕ) (trace : List Entry)
+    → slice_get traces k ≡ Some trace
+    → AreMarkedBy (times_named (take k traces)) old rows → AreMarkedBy (λ p i. times_in p i trace) rows new
+        → AreMarkedBy (times_named (take (k + 1) traces)) old new
 marked_with old rows new traces k trace here before more p i =
     let next : k + 1 ≡ suc k = omega arith in
     rw (
@@ -87,14 +95,17 @@ marked_with old rows new traces k trace here before more p i =
     ) refl
 
 -- a place keeps its mark, whatever is marked
-pub still_there : (old new : List (List Mark)) (times : ℕ → ℕ → ℕ) → AreMarkedBy times old new → (trace : List Entry) → NamePlaces old trace → NamePlaces new trace
+pub still_there : (old new : List (List Mark)) (times : ℕ → ℕ → ℕ) → AreMarkedBy times old new → (trace : List Entry)
+    → NamePlaces old trace → NamePlaces new trace
 still_there old new times marked trace places k e here = by_cell (cell old e.port e.index) refl where
   by_cell : (o : Option Mark) → cell old e.port e.index ≡ o → IsSome (cell new e.port e.index)
-  by_cell None none = let there : IsSome (cell old e.port e.index) = places k e here in absurd (false≢true (rw none at there))
+  by_cell None none = let there : IsSome (cell old e.port e.index) = places k e here in
+      absurd (false≢true (rw none at there))
   by_cell (Some mark) is = rw (marked e.port e.index, is) refl
 
 -- marks that were none before count the entries of all traces
-pub counted : {B : Type 0} (n : ℕ) (mark : Mark) (o : Option B) → option_map (next_times n) (option_map (λ (_ : B). mark) o) ≡ option_map (λ (_ : B). next_times n mark) o
+pub counted : {B : Type 0} (n : ℕ) (mark : Mark) (o : Option B)
+    → option_map (next_times n) (option_map (λ (_ : B). mark) o) ≡ option_map (λ (_ : B). next_times n mark) o
 counted n mark None = refl
 counted n mark (Some x) = refl
 

@@ -8,7 +8,8 @@ use Rattle.tl_audit.specs.Marks.{IsSetAt, cell}
 use Rattle.tl_audit.specs.Order.{HaveCells, IsAtLeast, IsOrderedTo, IsSeen}
 
 -- an index that is no greater than the last one is out of order
-pub out_of_order : (trace : List Entry) (k : ℕ) (e : Entry) (last : Option ℕ) (lasts : List (List (Option ℕ))) → slice_get trace k ≡ Some e → IsOrderedTo trace k lasts
+pub out_of_order : (trace : List Entry) (k : ℕ) (e : Entry) (last : Option ℕ) (lasts : List (List (Option ℕ)))
+    → slice_get trace k ≡ Some e → IsOrderedTo trace k lasts
     → cell lasts e.port e.ask.source ≡ Some last → IsAtLeast last e.index → IsOutOfOrder trace k
 out_of_order trace k e None lasts here kept at small = absurd small
 out_of_order trace k e (Some last) lasts here kept at small =
@@ -28,7 +29,8 @@ out_of_order trace k e (Some last) lasts here kept at small =
 -- an index above a bound of it is no smaller than what the bound bounds
 above : (last : Option ℕ) (low index : ℕ) → IsAtLeast last low → (IsAtLeast last index → ⊥) → low ≤ index
 above None low index least more = absurd least
-above (Some y) low index least more = ⊎_elim (λ (less : y < index). omega arith) (λ (other : index ≤ y). absurd (more other)) (cases_lt y index)
+above (Some y) low index least more =
+    ⊎_elim (λ (less : y < index). omega arith) (λ (other : index ≤ y). absurd (more other)) (cases_lt y index)
 
 at_least_from : (last : Option ℕ) (low index : ℕ) → IsAtLeast last index → low ≤ index → IsAtLeast last low
 at_least_from None low index least below = least
@@ -37,11 +39,14 @@ at_least_from (Some y) low index least below = omega arith
 is_itself : (e : Entry) → ((e.port == e.port) && (e.ask.source == e.ask.source)) ≡ true
 is_itself e = both_true (eq-eqb e.port e.port refl) (eq-eqb e.ask.source e.ask.source refl)
 
-module _ (trace : List Entry) (k : ℕ) (e : Entry) (lasts new : List (List (Option ℕ))) (last : Option ℕ) (here : slice_get trace k ≡ Some e)
-    (kept : IsOrderedTo trace k lasts) (at : cell lasts e.port e.ask.source ≡ Some last) (more : IsAtLeast last e.index → ⊥)
+module _ (trace : List Entry) (k : ℕ) (e : Entry) (lasts new : List (List (Option ℕ))) (last : Option ℕ)
+    (here : slice_get trace k ≡ Some e)
+    (kept : IsOrderedTo trace k lasts) (at : cell lasts e.port e.ask.source ≡ Some last)
+        (more : IsAtLeast last e.index → ⊥)
     (put : IsSetAt e.port e.ask.source (Some e.index) lasts new) where
   -- what is kept of the entry's own source and port
-  own : (p s : ℕ) → ((e.port == p) && (e.ask.source == s)) ≡ true → (cell lasts p s ≡ Some last) × (cell new p s ≡ Some (Some e.index))
+  own : (p s : ℕ) → ((e.port == p) && (e.ask.source == s)) ≡ true → (cell lasts p s ≡ Some last)
+      × (cell new p s ≡ Some (Some e.index))
   own p s is =
       let parts = and_parts (e.port == p) (e.ask.source == s) is in
       let port = eqb-true e.port p parts.0 in
@@ -49,7 +54,8 @@ module _ (trace : List Entry) (k : ℕ) (e : Entry) (lasts new : List (List (Opt
       let was : cell lasts p s ≡ Some last = rw (← port, ← source) at in
       (was, rw (put p s, is, was) refl)
 
-  bounds_more : (j : ℕ) (d : Entry) (now : Option ℕ) (b : Bool) → ((e.port == d.port) && (e.ask.source == d.ask.source)) ≡ b → j < k + 1
+  bounds_more : (j : ℕ) (d : Entry) (now : Option ℕ) (b : Bool)
+      → ((e.port == d.port) && (e.ask.source == d.ask.source)) ≡ b → j < k + 1
       → slice_get trace j ≡ Some d → cell new d.port d.ask.source ≡ Some now → IsAtLeast now d.index
   bounds_more j d now true is below there cell_is = ⊎_elim
       (λ (earlier : j < k).
@@ -65,14 +71,17 @@ module _ (trace : List Entry) (k : ℕ) (e : Entry) (lasts new : List (List (Opt
       rw (← same, same_entry) (omega arith))
       (cases_lt j k)
   bounds_more j d now false is below there cell_is = ⊎_elim
-      (λ (earlier : j < k). kept.bounds j d now earlier there (let same = put d.port d.ask.source in let unchanged : cell new d.port d.ask.source ≡ cell lasts d.port d.ask.source = rw is at same in cc))
+      (λ (earlier : j < k). kept.bounds j d now earlier there
+          (let same = put d.port d.ask.source in
+          let unchanged : cell new d.port d.ask.source ≡ cell lasts d.port d.ask.source = rw is at same in cc))
       (λ (later : k ≤ j).
       let last_place : j ≡ k = omega arith in
       let same_entry : d ≡ e = let there_k = rw last_place at there in cc in
       absurd (let itself = is_itself e in let apart = rw same_entry at is in cc))
       (cases_lt j k)
 
-  seen_more : (p s index : ℕ) (b : Bool) → ((e.port == p) && (e.ask.source == s)) ≡ b → cell new p s ≡ Some (Some index) → IsSeen trace (k + 1) p s index
+  seen_more : (p s index : ℕ) (b : Bool) → ((e.port == p) && (e.ask.source == s)) ≡ b → cell new p s ≡ Some (Some index)
+      → IsSeen trace (k + 1) p s index
   seen_more p s index true is cell_is =
       let parts = and_parts (e.port == p) (e.ask.source == s) is in
       record {
@@ -114,15 +123,21 @@ module _ (trace : List Entry) (k : ℕ) (e : Entry) (lasts new : List (List (Opt
 
   pub ordered_more : IsOrderedTo trace (k + 1) new
   ordered_more = record {
-    bounds = λ j d now below there cell_is. bounds_more j d now ((e.port == d.port) && (e.ask.source == d.ask.source)) refl below there cell_is;
+    bounds = λ j d now below there cell_is. bounds_more j d now
+        ((e.port == d.port) && (e.ask.source == d.ask.source)) refl below there cell_is;
     seen = λ p s index cell_is. seen_more p s index ((e.port == p) && (e.ask.source == s)) refl cell_is;
     ordered = ordered_last;
   }
 
 -- a cell stays, whatever is kept
-pub cells_more : (trace : List Entry) (p s : ℕ) (x : Option ℕ) (lasts new : List (List (Option ℕ))) → IsSetAt p s x lasts new → HaveCells lasts trace → HaveCells new trace
-cells_more trace p s x lasts new put cells j d there = by_cell (cell lasts d.port d.ask.source) ((p == d.port) && (s == d.ask.source)) refl refl where
-  by_cell : (o : Option (Option ℕ)) (b : Bool) → cell lasts d.port d.ask.source ≡ o → ((p == d.port) && (s == d.ask.source)) ≡ b → IsSome (cell new d.port d.ask.source)
-  by_cell None b none is = absurd (let there_is : IsSome (cell lasts d.port d.ask.source) = cells j d there in false≢true (rw none at there_is))
+pub cells_more : (trace : List Entry) (p s : ℕ) (x : Option ℕ) (lasts new : List (List (Option ℕ)))
+    → IsSetAt p s x lasts new → HaveCells lasts trace → HaveCells new trace
+cells_more trace p s x lasts new put cells j d there =
+    by_cell (cell lasts d.port d.ask.source) ((p == d.port) && (s == d.ask.source)) refl refl where
+  by_cell : (o : Option (Option ℕ)) (b : Bool) → cell lasts d.port d.ask.source ≡ o
+      → ((p == d.port) && (s == d.ask.source)) ≡ b → IsSome (cell new d.port d.ask.source)
+  by_cell None b none is =
+      absurd (let there_is : IsSome (cell lasts d.port d.ask.source) = cells j d there in
+      false≢true (rw none at there_is))
   by_cell (Some y) true was is = rw (put d.port d.ask.source, is, was) refl
   by_cell (Some y) false was is = rw (put d.port d.ask.source, is, was) refl

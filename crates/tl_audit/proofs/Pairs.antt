@@ -6,7 +6,8 @@ use Rattle.tl_types.specs.declared.trace.Entry.{Entry}
 use Rattle.tl_map.specs.Block.{IsWide}
 use Rattle.tl_audit.specs.Agrees.{IsRecorded, pair_at}
 
-pub recorded_just : (counts : List ℕ) (histories : List (List (Request × Response))) (m : ℕ) (e : Entry) (wide : ℕ) (pair : Request × Response) (b : Bool)
+pub recorded_just : (counts : List ℕ) (histories : List (List (Request × Response))) (m : ℕ) (e : Entry) (wide : ℕ)
+    (pair : Request × Response) (b : Bool)
     → ((w : ℕ) → (Some wide ≡ Some w) ↔ IsWide counts m e.ask.source w)
     → Some pair ≡ pair_at histories e.port e.index
     → (IsTrue b ↔ (pair ≡ (record e.ask { source = wide }, record e.reply { source = wide })))

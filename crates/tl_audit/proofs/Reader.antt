@@ -15,14 +15,16 @@ use Rattle.tl_audit.specs.Reader.{AreLawful, AreOneThreads, CarriesReply, IsServ
 -- ---- one thread's replies
 
 -- the reply at a place is the memory's after the requests before it
-reply_at : (store : Store) (history : List (Request × Response)) (i : ℕ) (ask : Request) (response : Response) → slice_get history i ≡ Some (ask, response)
+reply_at : (store : Store) (history : List (Request × Response)) (i : ℕ) (ask : Request) (response : Response)
+    → slice_get history i ≡ Some (ask, response)
     → slice_get (replies_of store (asks_of history)) i ≡ Some (reply (replay store (asks_of (take i history))) ask)
 reply_at store [] i ask response there = absurd cc
 reply_at store (pair ∷ history) zero ask response there = let same : pair.0 ≡ ask = cc in rw same refl
 reply_at store (pair ∷ history) (suc i) ask response there = reply_at (after store pair.0) history i ask response there
 
 -- so a lawful history has one thread's replies
-lawful_reply : (store : Store) (history : List (Request × Response)) (i : ℕ) (ask : Request) (response : Response) → IsLawfulHistory store history
+lawful_reply : (store : Store) (history : List (Request × Response)) (i : ℕ) (ask : Request) (response : Response)
+    → IsLawfulHistory store history
     → slice_get history i ≡ Some (ask, response) → slice_get (replies_of store (asks_of history)) i ≡ Some response
 lawful_reply store history i ask response lawful there =
     reply_at store history i ask response there ∙ ap (λ (r : Response). Some r) (sym (lawful i ask response there))
@@ -33,29 +35,36 @@ record IsInBook (books : List BookView) (p i : ℕ) (pair : Request × Response)
   at : slice_get books p ≡ Some book
   there : slice_get book.history i ≡ Some pair
 
-in_book : (books : List BookView) (p i : ℕ) (pair : Request × Response) → pair_at (histories_of books) p i ≡ Some pair → IsInBook books p i pair
+in_book : (books : List BookView) (p i : ℕ) (pair : Request × Response) → pair_at (histories_of books) p i ≡ Some pair
+    → IsInBook books p i pair
 in_book books p i pair has = by_book (slice_get books p) refl where
   by_book : (o : Option BookView) → slice_get books p ≡ o → IsInBook books p i pair
   by_book None none = absurd (let never = rw (slice_get-map (λ (b : BookView). b.history) books p, none) at has in cc)
-  by_book (Some book) there = record { book = book; at = there; there = rw (slice_get-map (λ (b : BookView). b.history) books p, there) at has }
+  by_book (Some book) there =
+      record { book = book; at = there; there = rw (slice_get-map (λ (b : BookView). b.history) books p, there) at has }
 
-carried : (counts : List ℕ) (books : List BookView) (m : ℕ) (e : Entry) → AreLawful books → IsRecorded counts (histories_of books) m e → CarriesReply counts books m e
+carried : (counts : List ℕ) (books : List BookView) (m : ℕ) (e : Entry) → AreLawful books
+    → IsRecorded counts (histories_of books) m e → CarriesReply counts books m e
 carried counts books m e lawful recorded =
-    let found = in_book books e.port e.index (record e.ask { source = recorded.wide }, record e.reply { source = recorded.wide }) recorded.at in
+    let found = in_book books e.port e.index
+        (record e.ask { source = recorded.wide }, record e.reply { source = recorded.wide }) recorded.at in
     let law = lawful e.port found.book found.at in
     record {
       book = found.book;
       port = found.at;
       wide = recorded.wide;
       is = recorded.is;
-      asked = slice_get-map (λ (pair : Request × Response). pair.0) found.book.history e.index ∙ ap (option_map (λ (pair : Request × Response). pair.0)) found.there;
-      replied = lawful_reply (reset found.book) found.book.history e.index (record e.ask { source = recorded.wide }) (record e.reply { source = recorded.wide }) law.replies found.there;
+      asked = slice_get-map (λ (pair : Request × Response). pair.0) found.book.history e.index
+          ∙ ap (option_map (λ (pair : Request × Response). pair.0)) found.there;
+      replied = lawful_reply (reset found.book) found.book.history e.index (record e.ask { source = recorded.wide })
+          (record e.reply { source = recorded.wide }) law.replies found.there;
     }
 
 -- ---- once
 
 -- no entry of a trace names the place
-none_in : (p i : ℕ) (trace : List Entry) → times_in p i trace ≡ 0 → (k : ℕ) (e : Entry) → slice_get trace k ≡ Some e → names p i e ≡ true → ⊥
+none_in : (p i : ℕ) (trace : List Entry) → times_in p i trace ≡ 0 → (k : ℕ) (e : Entry) → slice_get trace k ≡ Some e
+    → names p i e ≡ true → ⊥
 none_in p i [] none k e there is = absurd cc
 none_in p i (d ∷ trace) none k e there is = by_name (λ rest. none_in p i trace rest) (names p i d) refl k there where
   by_name : (times_in p i trace ≡ 0 → (k : ℕ) (e : Entry) → slice_get trace k ≡ Some e → names p i e ≡ true → ⊥)
@@ -65,7 +74,8 @@ none_in p i (d ∷ trace) none k e there is = by_name (λ rest. none_in p i trac
   by_name rest false other (suc k) there = rest (rw other at none) k e there is
 
 -- no entry of the traces names the place
-none_of : (p i : ℕ) (traces : List (List Entry)) → times_named traces p i ≡ 0 → (m k : ℕ) (e : Entry) → HasEntry traces m k e → names p i e ≡ true → ⊥
+none_of : (p i : ℕ) (traces : List (List Entry)) → times_named traces p i ≡ 0 → (m k : ℕ) (e : Entry)
+    → HasEntry traces m k e → names p i e ≡ true → ⊥
 none_of p i [] none m k e has is = has
 none_of p i (trace ∷ traces) none zero k e has is = none_in p i trace (omega arith) k e has is
 none_of p i (trace ∷ traces) none (suc m) k e has is = none_of p i traces (omega arith) m k e has is
@@ -79,15 +89,18 @@ record IsNamedIn (p i : ℕ) (trace : List Entry) : Type 0 where
   alone : (k : ℕ) (e : Entry) → slice_get trace k ≡ Some e → names p i e ≡ true → k ≡ place
 
 -- the first entry does
-first_in : (p i : ℕ) (d : Entry) (trace : List Entry) → names p i d ≡ true → times_in p i trace ≡ 0 → IsNamedIn p i (d ∷ trace)
+first_in : (p i : ℕ) (d : Entry) (trace : List Entry) → names p i d ≡ true → times_in p i trace ≡ 0
+    → IsNamedIn p i (d ∷ trace)
 first_in p i d trace named rest = record { place = 0; entry = d; at = refl; named = named; alone = only } where
   only : (k : ℕ) (e : Entry) → slice_get (d ∷ trace) k ≡ Some e → names p i e ≡ true → k ≡ 0
   only zero e there is = refl
   only (suc k) e there is = absurd (none_in p i trace rest k e there is)
 
 -- the first entry does not
-later_in : (p i : ℕ) (d : Entry) (trace : List Entry) → names p i d ≡ false → IsNamedIn p i trace → IsNamedIn p i (d ∷ trace)
-later_in p i d trace other rest = record { place = suc rest.place; entry = rest.entry; at = rest.at; named = rest.named; alone = only } where
+later_in : (p i : ℕ) (d : Entry) (trace : List Entry) → names p i d ≡ false → IsNamedIn p i trace
+    → IsNamedIn p i (d ∷ trace)
+later_in p i d trace other rest =
+    record { place = suc rest.place; entry = rest.entry; at = rest.at; named = rest.named; alone = only } where
   only : (k : ℕ) (e : Entry) → slice_get (d ∷ trace) k ≡ Some e → names p i e ≡ true → k ≡ suc rest.place
   only zero e there is = let same : d ≡ e = cc in absurd (let is_d : names p i d ≡ true = rw same is in cc)
   only (suc k) e there is = ap suc (rest.alone k e there is)
@@ -109,25 +122,31 @@ record IsNamedOf (p i : ℕ) (traces : List (List Entry)) : Type 0 where
   alone : (m k : ℕ) (e : Entry) → HasEntry traces m k e → names p i e ≡ true → (m ≡ master) × (k ≡ place)
 
 -- an entry of the first trace does
-first_of_all : (p i : ℕ) (trace : List Entry) (traces : List (List Entry)) → IsNamedIn p i trace → times_named traces p i ≡ 0 → IsNamedOf p i (trace ∷ traces)
-first_of_all p i trace traces mine others = record { master = 0; place = mine.place; entry = mine.entry; at = mine.at; named = mine.named; alone = only } where
+first_of_all : (p i : ℕ) (trace : List Entry) (traces : List (List Entry)) → IsNamedIn p i trace
+    → times_named traces p i ≡ 0 → IsNamedOf p i (trace ∷ traces)
+first_of_all p i trace traces mine others =
+    record { master = 0; place = mine.place; entry = mine.entry; at = mine.at; named = mine.named; alone = only } where
   only : (m k : ℕ) (e : Entry) → HasEntry (trace ∷ traces) m k e → names p i e ≡ true → (m ≡ 0) × (k ≡ mine.place)
   only zero k e has is = (refl, mine.alone k e has is)
   only (suc m) k e has is = absurd (none_of p i traces others m k e has is)
 
 -- no entry of the first trace does
-later_of_all : (p i : ℕ) (trace : List Entry) (traces : List (List Entry)) → times_in p i trace ≡ 0 → IsNamedOf p i traces → IsNamedOf p i (trace ∷ traces)
+later_of_all : (p i : ℕ) (trace : List Entry) (traces : List (List Entry)) → times_in p i trace ≡ 0
+    → IsNamedOf p i traces → IsNamedOf p i (trace ∷ traces)
 later_of_all p i trace traces none rest =
-    record { master = suc rest.master; place = rest.place; entry = rest.entry; at = rest.at; named = rest.named; alone = only }
+    record { master = suc rest.master; place = rest.place; entry = rest.entry; at = rest.at; named = rest.named;
+        alone = only }
   where
-    only : (m k : ℕ) (e : Entry) → HasEntry (trace ∷ traces) m k e → names p i e ≡ true → (m ≡ suc rest.master) × (k ≡ rest.place)
+    only : (m k : ℕ) (e : Entry) → HasEntry (trace ∷ traces) m k e → names p i e ≡ true → (m ≡ suc rest.master)
+        × (k ≡ rest.place)
     only zero k e has is = absurd (none_in p i trace none k e has is)
     only (suc m) k e has is = let same = rest.alone m k e has is in (ap suc same.0, same.1)
 
 named_of : (p i : ℕ) (traces : List (List Entry)) → times_named traces p i ≡ 1 → IsNamedOf p i traces
 named_of p i [] one = absurd (omega (arith, one))
 named_of p i (trace ∷ traces) one = by_count (λ rest. named_of p i traces rest) (times_in p i trace) refl where
-  by_count : (times_named traces p i ≡ 1 → IsNamedOf p i traces) → (n : ℕ) → times_in p i trace ≡ n → IsNamedOf p i (trace ∷ traces)
+  by_count : (times_named traces p i ≡ 1 → IsNamedOf p i traces) → (n : ℕ) → times_in p i trace ≡ n
+      → IsNamedOf p i (trace ∷ traces)
   by_count rest zero none = later_of_all p i trace traces none (rest (omega arith))
   by_count rest (suc zero) here = first_of_all p i trace traces (named_in p i trace here) (omega arith)
   by_count rest (suc (suc n)) many = absurd (omega arith)
@@ -152,7 +171,8 @@ in_turn : (trace : List Entry) → IsNeverOutOfOrder trace → IsServedInOrder t
 in_turn trace ordered j k earlier later first second before source port = ⊎_elim
     (λ (less : earlier.index < later.index). less)
     (λ (more : later.index ≤ earlier.index).
-    absurd (ordered k (record { early = j; before = before; earlier = earlier; later = later; at_early = first; at = second; source = source; port = port; index = more })))
+    absurd (ordered k (record { early = j; before = before; earlier = earlier; later = later; at_early = first;
+        at = second; source = source; port = port; index = more })))
     (cases_lt earlier.index later.index)
 
 pub agreeing_is_one_threads : (counts : List ℕ) (traces : List (List Entry)) (books : List BookView) → AreLawful books

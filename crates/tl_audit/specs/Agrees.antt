@@ -1,5 +1,5 @@
--- When the traces of masters and the histories of ports hold the same entries, each once, and what is wrong where they do
--- not. All of it is this project's own.
+-- When the traces of masters and the histories of ports hold the same entries, each once, and what is wrong where they
+-- do not. All of it is this project's own.
 use Rattle.std.specs.Prelude.{◌≡◌, ℕ, ◌+◌, ◌<◌, ◌≤◌, Bool, ◌&&◌, ◌==◌, ⊤, List, [], ◌∷◌, map, length, filter, Option, Some, slice_get, option_and_then, IsSome, IsSomeAnd}
 use Rattle.std.specs.Borrow.{Bor}
 use Rattle.tl_types.specs.Request.{Request}
@@ -29,7 +29,8 @@ HasPlace histories p i = IsSome (pair_at histories p i)
 -- ---- what is asked of the entries
 
 -- the entry of master m, with its source widened, is the pair at its port and index
-pub record IsRecorded (counts : List ℕ) (histories : List (List (Request × Response))) (m : ℕ) (e : Entry) : Type 0 where
+pub record IsRecorded (counts : List ℕ) (histories : List (List (Request × Response))) (m : ℕ)
+    (e : Entry) : Type 0 where
   pub wide : ℕ
   pub is : IsWide counts m e.ask.source wide
   pub at : pair_at histories e.port e.index ≡ Some (record e.ask { source = wide }, record e.reply { source = wide })
@@ -68,9 +69,10 @@ IsNeverOutOfOrder trace = (k : ℕ) → IsOutOfOrder trace k → ⊥
 
 -- ---- agreement
 
--- the traces and the histories hold the same entries, each once: each entry is the pair at its port and index, each place
--- of a history is named by one entry, and each trace is in order
-pub record Agrees (counts : List ℕ) (traces : List (List Entry)) (histories : List (List (Request × Response))) : Type 0 where
+-- the traces and the histories hold the same entries, each once: each entry is the pair at its port and index, each
+-- place of a history is named by one entry, and each trace is in order
+pub record Agrees (counts : List ℕ) (traces : List (List Entry))
+    (histories : List (List (Request × Response))) : Type 0 where
   pub recorded : AreRecorded counts traces histories
   pub once : (p i : ℕ) → HasPlace histories p i → times_named traces p i ≡ 1
   pub ordered : (m : ℕ) (trace : List Entry) → slice_get traces m ≡ Some trace → IsNeverOutOfOrder trace

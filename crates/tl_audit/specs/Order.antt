@@ -1,4 +1,5 @@
--- What is kept while a trace's order is checked: the last index of each source at each port. For the proofs of the audit.
+-- What is kept while a trace's order is checked: the last index of each source at each port. For the proofs of the
+-- audit.
 use Rattle.std.specs.Prelude.{◌≡◌, ℕ, ◌<◌, ◌≤◌, List, Option, Some, None, slice_get, IsSome, IsSomeAnd}
 use Rattle.tl_types.specs.declared.trace.Entry.{Entry}
 use Rattle.tl_audit.specs.Agrees.{IsOutOfOrder}
@@ -21,7 +22,8 @@ pub record IsSeen (trace : List Entry) (k p s index : ℕ) : Type 0 where
 
 -- the first k entries of the trace are in order, and these are their last indexes by port and source
 pub record IsOrderedTo (trace : List Entry) (k : ℕ) (lasts : List (List (Option ℕ))) : Type 0 where
-  pub bounds : (j : ℕ) (e : Entry) (last : Option ℕ) → j < k → slice_get trace j ≡ Some e → cell lasts e.port e.ask.source ≡ Some last → IsAtLeast last e.index
+  pub bounds : (j : ℕ) (e : Entry) (last : Option ℕ) → j < k → slice_get trace j ≡ Some e
+      → cell lasts e.port e.ask.source ≡ Some last → IsAtLeast last e.index
   pub seen : (p s last : ℕ) → cell lasts p s ≡ Some (Some last) → IsSeen trace k p s last
   pub ordered : (j : ℕ) → j < k → IsOutOfOrder trace j → ⊥
 

@@ -1,5 +1,6 @@
--- What a reader of the traces gets where they agree with the histories of lawful books: the replies of one thread. What a reply
--- is stands in the chapter "TL-UL and TL-UH operations" of the TileLink specification; the rest is this project's own.
+-- What a reader of the traces gets where they agree with the histories of lawful books: the replies of one thread. What
+-- a reply is stands in the chapter "TL-UL and TL-UH operations" of the TileLink specification; the rest is this
+-- project's own.
 use Rattle.std.specs.Prelude.{◌≡◌, ℕ, ◌<◌, List, [], ◌∷◌, map, Some, slice_get}
 use Rattle.tl_types.specs.Request.{Request}
 use Rattle.tl_types.specs.Response.{Response}
@@ -23,15 +24,16 @@ histories_of books = map (λ (book : BookView). book.history) books
 abbrev pub AreLawful : List BookView → Type 0
 AreLawful books = (p : ℕ) (book : BookView) → slice_get books p ≡ Some book → IsLawfulBook book
 
--- the entry of master m, with its source widened, is the request at its index in the history of its port, and carries the
--- reply of the one thread that serves this history from reset
+-- the entry of master m, with its source widened, is the request at its index in the history of its port, and carries
+-- the reply of the one thread that serves this history from reset
 pub record CarriesReply (counts : List ℕ) (books : List BookView) (m : ℕ) (e : Entry) : Type 0 where
   pub book : BookView
   pub port : slice_get books e.port ≡ Some book
   pub wide : ℕ
   pub is : IsWide counts m e.ask.source wide
   pub asked : slice_get (asks_of book.history) e.index ≡ Some (record e.ask { source = wide })
-  pub replied : slice_get (replies_of (reset book) (asks_of book.history)) e.index ≡ Some (record e.reply { source = wide })
+  pub replied : slice_get (replies_of (reset book) (asks_of book.history)) e.index ≡ Some
+      (record e.reply { source = wide })
 
 -- one entry of the traces is of place i of the history of port p, and no other
 pub record IsTracedOnce (traces : List (List Entry)) (p i : ℕ) : Type 0 where
@@ -45,11 +47,12 @@ pub record IsTracedOnce (traces : List (List Entry)) (p i : ℕ) : Type 0 where
 
 -- of two entries of a master with one source and port, the earlier was served first
 abbrev pub IsServedInOrder : List Entry → Type 0
-IsServedInOrder trace = (j k : ℕ) (earlier later : Entry) → slice_get trace j ≡ Some earlier → slice_get trace k ≡ Some later
+IsServedInOrder trace =
+    (j k : ℕ) (earlier later : Entry) → slice_get trace j ≡ Some earlier → slice_get trace k ≡ Some later
     → j < k → earlier.ask.source ≡ later.ask.source → earlier.port ≡ later.port → earlier.index < later.index
 
--- the traces are those of one thread that serves each port's history from reset: each entry carries its reply, each entry of
--- a history is traced once, and each source's entries at a port were served in the order of the trace
+-- the traces are those of one thread that serves each port's history from reset: each entry carries its reply, each
+-- entry of a history is traced once, and each source's entries at a port were served in the order of the trace
 pub record AreOneThreads (counts : List ℕ) (traces : List (List Entry)) (books : List BookView) : Type 0 where
   pub replies : (m k : ℕ) (e : Entry) → HasEntry traces m k e → CarriesReply counts books m e
   pub once : (p i : ℕ) → HasPlace (histories_of books) p i → IsTracedOnce traces p i

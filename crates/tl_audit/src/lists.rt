@@ -127,8 +127,8 @@ fn check_order(
 
 /// Whether the traces of masters and the histories of ports hold the same entries, each once.
 ///
-/// A history carries wide sources, a trace the master's own. Errors, the first kind that applies, and of a kind the one of
-/// the lowest master or port and there of the lowest place: [`AuditFault::Missing`], [`AuditFault::Twice`],
+/// A history carries wide sources, a trace the master's own. Errors, the first kind that applies, and of a kind the one
+/// of the lowest master or port and there of the lowest place: [`AuditFault::Missing`], [`AuditFault::Twice`],
 /// [`AuditFault::Order`], [`AuditFault::Untraced`]; and [`AuditFault::Memory`] where memory is refused.
 pub fn audit_lists(
     alloc: Global,

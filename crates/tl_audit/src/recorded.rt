@@ -51,8 +51,8 @@ fn read_pair(histories: &[&Journal], port: usize, index: usize, pair: &mut (Ask,
     true
 }
 
-/// Whether an entry of a master, with its source widened, is the pair at its port and index, which is read into the place of
-/// another.
+/// Whether an entry of a master, with its source widened, is the pair at its port and index, which is read into the
+/// place of another.
 pub(crate) fn is_recorded(
     sources: &Sources,
     histories: &[&Journal],

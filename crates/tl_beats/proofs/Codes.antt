@@ -27,9 +27,11 @@ op_at-code Get = refl
 op_at-code (Intent PrefetchRead) = refl
 op_at-code (Intent PrefetchWrite) = refl
 
-pub same_op : (op other : AskOp) (opcode param : ℕ) → IsCodeOf op opcode param → IsCodeOf other opcode param → op ≡ other
+pub same_op : (op other : AskOp) (opcode param : ℕ) → IsCodeOf op opcode param → IsCodeOf other opcode param
+    → op ≡ other
 same_op op other opcode param code code' =
-    let numbers : op_at (opcode_of op) (param_of op) ≡ op_at (opcode_of other) (param_of other) = rw (code.opcode_is, code.param_is, code'.opcode_is, code'.param_is) refl in
+    let numbers : op_at (opcode_of op) (param_of op) ≡ op_at (opcode_of other) (param_of other) =
+        rw (code.opcode_is, code.param_is, code'.opcode_is, code'.param_is) refl in
     sym (op_at-code op) ∙ numbers ∙ op_at-code other
 
 pub reply_op_at-code : (op : ReplyOp) → reply_op_at (reply_opcode_of op) ≡ op
@@ -37,6 +39,7 @@ reply_op_at-code AccessAck = refl
 reply_op_at-code AccessAckData = refl
 reply_op_at-code HintAck = refl
 
-pub same_reply_op : (op other : ReplyOp) (opcode : ℕ) → reply_opcode_of op ≡ opcode → reply_opcode_of other ≡ opcode → op ≡ other
+pub same_reply_op : (op other : ReplyOp) (opcode : ℕ) → reply_opcode_of op ≡ opcode → reply_opcode_of other ≡ opcode
+    → op ≡ other
 same_reply_op op other opcode code code' =
     sym (reply_op_at-code op) ∙ ap reply_op_at (code ∙ sym code') ∙ reply_op_at-code other

@@ -11,7 +11,8 @@ at_element P None h = absurd h
 at_element P (Some x) h = (x, refl, h)
 
 -- one more element has the property
-pub holds_more : {A : Type 0} (P : A → Type 0) (xs : List A) (b : ℕ) (here : A) → HoldsBelow P xs b → slice_get xs b ≡ Some here → P here → HoldsBelow P xs (b + 1)
+pub holds_more : {A : Type 0} (P : A → Type 0) (xs : List A) (b : ℕ) (here : A) → HoldsBelow P xs b
+    → slice_get xs b ≡ Some here → P here → HoldsBelow P xs (b + 1)
 holds_more P xs b here below at holds k x h found = go (cases_lt k b)
   where
     go : (k < b) ⊎ (b ≤ k) → P x
@@ -21,11 +22,14 @@ holds_more P xs b here below at holds k x h found = go (cases_lt k b)
         let same : here ≡ x = cc in
         subst P same holds
 
-pub holds_more_at : {A : Type 0} (P : A → Type 0) (xs : List A) (b : ℕ) (d : A) → HoldsBelow P xs b → b < length xs → P (get_or xs b d) → HoldsBelow P xs (b + 1)
-holds_more_at P xs b d below within holds = holds_more P xs b (get_or xs b d) below (slice_get-get_or xs b d within) holds
+pub holds_more_at : {A : Type 0} (P : A → Type 0) (xs : List A) (b : ℕ) (d : A) → HoldsBelow P xs b → b < length xs
+    → P (get_or xs b d) → HoldsBelow P xs (b + 1)
+holds_more_at P xs b d below within holds =
+    holds_more P xs b (get_or xs b d) below (slice_get-get_or xs b d within) holds
 
 -- no element fails where all hold
-pub none_fails : {A : Type 0} (P : A → Type 0) (xs : List A) (b : ℕ) → HoldsBelow P xs (length xs) → FailsFirstAt P xs b → ⊥
+pub none_fails : {A : Type 0} (P : A → Type 0) (xs : List A) (b : ℕ) → HoldsBelow P xs (length xs) → FailsFirstAt P xs b
+    → ⊥
 none_fails P xs b all fails =
     let bad = at_element (λ x. P x → ⊥) (slice_get xs b) fails.here in
     bad.2 (all b bad.0 (slice_get_within xs b bad.0 bad.1) bad.1)

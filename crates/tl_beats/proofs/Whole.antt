@@ -13,14 +13,24 @@ some_is : (a b : ℕ) (given : Option ℕ) → Some (Some a) ≡ Some given → 
 some_is a b given e same = cc
 
 -- lanes that are all set are gained as bytes that are all given
-pub gains_whole : (beat : ABeat) (first count : ℕ) (old : List (Option ℕ)) (lanes : List ℕ) → length lanes ≡ count → ((k : ℕ) → k < count → bit_at beat.mask (first + k) ≡ 1) → ((k : ℕ) → k < count → slice_index lanes k ≡ slice_index beat.lanes (first + k)) → GainsLanes beat first count old (old ++ map (λ byte. Some byte) lanes)
+pub gains_whole : (beat : ABeat) (first count : ℕ) (old : List (Option ℕ)) (lanes : List ℕ) → length lanes ≡ count
+    → ((k : ℕ) → k < count → bit_at beat.mask (first + k) ≡ 1)
+    → ((k : ℕ) → k < count → slice_index lanes k ≡ slice_index beat.lanes (first + k))
+    → GainsLanes beat first count old (old ++ map (λ byte. Some byte) lanes)
 gains_whole beat first count old lanes counted set read =
     let all : List (Option ℕ) = map (λ byte. Some byte) lanes in
     let many : length all ≡ count = length-map lanes (λ byte. Some byte) ∙ counted in
-    subst (λ (n : ℕ). GainsLanes beat first n old (old ++ all)) many (gains_so (λ k given. slice_get all k ≡ Some given) (λ k given. StandsAt beat.mask beat.lanes (first + k) given) (length all) old (old ++ all) (λ k given h at. stands k given (omega (arith, h, many)) at) (gains_append old all))
+    subst (λ (n : ℕ). GainsLanes beat first n old (old ++ all)) many
+        (gains_so (λ k given. slice_get all k ≡ Some given) (λ k given. StandsAt beat.mask beat.lanes (first + k) given)
+        (length all) old (old ++ all) (λ k given h at. stands k given (omega (arith, h, many)) at)
+        (gains_append old all))
   where
-    stands : (k : ℕ) (given : Option ℕ) → k < count → slice_get (map (λ byte. Some byte) lanes) k ≡ Some given → StandsAt beat.mask beat.lanes (first + k) given
+    stands : (k : ℕ) (given : Option ℕ) → k < count → slice_get (map (λ byte. Some byte) lanes) k ≡ Some given
+        → StandsAt beat.mask beat.lanes (first + k) given
     stands k given below at =
-        let found : slice_get (map (λ byte. Some byte) lanes) k ≡ Some (Some (slice_index lanes k)) = slice_get-map (λ byte. Some byte) lanes k ∙ ap (option_map (λ byte. Some byte)) (slice_get-get_or lanes k 0 (omega (arith, below, counted))) in
-        let is : given ≡ Some (slice_index beat.lanes (first + k)) = some_is (slice_index lanes k) (slice_index beat.lanes (first + k)) given (sym found ∙ at) (read k below) in
+        let found : slice_get (map (λ byte. Some byte) lanes) k ≡ Some (Some (slice_index lanes k)) =
+            slice_get-map (λ byte. Some byte) lanes k
+            ∙ ap (option_map (λ byte. Some byte)) (slice_get-get_or lanes k 0 (omega (arith, below, counted))) in
+        let is : given ≡ Some (slice_index beat.lanes (first + k)) =
+            some_is (slice_index lanes k) (slice_index beat.lanes (first + k)) given (sym found ∙ at) (read k below) in
         rw is (set k below, refl)

@@ -11,7 +11,8 @@ use Rattle.tl_beats.specs.declared.beat.DBeat.{DBeat}
 
 -- the mask of the active lanes sets the bits of just these
 abbrev pub MaskSetsActiveLanes : Type 0
-MaskSetsActiveLanes = (address size lane : ℕ) → (bit_at (active_mask address size) lane ≡ 1) ↔ IsActive address size lane
+MaskSetsActiveLanes =
+    (address size lane : ℕ) → (bit_at (active_mask address size) lane ≡ 1) ↔ IsActive address size lane
 
 -- beats spell at most one request
 abbrev pub AtMostOneAsk : Type 0
@@ -24,5 +25,6 @@ AtMostOneAsk =
 abbrev pub AtMostOneReply : Type 0
 AtMostOneReply =
     (reply other : Response) (address : ℕ) (beats : List DBeat)
-    → IsLawfulResponse reply.op reply.size reply.denied reply.bytes → IsLawfulResponse other.op other.size other.denied other.bytes
+    → IsLawfulResponse reply.op reply.size reply.denied reply.bytes
+        → IsLawfulResponse other.op other.size other.denied other.bytes
     → SpellsReply reply address beats → SpellsReply other address beats → reply ≡ other

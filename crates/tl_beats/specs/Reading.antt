@@ -43,7 +43,8 @@ pub record AreFaultless (beats : List ABeat) (first : ABeat) (op : AskOp) : Type
 -- the bytes are those that stand in the beats
 pub record AreBytesOf (beats : List ABeat) (first : ABeat) (op : AskOp) (bytes : List (Option ℕ)) : Type 0 where
   pub counted : length bytes ≡ byte_count op first.size
-  pub each : (j : ℕ) (given : Option ℕ) (beat : ABeat) → slice_get bytes j ≡ Some given → slice_get beats (j / BUS_BYTES) ≡ Some beat
+  pub each : (j : ℕ) (given : Option ℕ) (beat : ABeat) → slice_get bytes j ≡ Some given
+      → slice_get beats (j / BUS_BYTES) ≡ Some beat
       → StandsAt beat.mask beat.lanes (lane_of first.address first.size j) given
 
 -- the beats all agree with the first, each mask is lawful, and the bytes are those that stand in the beats
@@ -51,7 +52,8 @@ pub record IsReadFrom (beats : List ABeat) (first : ABeat) (op : AskOp) (bytes :
   pub same : HoldsBelow (SameFields first) beats (length beats)
   pub masks : HoldsBelow (HasLawfulMask op first) beats (length beats)
   pub counted : length bytes ≡ byte_count op first.size
-  pub each : (j : ℕ) (given : Option ℕ) (beat : ABeat) → slice_get bytes j ≡ Some given → slice_get beats (j / BUS_BYTES) ≡ Some beat
+  pub each : (j : ℕ) (given : Option ℕ) (beat : ABeat) → slice_get bytes j ≡ Some given
+      → slice_get beats (j / BUS_BYTES) ≡ Some beat
       → StandsAt beat.mask beat.lanes (lane_of first.address first.size j) given
 
 -- the fault is the first one that shows in the beats, one by one, of a request whose count and operation are known
@@ -89,16 +91,19 @@ pub record AreFaultlessReply (beats : List DBeat) (first : DBeat) (op : ReplyOp)
 -- the bytes begin with the lanes of all beats, one beat after the other
 abbrev pub AreLanesOf : List DBeat → List ℕ → Type 0
 AreLanesOf beats bytes =
-    (j : ℕ) (beat : DBeat) → slice_get beats (j / BUS_BYTES) ≡ Some beat → slice_index bytes j ≡ slice_index beat.lanes (j % BUS_BYTES)
+    (j : ℕ) (beat : DBeat) → slice_get beats (j / BUS_BYTES) ≡ Some beat
+        → slice_index bytes j ≡ slice_index beat.lanes (j % BUS_BYTES)
 
 -- the bytes are those that stand in the beats
-pub record AreReplyBytesOf (beats : List DBeat) (first : DBeat) (op : ReplyOp) (address : ℕ) (bytes : List ℕ) : Type 0 where
+pub record AreReplyBytesOf (beats : List DBeat) (first : DBeat) (op : ReplyOp) (address : ℕ)
+    (bytes : List ℕ) : Type 0 where
   pub counted : length bytes ≡ reply_byte_count op first.size
   pub each : (j byte : ℕ) (beat : DBeat) → slice_get bytes j ≡ Some byte → slice_get beats (j / BUS_BYTES) ≡ Some beat
       → StandsInReply first.denied beat.lanes (lane_of address first.size j) byte
 
 -- the beats all agree with the first, each `corrupt` is lawful, and the bytes are those that stand in the beats
-pub record IsReplyReadFrom (beats : List DBeat) (first : DBeat) (op : ReplyOp) (address : ℕ) (bytes : List ℕ) : Type 0 where
+pub record IsReplyReadFrom (beats : List DBeat) (first : DBeat) (op : ReplyOp) (address : ℕ)
+    (bytes : List ℕ) : Type 0 where
   pub same : HoldsBelow (SameReplyFields first) beats (length beats)
   pub flags : HoldsBelow (HasLawfulFlag op first) beats (length beats)
   pub counted : length bytes ≡ reply_byte_count op first.size

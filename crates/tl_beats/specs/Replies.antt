@@ -34,8 +34,8 @@ pub record SpellsReply (reply : Response) (address : ℕ) (beats : List DBeat) :
   pub count : length beats ≡ beat_count (reply_carries_bytes reply.op) reply.size
   pub each : (b : ℕ) (beat : DBeat) → slice_get beats b ≡ Some beat → IsReplyBeatOf reply address b beat
 
--- a beat has zeros on the lanes that carry nothing, and is marked corrupt just where it carries a denied reply's bytes: this
--- project's own rule
+-- a beat has zeros on the lanes that carry nothing, and is marked corrupt just where it carries a denied reply's bytes:
+-- this project's own rule
 pub record IsCleanReply (reply : Response) (address : ℕ) (beat : DBeat) : Type 0 where
   pub without_bytes : reply_carries_bytes reply.op ≡ false → (k : ℕ) → k < BUS_BYTES → slice_index beat.lanes k ≡ 0
   pub denied : IsTrue reply.denied → (k : ℕ) → k < BUS_BYTES → slice_index beat.lanes k ≡ 0

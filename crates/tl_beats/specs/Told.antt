@@ -1,6 +1,7 @@
--- The reply that beats tell, part by part, whether they spell it or not: the operation, size, source and denial of the first
--- beat, and the bytes that stand at their lanes, which are zero where it is denied. What is read where is the chapter "Beats
--- and bursts" of the TileLink specification; that a denied reply's bytes are zero is this project's choice.
+-- The reply that beats tell, part by part, whether they spell it or not: the operation, size, source and denial of the
+-- first beat, and the bytes that stand at their lanes, which are zero where it is denied. What is read where is the
+-- chapter "Beats and bursts" of the TileLink specification; that a denied reply's bytes are zero is this project's
+-- choice.
 use Rattle.std.specs.Prelude.{ℕ, ◌/◌, suc, zero, false, if◌then◌else◌, List, [], map, slice_index, slice_index_or}
 use Rattle.std.specs.List.{range_with_len}
 use Rattle.tl_types.specs.declared.operation.ReplyOp.{ReplyOp}
@@ -22,7 +23,9 @@ no_beat = record { opcode = 0; size = 0; source = 0; denied = false; corrupt = f
 
 -- byte j of a reply to a request at the address, whose first beat this is
 abbrev pub told_byte : List DBeat → ℕ → DBeat → ℕ → ℕ
-told_byte beats address first j = if first.denied then 0 else slice_index (slice_index_or beats (j / BUS_BYTES) no_beat).lanes (lane_of address first.size j)
+told_byte beats address first j =
+    if first.denied then 0 else slice_index (slice_index_or beats (j / BUS_BYTES) no_beat).lanes
+    (lane_of address first.size j)
 
 abbrev pub told_reply : List DBeat → ℕ → Response
 told_reply beats address =
@@ -31,5 +34,6 @@ told_reply beats address =
       size = first.size;
       source = first.source;
       denied = first.denied;
-      bytes = map (told_byte beats address first) (range_with_len 0 (reply_byte_count (reply_op_at first.opcode) first.size));
+      bytes = map (told_byte beats address first)
+          (range_with_len 0 (reply_byte_count (reply_op_at first.opcode) first.size));
     }

@@ -1,6 +1,6 @@
--- The request that beats tell, part by part, whether they spell it or not: the operation, size, source and address of the
--- first beat, and the bytes that stand at their lanes where the masks set them. What is read where is the chapter "Beats
--- and bursts" of the TileLink specification.
+-- The request that beats tell, part by part, whether they spell it or not: the operation, size, source and address of
+-- the first beat, and the bytes that stand at their lanes where the masks set them. What is read where is the chapter
+-- "Beats and bursts" of the TileLink specification.
 use Rattle.std.specs.Prelude.{ℕ, ◌/◌, suc, zero, List, [], Option, Some, None, map, slice_index, slice_index_or}
 use Rattle.std.specs.List.{range_with_len}
 use Rattle.std.specs.Int.{bit_at}

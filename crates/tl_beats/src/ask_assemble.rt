@@ -133,7 +133,8 @@ fn fill_with_bytes(beats: &[ABeat], first: &ABeat, op: AskOp, ask: &mut Ask)
     ask.refill_from(op, first.size, first.source, first.address, &bytes);
 }
 
-/// Puts the request that carries the word of the one beat, which has no fault and sets all lanes, in the place of another.
+/// Puts the request that carries the word of the one beat, which has no fault and sets all lanes, in the place of
+/// another.
 // most puts are of a word: it is read from the lanes where they lie
 fn fill_word(beats: &[ABeat], first: &ABeat, op: AskOp, ask: &mut Ask)
     requires begun { IsBegun beats.now first.now op }

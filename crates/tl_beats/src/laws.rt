@@ -10,8 +10,8 @@ pub fn bus_in_numbers()
     ensures beats { MAX_BEATS ≡ 32 }
 {}
 
-/// Which lanes are active is said by numbers for beats of replies, and by a mask for beats of requests: both are the same
-/// lanes.
+/// Which lanes are active is said by numbers for beats of replies, and by a mask for beats of requests: both are the
+/// same lanes.
 pub fn mask_sets_active_lanes()
     ensures { MaskSetsActiveLanes }
 {}

@@ -136,8 +136,8 @@ fn fill_reply(beats: &[DBeat], first: &DBeat, op: ReplyOp, address: u64, reply: 
     }
 }
 
-/// Puts the reply to a request at the address that beats spell in the place of another, or names the first fault that they
-/// have.
+/// Puts the reply to a request at the address that beats spell in the place of another, or names the first fault that
+/// they have.
 pub fn assemble_reply_into(
     beats: &[DBeat],
     address: u64,

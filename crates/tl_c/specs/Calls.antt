@@ -63,13 +63,15 @@ IsJudge = HoldsJudge (λ _. ⊤)
 
 -- the number is that of the script's first fault, or of want of memory or a full handle
 abbrev pub IsScriptAnswer : List ℕ → ℕ → Type 0
-IsScriptAnswer script number = MEMORY < number → (fault : ScriptFault) × (number ≡ script_number fault) × IsFirstScriptFault script fault
+IsScriptAnswer script number =
+    MEMORY < number → (fault : ScriptFault) × (number ≡ script_number fault) × IsFirstScriptFault script fault
 
 -- ---- models
 
 -- a request of a master is served, and the struct has its answer
 
-pub record IsServedBy (old : CrossbarState) (master : ℕ) (wire : WireAsk) (answer : WireAnswer) (new : CrossbarState) : Type 0 where
+pub record IsServedBy (old : CrossbarState) (master : ℕ) (wire : WireAsk) (answer : WireAnswer)
+    (new : CrossbarState) : Type 0 where
   pub ask : Request
   pub spelled : IsAskOf wire ask
   pub accepted : Accepts old master ask
@@ -88,11 +90,14 @@ pub record IsRefusedBy (old : CrossbarState) (master : ℕ) (wire : WireAsk) (nu
 -- ---- judges
 
 -- the judge was shown this, after these beats by this plan, and has answered this number
-pub record IsStep (plan : Plan) (past : List Sighting) (shown : Sighting) (old : Judge) (number : ℕ) (new : Judge) : Type 0 where
+pub record IsStep (plan : Plan) (past : List Sighting) (shown : Sighting) (old : Judge) (number : ℕ)
+    (new : Judge) : Type 0 where
   pub lawful : number ≡ OK ↔ IsLawful plan (shown ∷ past)
   pub keeps : number ≡ OK → Keeps plan (shown ∷ past) new.watch
-  pub requests : number ≡ OK → new.requests ≡ one_more (is_counted plan.layout.links shown.link && is_whole_ask (what_is_seen plan past shown)) old.requests
-  pub answered : number ≡ OK → new.answered ≡ one_more (is_counted plan.layout.links shown.link && is_whole_reply (what_is_seen plan past shown)) old.answered
+  pub requests : number ≡ OK → new.requests ≡ one_more
+      (is_counted plan.layout.links shown.link && is_whole_ask (what_is_seen plan past shown)) old.requests
+  pub answered : number ≡ OK → new.answered ≡ one_more
+      (is_counted plan.layout.links shown.link && is_whole_reply (what_is_seen plan past shown)) old.answered
   pub text : number ≡ OK → new.text ≡ old.text
 
 -- the text is the line of this fault; or it is empty, if there was no room for the line
@@ -103,9 +108,10 @@ IsLineOf found room text = (text ≡ unlawful_line found) ⊎ ((text ≡ []) × 
 abbrev pub found_at : ℕ → ℕ → Sighting → Fault → Unlawful
 found_at line time shown fault = record { row = record { line = line; time = time; sighting = shown }; fault = fault }
 
--- the number is that of the first fault of the beat that is shown, and the text is the line of this fault, with the line and the time that
--- the beat was shown with
-pub record IsFaultOfBeat (plan : Plan) (past : List Sighting) (shown : Sighting) (line time : ℕ) (old : Judge) (number : ℕ) (new : Judge) : Type 0 where
+-- the number is that of the first fault of the beat that is shown, and the text is the line of this fault, with the
+-- line and the time that the beat was shown with
+pub record IsFaultOfBeat (plan : Plan) (past : List Sighting) (shown : Sighting) (line time : ℕ) (old : Judge)
+    (number : ℕ) (new : Judge) : Type 0 where
   pub fault : Fault
   pub number_is : number ≡ beat_number fault
   pub first : IsFirstFault plan past shown fault
@@ -128,8 +134,8 @@ pub record IsPlanOf (links : Links) (order : Order) (system : System) (plan : Pl
   pub layout : plan.layout ≡ layout_of links order system
   pub resets : plan.resets ≡ resets system
 
--- a judge of this system before any beat: it keeps no beat by each plan of the system, of which there is one, and has counted none; its
--- text is empty, with room for a line
+-- a judge of this system before any beat: it keeps no beat by each plan of the system, of which there is one, and has
+-- counted none; its text is empty, with room for a line
 pub record BeginsBy (links : Links) (order : Order) (system : System) (judge : Judge) : Type 0 where
   pub layout : judge.watch.layout ≡ layout_of links order system
   pub some : (plan : Plan) × IsPlanOf links order system plan
@@ -148,4 +154,5 @@ order_of n = if n == 0 then Some Accept else if n == 1 then Some Reply else None
 
 -- the same, of the numbers of links and order
 abbrev pub BeginsAs : ℕ → ℕ → System → Judge → Type 0
-BeginsAs links order system judge = IsSomeAnd (links_of links) (λ l. IsSomeAnd (order_of order) (λ o. BeginsBy l o system judge))
+BeginsAs links order system judge =
+    IsSomeAnd (links_of links) (λ l. IsSomeAnd (order_of order) (λ o. BeginsBy l o system judge))

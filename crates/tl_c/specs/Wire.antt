@@ -18,7 +18,8 @@ use Rattle.tl_c.specs.declared.wire.WireBeat.{WireBeat}
 
 -- the byte of a request at a place: none where a partial put leaves it unset
 abbrev pub byte_at : WireAsk → Bool → ℕ → Option ℕ
-byte_at wire partial place = if partial && (get_or wire.set place 0 == 0) then None else Some (get_or wire.bytes place 0)
+byte_at wire partial place =
+    if partial && (get_or wire.set place 0 == 0) then None else Some (get_or wire.bytes place 0)
 
 -- the struct is one of this request
 pub record IsAskOf (wire : WireAsk) (ask : Request) : Type 0 where
@@ -88,7 +89,8 @@ reply_beat w None corrupt = None
 
 -- the beat that a struct stands for, if its numbers have a meaning
 abbrev pub beat_of : WireBeat → Option Beat
-beat_of w = if w.channel == 0 then Some (ask_beat w) else if w.channel == 1 then reply_beat w (flag_of w.denied) (flag_of w.corrupt) else None
+beat_of w = if w.channel == 0 then Some (ask_beat w) else if w.channel == 1 then reply_beat w (flag_of w.denied)
+    (flag_of w.corrupt) else None
 
 abbrev pub seen_at : Option Link → Option Beat → ℕ → Option Sighting
 seen_at (Some link) (Some beat) known = Some (record { link = link; beat = beat; known = known })

@@ -5,8 +5,8 @@ use tl_model::Crossbar;
 use tl_script::System;
 use tl_types::{Ask, Reply};
 
-/// The model of a crossbar. Each request that it is handed is read into the place of the one before, and each reply served into the
-/// place of the one before: contracts see the crossbar alone.
+/// The model of a crossbar. Each request that it is handed is read into the place of the one before, and each reply
+/// served into the place of the one before: contracts see the crossbar alone.
 #[derive(Drop)]
 pub struct Server {
     pub crossbar: Crossbar,

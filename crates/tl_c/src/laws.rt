@@ -4,8 +4,8 @@ ghost use Rattle.tl_c.specs.declared.fault.TheConstants.{OK, EMPTY, FULL, MEMORY
 ghost use Rattle.tl_c.specs.declared.judge.TheConstants.{LINE_ROOM};
 ghost use Rattle.tl_c.specs.declared.wire.TheConstants.{ROOM};
 
-/// The faults in the numbers of `enum tlx_fault`; those that are told of scripts, requests and beats are in `specs/Numbers.antt`. Contracts
-/// name the constants, so without this law a wrong one would change what they promise.
+/// The faults in the numbers of `enum tlx_fault`; those that are told of scripts, requests and beats are in
+/// `specs/Numbers.antt`. Contracts name the constants, so without this law a wrong one would change what they promise.
 pub fn faults_in_numbers()
     ensures ok { OK ≡ 0 }
     ensures empty { EMPTY ≡ 2 }
@@ -18,7 +18,8 @@ pub fn faults_in_numbers()
     ensures no_link { NO_LINK ≡ 30 }
 {}
 
-/// The room of a message's bytes in the structs, `TLX_ROOM`, and the room for the line of a fault that a judge begins with.
+/// The room of a message's bytes in the structs, `TLX_ROOM`, and the room for the line of a fault that a judge begins
+/// with.
 pub fn room_in_numbers()
     ensures bytes { ROOM ≡ 256 }
     ensures line { LINE_ROOM ≡ 2048 }

@@ -91,7 +91,8 @@ fn fill_ask(wire: &WireAsk, op: AskOp, ask: &mut Ask)
     }
 }
 
-/// Puts a reply with its port and place into a struct. Behind its bytes the struct stays as it was: a short reply pays for no long one.
+/// Puts a reply with its port and place into a struct. Behind its bytes the struct stays as it was: a short reply pays
+/// for no long one.
 pub(crate) fn put_answer(wire: &mut WireAnswer, port: usize, place: usize, reply: &Reply)
     ensures answer { IsAnswerOf wire.new port place reply.now }
     ensures behind { drop wire.new.count wire.new.bytes ≡ drop wire.new.count wire.old.bytes }

@@ -35,7 +35,8 @@ entry_in pools header = (ask_in pools header, reply_in pools header)
 pub record IsEntryIn (pools : PoolsView) (header : Header) : Type 0 where
   pub ask : AreIn pools header.op header.size header.start
   pub within : header.answer_start + reply_byte_count header.answer header.answer_size ≤ length pools.whole
-  pub lawful : IsLawfulResponse header.answer header.answer_size header.denied (plain_in pools header.answer_start (reply_byte_count header.answer header.answer_size))
+  pub lawful : IsLawfulResponse header.answer header.answer_size header.denied
+      (plain_in pools header.answer_start (reply_byte_count header.answer header.answer_size))
 
 -- the pools have room for the longest messages of so many more entries
 pub record HasRoom (pools : PoolsView) (left : ℕ) : Type 0 where

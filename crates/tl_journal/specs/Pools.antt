@@ -1,13 +1,13 @@
--- How the bytes of messages are kept: those of one behind those of the other in pools, those of partial puts, which may leave
--- some unset, in one of their own. This project's own.
+-- How the bytes of messages are kept: those of one behind those of the other in pools, those of partial puts, which may
+-- leave some unset, in one of their own. This project's own.
 use Rattle.std.specs.Prelude.{◌≡◌, ℕ, ◌+◌, ◌≤◌, ◌++◌, Bool, true, false, List, length, map, take, drop, Option, Some}
 use Rattle.tl_types.specs.Bytes.{plain_of}
 use Rattle.tl_types.specs.Operation.{byte_count, may_leave_unset}
 use Rattle.tl_types.specs.Request.{IsLawfulRequest}
 use Rattle.tl_types.specs.declared.operation.AskOp.{AskOp}
 
--- the bytes of all messages but partial puts, each of which is given; those of partial puts; and how many of each there is
--- room for in all
+-- the bytes of all messages but partial puts, each of which is given; those of partial puts; and how many of each there
+-- is room for in all
 pub record PoolsView : Type 0 where
   pub whole : List ℕ
   pub partial : List (Option ℕ)
@@ -40,11 +40,13 @@ pub record AreIn (pools : PoolsView) (op : AskOp) (size start : ℕ) : Type 0 wh
 
 -- bytes that are all given were appended to their pool, where they begin at this place
 abbrev pub IsPlainKept : List ℕ → PoolsView → PoolsView → ℕ → Type 0
-IsPlainKept bytes old new start = (new.whole ≡ old.whole ++ bytes) × (new.partial ≡ old.partial) × (start ≡ length old.whole)
+IsPlainKept bytes old new start =
+    (new.whole ≡ old.whole ++ bytes) × (new.partial ≡ old.partial) × (start ≡ length old.whole)
 
 -- bytes were appended to their pool, where they begin at this place
 abbrev pub IsKept : Bool → List (Option ℕ) → PoolsView → PoolsView → ℕ → Type 0
-IsKept true bytes old new start = (new.whole ≡ old.whole) × (new.partial ≡ old.partial ++ bytes) × (start ≡ length old.partial)
+IsKept true bytes old new start =
+    (new.whole ≡ old.whole) × (new.partial ≡ old.partial ++ bytes) × (start ≡ length old.partial)
 IsKept false bytes old new start = IsPlainKept (plain_of bytes) old new start
 
 -- the bytes are as they were

@@ -1,5 +1,5 @@
--- What a trace is to its callers, and how it keeps its entries: their requests and replies in a journal, and beside it the places
--- where they were served. This project's own.
+-- What a trace is to its callers, and how it keeps its entries: their requests and replies in a journal, and beside it
+-- the places where they were served. This project's own.
 use Rattle.std.specs.Prelude.{◌≡◌, ℕ, ◌≤◌, List, [], ◌∷◌, length, map}
 use Rattle.tl_types.specs.Request.{Request}
 use Rattle.tl_types.specs.Response.{Response}

@@ -62,7 +62,8 @@ impl Journal {
         }
     }
 
-    /// An empty journal with room for so many entries, whatever they carry. Memory that no entry takes is never touched.
+    /// An empty journal with room for so many entries, whatever they carry. Memory that no entry takes is never
+    /// touched.
     pub fn with_room(alloc: Global, entries: usize) -> Result<Journal, AllocError>
         ensures { IfOk result (λ journal. journal ≡ record { items = []; room = entries }) }
     {
@@ -108,8 +109,8 @@ impl Journal {
         Ok(())
     }
 
-    /// Appends a request and its reply, each with this source, and makes room for them first where there is none: it fails only
-    /// then.
+    /// Appends a request and its reply, each with this source, and makes room for them first where there is none: it
+    /// fails only then.
     pub fn push(&mut self, source: u16, ask: &Ask, reply: &Reply) -> Result<(), AllocError>
         ensures ok { OnOk result (self.new.items ≡ self.old.items
             ++ (record ask.now { source = source }, record reply.now { source = source }) ∷ []) }

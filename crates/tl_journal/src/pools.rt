@@ -7,8 +7,8 @@ use std::alloc::{AllocError, Global};
 use std::marker::Model;
 use tl_types::{Ask, AskOp, Bytes};
 
-/// The bytes that messages carry, those of one behind those of the other: of partial puts, which may leave some unset, in
-/// a pool of their own.
+/// The bytes that messages carry, those of one behind those of the other: of partial puts, which may leave some unset,
+/// in a pool of their own.
 #[derive(Drop)]
 pub struct Pools {
     whole: Vec<u8>,

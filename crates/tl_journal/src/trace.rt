@@ -102,8 +102,8 @@ impl Trace {
     }
 }
 
-/// An entry of a get of one byte at address 0 from source 0 and of its acknowledgement, as if it were the first that port 0 served:
-/// room for entries that are read one after the other.
+/// An entry of a get of one byte at address 0 from source 0 and of its acknowledgement, as if it were the first that
+/// port 0 served: room for entries that are read one after the other.
 pub fn blank_entry() -> Entry
     ensures { result ≡ record {
       ask = record { op = Get; size = 0; source = 0; address = 0; bytes = [] };

@@ -13,11 +13,14 @@ some_that P None h = absurd h
 some_that P (Some x) h = (x, refl, h)
 
 -- what holds of the element that is read at a place holds of the one at that place, and the other way round
-pub at_place : {A : Type 0} (P : A → Type 0) (xs : List A) (i : ℕ) (d : A) → i < length xs → P (get_or xs i d) → IsSomeAnd (slice_get xs i) P
+pub at_place : {A : Type 0} (P : A → Type 0) (xs : List A) (i : ℕ) (d : A) → i < length xs → P (get_or xs i d)
+    → IsSomeAnd (slice_get xs i) P
 at_place P xs i d within h = rw (slice_get-get_or xs i d within) h
 
-pub read_place : {A : Type 0} (P : A → Type 0) (xs : List A) (i : ℕ) (d : A) → IsSomeAnd (slice_get xs i) P → P (get_or xs i d)
-read_place P xs i d h = let found = some_that P (slice_get xs i) h in rw (get_or_from_slice_get xs i found.0 d found.1) found.2
+pub read_place : {A : Type 0} (P : A → Type 0) (xs : List A) (i : ℕ) (d : A) → IsSomeAnd (slice_get xs i) P
+    → P (get_or xs i d)
+read_place P xs i d h = let found = some_that P (slice_get xs i) h in
+    rw (get_or_from_slice_get xs i found.0 d found.1) found.2
 
 pub place_within : {A : Type 0} (P : A → Type 0) (xs : List A) (i : ℕ) → IsSomeAnd (slice_get xs i) P → i < length xs
 place_within P xs i h = let found = some_that P (slice_get xs i) h in slice_get_within xs i found.0 found.1
@@ -29,7 +32,8 @@ later_within ranges j i h =
     place_within _ ranges i found.2
 
 -- behind the last range only memory can be wanting
-pub all_tried : (ranges : List Range) (p : ℕ) → length ranges ≤ p → length ranges ≤ MAX_RANGES → NoneBefore ranges (EmptyRange p) → NoneBefore ranges Memory
+pub all_tried : (ranges : List Range) (p : ℕ) → length ranges ≤ p → length ranges ≤ MAX_RANGES
+    → NoneBefore ranges (EmptyRange p) → NoneBefore ranges Memory
 all_tried ranges p past few none TooMany before has = omega (arith, few, has)
 all_tried ranges p past few none (EmptyRange k) before has =
     let within = place_within IsEmpty ranges k has in
@@ -43,7 +47,8 @@ all_tried ranges p past few none (Overlap j k) before has =
     let within = later_within ranges j k has.here in
     let up : 3 * k + 3 < 3 * p + 1 = omega arith in
     none (Overlap j k) up has
-all_tried ranges p past few none Memory before has = let below : 3 * MAX_RANGES + 1 < 3 * MAX_RANGES + 1 = before in absurd (omega arith)
+all_tried ranges p past few none Memory before has = let below : 3 * MAX_RANGES + 1 < 3 * MAX_RANGES + 1 = before in
+    absurd (omega arith)
 
 -- ---- ranges without a fault make a map
 
@@ -61,7 +66,10 @@ module _ (ranges : List Range) (few : length ranges ≤ MAX_RANGES) (none : None
   pub lawful_map : IsLawfulMap ranges
   lawful_map = record {
     in_limit = few;
-    some = λ k d within h. let up : 3 * k + 1 < 3 * MAX_RANGES + 1 = omega arith in none (EmptyRange k) up (at_place IsEmpty ranges k d within h);
-    in_space = λ k d within h. let up : 3 * k + 2 < 3 * MAX_RANGES + 1 = omega arith in none (PastEnd k) up (at_place IsPastEnd ranges k d within h);
-    apart = λ j i lower h. let within = later_within ranges j i h in none_overlaps (suc j) j i (omega arith) lower within h;
+    some = λ k d within h. let up : 3 * k + 1 < 3 * MAX_RANGES + 1 = omega arith in
+        none (EmptyRange k) up (at_place IsEmpty ranges k d within h);
+    in_space = λ k d within h. let up : 3 * k + 2 < 3 * MAX_RANGES + 1 = omega arith in
+        none (PastEnd k) up (at_place IsPastEnd ranges k d within h);
+    apart = λ j i lower h. let within = later_within ranges j i h in
+        none_overlaps (suc j) j i (omega arith) lower within h;
   }

@@ -38,7 +38,8 @@ route_is : (ranges : List Range) (start size : ℕ) → RoutesBytes ranges start
 route_is [] start size = inr (refl, λ j d within. absurd (omega (arith, within)))
 route_is (range ∷ ranges) start size = go (holds range start size) refl (route_is ranges start size)
   where
-    go : (here : Bool) → holds range start size ≡ here → RoutesBytes ranges start size (route_in ranges start size) → RoutesBytes (range ∷ ranges) start size (if here then 0 else suc (route_in ranges start size))
+    go : (here : Bool) → holds range start size ≡ here → RoutesBytes ranges start size (route_in ranges start size)
+        → RoutesBytes (range ∷ ranges) start size (if here then 0 else suc (route_in ranges start size))
     go true is rest = inl (holds_all range start size is)
     go false is (inl there) = inl there
     go false is (inr none) = inr (ap suc none.0, λ j d within. others j d within)
@@ -57,8 +58,12 @@ wide_at None source = 0
 wide_at (Some kept) source = kept.start + source
 
 pub has_wides : (blocks : List Kept) → ArePlaced (counts_of blocks) blocks → HasWides (counts_of blocks)
-has_wides blocks placed = (λ master source. wide_at (slice_get blocks master) source, λ master source wide wides. go master source wide wides (slice_get blocks master) refl)
+has_wides blocks placed =
+    (λ master source. wide_at (slice_get blocks master) source,
+    λ master source wide wides. go master source wide wides (slice_get blocks master) refl)
   where
-    go : (master source wide : ℕ) → IsWide (counts_of blocks) master source wide → (o : Option Kept) → slice_get blocks master ≡ o → wide_at o source ≡ wide
+    go : (master source wide : ℕ) → IsWide (counts_of blocks) master source wide → (o : Option Kept)
+        → slice_get blocks master ≡ o → wide_at o source ≡ wide
     go master source wide wides None is = absurd (no_block blocks master source wide is wides)
-    go master source wide wides (Some kept) is = sym ((wide_here (counts_of blocks) blocks placed master kept is source wide).1 wides).1
+    go master source wide wides (Some kept) is =
+        sym ((wide_here (counts_of blocks) blocks placed master kept is source wide).1 wides).1

@@ -15,11 +15,16 @@ use Rattle.tl_master.specs.contracts.master.Master as Master
 use Rattle.tl_master.specs.contracts.master.Master.TheInside as inside
 
 fields_send : IsSend inside.the_row
-fields_send = recorded_send inside.the_field.row _ _ inside.the_type.to_one (struct_send (shape inside.the_type) (search (sendable, crosses, ticket_send, seat.the_send, trace.the_send, request.the_send, reply.the_send) depth 20))
+fields_send = recorded_send inside.the_field.row _ _ inside.the_type.to_one
+    (struct_send (shape inside.the_type) (search
+    (sendable, crosses, ticket_send, seat.the_send, trace.the_send, request.the_send, reply.the_send) depth 20))
 
 pub master_send : IsSend Master.the_row
 master_send = search (sendable, fields_send) depth 12
 
 -- a tuple may, and what a closure takes along, where each of its values may
-pub tuple_send : (name : List ℕ) (values : List RattleType) → AllSend (shape (type_at name values)).fields → IsSend (TupleAt name values)
-tuple_send name values all = recorded_send (field_at name values).row _ _ (type_at name values).to_one (struct_send (shape (type_at name values)) all)
+pub tuple_send : (name : List ℕ) (values : List RattleType) → AllSend (shape (type_at name values)).fields
+    → IsSend (TupleAt name values)
+tuple_send name values all =
+    recorded_send (field_at name values).row _ _ (type_at name values).to_one
+    (struct_send (shape (type_at name values)) all)

@@ -27,7 +27,8 @@ pub record IsOfSource (m : MasterState) (slot : ℕ) : Type 0 where
 -- the master's wide sources start at `start`, and `count` requests are out
 pub record IsKeptMaster (m : MasterState) (start count : ℕ) : Type 0 where
   pub sources : length m.out ≡ count_of m.seat.arena.about.counts m.seat.number
-  pub wide : (source : ℕ) → source < length m.out → IsWide m.seat.arena.about.counts m.seat.number source (start + source)
+  pub wide : (source : ℕ) → source < length m.out
+      → IsWide m.seat.arena.about.counts m.seat.number source (start + source)
   pub fits : start + length m.out ≤ 2 ^ 16
   -- every entry has one of the master's sources, and the seat has the entries with wide sources
   pub own : (j : ℕ) (e : Entry) → slice_get m.trace j ≡ Some e → e.ask.source < length m.out

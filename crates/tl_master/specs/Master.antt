@@ -19,7 +19,8 @@ abbrev pub count_of : List ℕ → ℕ → ℕ
 count_of counts master = slice_index_or counts master 0
 
 abbrev pub new_state : MasterView → ℕ → MasterState
-new_state v limit = record { seat = v; out = replicate (count_of v.arena.about.counts v.number) None; trace = []; limit = limit }
+new_state v limit = record { seat = v; out = replicate (count_of v.arena.about.counts v.number) None; trace = [];
+    limit = limit }
 
 -- what is out for the source
 abbrev pub ticket_at : List (Option TicketView) → ℕ → Option TicketView
@@ -45,7 +46,8 @@ reply_to source r = record { op = r.op; size = r.size; source = source; denied =
 
 -- the same entry with this source
 abbrev pub entry_from : ℕ → Entry → Entry
-entry_from source e = record { ask = ask_from source e.ask; reply = reply_to source e.reply; port = e.port; index = e.index }
+entry_from source e =
+    record { ask = ask_from source e.ask; reply = reply_to source e.reply; port = e.port; index = e.index }
 
 -- the second entry is the first with its source widened
 pub record IsWidened (counts : List ℕ) (master : ℕ) (own wide : Entry) : Type 0 where
@@ -62,7 +64,8 @@ pub record AreWidened (counts : List ℕ) (master : ℕ) (own wide : List Entry)
 
 -- of two entries with one source and port the earlier has the smaller index
 abbrev pub IsInOrder : List Entry → Type 0
-IsInOrder es = (j k : ℕ) (d e : Entry) → j < k → slice_get es j ≡ Some d → slice_get es k ≡ Some e → d.ask.source ≡ e.ask.source → d.port ≡ e.port → d.index < e.index
+IsInOrder es = (j k : ℕ) (d e : Entry) → j < k → slice_get es j ≡ Some d → slice_get es k ≡ Some e
+    → d.ask.source ≡ e.ask.source → d.port ≡ e.port → d.index < e.index
 
 -- the requests of the source, in order
 abbrev pub of_source : ℕ → List Request → List Request

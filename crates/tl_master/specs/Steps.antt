@@ -1,5 +1,5 @@
--- What the calls of a master do to it. All of it is this project's own; that a source has one request out at a time is of the
--- chapter on channels of the TileLink specification.
+-- What the calls of a master do to it. All of it is this project's own; that a source has one request out at a time is
+-- of the chapter on channels of the TileLink specification.
 use Rattle.std.specs.Prelude.{◌≡◌, ℕ, ◌+◌, ◌<◌, ◌≤◌, ◌++◌, cond, eqb, List, [], ◌∷◌, length, slice_set, Some, None, Result, Ok, Err, IsSome}
 use Rattle.tl_types.specs.Request.{Request}
 use Rattle.tl_types.specs.declared.trace.Entry.{Entry}
@@ -25,10 +25,12 @@ with_posted v t = with_held (with_held v t.slot Filled) t.slot (Sent t.ask t.por
 
 -- the request is out for its source, and all else is as it was
 abbrev pub with_out : MasterState → ℕ → TicketView → MasterState
-with_out m source t = record { seat = with_posted m.seat t; out = slice_set m.out source (Some t); trace = m.trace; limit = m.limit }
+with_out m source t =
+    record { seat = with_posted m.seat t; out = slice_set m.out source (Some t); trace = m.trace; limit = m.limit }
 
 -- the request is posted from the claimed slot and from this wide source, to the port that the map gives it
-pub record IsRoutedPost (ranges : List Range) (q : Request) (wide : ℕ) (v : MasterView) (claim : ℕ) (t : TicketView) (issued : Issued) : Type 0 where
+pub record IsRoutedPost (ranges : List Range) (q : Request) (wide : ℕ) (v : MasterView) (claim : ℕ) (t : TicketView)
+    (issued : Issued) : Type 0 where
   pub from : t.slot ≡ claim
   pub ask : t.ask ≡ ask_from wide q
   pub routed : Routes ranges q t.port
@@ -37,7 +39,8 @@ pub record IsRoutedPost (ranges : List Range) (q : Request) (wide : ℕ) (v : Ma
   pub port : issued.port ≡ t.port
 
 -- the request, with its source widened, is posted from a slot that the master did not own
-pub record IssuesOne (ranges : List Range) (m : MasterState) (q : Request) (issued : Issued) (n : MasterState) : Type 0 where
+pub record IssuesOne (ranges : List Range) (m : MasterState) (q : Request) (issued : Issued)
+    (n : MasterState) : Type 0 where
   pub known : q.source < length m.out
   pub idle : ticket_at m.out q.source ≡ None
   pub room : length m.trace + out_of m.out < m.limit
@@ -54,8 +57,10 @@ pub record IssuesOne (ranges : List Range) (m : MasterState) (q : Request) (issu
 abbrev pub IsRefused : MasterState → Request → IssueFault → Type 0
 IsRefused m q NoSuchSource = length m.out ≤ q.source
 IsRefused m q SourceBusy = (q.source < length m.out) × IsSome (ticket_at m.out q.source)
-IsRefused m q TraceFull = (q.source < length m.out) × (ticket_at m.out q.source ≡ None) × (length m.trace + out_of m.out ≡ m.limit)
-IsRefused m q NoSlot = (q.source < length m.out) × (ticket_at m.out q.source ≡ None) × (length m.trace + out_of m.out < m.limit)
+IsRefused m q TraceFull =
+    (q.source < length m.out) × (ticket_at m.out q.source ≡ None) × (length m.trace + out_of m.out ≡ m.limit)
+IsRefused m q NoSlot =
+    (q.source < length m.out) × (ticket_at m.out q.source ≡ None) × (length m.trace + out_of m.out < m.limit)
 
 abbrev pub Issues : List Range → MasterState → Request → Result Issued IssueFault → MasterState → Type 0
 Issues ranges m q (Ok issued) n = IssuesOne ranges m q issued n
@@ -73,7 +78,8 @@ AsksMore m q n = (source : ℕ) → asked n source ≡ asked m source ++ ask_of 
 
 -- nothing is out for the source, the entry is the last of the trace, this is the seat, and all else is as it was
 abbrev pub with_entry : MasterState → ℕ → MasterView → Entry → MasterState
-with_entry m source v e = record { seat = v; out = slice_set m.out source None; trace = m.trace ++ e ∷ []; limit = m.limit }
+with_entry m source v e =
+    record { seat = v; out = slice_set m.out source None; trace = m.trace ++ e ∷ []; limit = m.limit }
 
 -- the reply to what was posted is collected and its slot released; the entry has the master's own source
 pub record IsReply (v : MasterView) (t : TicketView) (source : ℕ) (e : Entry) (w : MasterView) : Type 0 where
@@ -84,14 +90,15 @@ pub record IsReply (v : MasterView) (t : TicketView) (source : ℕ) (e : Entry) 
   pub seat : w ≡ with_held taken served.slot Nothing
 
 -- the same, and the entry is the last of these, at this place, where those stood before
-pub record Appends (v : MasterView) (t : TicketView) (source : ℕ) (before : List Entry) (place : ℕ) (w : MasterView) (after : List Entry) : Type 0 where
+pub record Appends (v : MasterView) (t : TicketView) (source : ℕ) (before : List Entry) (place : ℕ) (w : MasterView)
+    (after : List Entry) : Type 0 where
   pub entry : Entry
   pub reply : IsReply v t source entry w
   pub place_is : place ≡ length before
   pub is : after ≡ before ++ entry ∷ []
 
--- the reply to what was out for the source is collected, and this is its entry's place in the trace; what had been collected
--- at its port when its request was issued has smaller indexes
+-- the reply to what was out for the source is collected, and this is its entry's place in the trace; what had been
+-- collected at its port when its request was issued has smaller indexes
 pub record CollectsOne (m : MasterState) (source place : ℕ) (n : MasterState) : Type 0 where
   pub ticket : TicketView
   pub was : ticket_at m.out source ≡ Some ticket

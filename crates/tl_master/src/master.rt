@@ -296,9 +296,9 @@ fn post_routed(
     (ticket, Issued { slot, port })
 }
 
-/// Collects the reply to what was posted, where it is there, puts its entry, with the master's own source, at the end of a
-/// trace that has room for it, and releases its slot. The answer is the entry's place. Request and reply are read in the
-/// place of others.
+/// Collects the reply to what was posted, where it is there, puts its entry, with the master's own source, at the end
+/// of a trace that has room for it, and releases its slot. The answer is the entry's place. Request and reply are read
+/// in the place of others.
 fn collect_entry(
     arena: &Arena,
     seat: &mut MasterSeat,

@@ -13,15 +13,20 @@ use Rattle.tl_ops.specs.declared.counted.CountedBank.{CountedBank}
 use Rattle.tl_model.specs.declared.port.TheConstants.{MAX_SERVED}
 
 -- the state of a port that was read
-pub state_at : (ports : List CountedBank) (n number : ℕ) (port : CountedBank) → n ≡ length ports → number < n → port ≡ get_or ports number port → slice_get (map state_of ports) number ≡ Some (state_of port)
-state_at ports n number port counted within read = slice_get-map state_of ports number ∙ ap (option_map state_of) (slice_get_read ports n number port counted within read)
+pub state_at : (ports : List CountedBank) (n number : ℕ) (port : CountedBank) → n ≡ length ports → number < n
+    → port ≡ get_or ports number port → slice_get (map state_of ports) number ≡ Some (state_of port)
+state_at ports n number port counted within read =
+    slice_get-map state_of ports number ∙ ap (option_map state_of)
+    (slice_get_read ports n number port counted within read)
 
 -- a port that there is
-pub is_within : (ports : List CountedBank) (n number : ℕ) → n ≡ length ports → number < length (map state_of ports) → number < n
+pub is_within : (ports : List CountedBank) (n number : ℕ) → n ≡ length ports → number < length (map state_of ports)
+    → number < n
 is_within ports n number counted within = let same = length-map ports state_of in omega (arith, counted, within, same)
 
 -- so is one of which something is so
-pub holds_within : (ports : List CountedBank) (n number : ℕ) (Is : PortState → Type 0) → n ≡ length ports → IsSomeAnd (slice_get (map state_of ports) number) Is → number < n
+pub holds_within : (ports : List CountedBank) (n number : ℕ) (Is : PortState → Type 0) → n ≡ length ports
+    → IsSomeAnd (slice_get (map state_of ports) number) Is → number < n
 holds_within ports n number Is counted some = go (slice_get (map state_of ports) number) refl some
   where
     go : (found : Option PortState) → slice_get (map state_of ports) number ≡ found → IsSomeAnd found Is → number < n
@@ -29,38 +34,49 @@ holds_within ports n number Is counted some = go (slice_get (map state_of ports)
     go (Some state) is some = is_within ports n number counted (slice_get_within (map state_of ports) number state is)
 
 -- the byte that its slave holds at an address
-pub byte_at : (store : Store) (address : ℕ) (byte : Option ℕ) → (store.base ≤ address → byte ≡ slice_get store.bytes (address - store.base)) → (address < store.base → byte ≡ None) → byte ≡ byte_in store address
+pub byte_at : (store : Store) (address : ℕ) (byte : Option ℕ)
+    → (store.base ≤ address → byte ≡ slice_get store.bytes (address - store.base))
+    → (address < store.base → byte ≡ None) → byte ≡ byte_in store address
 byte_at store address byte inside below = search rules
 
 -- ---- which requests are accepted
 
 -- a request whose port can count no more is not
-pub full_is_refused : (c : CrossbarState) (master number : ℕ) (ask : Request) (state : PortState) → Routes c.ranges ask number → slice_get c.ports number ≡ Some state → IsFull state → Accepts c master ask → ⊥
+pub full_is_refused : (c : CrossbarState) (master number : ℕ) (ask : Request) (state : PortState)
+    → Routes c.ranges ask number → slice_get c.ports number ≡ Some state → IsFull state → Accepts c master ask → ⊥
 full_is_refused c master number ask state routed at full accepts =
     let below : state.served < MAX_SERVED = rw at at (accepts.counted number routed) in
     omega (arith, below, full)
 
 -- that is its first fault, where its master has its source
-pub first_is_full : (c : CrossbarState) (master count number : ℕ) (ask : Request) (state : PortState) → slice_get c.counts master ≡ Some count → (count ≤ ask.source → ⊥) → ((port : ℕ) → Routes c.ranges ask port → number ≡ port) → slice_get c.ports number ≡ Some state → IsFull state → IsFirstServeFault c master ask Uncountable
+pub first_is_full : (c : CrossbarState) (master count number : ℕ) (ask : Request) (state : PortState)
+    → slice_get c.counts master ≡ Some count → (count ≤ ask.source → ⊥)
+    → ((port : ℕ) → Routes c.ranges ask port → number ≡ port) → slice_get c.ports number ≡ Some state → IsFull state
+    → IsFirstServeFault c master ask Uncountable
 first_is_full c master count number ask state counted source only at full = record {
   applies = λ port routes. rw (← only port routes, at) full;
   first = none;
 }
   where
     none : (other : ServeFault) → serve_fault_rank other < 3 → HasServeFault c master ask other → ⊥
-    none NoSuchMaster rank past = let within = slice_get_within c.counts master count counted in omega (arith, within, past)
+    none NoSuchMaster rank past = let within = slice_get_within c.counts master count counted in
+        omega (arith, within, past)
     none NoSuchSource rank high = source (rw counted at high)
     none Uncountable rank _ = omega (arith, rank)
 
 -- one whose master has its source and whose port can count it is
-pub is_accepted : (c : CrossbarState) (master count number : ℕ) (ask : Request) (state : PortState) → slice_get c.counts master ≡ Some count → (count ≤ ask.source → ⊥) → ((port : ℕ) → Routes c.ranges ask port → number ≡ port) → slice_get c.ports number ≡ Some state → state.served ≤ MAX_SERVED → (IsFull state → ⊥) → Accepts c master ask
+pub is_accepted : (c : CrossbarState) (master count number : ℕ) (ask : Request) (state : PortState)
+    → slice_get c.counts master ≡ Some count → (count ≤ ask.source → ⊥)
+    → ((port : ℕ) → Routes c.ranges ask port → number ≡ port) → slice_get c.ports number ≡ Some state
+    → state.served ≤ MAX_SERVED → (IsFull state → ⊥) → Accepts c master ask
 is_accepted c master count number ask state counted source only at fits spare = record {
   source = rw counted (omega (arith, source));
   counted = λ port routes. rw (← only port routes, at) (omega (arith, fits, spare));
 }
 
 -- so its port may serve it
-pub can_serve : (c : CrossbarState) (number : ℕ) (ask : Request) (state : PortState) → Routes c.ranges ask number → slice_get c.ports number ≡ Some state → state.served ≤ MAX_SERVED → (IsFull state → ⊥) → CanServe c ask number
+pub can_serve : (c : CrossbarState) (number : ℕ) (ask : Request) (state : PortState) → Routes c.ranges ask number
+    → slice_get c.ports number ≡ Some state → state.served ≤ MAX_SERVED → (IsFull state → ⊥) → CanServe c ask number
 can_serve c number ask state routed at fits spare = record {
   routed = routed;
   counted = rw (at) (omega (arith, fits, spare));
@@ -68,7 +84,9 @@ can_serve c number ask state routed at fits spare = record {
 
 -- ---- the ports once one of them has served
 
-pub served_at : (ports : List CountedBank) (number : ℕ) (ask : Request) (old new : CountedBank) → new.bank ≡ after old.bank ask → new.served ≡ old.served + 1 → map state_of (set ports number new) ≡ set (map state_of ports) number (served_more (state_of old) ask)
+pub served_at : (ports : List CountedBank) (number : ℕ) (ask : Request) (old new : CountedBank)
+    → new.bank ≡ after old.bank ask → new.served ≡ old.served + 1
+    → map state_of (set ports number new) ≡ set (map state_of ports) number (served_more (state_of old) ask)
 served_at ports number ask old new bank served =
     let state : state_of new ≡ served_more (state_of old) ask = rw (bank, served) refl in
     map-set state_of ports number new ∙ ap (set (map state_of ports) number) state

@@ -14,7 +14,8 @@ pub record Call : Type 0 where
 -- the calls took the crossbar from the one state to the other, each served after those before it
 abbrev pub AreServed : CrossbarState → List Call → CrossbarState → Type 0
 AreServed old [] new = new ≡ old
-AreServed old (call ∷ calls) new = (between : CrossbarState) × (IsServed old call.ask call.answer between × AreServed between calls new)
+AreServed old (call ∷ calls) new =
+    (between : CrossbarState) × (IsServed old call.ask call.answer between × AreServed between calls new)
 
 -- the requests of those calls that one port served
 abbrev pub asks_at : ℕ → List Call → List Request

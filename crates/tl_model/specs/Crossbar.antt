@@ -1,5 +1,6 @@
--- A crossbar that serves one request a call: which requests it accepts, and what it is after each. The order of the faults is this
--- project's own; what a reply is (`reply`) is told with the stores that give it, and the port of a request (`Routes`) with the map.
+-- A crossbar that serves one request a call: which requests it accepts, and what it is after each. The order of the
+-- faults is this project's own; what a reply is (`reply`) is told with the stores that give it, and the port of a
+-- request (`Routes`) with the map.
 use Rattle.std.specs.Prelude.{◌≡◌, ℕ, ◌+◌, ◌-◌, ◌<◌, ◌≤◌, if◌then◌else◌, nat_lt, List, length, map, set, Option, Some, None, slice_get, IsSomeAnd}
 use Rattle.tl_types.specs.Fault.{IsFirstOf}
 use Rattle.tl_types.specs.Request.{Request}
@@ -41,7 +42,8 @@ IsFull port = port.served ≡ MAX_SERVED
 abbrev pub HasServeFault : CrossbarState → ℕ → Request → ServeFault → Type 0
 HasServeFault c master ask NoSuchMaster = length c.counts ≤ master
 HasServeFault c master ask NoSuchSource = IsSomeAnd (slice_get c.counts master) (λ count. count ≤ ask.source)
-HasServeFault c master ask Uncountable = (port : ℕ) → Routes c.ranges ask port → IsSomeAnd (slice_get c.ports port) IsFull
+HasServeFault c master ask Uncountable =
+    (port : ℕ) → Routes c.ranges ask port → IsSomeAnd (slice_get c.ports port) IsFull
 
 -- the place of a fault in the order in which faults are tried
 abbrev pub serve_fault_rank : ServeFault → ℕ
@@ -56,7 +58,8 @@ IsFirstServeFault c master ask = IsFirstOf (HasServeFault c master ask) serve_fa
 -- the request is of a source that the master has, and its port can count it
 pub record Accepts (c : CrossbarState) (master : ℕ) (ask : Request) : Type 0 where
   pub source : IsSomeAnd (slice_get c.counts master) (λ count. ask.source < count)
-  pub counted : (port : ℕ) → Routes c.ranges ask port → IsSomeAnd (slice_get c.ports port) (λ state. state.served < MAX_SERVED)
+  pub counted : (port : ℕ) → Routes c.ranges ask port
+      → IsSomeAnd (slice_get c.ports port) (λ state. state.served < MAX_SERVED)
 
 -- the port is that of the request, and can count it
 pub record CanServe (c : CrossbarState) (ask : Request) (port : ℕ) : Type 0 where
@@ -71,8 +74,9 @@ IsCountAt c port count = IsSomeAnd (slice_get c.ports port) (λ state. count ≡
 abbrev pub served_more : PortState → Request → PortState
 served_more port ask = record { store = after port.store ask; served = port.served + 1 }
 
--- a crossbar that is the one before a request, what the request is answered, and the crossbar after it: its port's memory gives the reply and
--- is the memory after it, the place is how many that port had served, and no other port changes
+-- a crossbar that is the one before a request, what the request is answered, and the crossbar after it: its port's
+-- memory gives the reply and is the memory after it, the place is how many that port had served, and no other port
+-- changes
 pub record IsServed (old : CrossbarState) (ask : Request) (answer : Answer) (new : CrossbarState) : Type 0 where
   pub port : PortState
   pub routed : Routes old.ranges ask answer.port

@@ -68,8 +68,8 @@ impl Crossbar {
         Ok(Answer { reply, port, place })
     }
 
-    /// The port that may serve a master's request, whose source is the master's own. `serve` in parts, for callers that keep room for one
-    /// reply, is this, then `served` and `serve_at` of that port.
+    /// The port that may serve a master's request, whose source is the master's own. `serve` in parts, for callers that
+    /// keep room for one reply, is this, then `served` and `serve_at` of that port.
     pub fn admit(&self, master: usize, ask: &Ask) -> Result<usize, ServeFault>
         ensures ok { IsOk result ↔ Accepts self.now master ask.now }
         ensures port { IfOk result (CanServe self.now ask.now) }

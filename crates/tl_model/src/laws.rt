@@ -27,8 +27,8 @@ pub fn ports_at_reset()
         → slice_get (at_reset s).ports port ≡ Some (fresh store) }
 {}
 
-/// The most requests that a port counts are as many as a number of 64 bits can count. Contracts name the constant, so without this law
-/// a wrong constant would change what they promise.
+/// The most requests that a port counts are as many as a number of 64 bits can count. Contracts name the constant, so
+/// without this law a wrong constant would change what they promise.
 pub fn limits_in_numbers()
     ensures served { MAX_SERVED + 1 ≡ 2 ^ 64 }
 {}

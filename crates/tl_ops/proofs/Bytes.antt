@@ -46,24 +46,34 @@ number-low_bytes (suc n) x below =
     omega (arith, number-low_bytes n (x / 256) (shr_below x (8 * n) 8 within))
 
 -- bit by bit is byte by byte
-pub low_bytes-and : (n x y : ℕ) → low_bytes n (bit_and x y) ≡ map (λ (p : ℕ × ℕ). bit_and p.0 p.1) (zip (low_bytes n x) (low_bytes n y))
+pub low_bytes-and : (n x y : ℕ) → low_bytes n (bit_and x y) ≡ map (λ (p : ℕ × ℕ). bit_and p.0 p.1)
+    (zip (low_bytes n x) (low_bytes n y))
 low_bytes-and zero x y = refl
-low_bytes-and (suc n) x y = rw (and_shr x y 8, and_mod x y 8) (ap (λ bs. bit_and (x % 256) (y % 256) ∷ bs) (low_bytes-and n (x / 256) (y / 256)))
+low_bytes-and (suc n) x y =
+    rw (and_shr x y 8, and_mod x y 8) (ap (λ bs. bit_and (x % 256) (y % 256) ∷ bs)
+    (low_bytes-and n (x / 256) (y / 256)))
 
-pub low_bytes-or : (n x y : ℕ) → low_bytes n (bit_or x y) ≡ map (λ (p : ℕ × ℕ). bit_or p.0 p.1) (zip (low_bytes n x) (low_bytes n y))
+pub low_bytes-or : (n x y : ℕ) → low_bytes n (bit_or x y) ≡ map (λ (p : ℕ × ℕ). bit_or p.0 p.1)
+    (zip (low_bytes n x) (low_bytes n y))
 low_bytes-or zero x y = refl
-low_bytes-or (suc n) x y = rw (or_shr x y 8, or_mod x y 8) (ap (λ bs. bit_or (x % 256) (y % 256) ∷ bs) (low_bytes-or n (x / 256) (y / 256)))
+low_bytes-or (suc n) x y =
+    rw (or_shr x y 8, or_mod x y 8) (ap (λ bs. bit_or (x % 256) (y % 256) ∷ bs) (low_bytes-or n (x / 256) (y / 256)))
 
-pub low_bytes-xor : (n x y : ℕ) → low_bytes n (bit_xor x y) ≡ map (λ (p : ℕ × ℕ). bit_xor p.0 p.1) (zip (low_bytes n x) (low_bytes n y))
+pub low_bytes-xor : (n x y : ℕ) → low_bytes n (bit_xor x y) ≡ map (λ (p : ℕ × ℕ). bit_xor p.0 p.1)
+    (zip (low_bytes n x) (low_bytes n y))
 low_bytes-xor zero x y = refl
-low_bytes-xor (suc n) x y = rw (xor_shr x y 8, xor_mod x y 8) (ap (λ bs. bit_xor (x % 256) (y % 256) ∷ bs) (low_bytes-xor n (x / 256) (y / 256)))
+low_bytes-xor (suc n) x y =
+    rw (xor_shr x y 8, xor_mod x y 8) (ap (λ bs. bit_xor (x % 256) (y % 256) ∷ bs)
+    (low_bytes-xor n (x / 256) (y / 256)))
 
 pub seconds_of_low_bytes : (n x y : ℕ) → map (λ (p : ℕ × ℕ). p.1) (zip (low_bytes n x) (low_bytes n y)) ≡ low_bytes n y
-seconds_of_low_bytes n x y = seconds-zip (low_bytes n x) (low_bytes n y) (length-low_bytes n y ∙ sym (length-low_bytes n x))
+seconds_of_low_bytes n x y =
+    seconds-zip (low_bytes n x) (low_bytes n y) (length-low_bytes n y ∙ sym (length-low_bytes n x))
 
 -- the bytes of a sum that wrapped at a word
 pub low_bytes-mod_word : (n x : ℕ) → n ≤ 8 → low_bytes n (x % 2 ^ 64) ≡ low_bytes n x
 low_bytes-mod_word n x fits =
     let e : 64 ≡ (64 - 8 * n) + 8 * n = omega arith in
-    let low : x % 2 ^ 64 % 2 ^ (8 * n) ≡ x % 2 ^ (8 * n) = ap (λ k. x % 2 ^ k % 2 ^ (8 * n)) e ∙ mod-mod-pow x (64 - 8 * n) (8 * n) in
+    let low : x % 2 ^ 64 % 2 ^ (8 * n) ≡ x % 2 ^ (8 * n) =
+        ap (λ k. x % 2 ^ k % 2 ^ (8 * n)) e ∙ mod-mod-pow x (64 - 8 * n) (8 * n) in
     sym (low_bytes-mod n (x % 2 ^ 64)) ∙ ap (low_bytes n) low ∙ low_bytes-mod n x

@@ -20,16 +20,19 @@ low_bytes-not (suc n) (suc m) x fits below =
     rw (wide, low, high, low_bytes-not n m (x / 256) (omega (arith, fits)) small) refl
 
 -- pairs with the second turned round, and pairs whose second is turned round
-zip-map : (f : ℕ → ℕ) (xs ys : List ℕ) → map (λ (p : ℕ × ℕ). bit_and p.0 p.1) (zip xs (map f ys)) ≡ map (λ (p : ℕ × ℕ). bit_and p.0 (f p.1)) (zip xs ys)
+zip-map : (f : ℕ → ℕ) (xs ys : List ℕ) → map (λ (p : ℕ × ℕ). bit_and p.0 p.1) (zip xs (map f ys)) ≡ map
+    (λ (p : ℕ × ℕ). bit_and p.0 (f p.1)) (zip xs ys)
 zip-map f [] ys = refl
 zip-map f (x ∷ xs) [] = refl
 zip-map f (x ∷ xs) (y ∷ ys) = ap (λ bytes. bit_and x (f y) ∷ bytes) (zip-map f xs ys)
 
 -- a word without the bits of another, byte by byte
-pub low_bytes-cleared : (n old ones : ℕ) → n ≤ 8 → ones < 2 ^ (8 * n) → low_bytes n (bit_and old (2 ^ 64 - 1 - ones)) ≡ cleared (low_bytes n old) (low_bytes n ones)
+pub low_bytes-cleared : (n old ones : ℕ) → n ≤ 8 → ones < 2 ^ (8 * n)
+    → low_bytes n (bit_and old (2 ^ 64 - 1 - ones)) ≡ cleared (low_bytes n old) (low_bytes n ones)
 low_bytes-cleared n old ones fits below =
     let bits : 8 * n ≤ 64 = omega (arith, fits) in
     let most : 2 ^ (8 * n) ≤ 2 ^ 64 = pow-le-pow_right (lit≤ tt) bits in
     low_bytes-and n old (2 ^ 64 - 1 - ones)
-    ∙ ap (λ bytes. map (λ (p : ℕ × ℕ). bit_and p.0 p.1) (zip (low_bytes n old) bytes)) (low_bytes-not n 8 ones fits (omega (arith, most, below)))
+    ∙ ap (λ bytes. map (λ (p : ℕ × ℕ). bit_and p.0 p.1) (zip (low_bytes n old) bytes))
+        (low_bytes-not n 8 ones fits (omega (arith, most, below)))
     ∙ zip-map not_byte (low_bytes n old) (low_bytes n ones)

@@ -29,7 +29,8 @@ in_second xs ys n k wide from =
     let e : k ≡ length xs + (k - n) = omega arith in
     ap (slice_get (xs ++ ys)) e ∙ slice_get-append_right xs ys (k - n)
 
-pub window_by_places : (bytes new : List ℕ) (start : ℕ) → start + length new ≤ length bytes → WindowByPlaces bytes start new
+pub window_by_places : (bytes new : List ℕ) (start : ℕ) → start + length new ≤ length bytes
+    → WindowByPlaces bytes start new
 window_by_places bytes new start fits =
     let wide : length (take start bytes) ≡ start = length-take-le start bytes (omega arith) in
     let rest = drop (start + length new) bytes in
@@ -38,7 +39,9 @@ window_by_places bytes new start fits =
     record {
       inside = λ k from below. second k from ∙ slice_get-append_left new rest (k - start) (omega arith);
       outside = λ k where_. ⊎_elim
-          (λ before. rw append_assoc (slice_get-append_left (take start bytes) (new ++ rest) k (omega arith) ∙ slice_get-take start bytes k before))
-          (λ past. second k (omega arith) ∙ in_second new rest (length new) (k - start) refl (omega arith) ∙ slice_get-drop (start + length new) bytes (k - start - length new) ∙ ap (slice_get bytes) (omega arith))
+          (λ before. rw append_assoc (slice_get-append_left (take start bytes) (new ++ rest) k (omega arith)
+              ∙ slice_get-take start bytes k before))
+          (λ past. second k (omega arith) ∙ in_second new rest (length new) (k - start) refl (omega arith)
+              ∙ slice_get-drop (start + length new) bytes (k - start - length new) ∙ ap (slice_get bytes) (omega arith))
           where_;
     }

@@ -1,6 +1,6 @@
 -- A slave's memory, one request at a time: what is legal there, what a request leaves, and what it is answered. This is
--- the chapter "TL-UL and TL-UH operations" of the TileLink specification, but for what is denied and that the bytes of a
--- denied reply are zero, which are this project's choices.
+-- the chapter "TL-UL and TL-UH operations" of the TileLink specification, but for what is denied and that the bytes of
+-- a denied reply are zero, which are this project's choices.
 use Rattle.std.specs.Prelude.{ℕ, ◌+◌, ◌-◌, ◌%◌, ◌^◌, Bool, true, false, ◌&&◌, if◌then◌else◌, ◌==◌, nat_le, List, [], ◌++◌, take, drop, length, replicate}
 use Rattle.tl_types.specs.declared.operation.ReplyOp.{ReplyOp}
 use Rattle.tl_types.specs.Operation.{reply_op_of, reply_carries_bytes}
@@ -45,7 +45,8 @@ with_window bytes start new = take start bytes ++ new ++ drop (start + length ne
 abbrev pub after : Store → Request → Store
 after store ask =
     if legal store ask then
-    record store { bytes = with_window store.bytes (ask.address - store.base) (new_window store.kind ask.op (window store ask) ask.bytes) }
+    record store { bytes = with_window store.bytes (ask.address - store.base)
+        (new_window store.kind ask.op (window store ask) ask.bytes) }
     else store
 
 -- the bytes of a reply of this opcode that shows these bytes

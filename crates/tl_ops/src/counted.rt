@@ -23,7 +23,8 @@ impl CountedBank {
         CountedBank { bank, served: 0 }
     }
 
-    /// Serves a request and counts it: the reply stands in the place of another. The answer is how many were served before it.
+    /// Serves a request and counts it: the reply stands in the place of another. The answer is how many were served
+    /// before it.
     pub fn serve_into(&mut self, ask: &Ask, answer: &mut Reply) -> usize
         ensures after { self.new ≡ counted_after self.old ask.now }
         ensures reply { answer.new ≡ reply self.old.bank ask.now }

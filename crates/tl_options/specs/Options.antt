@@ -1,5 +1,5 @@
--- The command line: the options that there are, which of them the words ask for, and the status that the program ends with
--- where they ask for none. This project's own.
+-- The command line: the options that there are, which of them the words ask for, and the status that the program ends
+-- with where they ask for none. This project's own.
 use Rattle.std.specs.Prelude.{◌≡◌, ℕ, List, [], ◌∷◌, true, Some, codes, unwrap_or}
 use Rattle.std.specs.Str.{bytes_eq}
 use Rattle.std.specs.Str.Parse.{digits_value, without_leading_plus}

@@ -1,5 +1,5 @@
-//! Laws of the command line, each on a function that does nothing but carry it: what the lines that the documents name ask
-//! for, or are refused as.
+//! Laws of the command line, each on a function that does nothing but carry it: what the lines that the documents name
+//! ask for, or are refused as.
 ghost use Rattle.std.specs.Prelude.{◌≡◌, [], ◌∷◌, codes, true, false};
 ghost use Rattle.clap.specs.declared.error.ErrorKind.TheVariants.{DisplayHelp, DisplayVersion, InvalidValue, UnknownArgument, ValueValidation};
 ghost use Rattle.tl_options.specs.Options.{AskFor, AreRefusedAs};

@@ -36,8 +36,8 @@ pub struct Options {
 
 /// Reads the command line, whose first word is the program's name.
 ///
-/// Errors: help or the version that was asked for, an unknown option, a stray word, or a number of workers that is none or outside its
-/// range; each is clap's own text.
+/// Errors: help or the version that was asked for, an unknown option, a stray word, or a number of workers that is none
+/// or outside its range; each is clap's own text.
 pub fn read_options(alloc: Global, words: &[&str]) -> Result<Options, Error>
     ensures some { IfOk result (λ options. 1 ≤ options.workers) }
     ensures few { IfOk result (λ options. options.workers ≤ MAX_WORKERS) }
@@ -117,8 +117,8 @@ fn command<'a>(alloc: Global) -> Result<Command<'a>, AllocError>
         .arg(workers_option(alloc))
 }
 
-/// The status that the program ends with where there are no options: 0 for help and the version, 4 for want of memory, 2 for
-/// a mistake.
+/// The status that the program ends with where there are no options: 0 for help and the version, 4 for want of memory,
+/// 2 for a mistake.
 pub fn options_status(error: &Error) -> u8
     ensures { result ≡ status_of_kind (kind_of error.now) }
 {

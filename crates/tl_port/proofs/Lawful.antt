@@ -9,7 +9,8 @@ use Rattle.tl_arena.specs.Promises.{IsLawfulPort}
 use Rattle.tl_port.specs.Book.{BookView, IsLawfulBook, AreDistinctBy, reset}
 
 -- what stands at a place is found by its slot
-served_at : (fs : List (ℕ × Request)) (k : ℕ) (f : ℕ × Request) → HasDistinctSlots fs → slice_get fs k ≡ Some f → ask_at fs f.0 ≡ Some f.1
+served_at : (fs : List (ℕ × Request)) (k : ℕ) (f : ℕ × Request) → HasDistinctSlots fs → slice_get fs k ≡ Some f
+    → ask_at fs f.0 ≡ Some f.1
 served_at [] k f once at = absurd cc
 served_at (g ∷ fs) zero f once at = let same : g ≡ f = cc in rw same (first_is f fs f.0 refl)
 served_at (g ∷ fs) (suc k) f once at =
@@ -32,9 +33,11 @@ distinct_slots (f ∷ fs) once (suc j) zero x y first second same =
     let slot : f.0 ≡ x.0 = ap (λ (g : ℕ × Request). g.0) here ∙ sym same in
     let none = subst (λ (i : ℕ). ask_at fs i ≡ None) slot once.0 in
     absurd (cc)
-distinct_slots (f ∷ fs) once (suc j) (suc k) x y first second same = ap suc (distinct_slots fs once.1 j k x y first second same)
+distinct_slots (f ∷ fs) once (suc j) (suc k) x y first second same =
+    ap suc (distinct_slots fs once.1 j k x y first second same)
 
-pub lawful_book : (b : BookView) → IsLawfulPort b.seat → b.flights ≡ b.seat.serving → b.store ≡ replay (reset b) (asks_of b.history)
+pub lawful_book : (b : BookView) → IsLawfulPort b.seat → b.flights ≡ b.seat.serving
+    → b.store ≡ replay (reset b) (asks_of b.history)
     → b.seat.list ≡ b.history → length b.history + length b.flights ≤ b.journal → IsLawfulBook b
 lawful_book b law serving bank list room =
     let here : HasDistinctSlots b.flights = subst HasDistinctSlots (sym serving) law.slots in

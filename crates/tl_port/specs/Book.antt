@@ -1,5 +1,5 @@
--- What a port's book shows to its callers, and when it is lawful. All of it is this project's own; what a request leaves of a
--- memory, and its reply, are of the chapter "TL-UL and TL-UH operations" of the TileLink specification.
+-- What a port's book shows to its callers, and when it is lawful. All of it is this project's own; what a request
+-- leaves of a memory, and its reply, are of the chapter "TL-UL and TL-UH operations" of the TileLink specification.
 use Rattle.std.specs.Prelude.{◌≡◌, ℕ, ◌+◌, ◌≤◌, List, [], length, slice_get, Some}
 use Rattle.tl_types.specs.Request.{Request}
 use Rattle.tl_types.specs.Response.{Response}
@@ -26,7 +26,8 @@ reset b = reset_of b.seat.arena.about b.seat.number
 
 -- at each two places this is not the same
 abbrev pub AreDistinctBy : {A : Type 0} → (A → ℕ) → List A → Type 0
-AreDistinctBy {A} key xs = (j k : ℕ) (x y : A) → slice_get xs j ≡ Some x → slice_get xs k ≡ Some y → key x ≡ key y → j ≡ k
+AreDistinctBy {A} key xs =
+    (j k : ℕ) (x y : A) → slice_get xs j ≡ Some x → slice_get xs k ≡ Some y → key x ≡ key y → j ≡ k
 
 pub record IsLawfulBook (b : BookView) : Type 0 where
   -- wide sources in flight are distinct

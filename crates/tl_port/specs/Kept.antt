@@ -1,4 +1,5 @@
--- What a book keeps of itself: that it is lawful, and that there is room for all that it may get. This is this project's own.
+-- What a book keeps of itself: that it is lawful, and that there is room for all that it may get. This is this
+-- project's own.
 use Rattle.std.specs.Prelude.{ℕ, ◌≤◌}
 use Rattle.tl_port.specs.Book.{BookView, IsLawfulBook}
 

@@ -1,5 +1,5 @@
--- What the calls of a book do to it. All of it is this project's own; what a request leaves of a memory, and its reply, are of
--- the chapter "TL-UL and TL-UH operations" of the TileLink specification.
+-- What the calls of a book do to it. All of it is this project's own; what a request leaves of a memory, and its reply,
+-- are of the chapter "TL-UL and TL-UH operations" of the TileLink specification.
 use Rattle.std.specs.Prelude.{◌≡◌, ℕ, ◌++◌, List, [], ◌∷◌, length, Option, Some, None, IsSome, is_some}
 use Rattle.tl_types.specs.Request.{Request}
 use Rattle.tl_ops.specs.Store.{after, reply}
@@ -14,10 +14,12 @@ use Rattle.tl_port.specs.Book.{BookView}
 
 -- the slot with its request is the last in flight, and all else is as it was
 abbrev pub with_flight : BookView → ℕ × Request → BookView
-with_flight b f = record { seat = with_accepted b.seat f; store = b.store; history = b.history; flights = b.flights ++ f ∷ []; journal = b.journal }
+with_flight b f = record { seat = with_accepted b.seat f; store = b.store; history = b.history;
+    flights = b.flights ++ f ∷ []; journal = b.journal }
 
 -- one request of this source is accepted, and joins the end of what is in flight
-pub record AcceptsOne (u : PortView) (flights : List (ℕ × Request)) (source : ℕ) (v : PortView) (more : List (ℕ × Request)) : Type 0 where
+pub record AcceptsOne (u : PortView) (flights : List (ℕ × Request)) (source : ℕ) (v : PortView)
+    (more : List (ℕ × Request)) : Type 0 where
   pub flight : ℕ × Request
   pub source_is : flight.1.source ≡ source
   pub seat : v ≡ with_accepted u flight
@@ -76,8 +78,8 @@ pub record TakesAndServes (b : BookView) (step : Step) (c : BookView) : Type 0 w
 
 -- ---- what a step answers
 
--- whatever the book, the answer of a step agrees with itself: it names a source just where it served a request, and where
--- it took one it served one
+-- whatever the book, the answer of a step agrees with itself: it names a source just where it served a request, and
+-- where it took one it served one
 pub record IsStepAnswer (step : Step) : Type 0 where
   pub named : is_some step.source ≡ is_some step.index
   pub served : (source : ℕ) → step.intake ≡ Taken source → IsSome step.index

@@ -257,8 +257,8 @@ fn take_posted(arena: &Arena, seat: &mut PortSeat, flights: &mut VecDeque<Accept
     Some(source)
 }
 
-/// Answers a request by the bank, and puts it with its reply at the end of the history. Both are read and written in the
-/// place of others.
+/// Answers a request by the bank, and puts it with its reply at the end of the history. Both are read and written in
+/// the place of others.
 fn answer_by(
     arena: &Arena,
     seat: &mut PortSeat,

@@ -47,8 +47,8 @@ impl<N: ArenaName> Named<N> {
 /// A slave port of the arena that N names. Whenever its lock is free its book is lawful and of that arena.
 ///
 /// The calls that take `rt` wait for the lock, and do what the book's calls of the same name do. Once they have given
-/// the lock back nothing is said of what they did: only what the lock keeps is known, and of the answer of a step that it
-/// agrees with itself.
+/// the lock back nothing is said of what they did: only what the lock keeps is known, and of the answer of a step that
+/// it agrees with itself.
 #[derive(Drop)]
 pub struct Port<N: ArenaName> {
     lock: Mutex<Named<N>>,
@@ -81,8 +81,8 @@ impl<N: ArenaName> Port<N> {
         self.lock.lock(rt).serve(arena)
     }
 
-    /// An intake and then a service, under one lock. The answer names the source of a request just where one was served,
-    /// and where one was taken one was served.
+    /// An intake and then a service, under one lock. The answer names the source of a request just where one was
+    /// served, and where one was taken one was served.
     pub fn step(&self, rt: &impl Wait, arena: &Arena) -> Step
         requires { arena.now ≡ N.arena }
         ensures { IsStepAnswer result }

@@ -60,7 +60,8 @@ module _ (a : About) (c d : Parts) (L : Lawful a c) (A : Alike c d) where
     gots = λ n k _. ap (λ (l : List Entry). slice_get l k) (A.got_same n);
   }
 
-  pub alike : HasShape a d → ((m : ℕ) → get_or d.left m false ≡ (hands d.masters m).left) → ((m i : ℕ) → (hands d.masters m).left ≡ true → held d.masters m i ≡ Nothing) → Lawful a d
+  pub alike : HasShape a d → ((m : ℕ) → get_or d.left m false ≡ (hands d.masters m).left)
+      → ((m i : ℕ) → (hands d.masters m).left ≡ true → held d.masters m i ≡ Nothing) → Lawful a d
   alike shape leaving gone = record {
     shape = shape;
     leaving = leaving;
@@ -69,23 +70,29 @@ module _ (a : About) (c d : Parts) (L : Lawful a c) (A : Alike c d) where
     hand = λ m i h. subst (λ f. Names f m) (sym (phase_same i)) (L.hand m i (λ e. h (A.held_same m i ∙ e)));
     service = λ p i q e. let t = L.service p i q (sym (served_same p i) ∙ e) in (t.0, phase_same i ∙ t.1);
     serves_once = λ p. subst HasDistinctSlots (sym (A.serving_same p)) (L.serves_once p);
-    sources = λ m i j p p' n n' q q' e f. L.sources m i j p p' n n' q q' (sym (A.held_same m i) ∙ e) (sym (A.held_same m j) ∙ f);
+    sources = λ m i j p p' n n' q q' e f. L.sources m i j p p' n n' q q' (sym (A.held_same m i) ∙ e)
+        (sym (A.held_same m j) ∙ f);
     block = λ m i p n q e. L.block m i p n q (sym (A.held_same m i) ∙ e);
-    places = quiet a c d (record { same_lists = A.list_same; same_gots = A.got_same; forth = λ j m p e. (phase_same j ∙ e, home_same j); back = λ j m p e. (sym (phase_same j) ∙ e, home_same j) }) L.places;
+    places = quiet a c d (record { same_lists = A.list_same; same_gots = A.got_same;
+        forth = λ j m p e. (phase_same j ∙ e, home_same j);
+        back = λ j m p e. (sym (phase_same j) ∙ e, home_same j) }) L.places;
     lawful = λ p. subst (λ l. IsLawfulHistory (reset_of a p) l) (sym (A.list_same p)) (L.lawful p);
   }
 
 -- ---- a master leaves
 
-module _ (a : About) (c : Parts) (L : Lawful a c) (id : ℕ) (v : Hands) (K : Known a c L id v) (carried : List (ℕ × Berth))
+module _ (a : About) (c : Parts) (L : Lawful a c) (id : ℕ) (v : Hands) (K : Known a c L id v)
+    (carried : List (ℕ × Berth))
     (staying : v.left ≡ false) (empty : (j : ℕ) → get_or v.hand j Nothing ≡ Nothing) where
   abbrev w : Hands
   w = gone_hands (hands c.masters v.number)
 
   abbrev left_parts : Parts
-  left_parts = record { phases = c.phases; left = set c.left v.number true; homes = c.homes; masters = set c.masters v.number w; ports = c.ports }
+  left_parts = record { phases = c.phases; left = set c.left v.number true; homes = c.homes;
+      masters = set c.masters v.number w; ports = c.ports }
 
-  by : (P : ℕ → Hands → Type 0) → P v.number w → ((n : ℕ) → n ≢ v.number → P n (hands c.masters n)) → (n : ℕ) → P n (hands left_parts.masters n)
+  by : (P : ℕ → Hands → Type 0) → P v.number w → ((n : ℕ) → n ≢ v.number → P n (hands c.masters n)) → (n : ℕ)
+      → P n (hands left_parts.masters n)
   by = set_elim c.masters v.number w no_hands K.near
 
   pub empty_here : (j : ℕ) → held c.masters v.number j ≡ Nothing
@@ -110,13 +117,16 @@ module _ (a : About) (c : Parts) (L : Lawful a c) (id : ℕ) (v : Hands) (K : Kn
     masters = let k = t.masters in omega arith;
     ports = t.ports;
     dealt = λ lt. t.dealt (omega arith);
-    master_views = λ n lt. by (λ n y. n < length c.masters → (y.number ≡ n) × (y.about ≡ a) × (length y.hand ≡ a.slots)) (t.master_views v.number) (λ n _. t.master_views n) n (omega arith);
+    master_views = λ n lt. by (λ n y. n < length c.masters → (y.number ≡ n) × (y.about ≡ a) × (length y.hand ≡ a.slots))
+        (t.master_views v.number) (λ n _. t.master_views n) n (omega arith);
     port_views = t.port_views;
   }
 
   left_lawful : Lawful a left_parts
   left_lawful = alike a c left_parts L left_alike left_shape
-      (by (λ n y. get_or (set c.left v.number true) n false ≡ y.left) (get_or-set_same c.left v.number true false (there a c L v.number K.near)) (λ n ne. get_or-set_other c.left v.number n true false ne ∙ L.leaving n))
+      (by (λ n y. get_or (set c.left v.number true) n false ≡ y.left)
+          (get_or-set_same c.left v.number true false (there a c L v.number K.near))
+          (λ n ne. get_or-set_other c.left v.number n true false ne ∙ L.leaving n))
       (λ n j. by (λ n y. y.left ≡ true → get_or y.hand j Nothing ≡ Nothing) (λ _. empty_here j) (λ n _. L.gone n j) n)
 
   -- the master owns no slot
@@ -125,32 +135,41 @@ module _ (a : About) (c : Parts) (L : Lawful a c) (id : ℕ) (v : Hands) (K : Kn
       let here : phase c t.0 ≡ t.1 = any_default c.phases t.0 Free t.1 t.2 ∙ t.3 in
       owner_holds a c L v.number t.0 lt (ap owner_of here ∙ t.4) (empty_here t.0)
 
-  pub leave_event : IsOneEvent a (Leave v.number) (table_of a c) (stepped (table_of a c) (a.slots + v.number) 1 id carried (Master (gone_hands v)) keeps)
+  pub leave_event : IsOneEvent a (Leave v.number) (table_of a c)
+      (stepped (table_of a c) (a.slots + v.number) 1 id carried (Master (gone_hands v)) keeps)
   leave_event = let m = v.number in
-      let words = set_leaf c.phases _ (a.slots + m) m 1 (let e = L.shape.phases in omega arith) ∙ ap (λ (l : List ℕ). map word c.phases ++ l) (set_left c.left m) in
-      let views = K.sets (gone_hands v) ∙ ap (λ (y : Hands). views_of a (set c.masters m (gone_hands y)) c.ports) (sym K.is) in record {
+      let words = set_leaf c.phases _ (a.slots + m) m 1 (let e = L.shape.phases in omega arith)
+          ∙ ap (λ (l : List ℕ). map word c.phases ++ l) (set_left c.left m) in
+      let views = K.sets (gone_hands v) ∙ ap (λ (y : Hands). views_of a (set c.masters m (gone_hands y)) c.ports)
+          (sym K.is) in record {
         before = c;
         after = left_parts;
         was = refl;
         is = λ z. record { words = words z; homes = c.homes; views = views z };
         lawful_before = L;
         lawful_after = left_lawful;
-        allowed = leave_is_allowed (state_of a c) m (present a c L m K.near (ap (λ (x : Hands). x.left) K.is ∙ staying)) owns_none;
+        allowed = leave_is_allowed (state_of a c) m
+            (present a c L m K.near (ap (λ (x : Hands). x.left) K.is ∙ staying)) owns_none;
         leaves = refl;
       }
 
-pub leaves : (a : About) (slots id : ℕ) (v : Hands) (carried : List (ℕ × Berth)) (i : ℕ) → v.left ≡ false → ((j : ℕ) → get_or v.hand j Nothing ≡ Nothing) → i ≡ slots + v.number
-    → Allows (Fits a) slots id (Master v, carried) i (λ _. 1) (λ _. Leaves (step slots i 1 0 none) (Master v, carried) 1)
+pub leaves : (a : About) (slots id : ℕ) (v : Hands) (carried : List (ℕ × Berth)) (i : ℕ) → v.left ≡ false
+    → ((j : ℕ) → get_or v.hand j Nothing ≡ Nothing) → i ≡ slots + v.number
+    → Allows (Fits a) slots id (Master v, carried) i (λ _. 1)
+        (λ _. Leaves (step slots i 1 0 none) (Master v, carried) 1)
 leaves a slots id v carried i staying empty is =
-    stores a slots id (Master v, carried) i 1 (Leaves (step slots i 1 0 none) (Master v, carried) 1) (λ c L wide at. let K = known a c L id v at in let t = L.shape.master_views v.number K.near in
+    stores a slots id (Master v, carried) i 1 (Leaves (step slots i 1 0 none) (Master v, carried) 1)
+        (λ c L wide at. let K = known a c L id v at in let t = L.shape.master_views v.number K.near in
     let E = leave_event a c L id v K carried staying empty in let there : a.slots + v.number ≡ i = omega arith in (
       Master (gone_hands v),
       keeps,
       tt,
-      subst (λ (n : ℕ). Fits a (stepped (table_of a c) n 1 id carried (Master (gone_hands v)) keeps)) there (fits_after a (Leave v.number) _ _ E),
+      subst (λ (n : ℕ). Fits a (stepped (table_of a c) n 1 id carried (Master (gone_hands v)) keeps)) there
+          (fits_after a (Leave v.number) _ _ E),
       record {
         seat = refl;
-        owns_all = λ p. subst (λ (w : Hands). OwnsAll w p) K.is (all_own a c L v.number p t.1 t.0 (empty_here a c L id v K carried staying empty));
+        owns_all = λ p. subst (λ (w : Hands). OwnsAll w p) K.is
+            (all_own a c L v.number p t.1 t.0 (empty_here a c L id v K carried staying empty));
         event = event_told a v.about (Leave v.number) _ _ id _ _ K.about at refl E;
       },
     ))

@@ -5,11 +5,14 @@ use native.Mathlib.Decide.{ℕ_discrete}
 
 module _ {A : Type 0} where
   -- an item of a longer list is an old one, or the last
-  pub at_end : (l : List A) (a b : A) (j : ℕ) → slice_get (l ++ a ∷ []) j ≡ Some b → ((j < length l) × (slice_get l j ≡ Some b)) ⊎ ((j ≡ length l) × (a ≡ b))
+  pub at_end : (l : List A) (a b : A) (j : ℕ) → slice_get (l ++ a ∷ []) j ≡ Some b
+      → ((j < length l) × (slice_get l j ≡ Some b)) ⊎ ((j ≡ length l) × (a ≡ b))
   at_end [] a b zero e = inr (refl, cc)
   at_end [] a b (suc j) e = absurd (cc)
   at_end (x ∷ xs) a b zero e = inl (omega arith, e)
-  at_end (x ∷ xs) a b (suc j) e = ⊎_elim (λ (t : (j < length xs) × (slice_get xs j ≡ Some b)). inl (let l = t.0 in omega arith, t.1)) (λ (t : (j ≡ length xs) × (a ≡ b)). inr (ap suc t.0, t.1)) (at_end xs a b j e)
+  at_end (x ∷ xs) a b (suc j) e =
+      ⊎_elim (λ (t : (j < length xs) × (slice_get xs j ≡ Some b)). inl (let l = t.0 in omega arith, t.1))
+      (λ (t : (j ≡ length xs) × (a ≡ b)). inr (ap suc t.0, t.1)) (at_end xs a b j e)
 
   pub before_end : (l : List A) (a : A) (j : ℕ) → j < length l → slice_get (l ++ a ∷ []) j ≡ slice_get l j
   before_end [] a j h = absurd (omega arith)
@@ -40,17 +43,21 @@ module _ {A : Type 0} where
   any_default (x ∷ xs) (suc i) d b h = any_default xs i d b (omega arith)
 
   -- what is looked up after one item is set
-  pub set_elim : (l : List A) (i : ℕ) (a d : A) → i < length l → (P : ℕ → A → Type 0) → P i a → ((j : ℕ) → j ≢ i → P j (get_or l j d)) → (j : ℕ) → P j (get_or (set l i a) j d)
+  pub set_elim : (l : List A) (i : ℕ) (a d : A) → i < length l → (P : ℕ → A → Type 0) → P i a
+      → ((j : ℕ) → j ≢ i → P j (get_or l j d)) → (j : ℕ) → P j (get_or (set l i a) j d)
   set_elim l i a d near P here else j = dite (ℕ_discrete j i)
-      (λ e. subst (λ (k : ℕ). P k (get_or (set l i a) k d)) (sym e) (subst (P i) (sym (get_or-set_same l i a d near)) here))
+      (λ e. subst (λ (k : ℕ). P k (get_or (set l i a) k d)) (sym e)
+          (subst (P i) (sym (get_or-set_same l i a d near)) here))
       (λ ne. subst (P j) (sym (get_or-set_other l i j a d ne)) (else j ne))
 
   -- the same where one item more is at the end
-  pub end_elim : (l : List A) (x d : A) (P : ℕ → A → Type 0) → ((j : ℕ) → j < length l → P j (get_or l j d)) → P (length l) x → ((j : ℕ) → length l < j → P j d) → (j : ℕ) → P j (get_or (l ++ x ∷ []) j d)
+  pub end_elim : (l : List A) (x d : A) (P : ℕ → A → Type 0) → ((j : ℕ) → j < length l → P j (get_or l j d))
+      → P (length l) x → ((j : ℕ) → length l < j → P j d) → (j : ℕ) → P j (get_or (l ++ x ∷ []) j d)
   end_elim [] x d P old here far zero = here
   end_elim [] x d P old here far (suc j) = far (suc j) (omega arith)
   end_elim (y ∷ ys) x d P old here far zero = old zero (omega arith)
-  end_elim (y ∷ ys) x d P old here far (suc j) = end_elim ys x d (λ n. P (suc n)) (λ j lt. old (suc j) (omega arith)) here (λ j lt. far (suc j) (omega arith)) j
+  end_elim (y ∷ ys) x d P old here far (suc j) =
+      end_elim ys x d (λ n. P (suc n)) (λ j lt. old (suc j) (omega arith)) here (λ j lt. far (suc j) (omega arith)) j
 
 pub first_of : {A B : Type 0} (x y : A × B) → Some x ≡ Some y → x.0 ≡ y.0
 first_of x y e = let same : x ≡ y = cc in ap (λ z. z.0) same

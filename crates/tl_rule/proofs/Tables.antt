@@ -28,19 +28,23 @@ no_master [] j v e = absurd (some-ne-none (Master v) (sym e))
 no_master (x ∷ ps) zero v e = cc
 no_master (x ∷ ps) (suc j) v e = no_master ps j v e
 
-pub master_at : (ms : List Hands) (ps : List Desk) (j : ℕ) (v : Hands) → get_elem? (map Master ms ++ map Port ps) j ≡ some (Master v) → get_elem? ms j ≡ some v
+pub master_at : (ms : List Hands) (ps : List Desk) (j : ℕ) (v : Hands)
+    → get_elem? (map Master ms ++ map Port ps) j ≡ some (Master v) → get_elem? ms j ≡ some v
 master_at [] ps j v e = absurd (no_master ps j v e)
 master_at (x ∷ ms) ps zero v e = cc
 master_at (x ∷ ms) ps (suc j) v e = master_at ms ps j v e
 
-pub port_at : (ms : List Hands) (ps : List Desk) (j : ℕ) (u : Desk) → get_elem? (map Master ms ++ map Port ps) j ≡ some (Port u) → (p : ℕ) × (j ≡ length ms + p) × (get_elem? ps p ≡ some u)
+pub port_at : (ms : List Hands) (ps : List Desk) (j : ℕ) (u : Desk)
+    → get_elem? (map Master ms ++ map Port ps) j ≡ some (Port u) → (p : ℕ) × (j ≡ length ms + p)
+    × (get_elem? ps p ≡ some u)
 port_at [] [] j u e = absurd (some-ne-none (Port u) (sym e))
 port_at [] (x ∷ ps) zero u e = (0, refl, cc)
 port_at [] (x ∷ ps) (suc j) u e = let r = port_at [] ps j u e in let l = r.1 in (suc r.0, omega arith, r.2)
 port_at (x ∷ ms) ps zero u e = absurd (cc)
 port_at (x ∷ ms) ps (suc j) u e = let r = port_at ms ps j u e in let l = r.1 in (r.0, omega arith, r.2)
 
-pub set_master : (ms : List Hands) (ps : List Desk) (j : ℕ) (w : Hands) → j < length ms → set (map Master ms ++ map Port ps) j (Master w) ≡ map Master (set ms j w) ++ map Port ps
+pub set_master : (ms : List Hands) (ps : List Desk) (j : ℕ) (w : Hands) → j < length ms
+    → set (map Master ms ++ map Port ps) j (Master w) ≡ map Master (set ms j w) ++ map Port ps
 set_master [] ps j w h = absurd (omega arith)
 set_master (x ∷ ms) ps zero w h = refl
 set_master (x ∷ ms) ps (suc j) w h = ap (λ (l : List View). Master x ∷ l) (set_master ms ps j w (omega arith))
@@ -50,8 +54,10 @@ set_port_first [] p w = refl
 set_port_first (x ∷ ps) zero w = refl
 set_port_first (x ∷ ps) (suc p) w = ap (λ (l : List View). Port x ∷ l) (set_port_first ps p w)
 
-pub set_port : (ms : List Hands) (ps : List Desk) (j p : ℕ) (w : Desk) → j ≡ length ms + p → set (map Master ms ++ map Port ps) j (Port w) ≡ map Master ms ++ map Port (set ps p w)
-set_port [] ps j p w e = let same : j ≡ p = omega arith in subst (λ (k : ℕ). set (map Port ps) k (Port w) ≡ map Port (set ps p w)) (sym same) (set_port_first ps p w)
+pub set_port : (ms : List Hands) (ps : List Desk) (j p : ℕ) (w : Desk) → j ≡ length ms + p
+    → set (map Master ms ++ map Port ps) j (Port w) ≡ map Master ms ++ map Port (set ps p w)
+set_port [] ps j p w e = let same : j ≡ p = omega arith in
+    subst (λ (k : ℕ). set (map Port ps) k (Port w) ≡ map Port (set ps p w)) (sym same) (set_port_first ps p w)
 set_port (x ∷ ms) ps zero p w e = absurd (omega arith)
 set_port (x ∷ ms) ps (suc j) p w e = ap (λ (l : List View). Master x ∷ l) (set_port ms ps j p w (omega arith))
 
@@ -61,29 +67,39 @@ length_set (x ∷ xs) zero a = refl
 length_set (x ∷ xs) (suc i) a = ap suc (length_set xs i a)
 
 -- the view of a master stands behind the dealer's, at its number
-pub master_view : (a : About) (ms : List Hands) (ps : List Desk) (id : ℕ) (v : Hands) → get_elem? (views_of a ms ps) id ≡ some (Master v)
-    → (j : ℕ) × (get_elem? ms j ≡ some v) × ((w : Hands) → set (views_of a ms ps) id (Master w) ≡ views_of a (set ms j w) ps) × (id ≡ suc j)
+pub master_view : (a : About) (ms : List Hands) (ps : List Desk) (id : ℕ) (v : Hands)
+    → get_elem? (views_of a ms ps) id ≡ some (Master v)
+    → (j : ℕ) × (get_elem? ms j ≡ some v) × ((w : Hands)
+        → set (views_of a ms ps) id (Master w) ≡ views_of a (set ms j w) ps) × (id ≡ suc j)
 master_view a ms ps zero v e = absurd (cc)
 master_view a ms ps (suc j) v e = let at = master_at ms ps j v e in let near = (at_get ms j v v at).0 in
-    (j, at, λ w. ap (λ (l : List View). Dealer a (length ms) (length ps) ∷ l) (set_master ms ps j w near) ∙ ap (λ (n : ℕ). Dealer a n (length ps) ∷ (map Master (set ms j w) ++ map Port ps)) (sym (length_set ms j w)), refl)
+    (j, at, λ w. ap (λ (l : List View). Dealer a (length ms) (length ps) ∷ l) (set_master ms ps j w near)
+        ∙ ap (λ (n : ℕ). Dealer a n (length ps) ∷ (map Master (set ms j w) ++ map Port ps)) (sym (length_set ms j w)),
+        refl)
 
-pub port_view : (a : About) (ms : List Hands) (ps : List Desk) (id : ℕ) (v : Desk) → get_elem? (views_of a ms ps) id ≡ some (Port v)
-    → (p : ℕ) × (get_elem? ps p ≡ some v) × ((w : Desk) → set (views_of a ms ps) id (Port w) ≡ views_of a ms (set ps p w))
+pub port_view : (a : About) (ms : List Hands) (ps : List Desk) (id : ℕ) (v : Desk)
+    → get_elem? (views_of a ms ps) id ≡ some (Port v)
+    → (p : ℕ) × (get_elem? ps p ≡ some v) × ((w : Desk)
+        → set (views_of a ms ps) id (Port w) ≡ views_of a ms (set ps p w))
 port_view a ms ps zero v e = absurd (cc)
 port_view a ms ps (suc j) v e = let at = port_at ms ps j v e in let p = at.0 in
-    (p, at.2, λ w. ap (λ (l : List View). Dealer a (length ms) (length ps) ∷ l) (set_port ms ps j p w at.1) ∙ ap (λ (n : ℕ). Dealer a (length ms) n ∷ (map Master ms ++ map Port (set ps p w))) (sym (length_set ps p w)))
+    (p, at.2, λ w. ap (λ (l : List View). Dealer a (length ms) (length ps) ∷ l) (set_port ms ps j p w at.1)
+        ∙ ap (λ (n : ℕ). Dealer a (length ms) n ∷ (map Master ms ++ map Port (set ps p w))) (sym (length_set ps p w)))
 
-pub word_at : (fs : List Phase) (ls : List ℕ) (i : ℕ) → i < length fs → get_or (map word fs ++ ls) i 0 ≡ word (get_or fs i Free)
+pub word_at : (fs : List Phase) (ls : List ℕ) (i : ℕ) → i < length fs
+    → get_or (map word fs ++ ls) i 0 ≡ word (get_or fs i Free)
 word_at [] ls i h = absurd (omega arith)
 word_at (f ∷ fs) ls zero h = refl
 word_at (f ∷ fs) ls (suc i) h = word_at fs ls i (omega arith)
 
-pub set_word : (fs : List Phase) (ls : List ℕ) (i : ℕ) (f : Phase) → i < length fs → set (map word fs ++ ls) i (word f) ≡ map word (set fs i f) ++ ls
+pub set_word : (fs : List Phase) (ls : List ℕ) (i : ℕ) (f : Phase) → i < length fs
+    → set (map word fs ++ ls) i (word f) ≡ map word (set fs i f) ++ ls
 set_word [] ls i f h = absurd (omega arith)
 set_word (g ∷ fs) ls zero f h = refl
 set_word (g ∷ fs) ls (suc i) f h = ap (λ (l : List ℕ). word g ∷ l) (set_word fs ls i f (omega arith))
 
-pub set_leaf : (fs : List Phase) (ls : List ℕ) (j m n : ℕ) → j ≡ length fs + m → set (map word fs ++ ls) j n ≡ map word fs ++ set ls m n
+pub set_leaf : (fs : List Phase) (ls : List ℕ) (j m n : ℕ) → j ≡ length fs + m
+    → set (map word fs ++ ls) j n ≡ map word fs ++ set ls m n
 set_leaf [] ls j m n e = let same : j ≡ m = omega arith in ap (λ (k : ℕ). set ls k n) same
 set_leaf (f ∷ fs) ls zero m n e = absurd (omega arith)
 set_leaf (f ∷ fs) ls (suc j) m n e = ap (λ (l : List ℕ). word f ∷ l) (set_leaf fs ls j m n (omega arith))
@@ -103,7 +119,8 @@ set_left (l ∷ ls) (suc m) = ap (λ (w : List ℕ). leave_word l ∷ w) (set_le
 -- a leave word stands behind those of all slots
 pub leaf_at : (fs : List Phase) (ls : List ℕ) (m : ℕ) → get_or (map word fs ++ ls) (length fs + m) 0 ≡ get_or ls m 0
 leaf_at [] ls m = let e : zero + m ≡ m = omega arith in ap (λ (k : ℕ). get_or ls k 0) e
-leaf_at (f ∷ fs) ls m = let e : length (f ∷ fs) + m ≡ suc (length fs + m) = omega arith in ap (λ (k : ℕ). get_or (word f ∷ (map word fs ++ ls)) k 0) e ∙ leaf_at fs ls m
+leaf_at (f ∷ fs) ls m = let e : length (f ∷ fs) + m ≡ suc (length fs + m) = omega arith in
+    ap (λ (k : ℕ). get_or (word f ∷ (map word fs ++ ls)) k 0) e ∙ leaf_at fs ls m
 
 pub leave_at : (ls : List Bool) (m : ℕ) → get_or (map leave_word ls) m 0 ≡ leave_word (get_or ls m false)
 leave_at [] m = refl

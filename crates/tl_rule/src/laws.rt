@@ -2,7 +2,8 @@
 //!
 //! The laws of the steps say more than that the rule is kept: each step is one event that the core of `tl_slots`
 //! accepts in the state that the words show, and the words after it show the state that the core leaves. What each step
-//! tells its seat (`specs/Moves.antt`) names its event, and so do the calls of `tl_arena`. A look tells no seat anything.
+//! tells its seat (`specs/Moves.antt`) names its event, and so do the calls of `tl_arena`. A look tells no seat
+//! anything.
 ghost use Rattle.tl_rule.specs.Dealing.{Opens, DealsMaster, DealsPort};
 ghost use Rattle.tl_rule.specs.Laws.{ClaimIsOneEvent, PostIsOneEvent, LookIsOneEvent, AcceptIsOneEvent, AnswerIsOneEvent, CollectIsOneEvent, ReleaseIsOneEvent, LeaveIsOneEvent, ListsAreJustOwn, AnswersAreSeenFit, NoOwnedSlotIsClaimed, HandsAreApart, DesksAreLawful, WordsFit, AllFreeAfterAllLeft};
 

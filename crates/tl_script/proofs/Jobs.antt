@@ -14,12 +14,16 @@ one_sent : (count : ℕ) (job : Job) → IsFrom count job → All (λ (ask : Req
 one_sent count Wait from = grind (arith, common_steps)
 one_sent count (Send ask) from = grind (arith, common_steps)
 
-pub sends-push : (count : ℕ) (jobs : List Job) (job : Job) → All (λ (ask : Request). ask.source < count) (sends jobs) → IsFrom count job
+pub sends-push : (count : ℕ) (jobs : List Job) (job : Job) → All (λ (ask : Request). ask.source < count) (sends jobs)
+    → IsFrom count job
     → All (λ (ask : Request). ask.source < count) (sends (jobs ++ job ∷ []))
 sends-push count jobs job before from =
-    rw (filter_map-append sent_by jobs (job ∷ [])) (All-append (λ (ask : Request). ask.source < count) (sends jobs) (sends (job ∷ [])) before (one_sent count job from))
+    rw (filter_map-append sent_by jobs (job ∷ []))
+        (All-append (λ (ask : Request). ask.source < count) (sends jobs) (sends (job ∷ [])) before
+        (one_sent count job from))
 
-pub lawful_more : (counts : List ℕ) (lists : List (List Job)) (jobs : List Job) (m count : ℕ) → LawfulSoFar counts lists m → slice_get counts m ≡ Some count
+pub lawful_more : (counts : List ℕ) (lists : List (List Job)) (jobs : List Job) (m count : ℕ)
+    → LawfulSoFar counts lists m → slice_get counts m ≡ Some count
     → AreLawfulJobs count jobs → LawfulSoFar counts (lists ++ jobs ∷ []) (m + 1)
 lawful_more counts lists jobs m count before here lawful = record {
   counted = length-append lists (jobs ∷ []) ∙ ap (λ (n : ℕ). n + 1) before.counted;

@@ -24,5 +24,6 @@ take_at xs k x at = let next : k + 1 ≡ suc k = omega arith in ap (λ n. take n
 pub lines_more : (master : ℕ) (entries : List Entry) (k : ℕ) (entry : Entry) → slice_get entries k ≡ Some entry
     → lines_of master (take (k + 1) entries) ≡ lines_of master (take k entries) ++ trace_line master entry
 lines_more master entries k entry at =
-    ap (lines_of master) (take_at entries k entry at) ∙ flat_map-append (trace_line master) (take k entries) (entry ∷ [])
+    ap (lines_of master) (take_at entries k entry at)
+        ∙ flat_map-append (trace_line master) (take k entries) (entry ∷ [])
     ∙ ap (λ line. lines_of master (take k entries) ++ line) (append-nil (trace_line master entry))

@@ -10,7 +10,8 @@ digits_counted [] = refl
 digits_counted (byte ∷ bytes) = omega (arith, digits_counted bytes)
 
 -- a space more, where there are bytes
-pub part_counted : (bytes : List ℕ) → 0 < length bytes → length (bytes_part (map (λ byte. Some byte) bytes)) ≡ 1 + 2 * length bytes
+pub part_counted : (bytes : List ℕ) → 0 < length bytes
+    → length (bytes_part (map (λ byte. Some byte) bytes)) ≡ 1 + 2 * length bytes
 part_counted [] some = absurd (omega arith)
 part_counted (byte ∷ bytes) some = omega (arith, digits_counted bytes)
 

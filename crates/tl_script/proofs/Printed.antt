@@ -16,13 +16,16 @@ glyph_digit d below = rw (glyph_value d below) (lt-ltb d 16 below)
 glyph_no_dash : (d : ℕ) → d < 16 → (digit_glyph false d == 45) ≡ false
 glyph_no_dash d below = grind (arith, nat_tests)
 
-pair_read : (high low : ℕ) → high < 16 → low < 16 → pair_of (digit_glyph false high) (digit_glyph false low) ≡ Some (16 * high + low)
+pair_read : (high low : ℕ) → high < 16 → low < 16
+    → pair_of (digit_glyph false high) (digit_glyph false low) ≡ Some (16 * high + low)
 pair_read high low h l = rw (glyph_digit high h, glyph_digit low l, glyph_value high h, glyph_value low l) refl
 
-byte_read : (high low : ℕ) → high < 16 → low < 16 → byte_of (digit_glyph false high) (digit_glyph false low) ≡ Some (Some (16 * high + low))
+byte_read : (high low : ℕ) → high < 16 → low < 16
+    → byte_of (digit_glyph false high) (digit_glyph false low) ≡ Some (Some (16 * high + low))
 byte_read high low h l = rw (glyph_no_dash high h, pair_read high low h l) refl
 
-value_read : (value : ℕ) → value < 256 → byte_of (digit_glyph false (value / 16)) (digit_glyph false (value % 16)) ≡ Some (Some value)
+value_read : (value : ℕ) → value < 256 → byte_of (digit_glyph false (value / 16))
+    (digit_glyph false (value % 16)) ≡ Some (Some value)
 value_read value below =
     let whole : 16 * (value / 16) + value % 16 ≡ value = omega arith in
     byte_read (value / 16) (value % 16) (omega (arith, below)) (omega arith) ∙ ap (λ (n : ℕ). Some (Some n)) whole

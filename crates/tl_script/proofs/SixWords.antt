@@ -17,6 +17,7 @@ request_of-six sources (a ∷ b ∷ c ∷ d ∷ []) = refl
 request_of-six sources (a ∷ b ∷ c ∷ d ∷ e ∷ []) = refl
 request_of-six sources (a ∷ b ∷ c ∷ d ∷ e ∷ f ∷ words) = refl
 
-pub operation_in-six : (sources : ℕ) (words : List (List ℕ)) → operation_in sources (take 6 words) ≡ operation_in sources words
+pub operation_in-six : (sources : ℕ) (words : List (List ℕ))
+    → operation_in sources (take 6 words) ≡ operation_in sources words
 unfolding operation_in
 operation_in-six sources words = rw (is_wait-six words, request_of-six sources words) refl

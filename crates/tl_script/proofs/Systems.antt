@@ -13,13 +13,15 @@ use Rattle.tl_script.specs.declared.fault.ScriptFault.{ScriptFault}
 use Rattle.tl_script.specs.declared.fault.ScriptFault.TheVariants.{NotToml, Missing, WrongType, OutOfRange, BadOp, Map, Sources, TooLong, Memory}
 use Rattle.tl_script.specs.declared.operation.Job.{Job}
 
-pub sources_refused : (parts : Parts) (fault : SourceFault) → IsLawfulMap (ranges_of parts) → IsFirstSourceFault (counts_of parts) fault
+pub sources_refused : (parts : Parts) (fault : SourceFault) → IsLawfulMap (ranges_of parts)
+    → IsFirstSourceFault (counts_of parts) fault
     → source_fault fault ≢ Memory → IsFirstFaultOf parts (source_fault fault)
 sources_refused parts TooMany lawful first other = (lawful, (λ e. absurd cc), first)
 sources_refused parts (NoSource m) lawful first other = (lawful, (λ e. absurd cc), first)
 sources_refused parts SourceMemory lawful first other = absurd (other refl)
 
-pub jobs_refused : (parts : Parts) (fault : ScriptFault) → IsLawfulMap (ranges_of parts) → AreLawfulCounts (counts_of parts) → IsOfJobs fault
+pub jobs_refused : (parts : Parts) (fault : ScriptFault) → IsLawfulMap (ranges_of parts)
+    → AreLawfulCounts (counts_of parts) → IsOfJobs fault
     → (fault ≢ Memory → jobs_from 0 parts.masters ≡ Err fault) → fault ≢ Memory → IsFirstFaultOf parts fault
 jobs_refused parts (BadOp m n) ranges counts of_jobs read other = (ranges, counts, rw (read other) refl)
 jobs_refused parts Memory ranges counts of_jobs read other = absurd (other refl)
@@ -33,10 +35,13 @@ jobs_refused parts TooLong ranges counts of_jobs read other = absurd of_jobs
 
 pub system_of-made : (parts : Parts) (counts : List ℕ) (ranges : List Range) (jobs : List (List Job)) (system : System)
     → counts ≡ counts_of parts → ranges ≡ ranges_of parts → jobs_from 0 parts.masters ≡ Ok jobs
-    → system ≡ record { slots = parts.slots; stores = parts.stores; counts = counts; ranges = ranges; jobs = jobs } → system_of parts ≡ Ok system
-system_of-made parts counts ranges jobs system same_counts same_ranges read made = rw (read, made, same_counts, same_ranges) refl
+    → system ≡ record { slots = parts.slots; stores = parts.stores; counts = counts; ranges = ranges; jobs = jobs }
+        → system_of parts ≡ Ok system
+system_of-made parts counts ranges jobs system same_counts same_ranges read made =
+    rw (read, made, same_counts, same_ranges) refl
 
 -- what holds of a fault holds of the error that is that fault
-pub error_is : {A : Type 0} (P : ScriptFault → Type 0) (fault : ScriptFault) (result : Result A ScriptFault) → IsErrAnd result (λ e. e ≡ fault) → P fault → IfErr result P
+pub error_is : {A : Type 0} (P : ScriptFault → Type 0) (fault : ScriptFault) (result : Result A ScriptFault)
+    → IsErrAnd result (λ e. e ≡ fault) → P fault → IfErr result P
 error_is P fault (Ok x) is holds = tt
 error_is P fault (Err e) is holds = rw is holds

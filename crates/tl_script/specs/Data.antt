@@ -18,7 +18,8 @@ byte_of high low = if (high == dash) && (low == dash) then Some None else option
 abbrev pub data_of : List ℕ → Option (List (Option ℕ))
 data_of [] = Some []
 data_of (high ∷ []) = None
-data_of (high ∷ low ∷ more) = option_and_then (λ byte. option_map (λ bytes. byte ∷ bytes) (data_of more)) (byte_of high low)
+data_of (high ∷ low ∷ more) =
+    option_and_then (λ byte. option_map (λ bytes. byte ∷ bytes) (data_of more)) (byte_of high low)
 
 -- how a byte is printed, and some bytes
 abbrev pub byte_text : Option ℕ → List ℕ

@@ -64,7 +64,8 @@ master_view master = record { sources = master.sources; lines = map (λ line. li
 -- the lists of operations of the first `masters` masters, lawful for the masters' counts of sources
 pub record LawfulSoFar (counts : List ℕ) (lists : List (List Job)) (masters : ℕ) : Type 0 where
   pub counted : length lists ≡ masters
-  pub each : (m : ℕ) (count : ℕ) (jobs : List Job) → slice_get counts m ≡ Some count → slice_get lists m ≡ Some jobs → AreLawfulJobs count jobs
+  pub each : (m : ℕ) (count : ℕ) (jobs : List Job) → slice_get counts m ≡ Some count → slice_get lists m ≡ Some jobs
+      → AreLawfulJobs count jobs
 
 -- the faults that reading operations can have
 abbrev pub IsOfJobs : ScriptFault → Type 0

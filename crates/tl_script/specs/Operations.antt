@@ -1,4 +1,5 @@
--- How a master's operations are kept: a header for each, and the bytes that their requests carry in pools. This project's own.
+-- How a master's operations are kept: a header for each, and the bytes that their requests carry in pools. This
+-- project's own.
 use Rattle.std.specs.Prelude.{Bool, true, false}
 use Rattle.tl_types.specs.Operation.{byte_count, may_leave_unset}
 use Rattle.tl_types.specs.Request.{Request}

@@ -33,7 +33,8 @@ kind_at members = do
 abbrev pub pairs_of : List ℕ → Option (List ℕ)
 pairs_of [] = Some []
 pairs_of (high ∷ []) = None
-pairs_of (high ∷ low ∷ more) = option_and_then (λ byte. option_map (λ bytes. byte ∷ bytes) (pairs_of more)) (pair_of high low)
+pairs_of (high ∷ low ∷ more) =
+    option_and_then (λ byte. option_map (λ bytes. byte ∷ bytes) (pairs_of more)) (pair_of high low)
 
 -- the bytes of a reset: those that its pairs spell, at most `count`, and zero bytes after them up to `count`
 unfoldable pub filled : ℕ → List ℕ → Result (List ℕ) ScriptFault

@@ -81,7 +81,8 @@ abbrev pub IsFirstFaultOf : Parts → ScriptFault → Type 0
 IsFirstFaultOf parts (Map fault) = (fault ≢ MapMemory) × IsFirstMapFault (ranges_of parts) fault
 IsFirstFaultOf parts (Sources fault) =
     IsLawfulMap (ranges_of parts) × (fault ≢ SourceMemory) × IsFirstSourceFault (counts_of parts) fault
-IsFirstFaultOf parts fault = IsLawfulMap (ranges_of parts) × AreLawfulCounts (counts_of parts) × (system_of parts ≡ Err fault)
+IsFirstFaultOf parts fault =
+    IsLawfulMap (ranges_of parts) × AreLawfulCounts (counts_of parts) × (system_of parts ≡ Err fault)
 
 -- ---- scripts
 
@@ -93,8 +94,10 @@ pub record Spells (bytes : List ℕ) (system : System) : Type 0 where
 
 -- the first fault of a script that describes no system: that on the way to its parts, or else that of its parts
 abbrev pub IsFirstScriptFault : List ℕ → ScriptFault → Type 0
-IsFirstScriptFault bytes fault = MatchResult (parts_of bytes) (λ parts. IsFirstFaultOf parts fault) (λ first. fault ≡ first)
+IsFirstScriptFault bytes fault =
+    MatchResult (parts_of bytes) (λ parts. IsFirstFaultOf parts fault) (λ first. fault ≡ first)
 
 -- what contracts see of the parts that were read
 abbrev pub parts_view : code_parts.Parts → Parts
-parts_view parts = record { slots = parts.slots; stores = map store_of parts.devices.items; masters = map master_view parts.masters.items }
+parts_view parts = record { slots = parts.slots; stores = map store_of parts.devices.items;
+    masters = map master_view parts.masters.items }

@@ -75,4 +75,5 @@ pub record IsLawfulSystem (s : System) : Type 0 where
   pub ranges : map range_of s.stores ≡ s.ranges
   pub lengths : All (λ store. length store.bytes ≤ MAX_LENGTH) s.stores
   pub lists : length s.jobs ≡ length s.counts
-  pub jobs : (m : ℕ) (count : ℕ) (jobs : List Job) → slice_get s.counts m ≡ Some count → slice_get s.jobs m ≡ Some jobs → AreLawfulJobs count jobs
+  pub jobs : (m : ℕ) (count : ℕ) (jobs : List Job) → slice_get s.counts m ≡ Some count → slice_get s.jobs m ≡ Some jobs
+      → AreLawfulJobs count jobs

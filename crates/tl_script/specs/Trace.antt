@@ -19,11 +19,13 @@ bytes_part (byte ∷ bytes) = codes " " ++ data_text (byte ∷ bytes)
 
 -- `NAME ADDRESS SIZE [DATA]`
 abbrev pub ask_text : Request → List ℕ
-ask_text ask = word_of ask.op ++ codes " 0x" ++ digits 16 false ask.address ++ codes " " ++ decimal ask.size ++ bytes_part ask.bytes
+ask_text ask = word_of ask.op ++ codes " 0x" ++ digits 16 false ask.address ++ codes " " ++ decimal ask.size
+    ++ bytes_part ask.bytes
 
 -- `REPLY [denied] [DATA]`
 abbrev pub reply_text : Response → List ℕ
-reply_text reply = reply_word_of reply.op ++ denied_text reply.denied ++ bytes_part (map (λ byte. Some byte) reply.bytes)
+reply_text reply = reply_word_of reply.op ++ denied_text reply.denied
+    ++ bytes_part (map (λ byte. Some byte) reply.bytes)
 
 -- a request and its reply
 unfoldable pub message_text : Request → Response → List ℕ

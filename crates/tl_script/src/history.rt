@@ -31,7 +31,8 @@ fn push_line(
     Ok(())
 }
 
-/// Appends the lines of a port's history: one for each request that it served, from index 0 on. The sources are wide ones.
+/// Appends the lines of a port's history: one for each request that it served, from index 0 on. The sources are wide
+/// ones.
 #[tactic(auto, using(tl_text::proofs::TextLemmas::begins))]
 pub fn push_history(text: &mut Vec<u8>, port: usize, history: &Journal) -> Result<(), AllocError>
     ensures ok { OnOk result

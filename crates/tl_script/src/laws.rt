@@ -20,8 +20,8 @@ pub fn bytes_are_read_back()
         → data_of (data_text bytes) ≡ Some bytes }
 {}
 
-/// The address map and the slaves mean the same by "holds all bytes of a request": a request that a port's range holds has its
-/// window in that port's slave, and the other way round.
+/// The address map and the slaves mean the same by "holds all bytes of a request": a request that a port's range holds
+/// has its window in that port's slave, and the other way round.
 pub fn containment_is_one()
     ensures { (store : Store) (ask : Request)
         → HoldsAsk (range_of store) ask ↔ (contains_window store ask ≡ true) }

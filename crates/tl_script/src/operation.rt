@@ -49,8 +49,8 @@ pub fn read_operation(line: &[u8], sources: u16) -> Option<Job>
     }
 }
 
-/// What a line spells, for a master that has this many sources, with the bytes of its request in the place of those that
-/// there were; none for every other line.
+/// What a line spells, for a master that has this many sources, with the bytes of its request in the place of those
+/// that there were; none for every other line.
 // line after line is read into the same bytes: no message is moved to where it is kept
 pub(crate) fn spell(line: &[u8], sources: u16, bytes: &mut Bytes) -> Option<Spelled>
     ensures value { option_map (λ spelled. job_of spelled bytes.new) result ≡ operation_of sources line.now }

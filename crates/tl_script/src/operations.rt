@@ -110,8 +110,8 @@ impl Operations {
             .count()
     }
 
-    /// Puts the request that the operation of this number sends in the place of another, and answers whether it sends one: a
-    /// wait leaves the other as it is.
+    /// Puts the request that the operation of this number sends in the place of another, and answers whether it sends
+    /// one: a wait leaves the other as it is.
     pub fn fill(&self, number: usize, ask: &mut Ask) -> bool
         requires { number < length self.now }
         ensures job { slice_get self.now number ≡ Some (job_at result ask.new) }

@@ -137,8 +137,8 @@ fn bank_of(alloc: Global, device: &Device) -> Result<Bank, Memory>
     }
 }
 
-/// What the slaves of these devices hold at reset, and the error port's behind them. Only memory can be refused, since each device
-/// makes a lawful bank.
+/// What the slaves of these devices hold at reset, and the error port's behind them. Only memory can be refused, since
+/// each device makes a lawful bank.
 pub fn banks_of(alloc: Global, devices: &[Device]) -> Result<Vec<Bank>, Memory>
     requires { All IsLawfulDevice devices.now }
     ensures { IfOk result (λ banks. banks.items ≡ map store_of devices.now ++ error_store ∷ []) }

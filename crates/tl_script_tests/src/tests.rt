@@ -1,7 +1,7 @@
 //! Scripts, operations and texts, with the values of the formats' own examples.
 //!
-//! The cases stand in constant tables, each walked by one small function that promises nothing: a test owes only safety,
-//! and its values are judged when it runs.
+//! The cases stand in constant tables, each walked by one small function that promises nothing: a test owes only
+//! safety, and its values are judged when it runs.
 mod faults;
 mod limits;
 mod memory;

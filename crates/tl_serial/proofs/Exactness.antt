@@ -18,23 +18,30 @@ use Rattle.tl_serial.specs.Exact.{SerialRunOf}
 same_entry : (a b : Entry) → a.ask ≡ b.ask → a.reply ≡ b.reply → a.port ≡ b.port → a.index ≡ b.index → a ≡ b
 same_entry a b ask reply port index =
     let first : a ≡ record a { ask = b.ask } = ap (λ (q : Request). let e : Entry = record a { ask = q } in e) ask in
-    let second : record a { ask = b.ask } ≡ record a { ask = b.ask; reply = b.reply } = ap (λ (r : Response). let e : Entry = record a { ask = b.ask; reply = r } in e) reply in
-    let third : record a { ask = b.ask; reply = b.reply } ≡ record b { index = a.index } = ap (λ (p : ℕ). let e : Entry = record a { ask = b.ask; reply = b.reply; port = p } in e) port in
+    let second : record a { ask = b.ask } ≡ record a { ask = b.ask; reply = b.reply } =
+        ap (λ (r : Response). let e : Entry = record a { ask = b.ask; reply = r } in e) reply in
+    let third : record a { ask = b.ask; reply = b.reply } ≡ record b { index = a.index } =
+        ap (λ (p : ℕ). let e : Entry = record a { ask = b.ask; reply = b.reply; port = p } in e) port in
     let last : record b { index = a.index } ≡ b = ap (λ (i : ℕ). let e : Entry = record b { index = i } in e) index in
     first ∙ second ∙ third ∙ last
 
-one_reply : (found : Option Store) (after : Store → Response) (a b : Response) → IsSomeAnd found (λ reset. a ≡ after reset) → IsSomeAnd found (λ reset. b ≡ after reset) → a ≡ b
+one_reply : (found : Option Store) (after : Store → Response) (a b : Response)
+    → IsSomeAnd found (λ reset. a ≡ after reset) → IsSomeAnd found (λ reset. b ≡ after reset) → a ≡ b
 one_reply None after a b first second = absurd first
 one_reply (Some reset) after a b first second = first ∙ sym second
 
 module _ (s : System) (lawful : IsLawfulMap s.ranges) where
-  one_entry : (log : List (ℕ × Entry)) (a b : Entry) → a.ask ≡ b.ask → IsServedAfter s log a → IsServedAfter s log b → a ≡ b
+  one_entry : (log : List (ℕ × Entry)) (a b : Entry) → a.ask ≡ b.ask → IsServedAfter s log a → IsServedAfter s log b
+      → a ≡ b
   one_entry log a b ask first second =
       let routed : Routes s.ranges b.ask a.port = rw ask at first.port in
       let port : a.port ≡ b.port = one_port s.ranges lawful b.ask a.port b.port routed second.port in
       let index : a.index ≡ b.index = first.index ∙ ap (λ (p : ℕ). length (at_port p log)) port ∙ sym second.index in
-      let answered : IsSomeAnd (slice_get (resets s) b.port) (λ reset. a.reply ≡ reply (replay reset (requests_at b.port log)) b.ask) = rw (port, ask) at first.reply in
-      same_entry a b ask (one_reply (slice_get (resets s) b.port) (λ reset. reply (replay reset (requests_at b.port log)) b.ask) a.reply b.reply answered second.reply) port index
+      let answered : IsSomeAnd (slice_get (resets s) b.port)
+          (λ reset. a.reply ≡ reply (replay reset (requests_at b.port log)) b.ask) = rw (port, ask) at first.reply in
+      same_entry a b ask (one_reply (slice_get (resets s) b.port)
+          (λ reset. reply (replay reset
+          (requests_at b.port log)) b.ask) a.reply b.reply answered second.reply) port index
 
 -- ---- the entries of a run follow from the requests
 
@@ -43,7 +50,8 @@ abbrev asked_in : List (ℕ × Entry) → List (ℕ × Request)
 asked_in log = map (λ (e : ℕ × Entry). (e.0, e.1.ask)) log
 
 same_pair : {A B : Type 0} (x y : A × B) → x.0 ≡ y.0 → x.1 ≡ y.1 → x ≡ y
-same_pair {A} {B} x y first second = ap (λ (a : A). let p : A × B = (a, x.1) in p) first ∙ ap (λ (b : B). let p : A × B = (y.0, b) in p) second
+same_pair {A} {B} x y first second =
+    ap (λ (a : A). let p : A × B = (a, x.1) in p) first ∙ ap (λ (b : B). let p : A × B = (y.0, b) in p) second
 
 seam : {A : Type 0} (xs : List A) (y : A) (ys : List A) → slice_get (xs ++ y ∷ ys) (length xs) ≡ Some y
 seam [] y ys = refl
@@ -51,13 +59,15 @@ seam (x ∷ xs) y ys = seam xs y ys
 
 module _ (s : System) (lawful : IsLawfulMap s.ranges) where
   -- the entry behind these is served after them
-  served_next : (before : List (ℕ × Entry)) (e : ℕ × Entry) (behind : List (ℕ × Entry)) → AreServedInTurn s (before ++ e ∷ behind) → IsServedAfter s before e.1
+  served_next : (before : List (ℕ × Entry)) (e : ℕ × Entry) (behind : List (ℕ × Entry))
+      → AreServedInTurn s (before ++ e ∷ behind) → IsServedAfter s before e.1
   served_next before e behind served =
       let here = served (length before) e (seam before e behind) in
       rw (take_at before (e ∷ behind) (length before) refl) at here
 
   -- behind the same entries, the same requests make the same entries
-  one_rest : (before one other : List (ℕ × Entry)) → asked_in one ≡ asked_in other → AreServedInTurn s (before ++ one) → AreServedInTurn s (before ++ other) → one ≡ other
+  one_rest : (before one other : List (ℕ × Entry)) → asked_in one ≡ asked_in other → AreServedInTurn s (before ++ one)
+      → AreServedInTurn s (before ++ other) → one ≡ other
   one_rest before [] [] asked first second = refl
   one_rest before [] (y ∷ other) asked first second = absurd (cc)
   one_rest before (x ∷ one) [] asked first second = absurd (cc)
@@ -66,13 +76,16 @@ module _ (s : System) (lawful : IsLawfulMap s.ranges) where
       let rest : asked_in one ≡ asked_in other = cc in
       let master : x.0 ≡ y.0 = ap (λ (k : ℕ × Request). k.0) keys in
       let ask : x.1.ask ≡ y.1.ask = ap (λ (k : ℕ × Request). k.1) keys in
-      let entry : x.1 ≡ y.1 = one_entry s lawful before x.1 y.1 ask (served_next before x one first) (served_next before y other second) in
+      let entry : x.1 ≡ y.1 =
+          one_entry s lawful before x.1 y.1 ask (served_next before x one first) (served_next before y other second) in
       let same : x ≡ y = same_pair x y master entry in
       let others : AreServedInTurn s (before ++ x ∷ other) = rw same second in
-      let tail : one ≡ other = one_rest (before ++ x ∷ []) one other rest (rw append_assoc first) (rw append_assoc others) in
+      let tail : one ≡ other =
+          one_rest (before ++ x ∷ []) one other rest (rw append_assoc first) (rw append_assoc others) in
       ap (λ (e : ℕ × Entry). e ∷ one) same ∙ ap (λ (es : List (ℕ × Entry)). y ∷ es) tail
 
-  one_log : (one other : List (ℕ × Entry)) → asked_in one ≡ asked_in other → AreServedInTurn s one → AreServedInTurn s other → one ≡ other
+  one_log : (one other : List (ℕ × Entry)) → asked_in one ≡ asked_in other → AreServedInTurn s one
+      → AreServedInTurn s other → one ≡ other
   one_log one other asked first second = one_rest [] one other asked first second
 
 -- ---- traces and logs
@@ -81,16 +94,19 @@ module _ (s : System) (lawful : IsLawfulMap s.ranges) where
 asked_in-append : (a b : List (ℕ × Entry)) → asked_in (a ++ b) ≡ asked_in a ++ asked_in b
 asked_in-append a b = map-append (λ (e : ℕ × Entry). (e.0, e.1.ask)) a b
 
-asked_numbered : (m : ℕ) (one other : List Entry) → asks_in one ≡ asks_in other → asked_in (numbered m one) ≡ asked_in (numbered m other)
+asked_numbered : (m : ℕ) (one other : List Entry) → asks_in one ≡ asks_in other
+    → asked_in (numbered m one) ≡ asked_in (numbered m other)
 asked_numbered m [] [] asked = refl
 asked_numbered m [] (y ∷ other) asked = absurd (cc)
 asked_numbered m (x ∷ one) [] asked = absurd (cc)
 asked_numbered m (x ∷ one) (y ∷ other) asked =
     let first : x.ask ≡ y.ask = cc in
     let rest : asks_in one ≡ asks_in other = cc in
-    ap (λ (q : Request). (m, q) ∷ asked_in (numbered m one)) first ∙ ap (λ (ks : List (ℕ × Request)). (m, y.ask) ∷ ks) (asked_numbered m one other rest)
+    ap (λ (q : Request). (m, q) ∷ asked_in (numbered m one)) first
+        ∙ ap (λ (ks : List (ℕ × Request)). (m, y.ask) ∷ ks) (asked_numbered m one other rest)
 
-asked_log : (m : ℕ) (one other : List (List Entry)) → map asks_in one ≡ map asks_in other → asked_in (log_from m one) ≡ asked_in (log_from m other)
+asked_log : (m : ℕ) (one other : List (List Entry)) → map asks_in one ≡ map asks_in other
+    → asked_in (log_from m one) ≡ asked_in (log_from m other)
 asked_log m [] [] asked = refl
 asked_log m [] (y ∷ other) asked = absurd (cc)
 asked_log m (x ∷ one) [] asked = absurd (cc)
@@ -103,7 +119,8 @@ asked_log m (x ∷ one) (y ∷ other) asked =
     ∙ sym (asked_in-append (numbered m y) (log_from (m + 1) other))
 
 -- a log is taken apart where a master's entries end
-apart : (m : ℕ) (one other : List Entry) (behind_one behind_other : List (ℕ × Entry)) → asks_in one ≡ asks_in other → numbered m one ++ behind_one ≡ numbered m other ++ behind_other → (one ≡ other) × (behind_one ≡ behind_other)
+apart : (m : ℕ) (one other : List Entry) (behind_one behind_other : List (ℕ × Entry)) → asks_in one ≡ asks_in other
+    → numbered m one ++ behind_one ≡ numbered m other ++ behind_other → (one ≡ other) × (behind_one ≡ behind_other)
 apart m [] [] behind_one behind_other asked same = (refl, same)
 apart m [] (y ∷ other) behind_one behind_other asked same = absurd (cc)
 apart m (x ∷ one) [] behind_one behind_other asked same = absurd (cc)
@@ -116,7 +133,8 @@ apart m (x ∷ one) (y ∷ other) behind_one behind_other asked same =
     (ap (λ (e : Entry). e ∷ one) entry ∙ ap (λ (es : List Entry). y ∷ es) rest, behind)
 
 -- the log and the requests of each master have the traces
-one_traces : (m : ℕ) (one other : List (List Entry)) → map asks_in one ≡ map asks_in other → log_from m one ≡ log_from m other → one ≡ other
+one_traces : (m : ℕ) (one other : List (List Entry)) → map asks_in one ≡ map asks_in other
+    → log_from m one ≡ log_from m other → one ≡ other
 one_traces m [] [] asked same = refl
 one_traces m [] (y ∷ other) asked same = absurd (cc)
 one_traces m (x ∷ one) [] asked same = absurd (cc)
@@ -124,18 +142,24 @@ one_traces m (x ∷ one) (y ∷ other) asked same =
     let first : asks_in x ≡ asks_in y = cc in
     let rest : map asks_in one ≡ map asks_in other = cc in
     let (entries, behind) = apart m x y (log_from (m + 1) one) (log_from (m + 1) other) first same in
-    ap (λ (es : List Entry). es ∷ one) entries ∙ ap (λ (ts : List (List Entry)). y ∷ ts) (one_traces (m + 1) one other rest behind)
+    ap (λ (es : List Entry). es ∷ one) entries
+        ∙ ap (λ (ts : List (List Entry)). y ∷ ts) (one_traces (m + 1) one other rest behind)
 
 -- ---- histories
 
-one_pair : (counts : List ℕ) (e : ℕ × Entry) (a b : Request × Response) → IsWidened counts e a → IsWidened counts e b → a ≡ b
+one_pair : (counts : List ℕ) (e : ℕ × Entry) (a b : Request × Response) → IsWidened counts e a → IsWidened counts e b
+    → a ≡ b
 one_pair counts e a b first second =
-    let wide : first.wide ≡ second.wide = one_wide counts e.0 e.1.ask.source first.wide second.wide first.is second.is in
-    let asks : a.0 ≡ b.0 = first.ask ∙ ap (λ (w : ℕ). let q : Request = record e.1.ask { source = w } in q) wide ∙ sym second.ask in
-    let replies : a.1 ≡ b.1 = first.reply ∙ ap (λ (w : ℕ). let r : Response = record e.1.reply { source = w } in r) wide ∙ sym second.reply in
+    let wide : first.wide ≡ second.wide =
+        one_wide counts e.0 e.1.ask.source first.wide second.wide first.is second.is in
+    let asks : a.0 ≡ b.0 =
+        first.ask ∙ ap (λ (w : ℕ). let q : Request = record e.1.ask { source = w } in q) wide ∙ sym second.ask in
+    let replies : a.1 ≡ b.1 =
+        first.reply ∙ ap (λ (w : ℕ). let r : Response = record e.1.reply { source = w } in r) wide ∙ sym second.reply in
     same_pair a b asks replies
 
-one_history : (counts : List ℕ) (entries : List (ℕ × Entry)) (a b : List (Request × Response)) → IsHistoryOf counts entries a → IsHistoryOf counts entries b → a ≡ b
+one_history : (counts : List ℕ) (entries : List (ℕ × Entry)) (a b : List (Request × Response))
+    → IsHistoryOf counts entries a → IsHistoryOf counts entries b → a ≡ b
 one_history counts [] [] [] first second = refl
 one_history counts [] (x ∷ a) b first second = absurd first
 one_history counts [] [] (y ∷ b) first second = absurd second
@@ -146,13 +170,15 @@ one_history counts (e ∷ entries) (x ∷ a) (y ∷ b) first second =
     ∙ ap (λ (ps : List (Request × Response)). y ∷ ps) (one_history counts entries a b first.1 second.1)
 
 -- lists that are equal at each place
-same_at_each : {A : Type 0} (one other : List A) → length one ≡ length other → ((k : ℕ) (a b : A) → slice_get one k ≡ Some a → slice_get other k ≡ Some b → a ≡ b) → one ≡ other
+same_at_each : {A : Type 0} (one other : List A) → length one ≡ length other
+    → ((k : ℕ) (a b : A) → slice_get one k ≡ Some a → slice_get other k ≡ Some b → a ≡ b) → one ≡ other
 same_at_each [] [] long each = refl
 same_at_each [] (y ∷ other) long each = absurd (omega arith)
 same_at_each (x ∷ one) [] long each = absurd (omega arith)
 same_at_each {A} (x ∷ one) (y ∷ other) long each =
     ap (λ (a : A). a ∷ one) (each 0 x y refl refl)
-    ∙ ap (λ (rest : List A). y ∷ rest) (same_at_each one other (omega arith) (λ k a b first second. each (suc k) a b first second))
+    ∙ ap (λ (rest : List A). y ∷ rest) (same_at_each one other (omega arith)
+        (λ k a b first second. each (suc k) a b first second))
 
 -- ---- the run
 
@@ -161,7 +187,8 @@ module _ (s : System) (lawful : IsLawfulMap s.ranges) (one other : SerialRunOf s
   asked = one.is.asked ∙ sym other.is.asked
 
   same_log : log_of one.traces ≡ log_of other.traces
-  same_log = one_log s lawful (log_of one.traces) (log_of other.traces) (asked_log 0 one.traces other.traces asked) one.is.served other.is.served
+  same_log = one_log s lawful (log_of one.traces) (log_of other.traces)
+      (asked_log 0 one.traces other.traces asked) one.is.served other.is.served
 
   pub traces_same : one.traces ≡ other.traces
   traces_same = one_traces 0 one.traces other.traces asked same_log
@@ -169,4 +196,5 @@ module _ (s : System) (lawful : IsLawfulMap s.ranges) (one other : SerialRunOf s
   pub histories_same : one.histories ≡ other.histories
   histories_same =
       same_at_each one.histories other.histories (one.is.ports ∙ sym other.is.ports)
-      (λ p a b first second. one_history s.counts (at_port p (log_of other.traces)) a b (rw same_log at (one.is.recorded p a first)) (other.is.recorded p b second))
+      (λ p a b first second. one_history s.counts (at_port p (log_of other.traces)) a b
+          (rw same_log at (one.is.recorded p a first)) (other.is.recorded p b second))

@@ -30,51 +30,64 @@ some_and None f p = p
 some_and (Some x) f p = f x p
 
 -- a request goes to one of the ports
-pub routed_in_range : (ranges : List Range) (ask : Request) (port : ℕ) → Routes ranges ask port → port < length ranges + 1
+pub routed_in_range : (ranges : List Range) (ask : Request) (port : ℕ) → Routes ranges ask port
+    → port < length ranges + 1
 routed_in_range ranges ask port (inl held) = within (slice_get ranges port) refl held where
-  within : (found : Option Range) → slice_get ranges port ≡ found → IsSomeAnd found (λ range. HoldsAsk range ask) → port < length ranges + 1
+  within : (found : Option Range) → slice_get ranges port ≡ found → IsSomeAnd found (λ range. HoldsAsk range ask)
+      → port < length ranges + 1
   within None is held = absurd held
   within (Some range) is held = let below = slice_get_within ranges port range is in omega (arith, below)
 routed_in_range ranges ask port (inr none) = omega (arith, none.0)
 
 -- ---- histories
 
-history_more : (counts : List ℕ) (entries : List (ℕ × Entry)) (history : List (Request × Response)) (e : ℕ × Entry) (pair : Request × Response)
-    → IsHistoryOf counts entries history → IsWidened counts e pair → IsHistoryOf counts (entries ++ e ∷ []) (history ++ pair ∷ [])
+history_more : (counts : List ℕ) (entries : List (ℕ × Entry)) (history : List (Request × Response)) (e : ℕ × Entry)
+    (pair : Request × Response)
+    → IsHistoryOf counts entries history → IsWidened counts e pair
+        → IsHistoryOf counts (entries ++ e ∷ []) (history ++ pair ∷ [])
 history_more counts [] [] e pair h more = (more, tt)
 history_more counts [] (p ∷ history) e pair h more = absurd h
 history_more counts (x ∷ entries) [] e pair h more = absurd h
-history_more counts (x ∷ entries) (p ∷ history) e pair h more = (h.0, history_more counts entries history e pair h.1 more)
+history_more counts (x ∷ entries) (p ∷ history) e pair h more =
+    (h.0, history_more counts entries history e pair h.1 more)
 
 -- what is kept grows likewise
-kept_more : (kept : Option (List (Request × Response))) (counts : List ℕ) (entries : List (ℕ × Entry)) (e : ℕ × Entry) (pair : Request × Response)
-    → IsSomeAnd kept (IsHistoryOf counts entries) → IsWidened counts e pair → IsSomeAnd (option_map (λ h. h ++ pair ∷ []) kept) (IsHistoryOf counts (entries ++ e ∷ []))
+kept_more : (kept : Option (List (Request × Response))) (counts : List ℕ) (entries : List (ℕ × Entry)) (e : ℕ × Entry)
+    (pair : Request × Response)
+    → IsSomeAnd kept (IsHistoryOf counts entries) → IsWidened counts e pair
+        → IsSomeAnd (option_map (λ h. h ++ pair ∷ []) kept) (IsHistoryOf counts (entries ++ e ∷ []))
 kept_more None counts entries e pair h more = h
 kept_more (Some history) counts entries e pair h more = history_more counts entries history e pair h more
 
-wide_more : (counts : List ℕ) (log : List (ℕ × Entry)) (e : ℕ × Entry) → HaveWide counts log → ((wide : ℕ) × IsWide counts e.0 e.1.ask.source wide) → HaveWide counts (log ++ e ∷ [])
+wide_more : (counts : List ℕ) (log : List (ℕ × Entry)) (e : ℕ × Entry) → HaveWide counts log
+    → ((wide : ℕ) × IsWide counts e.0 e.1.ask.source wide) → HaveWide counts (log ++ e ∷ [])
 wide_more counts [] e have more = (more, tt)
 wide_more counts (x ∷ log) e have more = (have.0, wide_more counts log e have.1 more)
 
 -- ---- what a port served
 
-at_port-same : (log : List (ℕ × Entry)) (m : ℕ) (e : Entry) → at_port e.port (log ++ (m, e) ∷ []) ≡ at_port e.port log ++ (m, e) ∷ []
+at_port-same : (log : List (ℕ × Entry)) (m : ℕ) (e : Entry)
+    → at_port e.port (log ++ (m, e) ∷ []) ≡ at_port e.port log ++ (m, e) ∷ []
 at_port-same log m e =
     filter-append (λ (x : ℕ × Entry). eqb x.1.port e.port) log ((m, e) ∷ [])
     ∙ ap (λ (mine : Bool). at_port e.port log ++ cond mine ((m, e) ∷ []) []) (eq-eqb e.port e.port refl)
 
-at_port-other : (log : List (ℕ × Entry)) (m : ℕ) (e : Entry) (port : ℕ) → eqb e.port port ≡ false → at_port port (log ++ (m, e) ∷ []) ≡ at_port port log
+at_port-other : (log : List (ℕ × Entry)) (m : ℕ) (e : Entry) (port : ℕ) → eqb e.port port ≡ false
+    → at_port port (log ++ (m, e) ∷ []) ≡ at_port port log
 at_port-other log m e port other =
     filter-append (λ (x : ℕ × Entry). eqb x.1.port port) log ((m, e) ∷ [])
     ∙ ap (λ (mine : Bool). at_port port log ++ cond mine ((m, e) ∷ []) []) other ∙ append-nil (at_port port log)
 
-requests_at-same : (log : List (ℕ × Entry)) (m : ℕ) (e : Entry) → requests_at e.port (log ++ (m, e) ∷ []) ≡ requests_at e.port log ++ e.ask ∷ []
+requests_at-same : (log : List (ℕ × Entry)) (m : ℕ) (e : Entry)
+    → requests_at e.port (log ++ (m, e) ∷ []) ≡ requests_at e.port log ++ e.ask ∷ []
 requests_at-same log m e =
-    ap (map (λ (x : ℕ × Entry). x.1.ask)) (at_port-same log m e) ∙ map-append (λ (x : ℕ × Entry). x.1.ask) (at_port e.port log) ((m, e) ∷ [])
+    ap (map (λ (x : ℕ × Entry). x.1.ask)) (at_port-same log m e)
+        ∙ map-append (λ (x : ℕ × Entry). x.1.ask) (at_port e.port log) ((m, e) ∷ [])
 
 -- ---- entries in turn
 
-pub in_turn_more : (s : System) (log : List (ℕ × Entry)) (m : ℕ) (e : Entry) → AreServedInTurn s log → IsServedAfter s log e → AreServedInTurn s (log ++ (m, e) ∷ [])
+pub in_turn_more : (s : System) (log : List (ℕ × Entry)) (m : ℕ) (e : Entry) → AreServedInTurn s log
+    → IsServedAfter s log e → AreServedInTurn s (log ++ (m, e) ∷ [])
 in_turn_more s log m e before last k x at = ⊎_elim earlier here (slice_get-push log (m, e) x k at) where
   earlier : slice_get log k ≡ Some x → IsServedAfter s (take k (log ++ (m, e) ∷ [])) x.1
   earlier found =
@@ -88,10 +101,14 @@ in_turn_more s log m e before last k x at = ⊎_elim earlier here (slice_get-pus
 
 -- ---- the slaves
 
-module _ (s : System) (keeps : Bool) (log : List (ℕ × Entry)) (slaves : List Slave) (old new : Slave) (m wide : ℕ) (e : Entry)
-    (stand : Stand s keeps log slaves) (was : slice_get slaves e.port ≡ Some old) (routed : Routes s.ranges e.ask e.port) (index : e.index ≡ count_of old)
-    (counted : count_of new ≡ count_of old + 1) (answered : e.reply ≡ reply (bank_of old) e.ask) (bank : bank_of new ≡ after (bank_of old) e.ask)
-    (history : kept_by new ≡ option_map (λ h. h ++ (record e.ask { source = wide }, record e.reply { source = wide }) ∷ []) (kept_by old))
+module _ (s : System) (keeps : Bool) (log : List (ℕ × Entry)) (slaves : List Slave) (old new : Slave) (m wide : ℕ)
+    (e : Entry)
+    (stand : Stand s keeps log slaves) (was : slice_get slaves e.port ≡ Some old)
+        (routed : Routes s.ranges e.ask e.port) (index : e.index ≡ count_of old)
+    (counted : count_of new ≡ count_of old + 1) (answered : e.reply ≡ reply (bank_of old) e.ask)
+        (bank : bank_of new ≡ after (bank_of old) e.ask)
+    (history : kept_by new ≡ option_map (λ h. h
+        ++ (record e.ask { source = wide }, record e.reply { source = wide }) ∷ []) (kept_by old))
     (widened : IsWide s.counts m e.ask.source wide) where
   served : HasServed s keeps log e.port old
   served = stand.each e.port old was
@@ -100,23 +117,31 @@ module _ (s : System) (keeps : Bool) (log : List (ℕ × Entry)) (slaves : List 
   entry_is = record {
     port = routed;
     index = index ∙ served.served;
-    reply = some_and (slice_get (resets s) e.port) (λ reset is. answered ∙ ap (λ (b : Store). reply b e.ask) is) served.bank;
+    reply = some_and (slice_get (resets s) e.port)
+        (λ reset is. answered ∙ ap (λ (b : Store). reply b e.ask) is) served.bank;
   }
 
   same_port : HasServed s keeps (log ++ (m, e) ∷ []) e.port new
   same_port = record {
     bank = some_and (slice_get (resets s) e.port)
-        (λ reset is. bank ∙ ap (λ (b : Store). after b e.ask) is ∙ sym (replay-append reset (requests_at e.port log) e.ask) ∙ ap (replay reset) (sym (requests_at-same log m e)))
+        (λ reset is. bank ∙ ap (λ (b : Store). after b e.ask) is
+            ∙ sym (replay-append reset (requests_at e.port log) e.ask)
+            ∙ ap (replay reset) (sym (requests_at-same log m e)))
         served.bank;
-    served = counted ∙ ap (λ (n : ℕ). n + 1) served.served ∙ sym (ap length (at_port-same log m e) ∙ length-append (at_port e.port log) ((m, e) ∷ []));
+    served = counted ∙ ap (λ (n : ℕ). n + 1) served.served
+        ∙ sym (ap length (at_port-same log m e) ∙ length-append (at_port e.port log) ((m, e) ∷ []));
     history = λ kept. rw (history, at_port-same log m e)
-        (kept_more (kept_by old) s.counts (at_port e.port log) (m, e) (record e.ask { source = wide }, record e.reply { source = wide }) (served.history kept)
+        (kept_more (kept_by old) s.counts (at_port e.port log) (m, e)
+            (record e.ask { source = wide }, record e.reply { source = wide }) (served.history kept)
         (record { wide = wide; is = widened; ask = refl; reply = refl }));
   }
 
-  other_port : (port : ℕ) (slave : Slave) → eqb e.port port ≡ false → HasServed s keeps log port slave → HasServed s keeps (log ++ (m, e) ∷ []) port slave
+  other_port : (port : ℕ) (slave : Slave) → eqb e.port port ≡ false → HasServed s keeps log port slave
+      → HasServed s keeps (log ++ (m, e) ∷ []) port slave
   other_port port slave other has = record {
-    bank = some_and (slice_get (resets s) port) (λ reset is. is ∙ ap (λ (es : List (ℕ × Entry)). replay reset (map (λ (x : ℕ × Entry). x.1.ask) es)) (sym (at_port-other log m e port other))) has.bank;
+    bank = some_and (slice_get (resets s) port)
+        (λ reset is. is ∙ ap (λ (es : List (ℕ × Entry)). replay reset (map (λ (x : ℕ × Entry). x.1.ask) es))
+        (sym (at_port-other log m e port other))) has.bank;
     served = has.served ∙ ap length (sym (at_port-other log m e port other));
     history = rw (at_port-other log m e port other) has.history;
   }
@@ -128,22 +153,29 @@ module _ (s : System) (keeps : Bool) (log : List (ℕ × Entry)) (slaves : List 
     wide = wide_more s.counts log (m, e) stand.wide (wide, widened);
     each = λ port slave at. ⊎_elim
         (λ same.
-        let there : slice_get (set slaves e.port new) e.port ≡ Some slave = ap (λ (k : ℕ). slice_get (set slaves e.port new) k) same.1 ∙ at in
+        let there : slice_get (set slaves e.port new) e.port ≡ Some slave =
+            ap (λ (k : ℕ). slice_get (set slaves e.port new) k) same.1 ∙ at in
         let is : new ≡ slave = cc (slice_get-set_same slaves e.port new (slice_get_within slaves e.port old was)) in
         rw (← is, ← same.1) same_port)
-        (λ other. other_port port slave other.0 (stand.each port slave (sym (slice_get-set_other slaves e.port port new other.1) ∙ at)))
+        (λ other. other_port port slave other.0 (stand.each port slave
+            (sym (slice_get-set_other slaves e.port port new other.1) ∙ at)))
         (eqb_tells e.port port);
   }
 
 -- ---- at reset
 
-module _ (s : System) (keeps : Bool) (slaves : List Slave) (lawful : IsLawfulSystem s) (banks : map bank_of slaves ≡ resets s) (fresh : All (IsFresh keeps) slaves) where
-  fresh_bank : (port : ℕ) (slave : Slave) → slice_get slaves port ≡ Some slave → slice_get (resets s) port ≡ Some (bank_of slave)
+module _ (s : System) (keeps : Bool) (slaves : List Slave) (lawful : IsLawfulSystem s)
+    (banks : map bank_of slaves ≡ resets s) (fresh : All (IsFresh keeps) slaves) where
+  fresh_bank : (port : ℕ) (slave : Slave) → slice_get slaves port ≡ Some slave
+      → slice_get (resets s) port ≡ Some (bank_of slave)
   fresh_bank port slave at =
-      ap (λ (stores : List Store). slice_get stores port) (sym banks) ∙ slice_get-map bank_of slaves port ∙ ap (option_map bank_of) at
+      ap (λ (stores : List Store). slice_get stores port) (sym banks) ∙ slice_get-map bank_of slaves port
+          ∙ ap (option_map bank_of) at
 
   is_fresh : (port : ℕ) (slave : Slave) → slice_get slaves port ≡ Some slave → IsFresh keeps slave
-  is_fresh port slave at = rw (get_or_from_slice_get slaves port slave slave at) at (fresh port slave (slice_get_within slaves port slave at))
+  is_fresh port slave at =
+      rw (get_or_from_slice_get slaves port slave slave at) at
+      (fresh port slave (slice_get_within slaves port slave at))
 
   fresh_each : (port : ℕ) (slave : Slave) → slice_get slaves port ≡ Some slave → HasServed s keeps [] port slave
   fresh_each port slave at =
@@ -158,7 +190,8 @@ module _ (s : System) (keeps : Bool) (slaves : List Slave) (lawful : IsLawfulSys
   pub stand_fresh : Stand s keeps [] slaves
   stand_fresh = record {
     ports =
-        let all : length slaves ≡ length s.stores + 1 = sym (length-map slaves bank_of) ∙ ap length banks ∙ length-append s.stores (error_store ∷ []) in
+        let all : length slaves ≡ length s.stores + 1 =
+            sym (length-map slaves bank_of) ∙ ap length banks ∙ length-append s.stores (error_store ∷ []) in
         let ranges : length s.stores ≡ length s.ranges = sym (length-map s.stores range_of) ∙ ap length lawful.ranges in
         omega (arith, all, ranges);
     served = λ k e at. absurd (cc);
@@ -169,15 +202,20 @@ module _ (s : System) (keeps : Bool) (slaves : List Slave) (lawful : IsLawfulSys
 -- ---- at the end
 
 -- the histories that slaves kept are those of the entries
-pub histories_are : (s : System) (log : List (ℕ × Entry)) (slaves : List Slave) (histories : List (List (Request × Response))) → Stand s true log slaves → histories ≡ map history_of slaves
-    → (p : ℕ) (history : List (Request × Response)) → slice_get histories p ≡ Some history → IsHistoryOf s.counts (at_port p log) history
+pub histories_are : (s : System) (log : List (ℕ × Entry)) (slaves : List Slave)
+    (histories : List (List (Request × Response))) → Stand s true log slaves → histories ≡ map history_of slaves
+    → (p : ℕ) (history : List (Request × Response)) → slice_get histories p ≡ Some history
+        → IsHistoryOf s.counts (at_port p log) history
 histories_are s log slaves histories stand are p history at =
-    by_slave (slice_get slaves p) refl (sym (slice_get-map history_of slaves p) ∙ ap (λ (hs : List (List (Request × Response))). slice_get hs p) (sym are) ∙ at) where
-      kept_is : (kept : Option (List (Request × Response))) → IsSomeAnd kept (IsHistoryOf s.counts (at_port p log)) → unwrap_or kept [] ≡ history → IsHistoryOf s.counts (at_port p log) history
+    by_slave (slice_get slaves p) refl (sym (slice_get-map history_of slaves p)
+        ∙ ap (λ (hs : List (List (Request × Response))). slice_get hs p) (sym are) ∙ at) where
+      kept_is : (kept : Option (List (Request × Response))) → IsSomeAnd kept (IsHistoryOf s.counts (at_port p log))
+          → unwrap_or kept [] ≡ history → IsHistoryOf s.counts (at_port p log) history
       kept_is None h same = absurd h
       kept_is (Some found) h same = rw (← same) h
 
-      by_slave : (found : Option Slave) → slice_get slaves p ≡ found → option_map history_of found ≡ Some history → IsHistoryOf s.counts (at_port p log) history
+      by_slave : (found : Option Slave) → slice_get slaves p ≡ found → option_map history_of found ≡ Some history
+          → IsHistoryOf s.counts (at_port p log) history
       by_slave None is none = absurd (cc)
       by_slave (Some slave) is here =
           let same : history_of slave ≡ history = cc in
@@ -186,14 +224,18 @@ histories_are s log slaves histories stand are p history at =
 -- ---- histories that nobody kept
 
 -- one entry more, at this port or at another
-history_with : (counts : List ℕ) (e : ℕ × Entry) (here : Bool) (entries : List (ℕ × Entry)) → ((wide : ℕ) × IsWide counts e.0 e.1.ask.source wide)
-    → ((history : List (Request × Response)) × IsHistoryOf counts entries history) → (history : List (Request × Response)) × IsHistoryOf counts (cond here (e ∷ entries) entries) history
+history_with : (counts : List ℕ) (e : ℕ × Entry) (here : Bool) (entries : List (ℕ × Entry))
+    → ((wide : ℕ) × IsWide counts e.0 e.1.ask.source wide)
+    → ((history : List (Request × Response)) × IsHistoryOf counts entries history)
+        → (history : List (Request × Response)) × IsHistoryOf counts (cond here (e ∷ entries) entries) history
 history_with counts e true entries (wide, is) (history, of) =
-    ((record e.1.ask { source = wide }, record e.1.reply { source = wide }) ∷ history, (record { wide = wide; is = is; ask = refl; reply = refl }, of))
+    ((record e.1.ask { source = wide }, record e.1.reply { source = wide })
+        ∷ history, (record { wide = wide; is = is; ask = refl; reply = refl }, of))
 history_with counts e false entries has rest = rest
 
 -- entries with wide sources have a history at each port
-history_there : (counts : List ℕ) (port : ℕ) (log : List (ℕ × Entry)) → HaveWide counts log → (history : List (Request × Response)) × IsHistoryOf counts (at_port port log) history
+history_there : (counts : List ℕ) (port : ℕ) (log : List (ℕ × Entry)) → HaveWide counts log
+    → (history : List (Request × Response)) × IsHistoryOf counts (at_port port log) history
 history_there counts port [] have = ([], tt)
 history_there counts port (e ∷ log) have =
     history_with counts e (eqb e.1.port port) (at_port port log) have.0 (history_there counts port log have.1)
@@ -202,9 +244,11 @@ history_there counts port (e ∷ log) have =
 record HistoriesOf (counts : List ℕ) (log : List (ℕ × Entry)) (ports : ℕ) : Type 0 where
   pub histories : List (List (Request × Response))
   pub counted : length histories ≡ ports
-  pub each : (p : ℕ) (history : List (Request × Response)) → slice_get histories p ≡ Some history → IsHistoryOf counts (at_port p log) history
+  pub each : (p : ℕ) (history : List (Request × Response)) → slice_get histories p ≡ Some history
+      → IsHistoryOf counts (at_port p log) history
 
-histories_there : (counts : List ℕ) (log : List (ℕ × Entry)) (ports : ℕ) → HaveWide counts log → HistoriesOf counts log ports
+histories_there : (counts : List ℕ) (log : List (ℕ × Entry)) (ports : ℕ) → HaveWide counts log
+    → HistoriesOf counts log ports
 histories_there counts log zero have = record { histories = []; counted = refl; each = λ p history at. absurd (cc) }
 histories_there counts log (suc ports) have =
     let before = histories_there counts log ports have in
@@ -218,7 +262,8 @@ histories_there counts log (suc ports) have =
     }
 
 -- the text of traces that were served in turn is that of the serial run
-pub serial_text_is : (s : System) (keeps : Bool) (old new : List Slave) (text : List ℕ) → Stand s keeps [] old → AreWritten s old new text (length s.jobs) → IsSerialText false s text
+pub serial_text_is : (s : System) (keeps : Bool) (old new : List Slave) (text : List ℕ) → Stand s keeps [] old
+    → AreWritten s old new text (length s.jobs) → IsSerialText false s text
 serial_text_is s keeps old new text start written =
     let stand = written.stands keeps start in
     let there = histories_there s.counts (log_of written.traces) (length s.ranges + 1) stand.wide in

@@ -1,5 +1,5 @@
--- The run of a system by one thread: master 0's requests, then master 1's, and so on, each answered before the next. The
--- order is this project's own; what a reply is (`reply`) is told with the stores that give it.
+-- The run of a system by one thread: master 0's requests, then master 1's, and so on, each answered before the next.
+-- The order is this project's own; what a reply is (`reply`) is told with the stores that give it.
 use Rattle.std.specs.Prelude.{◌≡◌, ℕ, ◌+◌, ◌==◌, List, [], ◌∷◌, ◌++◌, map, filter, take, length, Some, slice_get, IsSomeAnd}
 use Rattle.tl_types.specs.Request.{Request}
 use Rattle.tl_types.specs.Response.{Response}
@@ -40,7 +40,8 @@ requests_at port log = map (λ (e : ℕ × Entry). e.1.ask) (at_port port log)
 pub record IsServedAfter (s : System) (log : List (ℕ × Entry)) (e : Entry) : Type 0 where
   pub port : Routes s.ranges e.ask e.port
   pub index : e.index ≡ length (at_port e.port log)
-  pub reply : IsSomeAnd (slice_get (resets s) e.port) (λ reset. e.reply ≡ reply (replay reset (requests_at e.port log)) e.ask)
+  pub reply : IsSomeAnd (slice_get (resets s) e.port)
+      (λ reset. e.reply ≡ reply (replay reset (requests_at e.port log)) e.ask)
 
 -- each entry is what its request gets after those before it
 abbrev pub AreServedInTurn : System → List (ℕ × Entry) → Type 0
@@ -70,8 +71,10 @@ asks_in entries = map (λ (e : Entry). e.ask) entries
 
 -- the traces and the histories of the run: each master's trace has the requests of its operations in order, waits
 -- dropped; all are served in turn; and each port's history is what it served
-pub record IsSerialRun (s : System) (traces : List (List Entry)) (histories : List (List (Request × Response))) : Type 0 where
+pub record IsSerialRun (s : System) (traces : List (List Entry))
+    (histories : List (List (Request × Response))) : Type 0 where
   pub asked : map asks_in traces ≡ map sends s.jobs
   pub served : AreServedInTurn s (log_of traces)
   pub ports : length histories ≡ length s.ranges + 1
-  pub recorded : (p : ℕ) (history : List (Request × Response)) → slice_get histories p ≡ Some history → IsHistoryOf s.counts (at_port p (log_of traces)) history
+  pub recorded : (p : ℕ) (history : List (Request × Response)) → slice_get histories p ≡ Some history
+      → IsHistoryOf s.counts (at_port p (log_of traces)) history

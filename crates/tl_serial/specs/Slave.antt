@@ -53,14 +53,18 @@ pub record Stand (s : System) (keeps : Bool) (log : List (ℕ × Entry)) (slaves
   pub wide : HaveWide s.counts log
   pub each : (port : ℕ) (slave : Slave) → slice_get slaves port ≡ Some slave → HasServed s keeps log port slave
 
--- a master's operations took the slaves from the ones to the others, and the lines of its entries were put behind the text
-pub record IsAppended (s : System) (master : ℕ) (jobs : List Job) (old new : List Slave) (before text : List ℕ) : Type 0 where
+-- a master's operations took the slaves from the ones to the others, and the lines of its entries were put behind the
+-- text
+pub record IsAppended (s : System) (master : ℕ) (jobs : List Job) (old new : List Slave)
+    (before text : List ℕ) : Type 0 where
   pub entries : List Entry
   pub asked : asks_in entries ≡ sends jobs
-  pub stands : (keeps : Bool) (log : List (ℕ × Entry)) → Stand s keeps log old → Stand s keeps (log ++ numbered master entries) new
+  pub stands : (keeps : Bool) (log : List (ℕ × Entry)) → Stand s keeps log old
+      → Stand s keeps (log ++ numbered master entries) new
   pub is : text ≡ before ++ lines_of master entries
 
--- the text is that of the traces of the first `masters` masters, whose requests took the slaves from the ones to the others
+-- the text is that of the traces of the first `masters` masters, whose requests took the slaves from the ones to the
+-- others
 pub record AreWritten (s : System) (old new : List Slave) (text : List ℕ) (masters : ℕ) : Type 0 where
   pub traces : List (List Entry)
   pub counted : length traces ≡ masters

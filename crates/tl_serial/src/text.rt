@@ -11,8 +11,8 @@ use tl_journal::Journal;
 use tl_script::{Operations, System, push_entry, push_history, push_traces};
 use tl_types::{Ask, Memory, Reply};
 
-/// Serves a master's operations in order, and appends the lines of its trace: each request is printed as it is answered,
-/// and none is kept.
+/// Serves a master's operations in order, and appends the lines of its trace: each request is printed as it is
+/// answered, and none is kept.
 fn write_master(
     text: &mut Vec<u8>,
     slaves: &mut [Slave],

@@ -54,10 +54,14 @@ pub word-number : (phase : Phase) → FitsWord phase → word phase % 8 ≡ phas
 word-number phase fits = low_part (phase_number phase) (master_in phase) (port_in phase) (number_is_small phase)
 
 pub word-master : (phase : Phase) → FitsWord phase → word phase / 8 % 256 ≡ master_in phase
-word-master phase fits = middle_part (phase_number phase) (master_in phase) (port_in phase) (number_is_small phase) (master_is_small phase fits)
+word-master phase fits =
+    middle_part (phase_number phase) (master_in phase) (port_in phase) (number_is_small phase)
+    (master_is_small phase fits)
 
 pub word-port : (phase : Phase) → FitsWord phase → word phase / 2048 ≡ port_in phase
-word-port phase fits = high_part (phase_number phase) (master_in phase) (port_in phase) (number_is_small phase) (master_is_small phase fits)
+word-port phase fits =
+    high_part (phase_number phase) (master_in phase) (port_in phase) (number_is_small phase)
+    (master_is_small phase fits)
 
 pub word_below : (phase : Phase) → FitsWord phase → word phase < 524288
 word_below phase fits =

@@ -2,8 +2,8 @@
 //!
 //! [`read_whole_system`] reads a script to its end: the answer is the system that all of it spells, or its first fault.
 //! [`write_all`] writes a text whole, or a front of it and says so. Both are handed a [`LimitedReader`] or a
-//! [`LimitedWriter`] alone, which let a stream be called a bounded number of times ([`READS`] reads, [`RETRIES`] writes that
-//! are tried again since they were interrupted): so whatever a stream does, they end.
+//! [`LimitedWriter`] alone, which let a stream be called a bounded number of times ([`READS`] reads, [`RETRIES`] writes
+//! that are tried again since they were interrupted): so whatever a stream does, they end.
 //!
 //! Both programs, `tlx` and `tlcheck`, read and write through this. Read on in `docs/PROVED.md`.
 #![tactic(auto)]

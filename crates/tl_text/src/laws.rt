@@ -9,8 +9,8 @@ pub fn names_are_read_back()
     ensures { (op : AskOp) → name_of (word_of op) ≡ Some op }
 {}
 
-/// The limit in its number. The contract of `split_words` names the constant, so without this law a wrong constant would change what
-/// it promises.
+/// The limit in its number. The contract of `split_words` names the constant, so without this law a wrong constant
+/// would change what it promises.
 pub fn limits_in_numbers()
     ensures words { MAX_WORDS ≡ 6 }
 {}

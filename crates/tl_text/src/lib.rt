@@ -1,11 +1,12 @@
 //! The words of lines: numbers, names, and what stands between blanks, as scripts spell them and traces print them.
 //!
-//! [`read_number`] answers the number that digits spell (`specs/Number.antt`), [`read_name`] the operation that a word names, [`word`] and
-//! [`reply_word`] the words of operations and replies: reading and writing use one table of names (`specs/Name.antt`). [`split_words`]
-//! answers the first words of a line (`specs/Word.antt`). [`push_decimal`], [`push_hex`] and [`push_field`] append a number to a text.
+//! [`read_number`] answers the number that digits spell (`specs/Number.antt`), [`read_name`] the operation that a word
+//! names, [`word`] and [`reply_word`] the words of operations and replies: reading and writing use one table of names
+//! (`specs/Name.antt`). [`split_words`] answers the first words of a line (`specs/Word.antt`). [`push_decimal`],
+//! [`push_hex`] and [`push_field`] append a number to a text.
 //!
-//! Each answer is pinned to its definition. Read on in `docs/FORMATS.md`, which has the formats with examples, and in `docs/MODEL.md`,
-//! "Texts".
+//! Each answer is pinned to its definition. Read on in `docs/FORMATS.md`, which has the formats with examples, and in
+//! `docs/MODEL.md`, "Texts".
 #![tactic(auto)]
 
 mod digits;

@@ -11,16 +11,19 @@ one_some o x y p q = cc
 module _ {X : Type 0} (P : ℕ → X → Type 0) where
   -- the first, and those behind it
   pub row_head : (from : ℕ) (x : X) (xs ys : List X) → ys ≡ x ∷ xs → AreFrom P from ys → P from x
-  row_head from x xs ys front all = let e : from + 0 ≡ from = omega arith in subst (λ (n : ℕ). P n x) e (all 0 x (subst (λ (l : List X). slice_get l 0 ≡ Some x) (sym front) refl))
+  row_head from x xs ys front all = let e : from + 0 ≡ from = omega arith in
+      subst (λ (n : ℕ). P n x) e (all 0 x (subst (λ (l : List X). slice_get l 0 ≡ Some x) (sym front) refl))
 
-  pub row_tail : (from next : ℕ) (x : X) (xs ys : List X) → ys ≡ x ∷ xs → next ≡ from + 1 → AreFrom P from ys → AreFrom P next xs
+  pub row_tail : (from next : ℕ) (x : X) (xs ys : List X) → ys ≡ x ∷ xs → next ≡ from + 1 → AreFrom P from ys
+      → AreFrom P next xs
   row_tail from next x xs ys front more all k y is = let e : from + suc k ≡ next + k = omega (arith, more) in
       subst (λ (n : ℕ). P n y) e (all (suc k) y (subst (λ (l : List X). slice_get l (suc k) ≡ Some y) (sym front) is))
 
   -- one more at the end
   pub row_more : (xs ys : List X) (x : X) → ys ≡ xs ++ x ∷ [] → AreFrom P 0 xs → P (length xs) x → AreFrom P 0 ys
   row_more xs ys x pushed all last k y is = ⊎_elim (λ (old : slice_get xs k ≡ Some y). all k y old)
-      (λ (new : (k ≡ length xs) × (x ≡ y)). let e : length xs ≡ 0 + k = omega (arith, new.0) in subst (λ (n : ℕ). P n y) e (subst (λ (z : X). P (length xs) z) new.1 last))
+      (λ (new : (k ≡ length xs) × (x ≡ y)). let e : length xs ≡ 0 + k = omega (arith, new.0) in
+          subst (λ (n : ℕ). P n y) e (subst (λ (z : X). P (length xs) z) new.1 last))
       (slice_get-push xs x y k (subst (λ (l : List X). slice_get l k ≡ Some y) pushed is))
 
   pub row_none : (from : ℕ) → AreFrom P from []
@@ -34,5 +37,7 @@ row_empty P from [] none = row_none P from
 row_empty P from (x ∷ xs) none = absurd (omega arith)
 
 -- what is so of all whatever their numbers is so of those behind the first
-pub row_rest : {X : Type 0} (P : X → Type 0) (x : X) (xs ys : List X) → ys ≡ x ∷ xs → AreFrom (λ _. P) 0 ys → AreFrom (λ _. P) 0 xs
-row_rest {X} P x xs ys front all k y is = all (suc k) y (subst (λ (l : List X). slice_get l (suc k) ≡ Some y) (sym front) is)
+pub row_rest : {X : Type 0} (P : X → Type 0) (x : X) (xs ys : List X) → ys ≡ x ∷ xs → AreFrom (λ _. P) 0 ys
+    → AreFrom (λ _. P) 0 xs
+row_rest {X} P x xs ys front all k y is =
+    all (suc k) y (subst (λ (l : List X). slice_get l (suc k) ≡ Some y) (sym front) is)

@@ -17,9 +17,11 @@ pub record IsBookOf (arena : ArenaId) (port : ℕ) (book : BookView) : Type 0 wh
   pub lawful : IsLawfulBook book
 
 -- a trace of each master
-pub record AreTraces (arena : ArenaId) (ranges : List Range) (jobs : List (List Job)) (traces : List (List Entry)) : Type 0 where
+pub record AreTraces (arena : ArenaId) (ranges : List Range) (jobs : List (List Job))
+    (traces : List (List Entry)) : Type 0 where
   pub many : length traces ≡ length jobs
-  pub each : (m : ℕ) (its_jobs : List Job) (entries : List Entry) → slice_get jobs m ≡ Some its_jobs → slice_get traces m ≡ Some entries → IsTrace arena ranges m its_jobs entries
+  pub each : (m : ℕ) (its_jobs : List Job) (entries : List Entry) → slice_get jobs m ≡ Some its_jobs
+      → slice_get traces m ≡ Some entries → IsTrace arena ranges m its_jobs entries
 
 -- a book of each port
 pub record AreBooks (arena : ArenaId) (ports : ℕ) (books : List BookView) : Type 0 where
@@ -27,7 +29,8 @@ pub record AreBooks (arena : ArenaId) (ports : ℕ) (books : List BookView) : Ty
   pub each : (p : ℕ) (book : BookView) → slice_get books p ≡ Some book → IsBookOf arena p book
 
 -- the traces, the books and the account are those of a run of the system over one arena
-pub record IsThreadedRun (s : System) (traces : List (List Entry)) (books : List BookView) (free : List ℕ) (held : List HeldSlot) (left : List ℕ) : Type 0 where
+pub record IsThreadedRun (s : System) (traces : List (List Entry)) (books : List BookView) (free : List ℕ)
+    (held : List HeldSlot) (left : List ℕ) : Type 0 where
   pub arena : ArenaId
   pub about : arena.about ≡ about_of s.slots s.counts (resets s)
   pub traces_are : AreTraces arena s.ranges s.jobs traces

@@ -26,8 +26,8 @@ AreFrom {X} P from xs = (k : ℕ) (x : X) → slice_get xs k ≡ Some x → P (f
 
 -- ---- what threads are handed
 
--- nothing was asked of the master, which has this number, and there is room for the replies to its operations: in its trace,
--- and in its bell for a ring each; and it has a bell to ring for each port
+-- nothing was asked of the master, which has this number, and there is room for the replies to its operations: in its
+-- trace, and in its bell for a ring each; and it has a bell to ring for each port
 pub record IsNewMasterThread (arena : ArenaId) (s : System) (number : ℕ) (t : MasterThread) : Type 0 where
   pub idle : IsIdle arena number t.master
   pub room : (its_jobs : List Job) → slice_get s.jobs number ≡ Some its_jobs → t.master.limit ≡ length (sends its_jobs)
@@ -45,11 +45,13 @@ pub record IsNewThreadSet (arena : ArenaId) (s : System) (t : ThreadSet) : Type 
   pub all : vec_len t.masters ≡ length s.jobs
   pub workers : All (IsNewWorkerThread (length s.ranges + 1) (length s.jobs)) t.workers.items
 
--- so many threads hear the bell of the port, which has room for a ring for each of its requests and a stop for each of them
+-- so many threads hear the bell of the port, which has room for a ring for each of its requests and a stop for each of
+-- them
 pub record IsHeardAt (journals : List ℕ) (workers : ℕ) (p : PortListeners) : Type 0 where
   pub within : p.port < length journals
   pub many : vec_len p.listeners ≡ workers
-  pub room : (journal : ℕ) → slice_get journals p.port ≡ Some journal → All (HasRoom (journal + workers)) p.listeners.items
+  pub room : (journal : ℕ) → slice_get journals p.port ≡ Some journal
+      → All (HasRoom (journal + workers)) p.listeners.items
 
 -- ---- how many requests go to each port
 
@@ -90,14 +92,16 @@ abbrev pub Handle : Type 0
 Handle = PromisedHandle TraceView TraceOf
 
 -- the thread promised the trace of this master's operations
-pub record IsPromised (arena : ArenaId) (ranges : List Range) (jobs : List (List Job)) (number : ℕ) (h : Handle) : Type 0 where
+pub record IsPromised (arena : ArenaId) (ranges : List Range) (jobs : List (List Job)) (number : ℕ)
+    (h : Handle) : Type 0 where
   pub number_is : h.promise.number ≡ number
   pub arena_is : h.promise.arena.value ≡ arena
   pub map_is : h.promise.map.value ≡ ranges
   pub jobs_are : slice_get jobs number ≡ Some h.promise.jobs.value
 
 -- the trace is that of this master's operations
-pub record IsTraceOf (arena : ArenaId) (ranges : List Range) (jobs : List (List Job)) (number : ℕ) (t : TraceView) : Type 0 where
+pub record IsTraceOf (arena : ArenaId) (ranges : List Range) (jobs : List (List Job)) (number : ℕ)
+    (t : TraceView) : Type 0 where
   pub its_jobs : List Job
   pub at : slice_get jobs number ≡ Some its_jobs
   pub trace : IsTrace arena ranges number its_jobs t.items

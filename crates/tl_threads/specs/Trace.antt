@@ -14,14 +14,16 @@ use Rattle.tl_master.specs.Steps.{AsksMore, AsksSame}
 
 -- ---- the trace
 
--- the entries of these operations stand before all others, and were served before them: for each source the first entries
--- have its requests in the order of the operations, each once; and at one port the first have smaller indexes than the others
+-- the entries of these operations stand before all others, and were served before them: for each source the first
+-- entries have its requests in the order of the operations, each once; and at one port the first have smaller indexes
+-- than the others
 pub record StandFirst (jobs : List Job) (entries : List Entry) : Type 0 where
   pub first : List Entry
   pub others : List Entry
   pub is : entries ≡ first ++ others
   pub each : (source : ℕ) → of_source source (requests_of first) ≡ of_source source (sends jobs)
-  pub served : (j k : ℕ) (d e : Entry) → slice_get first j ≡ Some d → slice_get others k ≡ Some e → d.port ≡ e.port → d.index < e.index
+  pub served : (j k : ℕ) (d e : Entry) → slice_get first j ≡ Some d → slice_get others k ≡ Some e → d.port ≡ e.port
+      → d.index < e.index
 
 -- at each wait all that was sent before it had been collected
 abbrev pub AreWaitedFor : List Job → List Entry → Type 0
@@ -37,7 +39,9 @@ IsSentAfter asks entries k e = many_of e.ask.source asks ≤ many_of e.ask.sourc
 
 -- at one port the first `had` entries have smaller indexes than each entry that was sent after these requests
 abbrev pub AreServedBefore : List Request → ℕ → List Entry → Type 0
-AreServedBefore asks had entries = (j k : ℕ) (d e : Entry) → j < had → slice_get entries j ≡ Some d → slice_get entries k ≡ Some e → IsSentAfter asks entries k e
+AreServedBefore asks had entries =
+    (j k : ℕ) (d e : Entry) → j < had → slice_get entries j ≡ Some d → slice_get entries k ≡ Some e
+    → IsSentAfter asks entries k e
     → d.port ≡ e.port → d.index < e.index
 
 -- the operation waits for what is out of the source: a wait for all sources, a request for its own
@@ -45,30 +49,32 @@ abbrev pub WaitsFor : Job → ℕ → Type 0
 WaitsFor Wait source = ⊤
 WaitsFor (Send q) source = q.source ≡ source
 
--- when the operation was done, behind these requests, `had` entries had been collected: among them all that had been sent of
--- each source that it waits for; and at one port they have smaller indexes than what was sent then or later
+-- when the operation was done, behind these requests, `had` entries had been collected: among them all that had been
+-- sent of each source that it waits for; and at one port they have smaller indexes than what was sent then or later
 pub record IsDoneAfter (asks : List Request) (job : Job) (entries : List Entry) : Type 0 where
   pub had : ℕ
   pub within : had ≤ length entries
-  pub waited : (source : ℕ) → WaitsFor job source → of_source source (requests_of (take had entries)) ≡ of_source source asks
+  pub waited : (source : ℕ) → WaitsFor job source
+      → of_source source (requests_of (take had entries)) ≡ of_source source asks
   pub served : AreServedBefore asks had entries
 
 -- so was each operation
 abbrev pub AreDoneInTurn : List Job → List Entry → Type 0
-AreDoneInTurn jobs entries = (k : ℕ) (job : Job) → slice_get jobs k ≡ Some job → IsDoneAfter (sends (take k jobs)) job entries
+AreDoneInTurn jobs entries =
+    (k : ℕ) (job : Job) → slice_get jobs k ≡ Some job → IsDoneAfter (sends (take k jobs)) job entries
 
 -- each entry is of the port that the map has its request with
 abbrev pub AreRouted : List Range → List Entry → Type 0
 AreRouted ranges entries = (k : ℕ) (e : Entry) → slice_get entries k ≡ Some e → Routes ranges e.ask e.port
 
 -- the trace of master `number` of the arena, whose operations are these: it has for each source the requests of that
--- source in the order of the operations, each once; at each wait the requests before it stand before those behind it, and
--- at one port have the smaller indexes; at one port what had been collected when an operation was done has smaller indexes
--- than what was sent then or later;
--- each entry is of the port that the map has its request with; of two entries with one source and port the earlier has
--- the smaller index; and with its sources widened it is what the master's seat had collected when it left, of which for
--- each port one lawful history has just the master's own
-pub record IsTrace (arena : ArenaId) (ranges : List Range) (number : ℕ) (jobs : List Job) (entries : List Entry) : Type 0 where
+-- source in the order of the operations, each once; at each wait the requests before it stand before those behind it,
+-- and at one port have the smaller indexes; at one port what had been collected when an operation was done has smaller
+-- indexes than what was sent then or later; each entry is of the port that the map has its request with; of two entries
+-- with one source and port the earlier has the smaller index; and with its sources widened it is what the master's seat
+-- had collected when it left, of which for each port one lawful history has just the master's own
+pub record IsTrace (arena : ArenaId) (ranges : List Range) (number : ℕ) (jobs : List Job)
+    (entries : List Entry) : Type 0 where
   pub each : (source : ℕ) → of_source source (requests_of entries) ≡ of_source source (sends jobs)
   pub waits : AreWaitedFor jobs entries
   pub turns : AreDoneInTurn jobs entries
@@ -92,11 +98,12 @@ pub record IsLonger (old new : List Entry) : Type 0 where
   pub more : List Entry
   pub is : new ≡ old ++ more
 
--- `had` entries had been collected when these requests had been sent: what was sent since is out from then on, or was served
--- after them
+-- `had` entries had been collected when these requests had been sent: what was sent since is out from then on, or was
+-- served after them
 pub record IsCut (asks : List Request) (had : ℕ) (m : MasterState) : Type 0 where
   pub within : had ≤ length m.trace
-  pub out : (source : ℕ) (t : TicketView) → ticket_at m.out source ≡ Some t → many_of source asks ≤ many_of source (requests_of m.trace) → had ≤ t.known
+  pub out : (source : ℕ) (t : TicketView) → ticket_at m.out source ≡ Some t
+      → many_of source asks ≤ many_of source (requests_of m.trace) → had ≤ t.known
   pub served : AreServedBefore asks had m.trace
 
 -- these are the requests that were asked of the master
@@ -107,7 +114,8 @@ HasBeenAsked asks m = (source : ℕ) → asked m source ≡ of_source source ask
 pub record WasDone (asks : List Request) (job : Job) (m : MasterState) : Type 0 where
   pub had : ℕ
   pub cut : IsCut asks had m
-  pub waited : (source : ℕ) → WaitsFor job source → of_source source (requests_of (take had m.trace)) ≡ of_source source asks
+  pub waited : (source : ℕ) → WaitsFor job source
+      → of_source source (requests_of (take had m.trace)) ≡ of_source source asks
 
 -- it is the same master, and nothing was asked of it
 pub record IsSame (m n : MasterState) : Type 0 where
@@ -118,8 +126,8 @@ pub record IsSame (m n : MasterState) : Type 0 where
   pub cuts : (asks : List Request) (had : ℕ) → IsCut asks had m → IsCut asks had n
   pub routed : (ranges : List Range) → IsRouted ranges m → IsRouted ranges n
 
--- it is the same master, and the request is the last that was asked of it, in its turn, and sent to the port that the map has
--- it with
+-- it is the same master, and the request is the last that was asked of it, in its turn, and sent to the port that the
+-- map has it with
 pub record HasAsked (ranges : List Range) (m : MasterState) (q : Request) (n : MasterState) : Type 0 where
   pub arena : n.seat.arena ≡ m.seat.arena
   pub number : n.seat.number ≡ m.seat.number
@@ -143,10 +151,12 @@ pub record IsIdle (arena : ArenaId) (number : ℕ) (m : MasterState) : Type 0 wh
 
 -- so was each of the first `done` operations
 abbrev pub WereDone : List Job → ℕ → MasterState → Type 0
-WereDone jobs done m = (k : ℕ) (job : Job) → k < done → slice_get jobs k ≡ Some job → WasDone (sends (take k jobs)) job m
+WereDone jobs done m =
+    (k : ℕ) (job : Job) → k < done → slice_get jobs k ≡ Some job → WasDone (sends (take k jobs)) job m
 
 -- the first `done` operations of the master were done, each in its turn
-pub record IsDriven (arena : ArenaId) (ranges : List Range) (number : ℕ) (jobs : List Job) (done : ℕ) (m : MasterState) : Type 0 where
+pub record IsDriven (arena : ArenaId) (ranges : List Range) (number : ℕ) (jobs : List Job) (done : ℕ)
+    (m : MasterState) : Type 0 where
   pub arena_is : m.seat.arena ≡ arena
   pub number_is : m.seat.number ≡ number
   pub asked_is : HasBeenAsked (sends (take done jobs)) m

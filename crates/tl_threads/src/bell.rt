@@ -1,5 +1,5 @@
-//! Doorbells: channels under a rule that any message keeps. Nothing is claimed of what they say: a ring says that a look
-//! may be worth while, and no more. Each has room for all that a run sends to it.
+//! Doorbells: channels under a rule that any message keeps. Nothing is claimed of what they say: a ring says that a
+//! look may be worth while, and no more. Each has room for all that a run sends to it.
 ghost use Rattle.std.specs.Prelude.{◌≡◌, ◌<◌, ◌≤◌, All, IfOk, length, vec_len};
 ghost use Rattle.crossbeam_channel.specs.Claims.{IsSeatAt};
 ghost use Rattle.crossbeam_channel.specs.Ends.{sends_on, receives_on};
@@ -11,8 +11,8 @@ use std::sync::Wait;
 use std::thread::yield_now;
 use tl_types::Memory;
 
-/// How often a thread looks at its bell before it sleeps: waking one takes longer than the ring that it waits for is mostly
-/// away.
+/// How often a thread looks at its bell before it sleeps: waking one takes longer than the ring that it waits for is
+/// mostly away.
 const LOOKS: u32 = 64;
 
 /// What a bell says.
@@ -60,8 +60,8 @@ pub(crate) struct Bells {
 impl Ringer {
     ghost use Rattle.tl_threads.specs.Bell.{HasRoom};
 
-    /// A bell with room for so many rings that nobody has heard yet, and for one at least, that so many hear: each ring is
-    /// heard by one of them.
+    /// A bell with room for so many rings that nobody has heard yet, and for one at least, that so many hear: each ring
+    /// is heard by one of them.
     pub(crate) fn new(
         alloc: Global,
         room: usize,
@@ -109,8 +109,8 @@ impl Listener {
         }
     }
 
-    /// Waits for a ring: it looks for one some times, and lets other threads run in between, before it sleeps. A bell that
-    /// nobody can ring any more says stop.
+    /// Waits for a ring: it looks for one some times, and lets other threads run in between, before it sleeps. A bell
+    /// that nobody can ring any more says stop.
     pub(crate) fn hear(&mut self, rt: &impl Wait) -> Ring {
         self.heard = usize::saturating_add(self.heard, 1);
         for _ in 0..LOOKS {

@@ -6,9 +6,9 @@
 //! the account is that of an arena at its end. That threads run at once no clause says: the tests of
 //! `tl_threads_tests` do, through a [`Gate`].
 //!
-//! `master_thread` is what a master's thread does, `worker_thread` what one of a port's does, `context` what all of them
-//! share, `bell` how they wake each other; `setup` makes what a run needs, `start` and `run` start, join and stop the
-//! threads, `named` puts the books behind locks and takes them out again. No memory is taken once the threads run.
+//! `master_thread` is what a master's thread does, `worker_thread` what one of a port's does, `context` what all of
+//! them share, `bell` how they wake each other; `setup` makes what a run needs, `start` and `run` start, join and stop
+//! the threads, `named` puts the books behind locks and takes them out again. No memory is taken once the threads run.
 //!
 //! Read on in `docs/MODEL.md`, "Runs by threads".
 #![tactic(auto)]

@@ -39,8 +39,8 @@ fn look_at<N: ArenaName, G: Gate>(shared: &Shared<'_, N, G>, master: &mut Master
     }
 }
 
-/// Waits for the ring of a reply that is not collected yet. Each reply has one ring, so as many rings as there are entries
-/// tell nothing new.
+/// Waits for the ring of a reply that is not collected yet. Each reply has one ring, so as many rings as there are
+/// entries tell nothing new.
 fn wait_for_reply<R: Wait>(rt: &R, master: &Master, bell: &mut Listener) {
     for _ in rt.forever() {
         bell.hear(rt);

@@ -107,8 +107,8 @@ fn ringers_of(alloc: Global, bells: &mut [Ringer]) -> Result<Vec<Ringer>, Memory
     Ok(ringers)
 }
 
-/// What a new master's thread is handed, and another end of its bell for those who ring it. The bell has room for a ring
-/// for each reply.
+/// What a new master's thread is handed, and another end of its bell for those who ring it. The bell has room for a
+/// ring for each reply.
 fn master_thread_of(
     alloc: Global,
     arena: &Arena,

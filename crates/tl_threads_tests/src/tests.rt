@@ -203,7 +203,8 @@ const HELD: [Held; 5] = [
     },
 ];
 
-/// What becomes of a run at a gate that says no so often. How often several threads of a port ask depends on the schedule.
+/// What becomes of a run at a gate that says no so often. How often several threads of a port ask depends on the
+/// schedule.
 fn run_held<R: Abort + Threads + Wait + Sync>(
     rt: &R,
     alloc: Global,

@@ -6,7 +6,8 @@ slice_get-set_same [] i x within = absurd (omega (arith, within))
 slice_get-set_same (y ∷ xs) zero x within = refl
 slice_get-set_same (y ∷ xs) (suc i) x within = slice_get-set_same xs i x (omega (arith, within))
 
-pub slice_get-set_other : {X : Type 0} (xs : List X) (i k : ℕ) (x : X) → (i ≡ k → ⊥) → slice_get (set xs i x) k ≡ slice_get xs k
+pub slice_get-set_other : {X : Type 0} (xs : List X) (i k : ℕ) (x : X) → (i ≡ k → ⊥)
+    → slice_get (set xs i x) k ≡ slice_get xs k
 slice_get-set_other [] i k x other = refl
 slice_get-set_other (y ∷ xs) zero zero x other = absurd (other refl)
 slice_get-set_other (y ∷ xs) zero (suc k) x other = refl
@@ -22,11 +23,14 @@ slice_get-take (suc n) (x ∷ xs) (suc k) below = slice_get-take n xs k (omega (
 pub slice_get-drop : {X : Type 0} (s : ℕ) (xs : List X) (k : ℕ) → slice_get (drop s xs) k ≡ slice_get xs (s + k)
 slice_get-drop zero xs k = let e : k ≡ 0 + k = omega arith in ap (λ i. slice_get xs i) e
 slice_get-drop (suc s) [] k = refl
-slice_get-drop (suc s) (x ∷ xs) k = let e : suc (s + k) ≡ suc s + k = omega arith in slice_get-drop s xs k ∙ ap (λ i. slice_get (x ∷ xs) i) e
+slice_get-drop (suc s) (x ∷ xs) k = let e : suc (s + k) ≡ suc s + k = omega arith in
+    slice_get-drop s xs k ∙ ap (λ i. slice_get (x ∷ xs) i) e
 
 -- what is read after a push was read before, or is the pushed element
-pub slice_get-push : {X : Type 0} (xs : List X) (x y : X) (k : ℕ) → slice_get (xs ++ x ∷ []) k ≡ Some y → (slice_get xs k ≡ Some y) ⊎ ((k ≡ length xs) × (x ≡ y))
+pub slice_get-push : {X : Type 0} (xs : List X) (x y : X) (k : ℕ) → slice_get (xs ++ x ∷ []) k ≡ Some y
+    → (slice_get xs k ≡ Some y) ⊎ ((k ≡ length xs) × (x ≡ y))
 slice_get-push [] x y zero is = inr (refl, cc)
 slice_get-push [] x y (suc k) is = absurd (cc)
 slice_get-push (z ∷ xs) x y zero is = inl is
-slice_get-push (z ∷ xs) x y (suc k) is = ⊎_elim (λ before. inl before) (λ last. inr (ap suc last.0, last.1)) (slice_get-push xs x y k is)
+slice_get-push (z ∷ xs) x y (suc k) is =
+    ⊎_elim (λ before. inl before) (λ last. inr (ap suc last.0, last.1)) (slice_get-push xs x y k is)

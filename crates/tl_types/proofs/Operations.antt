@@ -35,7 +35,8 @@ byte_count-le op size in_limit = go (carries_bytes op)
     go false = omega arith
 
 -- numbers that stand for an operation have no fault
-pub no_fault_of_code : (op : AskOp) (opcode param : ℕ) (fault : OpFault) → IsCodeOf op opcode param → HasOpFault opcode param fault → ⊥
+pub no_fault_of_code : (op : AskOp) (opcode param : ℕ) (fault : OpFault) → IsCodeOf op opcode param
+    → HasOpFault opcode param fault → ⊥
 no_fault_of_code op opcode param Cached code (inl h) = omega (arith, opcode_of-le op)
 no_fault_of_code op opcode param Cached code (inr h) = omega (arith, opcode_of-le op)
 no_fault_of_code op opcode param UnknownOpcode code h = omega (arith, opcode_of-le op)

@@ -1,5 +1,5 @@
--- Bytes of which some may be left unset: this project's own words. They are kept as plain bytes and a mask for each word
--- of the bus, and seen as a list in which a byte that is left unset is None.
+-- Bytes of which some may be left unset: this project's own words. They are kept as plain bytes and a mask for each
+-- word of the bus, and seen as a list in which a byte that is left unset is None.
 use Rattle.std.specs.Prelude.{◌≡◌, ℕ, zero, suc, ◌+◌, ◌*◌, ◌/◌, ◌%◌, ◌^◌, ◌<◌, ◌≤◌, List, [], ◌∷◌, length, map, Option, None, Some, slice_get, slice_index, unwrap_or}
 use Rattle.std.specs.Int.{bit_at, to_le_bytes, w64}
 use Rattle.std.specs.List.{flat_map}
@@ -30,7 +30,8 @@ given_in bits (byte ∷ bytes) = given_byte (bits 0) byte ∷ given_in (λ k. bi
 abbrev pub plain_of : List (Option ℕ) → List ℕ
 plain_of given = map (λ byte. unwrap_or byte 0) given
 
--- the mask of a word of the bytes: a bit for each byte that is given, and none for one that is left unset or is not there
+-- the mask of a word of the bytes: a bit for each byte that is given, and none for one that is left unset or is not
+-- there
 abbrev pub IsMaskOf : List (Option ℕ) → ℕ → ℕ → Type 0
 IsMaskOf given word mask =
     (k : ℕ) → k < WORD_BYTES → bit_at mask k ≡ mask_bit (unwrap_or (slice_get given (WORD_BYTES * word + k)) None)
@@ -39,7 +40,8 @@ IsMaskOf given word mask =
 unfoldable pub bit_in : List ℕ → ℕ → ℕ
 bit_in masks place = bit_at (slice_index masks (place / WORD_BYTES)) (place % WORD_BYTES)
 
--- there is a mask for each word, of a bit for each of its bytes; a byte that is left unset is zero, and no bit is set past the last byte
+-- there is a mask for each word, of a bit for each of its bytes; a byte that is left unset is zero, and no bit is set
+-- past the last byte
 pub record AreKept (plain masks : List ℕ) : Type 0 where
   pub counted : length masks ≡ MAX_WORDS
   pub small : (word : ℕ) → slice_index masks word < 2 ^ WORD_BYTES

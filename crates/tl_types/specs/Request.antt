@@ -1,6 +1,6 @@
--- A request on channel A as every contract sees it, and the rule that it keeps: the chapter "TL-UL and TL-UH operations"
--- of the TileLink specification, but for the largest size, which is this project's choice. The faults of parts that
--- break the rule, and their order, are this project's own.
+-- A request on channel A as every contract sees it, and the rule that it keeps: the chapter "TL-UL and TL-UH
+-- operations" of the TileLink specification, but for the largest size, which is this project's choice. The faults of
+-- parts that break the rule, and their order, are this project's own.
 use Rattle.std.specs.Prelude.{◌≡◌, ℕ, ◌≢◌, ◌≤◌, ◌<◌, false, List, length, Option, IsSome, IsNone, All, Any}
 use Rattle.tl_types.specs.Fault.{IsFirstOf}
 use Rattle.tl_types.specs.Operation.{byte_count, may_leave_unset}

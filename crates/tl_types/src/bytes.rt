@@ -201,8 +201,8 @@ impl Bytes {
 }
 
 /// Puts the masks of so many bytes that are all given in the place of others.
-// where they lie: made aside and moved, they take longer than a short message's bytes. Those of one word, the common case, have one
-// mask at a place that is known: no loop and no division
+// where they lie: made aside and moved, they take longer than a short message's bytes. Those of one word, the common
+// case, have one mask at a place that is known: no loop and no division
 fn put_given_masks(masks: &mut [u8; MAX_WORDS], count: usize)
     requires { count ≤ MAX_BYTES }
     ensures counted { length masks.new ≡ MAX_WORDS }

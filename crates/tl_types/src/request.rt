@@ -12,8 +12,8 @@ use std::marker::Model;
 use thiserror::Error;
 
 /// A request, of lawful size and byte count.
-// The bytes stand first and the small fields last: a move copies whole words, and padding before a large field would make
-// each move wait for the stores of the one before it.
+// The bytes stand first and the small fields last: a move copies whole words, and padding before a large field would
+// make each move wait for the stores of the one before it.
 #[derive(Debug, Drop)]
 pub struct Ask {
     bytes: Bytes,

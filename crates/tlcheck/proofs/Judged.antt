@@ -19,40 +19,52 @@ pub record IsJudgeOf (terms : Terms) (system : System) (judge : Judge) (sizes : 
   pub trace : is_traced judge ≡ terms.trace
   pub sized : sizes ≡ sizes_of system
 
-by_the_plan : (terms : Terms) (system : System) (judge : Judge) (sizes : Sizes) (Holds : Sizes → Plan → Type 0) → IsJudgeOf terms system judge sizes
+by_the_plan : (terms : Terms) (system : System) (judge : Judge) (sizes : Sizes) (Holds : Sizes → Plan → Type 0)
+    → IsJudgeOf terms system judge sizes
     → ((plan : Plan) → Judges plan [] judge → Holds sizes plan) → ByThePlan terms system (Holds (sizes_of system))
 by_the_plan terms system judge sizes Holds of_it holds = record {
   some = of_it.judges.some;
   each = λ plan is. subst (λ s. Holds s plan) of_it.sized (holds plan (of_it.judges.each plan is));
 }
 
-by_the_traced_plan : (terms : Terms) (system : System) (judge : Judge) (sizes : Sizes) (capture old new : Option (List ℕ)) (answer : Result Verdict CaptureFault)
+by_the_traced_plan : (terms : Terms) (system : System) (judge : Judge) (sizes : Sizes)
+    (capture old new : Option (List ℕ)) (answer : Result Verdict CaptureFault)
     → IsJudgeOf terms system judge sizes
-    → ((plan : Plan) → Judges plan [] judge → IfSome capture (λ text. IsWritten (is_traced judge) plan sizes (start_of text) old new answer))
-    → ByThePlan terms system (λ plan. IfSome capture (λ text. IsWritten terms.trace plan (sizes_of system) (start_of text) old new answer))
+    → ((plan : Plan) → Judges plan [] judge → IfSome capture
+        (λ text. IsWritten (is_traced judge) plan sizes (start_of text) old new answer))
+    → ByThePlan terms system (λ plan. IfSome capture
+        (λ text. IsWritten terms.trace plan (sizes_of system) (start_of text) old new answer))
 by_the_traced_plan terms system judge sizes capture old new answer of_it tells =
-    subst (λ t. ByThePlan terms system (λ plan. IfSome capture (λ text. IsWritten t plan (sizes_of system) (start_of text) old new answer))) of_it.trace
-    (by_the_plan terms system judge sizes (λ s plan. IfSome capture (λ text. IsWritten (is_traced judge) plan s (start_of text) old new answer)) of_it tells)
+    subst (λ t. ByThePlan terms system (λ plan. IfSome capture
+        (λ text. IsWritten t plan (sizes_of system) (start_of text) old new answer))) of_it.trace
+    (by_the_plan terms system judge sizes (λ s plan. IfSome capture
+        (λ text. IsWritten (is_traced judge) plan s (start_of text) old new answer)) of_it tells)
 
-pub has_verdict : (terms : Terms) (system : System) (judge : Judge) (sizes : Sizes) (read_old read_new capture old told : Option (List ℕ)) (verdict : Verdict)
+pub has_verdict : (terms : Terms) (system : System) (judge : Judge) (sizes : Sizes)
+    (read_old read_new capture old told : Option (List ℕ)) (verdict : Verdict)
     → IsJudgeOf terms system judge sizes → GivesSystem read_old read_new system
     → ((plan : Plan) → Judges plan [] judge → IfSome capture (λ text. IsVerdict plan sizes (start_of text) verdict))
-    → ((plan : Plan) → Judges plan [] judge → IfSome capture (λ text. IsWritten (is_traced judge) plan sizes (start_of text) old told (Ok verdict)))
+    → ((plan : Plan) → Judges plan [] judge → IfSome capture
+        (λ text. IsWritten (is_traced judge) plan sizes (start_of text) old told (Ok verdict)))
     → HasVerdict terms read_old read_new capture old told system verdict
 has_verdict terms system judge sizes read_old read_new capture old told verdict of_it given found tells = record {
   given = given;
-  is = by_the_plan terms system judge sizes (λ s plan. IfSome capture (λ text. IsVerdict plan s (start_of text) verdict)) of_it found;
+  is = by_the_plan terms system judge sizes
+      (λ s plan. IfSome capture (λ text. IsVerdict plan s (start_of text) verdict)) of_it found;
   tells = by_the_traced_plan terms system judge sizes capture old told (Ok verdict) of_it tells;
 }
 
-pub is_stopped : (terms : Terms) (system : System) (judge : Judge) (sizes : Sizes) (read_old read_new capture old new : Option (List ℕ)) (fault : CaptureFault)
+pub is_stopped : (terms : Terms) (system : System) (judge : Judge) (sizes : Sizes)
+    (read_old read_new capture old new : Option (List ℕ)) (fault : CaptureFault)
     → IsJudgeOf terms system judge sizes → GivesSystem read_old read_new system
     → ((plan : Plan) → Judges plan [] judge → IfSome capture (λ text. IsFault plan sizes (start_of text) fault))
-    → ((plan : Plan) → Judges plan [] judge → IfSome capture (λ text. IsWritten (is_traced judge) plan sizes (start_of text) old new (Err fault)))
+    → ((plan : Plan) → Judges plan [] judge → IfSome capture
+        (λ text. IsWritten (is_traced judge) plan sizes (start_of text) old new (Err fault)))
     → IsStopped terms read_old read_new capture old new fault
 is_stopped terms system judge sizes read_old read_new capture old new fault of_it given found tells = record {
   system = system;
   given = given;
-  is = by_the_plan terms system judge sizes (λ s plan. IfSome capture (λ text. IsFault plan s (start_of text) fault)) of_it found;
+  is = by_the_plan terms system judge sizes
+      (λ s plan. IfSome capture (λ text. IsFault plan s (start_of text) fault)) of_it found;
   tells = by_the_traced_plan terms system judge sizes capture old new (Err fault) of_it tells;
 }

@@ -32,7 +32,8 @@ sizes_of system = record { masters = length system.counts; ports = length system
 -- the plan is one of the system, by these terms
 pub record IsPlanOf (terms : Terms) (system : System) (plan : Plan) : Type 0 where
   pub is : IsPlan plan
-  pub layout : plan.layout ≡ record { links = terms.links; order = terms.order; counts = system.counts; ranges = system.ranges }
+  pub layout : plan.layout ≡ record { links = terms.links; order = terms.order; counts = system.counts;
+      ranges = system.ranges }
   pub resets : plan.resets ≡ resets system
 
 -- something holds by each plan of the system; and there is one
@@ -51,7 +52,8 @@ IsFaultOf terms system capture fault =
     ByThePlan terms system (λ plan. IfSome capture (λ text. IsFault plan (sizes_of system) (start_of text) fault))
 
 -- what is written while the capture is judged, before this answer
-abbrev pub IsWrittenOf : Terms → System → Option (List ℕ) → Option (List ℕ) → Option (List ℕ) → Result Verdict CaptureFault → Type 0
+abbrev pub IsWrittenOf : Terms → System → Option (List ℕ) → Option (List ℕ) → Option (List ℕ)
+    → Result Verdict CaptureFault → Type 0
 IsWrittenOf terms system capture old new answer =
     ByThePlan terms system
     (λ plan. IfSome capture (λ text. IsWritten terms.trace plan (sizes_of system) (start_of text) old new answer))
@@ -68,15 +70,17 @@ is_lawful (Unlawful found) = false
 
 -- ---- what is promised
 
--- the system is the one that all of what was read spells, and the verdict is the one over the capture; by `told` what is told with
--- it was written
-pub record HasVerdict (terms : Terms) (read_old read_new capture written_old told : Option (List ℕ)) (system : System) (verdict : Verdict) : Type 0 where
+-- the system is the one that all of what was read spells, and the verdict is the one over the capture; by `told` what
+-- is told with it was written
+pub record HasVerdict (terms : Terms) (read_old read_new capture written_old told : Option (List ℕ)) (system : System)
+    (verdict : Verdict) : Type 0 where
   pub given : GivesSystem read_old read_new system
   pub is : IsVerdictOf terms system capture verdict
   pub tells : IsWrittenOf terms system capture written_old told (Ok verdict)
 
 -- there is such a verdict, it is lawful or not as is answered, and what is told with it and then its line was written
-pub record IsJudged (terms : Terms) (read_old read_new capture written_old written_new : Option (List ℕ)) (lawful : Bool) : Type 0 where
+pub record IsJudged (terms : Terms) (read_old read_new capture written_old written_new : Option (List ℕ))
+    (lawful : Bool) : Type 0 where
   pub system : System
   pub verdict : Verdict
   pub told : Option (List ℕ)
@@ -85,24 +89,27 @@ pub record IsJudged (terms : Terms) (read_old read_new capture written_old writt
   pub written : Appends told written_new (line_of verdict)
 
 -- there is a system, and this is answered of the capture; what is told before that was written
-pub record IsStopped (terms : Terms) (read_old read_new capture written_old written_new : Option (List ℕ)) (fault : CaptureFault) : Type 0 where
+pub record IsStopped (terms : Terms) (read_old read_new capture written_old written_new : Option (List ℕ))
+    (fault : CaptureFault) : Type 0 where
   pub system : System
   pub given : GivesSystem read_old read_new system
   pub is : IsFaultOf terms system capture fault
   pub tells : IsWrittenOf terms system capture written_old written_new (Err fault)
 
 -- there is a verdict, and what is told with it was written; of its line this
-pub record IsUntold (terms : Terms) (read_old read_new capture written_old written_new : Option (List ℕ)) (OfLine : Option (List ℕ) → List ℕ → Type 0) : Type 0 where
+pub record IsUntold (terms : Terms) (read_old read_new capture written_old written_new : Option (List ℕ))
+    (OfLine : Option (List ℕ) → List ℕ → Type 0) : Type 0 where
   pub system : System
   pub verdict : Verdict
   pub told : Option (List ℕ)
   pub has : HasVerdict terms read_old read_new capture written_old told system verdict
   pub line : OfLine told (line_of verdict)
 
--- why there is no verdict, and what was written. A fault of the script is the first of what was read, one of the capture is one of its
--- text. Before a verdict nothing is written but what is told; where a write failed, a front of that or of the verdict's line,
--- and not all of it
-abbrev pub IsFaulty : Terms → Option (List ℕ) → Option (List ℕ) → Option (List ℕ) → Option (List ℕ) → Option (List ℕ) → CheckFault → Type 0
+-- why there is no verdict, and what was written. A fault of the script is the first of what was read, one of the
+-- capture is one of its text. Before a verdict nothing is written but what is told; where a write failed, a front of
+-- that or of the verdict's line, and not all of it
+abbrev pub IsFaulty : Terms → Option (List ℕ) → Option (List ℕ) → Option (List ℕ) → Option (List ℕ) → Option (List ℕ)
+    → CheckFault → Type 0
 IsFaulty terms read_old read_new capture written_old written_new (check.Script fault) =
     HasScriptFault read_old read_new fault × Keeps written_old written_new
 IsFaulty terms read_old read_new capture written_old written_new (check.Capture fault) =
@@ -117,8 +124,9 @@ IsFaulty terms read_old read_new capture written_old written_new check.Write =
     IsStopped terms read_old read_new capture written_old written_new stop.Write
     ⊎ IsUntold terms read_old read_new capture written_old written_new (λ told line. AppendsPart told written_new line)
 
--- what the reader of a system had before and has after, what the reader of a capture had, what the writer held before and holds
--- after, and the answer: whether the capture is lawful, or why there is no verdict
-pub record IsChecked (terms : Terms) (read_old read_new capture written_old written_new : Option (List ℕ)) (result : Result Bool CheckFault) : Type 0 where
+-- what the reader of a system had before and has after, what the reader of a capture had, what the writer held before
+-- and holds after, and the answer: whether the capture is lawful, or why there is no verdict
+pub record IsChecked (terms : Terms) (read_old read_new capture written_old written_new : Option (List ℕ))
+    (result : Result Bool CheckFault) : Type 0 where
   pub ok : IfOk result (IsJudged terms read_old read_new capture written_old written_new)
   pub fault : IfErr result (IsFaulty terms read_old read_new capture written_old written_new)

@@ -32,8 +32,8 @@ fn is_lawful(verdict: &Verdict) -> bool
 }
 
 /// Reads a system and then a capture, each to its end or first fault, and writes the line of the verdict: whether what
-/// crossed the watched links of a crossbar that is the system is lawful. The answer is the same. Where replies are told, their lines are
-/// written before, as the capture is read.
+/// crossed the watched links of a crossbar that is the system is lawful. The answer is the same. Where replies are
+/// told, their lines are written before, as the capture is read.
 pub fn check<S: Read, C: Read + Drop, W: Write>(
     alloc: Global,
     system: &mut S,

@@ -5,8 +5,8 @@ use std::io::Read;
 use std::rt::Files;
 use std::{fs, io};
 
-/// A file by its name. It is opened at its first read, so that of two files the second is left alone until the first was read;
-/// one that can't be opened fails as one that can't be read.
+/// A file by its name. It is opened at its first read, so that of two files the second is left alone until the first
+/// was read; one that can't be opened fails as one that can't be read.
 #[derive(Drop)]
 pub struct NamedFile<'a, F: Files> {
     files: &'a F,

@@ -1,13 +1,14 @@
 //! tlcheck: judges whether a captured trace of a TileLink crossbar is lawful.
 //!
-//! SYSTEM is a script as `tlx` reads it, and says what the crossbar is; CAPTURE has a row for each beat that crossed one of its links.
-//! Standard output ends with one line, the verdict: lawful, with counts, or the first row that makes the capture unlawful, and why. It is
-//! all that is written, save that with `--trace` a line for each reply stands before it. A fault is one line on standard error; then
-//! nothing was written, save for those replies and where a write failed. A command line that is refused is told by clap's text.
+//! SYSTEM is a script as `tlx` reads it, and says what the crossbar is; CAPTURE has a row for each beat that crossed
+//! one of its links. Standard output ends with one line, the verdict: lawful, with counts, or the first row that makes
+//! the capture unlawful, and why. It is all that is written, save that with `--trace` a line for each reply stands
+//! before it. A fault is one line on standard error; then nothing was written, save for those replies and where a write
+//! failed. A command line that is refused is told by clap's text.
 //!
-//! `check` (`engine`) carries the theorem, over the bytes of both files: lawful is written exactly where the rows that the capture
-//! spells are lawful for the system that SYSTEM spells. The crates `tl_streams` and `check_verdict` read the two, `check_options`
-//! reads the command line. Read on in `docs/CAPTURE.md`.
+//! `check` (`engine`) carries the theorem, over the bytes of both files: lawful is written exactly where the rows that
+//! the capture spells are lawful for the system that SYSTEM spells. The crates `tl_streams` and `check_verdict` read
+//! the two, `check_options` reads the command line. Read on in `docs/CAPTURE.md`.
 #![tactic(auto)]
 
 pub mod engine;
@@ -92,8 +93,8 @@ fn check_as_asked<S: Read, C: Read + Drop, W: Write>(
     check(alloc, system, capture, writer, terms)
 }
 
-/// The status of a verdict or a fault. The line of a fault is printed, where there is one: the status is the fault's also where
-/// it can't be.
+/// The status of a verdict or a fault. The line of a fault is printed, where there is one: the status is the fault's
+/// also where it can't be.
 fn ended(rt: &HostRuntime, outcome: Result<bool, CheckFault>) -> ExitCode
     ensures verdict { IfOk outcome (λ lawful. exit_status result ≡ status_of_verdict lawful) }
     ensures fault { IfErr outcome (λ fault. exit_status result ≡ status_of fault) }

@@ -1,5 +1,5 @@
-//! What no clause says: the lines and statuses of faults, readers and writers that are slow or fail, and that the system is judged
-//! before the capture is read.
+//! What no clause says: the lines and statuses of faults, readers and writers that are slow or fail, and that the
+//! system is judged before the capture is read.
 ghost use Rattle.std.specs.Prelude.{Some, ◌<◌};
 
 use check_capture::RowFault;

@@ -19,7 +19,8 @@ audit_told (Order m k) told is = let same : Order m k ≡ told = cc in (same, λ
 audit_told (Untraced p i) told is = let same : Untraced p i ≡ told = cc in (same, λ other. cc)
 audit_told Memory told is = absurd cc
 
-pub told_by : (result : Result Unit RunFault) (found told : AuditFault) → IsErrAnd result (λ fault. fault ≡ of_audit found) → result ≡ Err (run.Audit told)
+pub told_by : (result : Result Unit RunFault) (found told : AuditFault)
+    → IsErrAnd result (λ fault. fault ≡ of_audit found) → result ≡ Err (run.Audit told)
     → (found ≡ told) × (told ≢ Memory)
 told_by (Ok x) found told gives is = absurd gives
 told_by (Err e) found told gives is = let same : e ≡ run.Audit told = cc in audit_told found told (sym gives ∙ same)

@@ -39,13 +39,16 @@ many_resets s lawful =
     omega arith
 
 -- the port's store at reset is the system's
-starts : (s : System) (about : About) (p : ℕ) → about.resets ≡ resets s → p < length (resets s) → slice_get (resets s) p ≡ Some (reset_of about p)
+starts : (s : System) (about : About) (p : ℕ) → about.resets ≡ resets s → p < length (resets s)
+    → slice_get (resets s) p ≡ Some (reset_of about p)
 starts s about p same within = rw same (slice_get-get_or (resets s) p no_store within)
 
-reset_is : (book : BookView) (arena : ArenaId) (p : ℕ) → book.seat.arena ≡ arena → book.seat.number ≡ p → reset book ≡ reset_of arena.about p
+reset_is : (book : BookView) (arena : ArenaId) (p : ℕ) → book.seat.arena ≡ arena → book.seat.number ≡ p
+    → reset book ≡ reset_of arena.about p
 reset_is book arena p of_arena number = rw (of_arena, number) refl
 
-module _ (history : Bool) (s : System) (text : List ℕ) (lawful : IsLawfulSystem s) (t : IsThreadedText history s text) where
+module _ (history : Bool) (s : System) (text : List ℕ) (lawful : IsLawfulSystem s)
+    (t : IsThreadedText history s text) where
   books_lawful : AreLawful t.books
   books_lawful p book at = (t.run.books_are.each p book at).lawful
 
@@ -65,13 +68,16 @@ module _ (history : Bool) (s : System) (text : List ℕ) (lawful : IsLawfulSyste
       let within : m < length s.jobs = omega arith in
       let jobs : List Job = get_or s.jobs m [] in
       let trace_is = t.run.traces_are.each m jobs found.trace (slice_get-get_or s.jobs m [] within) found.at in
-      let same : reset it.book ≡ reset_of t.run.arena.about e.port = reset_is it.book t.run.arena e.port its.arena_is its.number_is in
+      let same : reset it.book ≡ reset_of t.run.arena.about e.port =
+          reset_is it.book t.run.arena e.port its.arena_is its.number_is in
       record {
         routed = trace_is.routed k e found.there;
         reset = reset it.book;
-        starts = rw same (starts s t.run.arena.about e.port (ap (λ (about : About). about.resets) t.run.about) (omega arith));
+        starts = rw same (starts s t.run.arena.about e.port (ap (λ (about : About). about.resets) t.run.about)
+            (omega arith));
         history = it.book.history;
-        keeps = slice_get-map (λ (book : BookView). book.history) t.books e.port ∙ ap (option_map (λ (book : BookView). book.history)) it.port;
+        keeps = slice_get-map (λ (book : BookView). book.history) t.books e.port
+            ∙ ap (option_map (λ (book : BookView). book.history)) it.port;
         wide = it.wide;
         is = it.is;
         asked = it.asked;
@@ -85,8 +91,10 @@ module _ (history : Bool) (s : System) (text : List ℕ) (lawful : IsLawfulSyste
     free = length t.free;
     held = length t.held;
     left = t.left;
-    slots = all_slots t.run.arena.about t.free t.held t.left t.run.account ∙ ap (λ (about : About). about.slots) t.run.about;
-    all_free = λ all. ap (λ (held : List HeldSlot). length held) (t.run.account.all_free (λ m within. all m (subst (λ (about : About). m < about.masters) t.run.about within)));
+    slots = all_slots t.run.arena.about t.free t.held t.left t.run.account
+        ∙ ap (λ (about : About). about.slots) t.run.about;
+    all_free = λ all. ap (λ (held : List HeldSlot). length held)
+        (t.run.account.all_free (λ m within. all m (subst (λ (about : About). m < about.masters) t.run.about within)));
     run = record {
       masters = t.run.traces_are.many;
       ports = length-map t.books (λ (book : BookView). book.history) ∙ t.run.books_are.many;

@@ -19,8 +19,8 @@ use Rattle.tl_threads.specs.Run.{IsThreadedRun}
 use Rattle.tlx.specs.declared.fault.RunFault.{RunFault}
 use Rattle.tlx.specs.declared.fault.RunFault.TheVariants as run
 
--- the text is that of a run of the system by threads whose traces and histories agree: its traces, its histories where they
--- are asked for, and how many slots are free and how many held at its end
+-- the text is that of a run of the system by threads whose traces and histories agree: its traces, its histories where
+-- they are asked for, and how many slots are free and how many held at its end
 pub record IsThreadedText (history : Bool) (system : System) (text : List ℕ) : Type 0 where
   pub traces : List (List Entry)
   pub books : List BookView
@@ -47,7 +47,8 @@ abbrev pub HasNoFault : System → AuditFault → Type 0
 HasNoFault system fault = ⊥
 
 -- what was written is such a text of the system that all of what was read spells
-pub record Answers (IsText : System → List ℕ → Type 0) (read_old read_new written_old written_new : Option (List ℕ)) : Type 0 where
+pub record Answers (IsText : System → List ℕ → Type 0)
+    (read_old read_new written_old written_new : Option (List ℕ)) : Type 0 where
   pub system : System
   pub text : List ℕ
   pub given : GivesSystem read_old read_new system
@@ -55,7 +56,8 @@ pub record Answers (IsText : System → List ℕ → Type 0) (read_old read_new 
   pub written : Appends written_old written_new text
 
 -- what was written is a front of such a text, and not all of it
-pub record BeginsToAnswer (IsText : System → List ℕ → Type 0) (read_old read_new written_old written_new : Option (List ℕ)) : Type 0 where
+pub record BeginsToAnswer (IsText : System → List ℕ → Type 0)
+    (read_old read_new written_old written_new : Option (List ℕ)) : Type 0 where
   pub system : System
   pub text : List ℕ
   pub given : GivesSystem read_old read_new system
@@ -63,14 +65,16 @@ pub record BeginsToAnswer (IsText : System → List ℕ → Type 0) (read_old re
   pub written : AppendsPart written_old written_new text
 
 -- a run of the system that all of what was read spells has this fault of an audit
-pub record FailsAudit (HasFault : System → AuditFault → Type 0) (read_old read_new : Option (List ℕ)) (fault : AuditFault) : Type 0 where
+pub record FailsAudit (HasFault : System → AuditFault → Type 0) (read_old read_new : Option (List ℕ))
+    (fault : AuditFault) : Type 0 where
   pub system : System
   pub given : GivesSystem read_old read_new system
   pub has : HasFault system fault
 
--- what an engine promises of its result, where these are the texts of the runs of a system, and the faults that a run may
--- have: what the reader had before and has after, and what the writer held before and holds after
-pub record IsAnswered (IsText : System → List ℕ → Type 0) (HasFault : System → AuditFault → Type 0) (read_old read_new written_old written_new : Option (List ℕ)) (result : Result Unit RunFault) : Type 0 where
+-- what an engine promises of its result, where these are the texts of the runs of a system, and the faults that a run
+-- may have: what the reader had before and has after, and what the writer held before and holds after
+pub record IsAnswered (IsText : System → List ℕ → Type 0) (HasFault : System → AuditFault → Type 0)
+    (read_old read_new written_old written_new : Option (List ℕ)) (result : Result Unit RunFault) : Type 0 where
   -- what is written is such a text of the system that all that the reader had spells
   pub ok : OnOk result (Answers IsText read_old read_new written_old written_new)
   -- a fault of the script is the first of what was read

@@ -4,8 +4,8 @@ ghost use Rattle.tlx.specs.OneThread.{ThreadedTextIsOneThreads};
 use tl_script::System;
 
 /// What the threaded engine writes is one thread's, port by port: each line carries the reply of one thread that serves
-/// that port's history from reset; each entry of a history is printed once; and each source's entries at a port were served
-/// in the order in which they were issued.
+/// that port's history from reset; each entry of a history is printed once; and each source's entries at a port were
+/// served in the order in which they were issued.
 pub fn a_threaded_text_is_one_threads(system: &System)
     ensures { ThreadedTextIsOneThreads system.now }
 {

@@ -1,15 +1,15 @@
 //! tlx: runs a script of requests over a TileLink crossbar, and prints what each is answered.
 //!
 //! Standard input is a script, a TOML document of ports, masters and their operations. Each master is a thread, and
-//! each port has as many as `--workers` says; standard output is the traces of the run, with `--history` the histories of
-//! its ports, and the account of its slots. With `--serial` all runs on one thread, and there is no account. A fault is one
-//! line on standard error, and then nothing was written, save for a failed write; a command line that is refused is told by
-//! clap's text.
+//! each port has as many as `--workers` says; standard output is the traces of the run, with `--history` the histories
+//! of its ports, and the account of its slots. With `--serial` all runs on one thread, and there is no account. A fault
+//! is one line on standard error, and then nothing was written, save for a failed write; a command line that is refused
+//! is told by clap's text.
 //!
 //! `serial_engine` and `threads_engine` (`engine`) carry the theorems: what is written is the text of the serial run
-//! (crate `tl_serial`), or of a run by threads (crate `tl_threads`), of the system that all of the input spells. The crate
-//! `tl_streams` reads that and writes, within bounds; `tl_options` reads the command line. Read on in `docs/ARCHITECTURE.md` and
-//! `docs/MODEL.md`, "Runs".
+//! (crate `tl_serial`), or of a run by threads (crate `tl_threads`), of the system that all of the input spells. The
+//! crate `tl_streams` reads that and writes, within bounds; `tl_options` reads the command line. Read on in
+//! `docs/ARCHITECTURE.md` and `docs/MODEL.md`, "Runs".
 #![tactic(auto)]
 
 pub mod engine;

@@ -228,8 +228,8 @@ fn the_limit_on_bytes(rt: HostRuntime) -> Result<(), Fail> {
     Ok(())
 }
 
-/// What becomes of a script of so many comment signs that come one by one, with an interruption before each and before the
-/// end, and how many reads are made.
+/// What becomes of a script of so many comment signs that come one by one, with an interruption before each and before
+/// the end, and how many reads are made.
 fn one_by_one(alloc: Global, length: usize) -> Result<(Option<RunFault>, u32), Fail> {
     let script = vec![in alloc; b'#'; length]?;
     let mut reader = reader_of(&script, 1, Trouble::BeforeEach);

@@ -1,7 +1,7 @@
 //! Captures with their verdicts, worked out by hand from the rule.
 //!
-//! Port 0 has 256 bytes of memory at 0x1000, all zero at reset, port 1 as many at 0x2000. Master 0 has the sources 0 and 1, which
-//! are the wide sources 0 and 1, master 1 the sources 0 to 2, which are 4 to 6.
+//! Port 0 has 256 bytes of memory at 0x1000, all zero at reset, port 1 as many at 0x2000. Master 0 has the sources 0
+//! and 1, which are the wide sources 0 and 1, master 1 the sources 0 to 2, which are 4 to 6.
 use check_link::{Beat, Link, Sighting};
 use check_watch::{Fault, Links, Order, Seen, Watch};
 use std::alloc::Global;

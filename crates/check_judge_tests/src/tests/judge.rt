@@ -1,7 +1,7 @@
 //! Captures of the system in `examples/captures`, with verdicts that are worked out by hand.
 //!
-//! Port 0 has 64 bytes of memory at 0x1000 that begin with 00 11 22 33, port 1 registers at 0x2000 with 01 02 03 04. Wide
-//! sources 0 to 3 are master 0's, 4 to 6 master 1's.
+//! Port 0 has 64 bytes of memory at 0x1000 that begin with 00 11 22 33, port 1 registers at 0x2000 with 01 02 03 04.
+//! Wide sources 0 to 3 are master 0's, 4 to 6 master 1's.
 use check_capture::{Row, RowFault, read_row};
 use check_judge::{Judge, Refusal, Stop, Unlawful, push_lawful, push_unlawful};
 use check_link::{Beat, FormFault, Link, Sighting};

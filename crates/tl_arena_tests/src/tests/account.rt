@@ -11,7 +11,8 @@ fn words_show_who_holds_what(rt: HostRuntime) {
     assert!(rt; account.left.as_slice() == [0].as_slice());
 }
 
-/// Its requests for memory may be refused (`rt try --test --fail-alloc N`): the account is the right one, or there is none.
+/// Its requests for memory may be refused (`rt try --test --fail-alloc N`): the account is the right one, or there is
+/// none.
 #[test]
 fn an_account_is_whole_or_memory_is_refused(rt: HostRuntime) {
     if let Ok(account) = account_of(rt.alloc(), &[4106, 0], &[0, 1]) {

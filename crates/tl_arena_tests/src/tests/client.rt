@@ -22,8 +22,8 @@ pub(super) struct Client<'a> {
     ghost blocks: { arena.now.about.counts ≡ sources.now },
 }
 
-/// A reply that was collected, with some of its bytes as they lie (the first, the fourth and the fifth), the port that gave
-/// it and its place in the port's list.
+/// A reply that was collected, with some of its bytes as they lie (the first, the fourth and the fifth), the port that
+/// gave it and its place in the port's list.
 #[derive(Drop)]
 pub(super) struct Received {
     pub(super) reply: Reply,

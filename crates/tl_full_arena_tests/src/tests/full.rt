@@ -67,8 +67,8 @@ const ONE_SLOT_TOO_FEW: Filling = Filling {
     refused_then: &[(255, IssueFault::NoSlot)],
 };
 
-/// A master of 16 sources, and room for two entries: a third request is refused, and one that is from a busy source too is
-/// told that. An entry takes room as well.
+/// A master of 16 sources, and room for two entries: a third request is refused, and one that is from a busy source too
+/// is told that. An entry takes room as well.
 const FULL_TRACE: Filling = Filling {
     out: 2,
     refused: &[

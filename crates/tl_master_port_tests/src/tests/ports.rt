@@ -55,8 +55,8 @@ fn a_full_journal_takes_no_more(rt: HostRuntime) {
     assert!(rt; board.book.history_len() == 3);
 }
 
-/// Each master's trace has room for one entry too, so the second request is the second master's, whose part of the four slots
-/// begins at slot 2.
+/// Each master's trace has room for one entry too, so the second request is the second master's, whose part of the four
+/// slots begins at slot 2.
 #[test]
 fn a_journal_of_one_takes_one(rt: HostRuntime) {
     let mut board = set_up(&rt, rt.alloc(), 4, 1);

@@ -1,5 +1,6 @@
-//! What is answered if memory is refused. These tests hold whether their requests for memory are granted or not, so that each request may
-//! be refused in turn (`rt try --test --fail-alloc N`): the answer is the right one, or that memory was refused.
+//! What is answered if memory is refused. These tests hold whether their requests for memory are granted or not, so
+//! that each request may be refused in turn (`rt try --test --fail-alloc N`): the answer is the right one, or that
+//! memory was refused.
 use tl_slots::{Core, CoreMakeFault, Phase};
 
 #[test]

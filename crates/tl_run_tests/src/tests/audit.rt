@@ -134,8 +134,8 @@ fn small_runs_are_audited(rt: HostRuntime) {
     }
 }
 
-/// Two masters send from their sources 1; the second one's wide source is 17. Their entries stand in the history of port 0;
-/// port 1 has none.
+/// Two masters send from their sources 1; the second one's wide source is 17. Their entries stand in the history of
+/// port 0; port 1 has none.
 #[test]
 fn masters_are_told_apart_by_wide_sources(rt: HostRuntime) {
     let alloc = rt.alloc();
@@ -190,8 +190,8 @@ fn audit_of_one(rt: &impl Abort, alloc: Global) -> Result<(), AuditFault> {
     audit_lists(alloc, &sources, &traces, &[&history])
 }
 
-/// The audit's own requests for memory may be refused (`rt try --test --fail-alloc N`, behind those that make what it audits): it answers
-/// what is right, or that memory was refused.
+/// The audit's own requests for memory may be refused (`rt try --test --fail-alloc N`, behind those that make what it
+/// audits): it answers what is right, or that memory was refused.
 #[test]
 fn an_audit_says_yes_or_memory_is_refused(rt: HostRuntime) {
     let answer = audit_of_one(&rt, rt.alloc());

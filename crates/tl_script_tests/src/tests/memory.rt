@@ -1,5 +1,5 @@
-//! What is written if memory is refused. These tests hold whether their requests for memory are granted or not, so that each request may be
-//! refused in turn (`rt try --test --fail-alloc N`): the text is the whole one, or there is none.
+//! What is written if memory is refused. These tests hold whether their requests for memory are granted or not, so that
+//! each request may be refused in turn (`rt try --test --fail-alloc N`): the text is the whole one, or there is none.
 use std::alloc::Global;
 use std::process::Abort;
 use tl_journal::{Journal, Place, Trace};

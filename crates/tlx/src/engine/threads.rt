@@ -30,7 +30,8 @@ fn push_histories(text: &mut Vec<u8>, books: &[Book]) -> Result<(), AllocError>
     Ok(())
 }
 
-/// The text of a run: its traces, its histories where they are asked for, and how many slots are free and how many held.
+/// The text of a run: its traces, its histories where they are asked for, and how many slots are free and how many
+/// held.
 fn text_of(alloc: Global, run: &ThreadedRun, history: bool) -> Result<Vec<u8>, Memory>
     ensures { IfOk result (λ text. text.items
         ≡ run_text history (entries_in run.now.traces.items) (histories_of run.now.books.items)

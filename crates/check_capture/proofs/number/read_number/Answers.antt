@@ -11,7 +11,8 @@ loop-byte-preserved c =
     let at = c.loop-byte.byte-index in
     let word = c.args.word.now in
     record {
-      digits = digits_more c.args.radix word at (omega arith) c.loop-byte.invariant.digits (grind (arith, common_steps));
+      digits = digits_more c.args.radix word at (omega arith) c.loop-byte.invariant.digits
+          (grind (arith, common_steps));
       value = grind (arith, common_steps, digits_value_more c.args.radix word at);
     }
 

@@ -5,12 +5,14 @@ use Rattle.tl_script.specs.Trace.{reply_text}
 use Rattle.check_judge.specs.Text.{wrong_text}
 use Rattle.check_judge.proofs.text.push_wrong_reply.Goals as goal
 
-joined : (text a one b other first : List ℕ) → first ≡ text ++ a ++ one → first ++ b ++ other ≡ text ++ (a ++ one ++ b ++ other)
+joined : (text a one b other first : List ℕ) → first ≡ text ++ a ++ one
+    → first ++ b ++ other ≡ text ++ (a ++ one ++ b ++ other)
 joined text a one b other first is = ap (λ l. l ++ b ++ other) is ∙ simp append_assoc
 
 pub returns-clause-ok : goal.returns-clause-ok
 unfolding wrong_text
 returns-clause-ok c =
     IfOk-equal c.push_words_and_reply-2.result c.push_words_and_reply-2.new.text.items _ _ c.push_words_and_reply-2.ensures.ok
-    (joined c.args.text.now.items (codes "wrong reply: expected ") (reply_text c.args.expected.now) (codes ", captured ") (reply_text c.args.captured.now) c.push_words_and_reply.new.text.items
+    (joined c.args.text.now.items (codes "wrong reply: expected ") (reply_text c.args.expected.now)
+        (codes ", captured ") (reply_text c.args.captured.now) c.push_words_and_reply.new.text.items
     c.in_ok-push_words_and_reply.ensures.ok)

@@ -4,4 +4,5 @@ use Rattle.std.proofs.lemmas.List.{places, with_items_is}
 use Rattle.check_records.proofs.source.read_over.Goals as goal
 
 pub returns-clause-taken : goal.returns-clause-taken
-returns-clause-taken g c = rw (with_items_is c.args.chunk.now c.read_some.new.buffer (search (rules, places))) (search rules)
+returns-clause-taken g c =
+    rw (with_items_is c.args.chunk.now c.read_some.new.buffer (search (rules, places))) (search rules)

@@ -9,17 +9,22 @@ loop-place-init c j within = absurd (omega (arith, within))
 
 pub returns-then-not-has : goal.returns-then-not-has
 returns-then-not-has c =
-    let is_word : fields_of c.args.columns.now ≡ header → field_at (fields_of c.args.columns.now) c.loop-place.place ≡ Some c.word.result.now =
-    λ is. ap (λ f. field_at f c.loop-place.place) is ∙ field_inside header c.loop-place.place (omega (arith, c.loop-place-test.true)) ∙ ap Some (sym c.word.ensures) in
+    let is_word : fields_of c.args.columns.now ≡ header
+        → field_at (fields_of c.args.columns.now) c.loop-place.place ≡ Some c.word.result.now =
+    λ is. ap (λ f. field_at f c.loop-place.place) is
+        ∙ field_inside header c.loop-place.place (omega (arith, c.loop-place-test.true))
+        ∙ ap Some (sym c.word.ensures) in
     (λ no. absurd (cc no), λ is. sym c.if-not-has.true ∙ c.has.ensures.1 (is_word is))
 
 pub loop-place-preserved : goal.loop-place-preserved
 loop-place-preserved c =
-    one_more (λ j. field_at (fields_of c.args.columns.now) j ≡ Some (get_or header j [])) c.loop-place.place c.loop-place.invariant
+    one_more (λ j. field_at (fields_of c.args.columns.now) j ≡ Some
+        (get_or header j [])) c.loop-place.place c.loop-place.invariant
     (c.has.ensures.0 c.if-not-has.false ∙ ap Some c.word.ensures)
 
 pub returns : goal.returns
 returns c = (
-  λ yes. same_fields (fields_of c.args.columns.now) header (sym c.len.ensures ∙ eqb-true c.len.result 12 yes) (λ j within. c.loop-place.invariant j (omega (arith, within, c.loop-place-test.false))),
+  λ yes. same_fields (fields_of c.args.columns.now) header (sym c.len.ensures ∙ eqb-true c.len.result 12 yes)
+      (λ j within. c.loop-place.invariant j (omega (arith, within, c.loop-place-test.false))),
   λ is. eq-eqb c.len.result 12 (c.len.ensures ∙ ap length is),
 )

@@ -8,13 +8,16 @@ loop-place-init c = rw c.new-places.ensures.items (chosen_none (λ (i : ℕ). i)
 
 pub loop-place-preserved : goal.loop-place-preserved
 loop-place-preserved c = elim c.if-word-wanted.branch [
-  | then-word-wanted+in_ok-push w ↦ place_taken c.args.words.now c.loop-place.places.items c.if-word-wanted.places.items c.args.wanted c.loop-place.place c.loop-place.invariant c.loop-place-test.true w.if-word-wanted.true (search rules)
-  | else-word-wanted w ↦ subst (λ (v : Vec ℕ Global). Chosen (λ (i : ℕ). i) (Here c.args.words.now c.args.wanted) (c.loop-place.place + 1) v.items) (sym w.places-is)
+  | then-word-wanted+in_ok-push w ↦ place_taken c.args.words.now c.loop-place.places.items c.if-word-wanted.places.items c.args.wanted c.loop-place.place c.loop-place.invariant c.loop-place-test.true w.if-word-wanted.true
+      (search rules)
+  | else-word-wanted w ↦ subst (λ (v : Vec ℕ Global). Chosen (λ (i : ℕ). i) (Here c.args.words.now c.args.wanted)
+      (c.loop-place.place + 1) v.items) (sym w.places-is)
       (place_skipped c.args.words.now c.loop-place.places.items c.args.wanted c.loop-place.place c.loop-place.invariant c.loop-place-test.true w.if-word-wanted.false)
 ]
 
 pub returns-clause-just : goal.returns-clause-just
-returns-clause-just c = places_all c.args.words.now c.loop-place.places.items c.args.wanted c.loop-place.place c.loop-place.invariant c.loop-place-test.false
+returns-clause-just c =
+    places_all c.args.words.now c.loop-place.places.items c.args.wanted c.loop-place.place c.loop-place.invariant c.loop-place-test.false
 
 pub returns-clause-rising : goal.returns-clause-rising
 returns-clause-rising c = c.loop-place.invariant.rising

@@ -6,4 +6,6 @@ use Rattle.tl_audit.proofs.lists.check_order.Given as goal
 
 -- the traces of the masters so far are in order
 abbrev pub invariant-loop-master : goal.invariant-loop-master
-invariant-loop-master l = (m : ℕ) (trace : List Entry) → m < l.master → slice_get (entries_in l.traces) m ≡ Some trace → IsNeverOutOfOrder trace
+invariant-loop-master l =
+    (m : ℕ) (trace : List Entry) → m < l.master → slice_get (entries_in l.traces) m ≡ Some trace
+    → IsNeverOutOfOrder trace

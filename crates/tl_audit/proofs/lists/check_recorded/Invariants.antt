@@ -6,4 +6,6 @@ use Rattle.tl_audit.proofs.lists.check_recorded.Given as goal
 
 -- each entry of the masters so far is the one at its port and index
 abbrev pub invariant-loop-master : goal.invariant-loop-master
-invariant-loop-master l = (m k : ℕ) (e : Entry) → m < l.master → HasEntry (entries_in l.traces) m k e → IsRecorded l.sources (journals_in l.histories) m e
+invariant-loop-master l =
+    (m k : ℕ) (e : Entry) → m < l.master → HasEntry (entries_in l.traces) m k e
+    → IsRecorded l.sources (journals_in l.histories) m e

@@ -5,4 +5,5 @@ use Rattle.tl_audit.proofs.marks.mark_trace.Given as goal
 
 -- the places that the entries so far name are marked
 abbrev pub invariant-loop-place : goal.invariant-loop-place
-invariant-loop-place l = AreMarkedBy (λ p i. times_in p i (take l.place l.trace.items)) (rows_in l.fn.rows) (rows_in l.rows)
+invariant-loop-place l =
+    AreMarkedBy (λ p i. times_in p i (take l.place l.trace.items)) (rows_in l.fn.rows) (rows_in l.rows)

@@ -6,4 +6,5 @@ use Rattle.tl_audit.proofs.marks.mark_traces.Given as goal
 
 -- the places that the traces so far name are marked
 abbrev pub invariant-loop-trace : goal.invariant-loop-trace
-invariant-loop-trace l = AreMarkedBy (times_named (take l.trace-index (entries_in l.traces))) (rows_in l.fn.rows) (rows_in l.rows)
+invariant-loop-trace l =
+    AreMarkedBy (times_named (take l.trace-index (entries_in l.traces))) (rows_in l.fn.rows) (rows_in l.rows)

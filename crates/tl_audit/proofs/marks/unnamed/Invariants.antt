@@ -6,4 +6,6 @@ use Rattle.tl_audit.proofs.marks.unnamed.Given as goal
 
 -- the histories so far have their marks
 abbrev pub invariant-loop-history : goal.invariant-loop-history
-invariant-loop-history l = rows_in l.rows.items ≡ map (λ history. replicate (length history) Unnamed) (journals_in (take l.history-index l.histories))
+invariant-loop-history l =
+    rows_in l.rows.items ≡ map (λ history. replicate (length history) Unnamed)
+    (journals_in (take l.history-index l.histories))

@@ -63,4 +63,5 @@ fill_ask-requires-clause-begun c = record {
 
 -- beats spell one request at most
 pub returns-clause-all : goal.returns-clause-all
-returns-clause-all c request lawful spells = (search rules, same_ask c.fill_ask.new.ask request c.args.beats.now c.fill_ask.ensures.lawful lawful c.fill_ask.ensures.spells spells)
+returns-clause-all c request lawful spells =
+    (search rules, same_ask c.fill_ask.new.ask request c.args.beats.now c.fill_ask.ensures.lawful lawful c.fill_ask.ensures.spells spells)

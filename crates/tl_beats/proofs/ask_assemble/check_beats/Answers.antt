@@ -10,6 +10,8 @@ loop-b-preserved c =
     let so_far = c.loop-b.invariant in
     let lawful = c.sets_active.ensures first.size first.address c.active_mask-active.ensures in
     record {
-      same = holds_more_at (SameFields first) beats c.loop-b.b _ so_far.same c.loop-b-test.true (c.same_fields.ensures.0 c.if-not-same_fields.false);
-      masks = holds_more_at (HasLawfulMask c.args.op first) beats c.loop-b.b _ so_far.masks c.loop-b-test.true (lawful.0 c.if-not-sets_active.false);
+      same = holds_more_at (SameFields first) beats c.loop-b.b _ so_far.same c.loop-b-test.true
+          (c.same_fields.ensures.0 c.if-not-same_fields.false);
+      masks = holds_more_at (HasLawfulMask c.args.op first) beats c.loop-b.b _ so_far.masks c.loop-b-test.true
+          (lawful.0 c.if-not-sets_active.false);
     }

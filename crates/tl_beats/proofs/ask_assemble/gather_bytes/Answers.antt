@@ -24,4 +24,5 @@ loop-beat-preserved c =
     bytes_more c.args.beats.now first c.args.op c.loop-beat.beat-index _ c.first_lane-lane.result c.min-count.result c.loop-beat.bytes _ c.loop-beat-test.true c.requires.count c.loop-beat.invariant lane count c.push_lanes.ensures
 
 pub returns : goal.returns
-returns c = bytes_all c.args.beats.now c.args.first.now c.args.op c.loop-beat.beat-index c.loop-beat.bytes c.requires.count (omega arith) c.loop-beat.invariant
+returns c = bytes_all c.args.beats.now c.args.first.now c.args.op c.loop-beat.beat-index c.loop-beat.bytes c.requires.count
+    (omega arith) c.loop-beat.invariant

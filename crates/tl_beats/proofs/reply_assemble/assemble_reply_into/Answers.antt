@@ -65,4 +65,5 @@ fill_reply-requires-clause-begun c = record {
 
 -- beats spell one reply at most
 pub returns-clause-all : goal.returns-clause-all
-returns-clause-all c response lawful spells = (search rules, same_reply c.fill_reply.new.reply response c.args.address c.args.beats.now c.fill_reply.ensures.lawful lawful c.fill_reply.ensures.spells spells)
+returns-clause-all c response lawful spells =
+    (search rules, same_reply c.fill_reply.new.reply response c.args.address c.args.beats.now c.fill_reply.ensures.lawful lawful c.fill_reply.ensures.spells spells)

@@ -11,6 +11,8 @@ loop-b-preserved c =
     let so_far = c.loop-b.invariant in
     let lawful = c.is_lawful_where.ensures c.args.op first.denied (search rules) in
     record {
-      same = holds_more_at (SameReplyFields first) beats c.loop-b.b _ so_far.same c.loop-b-test.true (c.same_reply_fields.ensures.0 c.if-not-same_reply_fields.false);
-      flags = holds_more_at (HasLawfulFlag c.args.op first) beats c.loop-b.b _ so_far.flags c.loop-b-test.true (lawful.0 c.if-not-is_lawful_where.false);
+      same = holds_more_at (SameReplyFields first) beats c.loop-b.b _ so_far.same c.loop-b-test.true
+          (c.same_reply_fields.ensures.0 c.if-not-same_reply_fields.false);
+      flags = holds_more_at (HasLawfulFlag c.args.op first) beats c.loop-b.b _ so_far.flags c.loop-b-test.true
+          (lawful.0 c.if-not-is_lawful_where.false);
     }

@@ -4,4 +4,5 @@ use Rattle.tl_beats.proofs.reply_assemble.put_lanes.Given as goal
 
 -- the lanes of the beats so far are there
 abbrev pub invariant-loop-b : goal.invariant-loop-b
-invariant-loop-b l = (j : ℕ) (beat : DBeat) → j / 8 < l.b → slice_get l.beats (j / 8) ≡ Some beat → slice_index l.lanes j ≡ slice_index beat.lanes (j % 8)
+invariant-loop-b l = (j : ℕ) (beat : DBeat) → j / 8 < l.b → slice_get l.beats (j / 8) ≡ Some beat
+    → slice_index l.lanes j ≡ slice_index beat.lanes (j % 8)

@@ -12,9 +12,11 @@ loop-b-preserved c =
     rw c.push.ensures.items record {
       count = search rules;
       each = λ address.
-          let last : IsReplyBeatOf reply address (length beats) c.whole_beat.result = rw so_far.count (c.whole_beat.ensures.spells address) in
+          let last : IsReplyBeatOf reply address (length beats) c.whole_beat.result =
+              rw so_far.count (c.whole_beat.ensures.spells address) in
           each_push (IsReplyBeatOf reply address) beats c.whole_beat.result (so_far.each address) last;
-      clean = λ address. All-push (λ beat. IsCleanReply reply address beat) beats c.whole_beat.result (so_far.clean address) (c.whole_beat.ensures.clean address);
+      clean = λ address. All-push (λ beat. IsCleanReply reply address beat) beats c.whole_beat.result
+          (so_far.clean address) (c.whole_beat.ensures.clean address);
     }
 
 pub returns-clause-spells : goal.returns-clause-spells

@@ -7,7 +7,8 @@ use Rattle.tl_ops.proofs.Parts.{word_of-only}
 use Rattle.tl_ops.proofs.cell.cleared_cell.Goals as goal
 
 pub returns-clause-fits : goal.returns-clause-fits
-returns-clause-fits c = omega (arith, and_le_l c.args.old (2 ^ 64 - 1 - c.given_word-bytes.result.bytes), c.requires.old)
+returns-clause-fits c =
+    omega (arith, and_le_l c.args.old (2 ^ 64 - 1 - c.given_word-bytes.result.bytes), c.requires.old)
 
 pub returns-clause-bytes : goal.returns-clause-bytes
 returns-clause-bytes c =
@@ -17,4 +18,5 @@ returns-clause-bytes c =
     let whole = word_of-only given c.requires.in_word in
     let fits : bytes < 2 ^ (8 * width) = rw whole at c.given_word-bytes.ensures.fits in
     let ones_are : low_bytes width bytes ≡ operand_of given = rw whole at c.given_word-bytes.ensures.bytes in
-    low_bytes-cleared width c.args.old bytes c.requires.in_word fits ∙ ap (λ ones. cleared (low_bytes width c.args.old) ones) ones_are
+    low_bytes-cleared width c.args.old bytes c.requires.in_word fits
+        ∙ ap (λ ones. cleared (low_bytes width c.args.old) ones) ones_are

@@ -8,7 +8,9 @@ use Rattle.tl_ops.proofs.Bytes.{number-low_bytes, length-low_bytes}
 use Rattle.tl_ops.proofs.cell.signed.Goals as goal
 
 pub returns-then-unsigned-span : goal.returns-then-unsigned-span
-returns-then-unsigned-span c = rw (number-low_bytes c.args.width c.args.cell c.requires.fits, length-low_bytes c.args.width c.args.cell) (grind (arith, ints, nat_tests))
+returns-then-unsigned-span c =
+    rw (number-low_bytes c.args.width c.args.cell c.requires.fits, length-low_bytes c.args.width c.args.cell)
+    (grind (arith, ints, nat_tests))
 
 pub returns-else-unsigned-span : goal.returns-else-unsigned-span
 returns-else-unsigned-span c =
@@ -18,4 +20,5 @@ returns-else-unsigned-span c =
     let high : 2 ^ (8 * c.args.width) ≤ 2 * c.args.cell = search rules in
     let eight : 8 * c.args.width ≤ 64 = omega arith in
     let fits : 2 ^ (8 * c.args.width) ≤ 2 ^ 64 = pow-le-pow_right (lit≤ tt) eight in
-    rw (span, unsigned, number-low_bytes c.args.width c.args.cell c.requires.fits, length-low_bytes c.args.width c.args.cell) (wide_difference _ _ small fits ∙ sym (signed_high _ _ high))
+    rw (span, unsigned, number-low_bytes c.args.width c.args.cell c.requires.fits,
+        length-low_bytes c.args.width c.args.cell) (wide_difference _ _ small fits ∙ sym (signed_high _ _ high))

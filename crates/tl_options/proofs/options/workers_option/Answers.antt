@@ -11,9 +11,12 @@ narrowed : (all some : ValueParser) (low high : ℤ) → all ≡ values.Unsigned
     → low ≡ pos 1 → high ≡ pos MAX_WORKERS → NarrowsTo all (start_of (Included low)) (end_of (Included high)) some
     → some ≡ values.Unsigned 1 MAX_WORKERS
 narrowed all some low high is from to narrows =
-    let of_usize = subst (λ (p : ValueParser). NarrowsTo p (start_of (Included low)) (end_of (Included high)) some) is narrows in
-    let from_one = subst (λ (n : ℤ). NarrowsTo (values.Unsigned 0 18446744073709551615) (start_of (Included n)) (end_of (Included high)) some) from of_usize in
-    subst (λ (n : ℤ). NarrowsTo (values.Unsigned 0 18446744073709551615) (start_of (Included (pos 1))) (end_of (Included n)) some) to from_one
+    let of_usize = subst (λ (p : ValueParser). NarrowsTo p (start_of (Included low))
+        (end_of (Included high)) some) is narrows in
+    let from_one = subst (λ (n : ℤ). NarrowsTo (values.Unsigned 0 18446744073709551615) (start_of (Included n))
+        (end_of (Included high)) some) from of_usize in
+    subst (λ (n : ℤ). NarrowsTo (values.Unsigned 0 18446744073709551615) (start_of (Included (pos 1)))
+        (end_of (Included n)) some) to from_one
 
 pub returns : goal.returns
 returns c =
@@ -21,5 +24,6 @@ returns c =
     let ranged : c.range.result ≡ values.Unsigned 1 MAX_WORKERS =
     narrowed c.value_parser.result c.range.result c.new-2.result.start c.new-2.result.end c.value_parser.ensures
     c.new-2.ensures.start c.new-2.ensures.end c.range.ensures in
-    let number : c.value_parser-2.result.value_parser ≡ Some (values.Unsigned 1 MAX_WORKERS) = count.1 ∙ ap Some (count.2 ∙ ranged) in
+    let number : c.value_parser-2.result.value_parser ≡ Some (values.Unsigned 1 MAX_WORKERS) =
+        count.1 ∙ ap Some (count.2 ∙ ranged) in
     record { rule = search (rules, number); local = search rules }

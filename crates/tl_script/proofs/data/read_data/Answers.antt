@@ -10,6 +10,8 @@ loop-rest-preserved c =
     let bytes = c.loop-rest.bytes in
     let rest = c.loop-rest.rest.now in
     record {
-      bytes = rw (c.push.ensures, take_rest rest 2) (data_of-turn bytes rest c.in_ok-read_byte.field-0 (omega arith) (sym c.read_byte.ensures ∙ c.in_ok-read_byte.was) ∙ c.loop-rest.invariant.bytes);
+      bytes = rw (c.push.ensures, take_rest rest 2)
+          (data_of-turn bytes rest c.in_ok-read_byte.field-0 (omega arith)
+          (sym c.read_byte.ensures ∙ c.in_ok-read_byte.was) ∙ c.loop-rest.invariant.bytes);
       room = grind (arith, common_steps);
     }

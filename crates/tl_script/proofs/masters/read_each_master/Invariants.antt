@@ -8,7 +8,8 @@ use Rattle.tl_script.proofs.masters.read_each_master.Given as goal
 abbrev pub invariant-loop-table : goal.invariant-loop-table
 invariant-loop-table l = record {
   read :
-      with_front (map master_view l.masters.items) (each master_of (map (λ table. table_view table.now) (drop l.table-index l.tables)))
+      with_front (map master_view l.masters.items)
+          (each master_of (map (λ table. table_view table.now) (drop l.table-index l.tables)))
       ≡ each master_of (map (λ table. table_view table.now) l.tables);
   counted : length l.masters.items ≡ l.table-index;
 }

@@ -16,12 +16,15 @@ loop-m-preserved c =
     let here : slice_get (map (λ (each : Master). each.sources) (map master_view masters)) m ≡ Some master.sources =
     slice_get-map (λ (each : Master). each.sources) (map master_view masters) m
     ∙ ap (option_map (λ (each : Master). each.sources)) (slice_get-map master_view masters m
-    ∙ ap (option_map master_view) (slice_get-get_or masters m master c.loop-m-test.true ∙ ap (λ (each : code_master.Master). Some each) (sym c.index-masters-m.is))) in
+    ∙ ap (option_map master_view) (slice_get-get_or masters m master c.loop-m-test.true
+        ∙ ap (λ (each : code_master.Master). Some each) (sym c.index-masters-m.is))) in
     record {
       read = grind (arith, common_steps);
-      lawful = rw c.in_ok-push.ensures.items (lawful_more (map (λ (each : Master). each.sources) (map master_view masters)) c.loop-m.jobs.items jobs m master.sources
+      lawful = rw c.in_ok-push.ensures.items (lawful_more
+          (map (λ (each : Master). each.sources) (map master_view masters)) c.loop-m.jobs.items jobs m master.sources
           c.loop-m.invariant.lawful here c.in_ok-read_operations.ensures.lawful);
     }
 
 pub returns-clause-lawful : goal.returns-clause-lawful
-returns-clause-lawful c = let over : c.loop-m.m ≡ length c.args.masters.now = omega arith in rw (← over) c.loop-m.invariant.lawful
+returns-clause-lawful c = let over : c.loop-m.m ≡ length c.args.masters.now = omega arith in
+    rw (← over) c.loop-m.invariant.lawful

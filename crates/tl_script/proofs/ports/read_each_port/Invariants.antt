@@ -10,7 +10,8 @@ use Rattle.tl_script.proofs.ports.read_each_port.Given as goal
 abbrev pub invariant-loop-table : goal.invariant-loop-table
 invariant-loop-table l = record {
   read :
-      with_front (map store_of l.devices.items) (each port_of (map (λ table. table_view table.now) (drop l.table-index l.tables)))
+      with_front (map store_of l.devices.items)
+          (each port_of (map (λ table. table_view table.now) (drop l.table-index l.tables)))
       ≡ each port_of (map (λ table. table_view table.now) l.tables);
   in_limit : All (λ store. length store.bytes ≤ MAX_LENGTH) (map store_of l.devices.items);
 }

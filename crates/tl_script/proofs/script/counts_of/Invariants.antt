@@ -4,4 +4,5 @@ use Rattle.tl_script.specs.Master.{master_view}
 use Rattle.tl_script.proofs.script.counts_of.Given as goal
 
 abbrev pub invariant-loop-master : goal.invariant-loop-master
-invariant-loop-master l = l.counts.items ≡ map (λ master. master.sources) (map master_view (take l.master-index l.masters))
+invariant-loop-master l =
+    l.counts.items ≡ map (λ master. master.sources) (map master_view (take l.master-index l.masters))

@@ -15,7 +15,9 @@ send-requires-clause-source c =
     some_sent (slice_get c.args.system.now.counts c.args.master) c.args.jobs.now c.loop-number.number c.fill.new.ask at c.requires.source
 
 pub push_reserved-requires : goal.push_reserved-requires
-push_reserved-requires c = omega (arith, c.loop-number.invariant.few, c.loop-number.invariant.room, c.loop-number-test.true, c.len-number-end.ensures)
+push_reserved-requires c =
+    omega (arith, c.loop-number.invariant.few, c.loop-number.invariant.room, c.loop-number-test.true,
+    c.len-number-end.ensures)
 
 pub loop-number-preserved : goal.loop-number-preserved
 loop-number-preserved c =
@@ -27,20 +29,26 @@ loop-number-preserved c =
       | else-fill w ↦ record {
         room = rw w.trace-is c.loop-number.invariant.room;
         few = rw w.trace-is (omega (arith, c.loop-number.invariant.few));
-        asked = rw w.trace-is (c.loop-number.invariant.asked ∙ sym (sends-wait jobs i (here ∙ ap (λ (sends : Bool). Some (job_at sends ask)) w.if-fill.false)));
+        asked = rw w.trace-is (c.loop-number.invariant.asked
+            ∙ sym (sends-wait jobs i (here ∙ ap (λ (sends : Bool). Some (job_at sends ask)) w.if-fill.false)));
         stands = λ keeps log stand. rw (w.trace-is, w.slaves-is) (c.loop-number.invariant.stands keeps log stand);
       }
       | then-fill+in_ok-place w ↦
           let entry = entry_of ask w.send.new.answer w.in_ok-place.place in
-          let at : slice_get jobs i ≡ Some (Send ask) = here ∙ ap (λ (sends : Bool). Some (job_at sends ask)) w.if-fill.true in
-          let pushed : c.if-fill.trace.items ≡ c.loop-number.trace.items ++ entry ∷ [] = rw (w.trace-is, ← w.in_ok-place.ensures.source) (rw (w.source.ensures, ← w.in_ok-place.ensures.source) at w.push_reserved.ensures.items) in
+          let at : slice_get jobs i ≡ Some (Send ask) =
+              here ∙ ap (λ (sends : Bool). Some (job_at sends ask)) w.if-fill.true in
+          let pushed : c.if-fill.trace.items ≡ c.loop-number.trace.items ++ entry ∷ [] =
+              rw (w.trace-is, ← w.in_ok-place.ensures.source)
+              (rw (w.source.ensures, ← w.in_ok-place.ensures.source) at w.push_reserved.ensures.items) in
           let before = c.loop-number.trace.items in
           record {
             room = rw w.trace-is (w.push_reserved.ensures.room ∙ c.loop-number.invariant.room);
             few = omega (arith, ap length pushed, length-append before (entry ∷ []), c.loop-number.invariant.few);
-            asked = ap asks_in pushed ∙ asks_in-push before entry ∙ ap (λ (asks : List Request). asks ++ entry.ask ∷ []) c.loop-number.invariant.asked
+            asked = ap asks_in pushed ∙ asks_in-push before entry
+                ∙ ap (λ (asks : List Request). asks ++ entry.ask ∷ []) c.loop-number.invariant.asked
                 ∙ sym (sends-send jobs i ask at);
             stands = λ keeps log stand. rw (pushed, w.slaves-is, numbered-push log c.args.master before entry)
-                (w.in_ok-place.ensures.stands keeps (log ++ numbered c.args.master before) (c.loop-number.invariant.stands keeps log stand));
+                (w.in_ok-place.ensures.stands keeps (log ++ numbered c.args.master before)
+                    (c.loop-number.invariant.stands keeps log stand));
           }
     ]

@@ -11,5 +11,6 @@ invariant-loop-number l = record {
   room : l.trace.room ≡ length l.jobs;
   few : length l.trace.items ≤ l.number;
   asked : asks_in l.trace.items ≡ sends (take l.number l.jobs);
-  stands : (keeps : Bool) (log : List (ℕ × Entry)) → Stand l.system keeps log l.initial.slaves → Stand l.system keeps (log ++ numbered l.master l.trace.items) l.slaves;
+  stands : (keeps : Bool) (log : List (ℕ × Entry)) → Stand l.system keeps log l.initial.slaves
+      → Stand l.system keeps (log ++ numbered l.master l.trace.items) l.slaves;
 }

@@ -10,5 +10,6 @@ abbrev pub invariant-loop-master : goal.invariant-loop-master
 invariant-loop-master l = record {
   asked : map asks_in (entries_in l.traces.items) ≡ map sends (take l.master l.system.jobs);
   counted : length l.traces.items ≡ l.master;
-  stands : (keeps : Bool) → Stand l.system keeps [] l.initial.slaves → Stand l.system keeps (log_of (entries_in l.traces.items)) l.slaves;
+  stands : (keeps : Bool) → Stand l.system keeps [] l.initial.slaves
+      → Stand l.system keeps (log_of (entries_in l.traces.items)) l.slaves;
 }

@@ -12,5 +12,6 @@ loop-bank-preserved c =
     let pushed : c.push.new.self.items ≡ slaves ++ slave ∷ [] = c.in_ok-push.ensures.items in
     record {
       banks = grind (arith, common_steps, c.loop-bank.invariant.banks, c.slave_of.ensures.bank, pushed);
-      fresh = rw pushed (All-push (IsFresh c.args.keeps) slaves slave c.loop-bank.invariant.fresh c.slave_of.ensures.fresh);
+      fresh = rw pushed (All-push
+          (IsFresh c.args.keeps) slaves slave c.loop-bank.invariant.fresh c.slave_of.ensures.fresh);
     }

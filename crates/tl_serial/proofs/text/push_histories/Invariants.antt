@@ -5,4 +5,6 @@ use Rattle.tl_serial.specs.Text.{histories_from, histories_text}
 use Rattle.tl_serial.proofs.text.push_histories.Given as goal
 
 abbrev pub invariant-loop-port : goal.invariant-loop-port
-invariant-loop-port l = l.text.items ++ histories_from l.port (pairs_in (drop l.port l.histories)) ≡ l.initial.text.items ++ histories_text (pairs_in l.histories)
+invariant-loop-port l =
+    l.text.items ++ histories_from l.port (pairs_in (drop l.port l.histories)) ≡ l.initial.text.items
+    ++ histories_text (pairs_in l.histories)

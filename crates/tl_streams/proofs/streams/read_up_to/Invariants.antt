@@ -6,7 +6,8 @@ use Rattle.tl_streams.proofs.streams.read_up_to.Given as goal
 abbrev pub invariant-loop-chunk : goal.invariant-loop-chunk
 invariant-loop-chunk g l = record {
   same : l.reader.reader.ghost_name ≡ l.initial.reader.reader.ghost_name;
-  taken : Consumes (g.R.Read.remaining l.initial.reader.reader.now) (g.R.Read.remaining l.reader.reader.now) l.bytes.items;
+  taken : Consumes (g.R.Read.remaining l.initial.reader.reader.now)
+      (g.R.Read.remaining l.reader.reader.now) l.bytes.items;
   bounded : vec_len l.bytes ≤ l.limit;
   fewer : l.reader.reads_left ≤ l.initial.reader.reads_left;
 }

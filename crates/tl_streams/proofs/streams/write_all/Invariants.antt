@@ -6,7 +6,8 @@ use Rattle.tl_streams.proofs.streams.write_all.Given as goal
 abbrev pub invariant-loop-rest : goal.invariant-loop-rest
 invariant-loop-rest g l = record {
   same : l.writer.writer.ghost_name ≡ l.initial.writer.writer.ghost_name;
-  appended : (done : List ℕ) × (l.bytes ≡ done ++ l.rest) × Appends (g.W.Write.contents l.initial.writer.writer.now) (g.W.Write.contents l.writer.writer.now) done;
+  appended : (done : List ℕ) × (l.bytes ≡ done ++ l.rest)
+      × Appends (g.W.Write.contents l.initial.writer.writer.now) (g.W.Write.contents l.writer.writer.now) done;
 }
 
 abbrev pub decreases-loop-rest : goal.decreases-loop-rest

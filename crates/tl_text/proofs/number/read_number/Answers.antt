@@ -10,14 +10,16 @@ returns-in_err-checked_mul c =
     grind (arith, common_steps, number_of-too_large c.args.radix c.args.most c.loop-byte.byte-index c.args.word.now)
 
 pub returns-in_err-value : goal.returns-in_err-value
-returns-in_err-value c = grind (arith, common_steps, number_of-too_large c.args.radix c.args.most c.loop-byte.byte-index c.args.word.now)
+returns-in_err-value c =
+    grind (arith, common_steps, number_of-too_large c.args.radix c.args.most c.loop-byte.byte-index c.args.word.now)
 
 pub loop-byte-preserved : goal.loop-byte-preserved
 loop-byte-preserved c =
     let at = c.loop-byte.byte-index in
     let word = c.args.word.now in
     record {
-      digits = digits_more c.args.radix word at (omega arith) c.loop-byte.invariant.digits (grind (arith, common_steps));
+      digits = digits_more c.args.radix word at (omega arith) c.loop-byte.invariant.digits
+          (grind (arith, common_steps));
       value = grind (arith, common_steps, digits_value_more c.args.radix word at);
       fits = omega arith;
     }
@@ -28,4 +30,5 @@ returns c =
     let whole = take_all c.loop-byte.byte-index word (omega arith) in
     let digits = rw whole at c.loop-byte.invariant.digits in
     let value = rw whole at c.loop-byte.invariant.value in
-    ap Some value ∙ sym (number_of-digits c.args.radix c.args.most word digits (grind (arith, common_steps)) (omega arith) (omega (arith, value)))
+    ap Some value ∙ sym (number_of-digits c.args.radix c.args.most word digits (grind (arith, common_steps))
+        (omega arith) (omega (arith, value)))

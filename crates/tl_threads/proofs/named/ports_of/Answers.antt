@@ -4,7 +4,8 @@ use Rattle.tl_threads.proofs.Rows.{row_head, row_rest}
 use Rattle.tl_threads.proofs.named.ports_of.Goals as goal
 
 pub new-requires : goal.new-requires
-new-requires g c = row_head (IsBookIn g.N.ArenaName.arena) 0 c.in-Some.book _ _ c.in-Some.ensures.steps.0 c.loop-book.invariant.books
+new-requires g c = row_head
+    (IsBookIn g.N.ArenaName.arena) 0 c.in-Some.book _ _ c.in-Some.ensures.steps.0 c.loop-book.invariant.books
 
 pub loop-book-preserved : goal.loop-book-preserved
 loop-book-preserved g c =

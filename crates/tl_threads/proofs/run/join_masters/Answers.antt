@@ -17,6 +17,9 @@ loop-handle-preserved g c =
     record {
       count = omega (arith, step.1, push.len, was.count);
       room = rw push.capacity was.room;
-      promised = row_tail (IsPromised a ranges jobs) (length done) (length c.push_reserved.new.self.items) c.in-Some.handle _ _ step.0 (length_more done c.push_reserved.new.self.items c.join.result push.items) was.promised;
-      traces = row_more (IsTraceOf a ranges jobs) done c.push_reserved.new.self.items c.join.result push.items was.traces (kept_promise a ranges jobs (length done) c.in-Some.handle c.join.result first c.join.ensures);
+      promised = row_tail (IsPromised a ranges jobs) (length done)
+          (length c.push_reserved.new.self.items) c.in-Some.handle _ _ step.0
+          (length_more done c.push_reserved.new.self.items c.join.result push.items) was.promised;
+      traces = row_more (IsTraceOf a ranges jobs) done c.push_reserved.new.self.items c.join.result push.items was.traces
+          (kept_promise a ranges jobs (length done) c.in-Some.handle c.join.result first c.join.ensures);
     }

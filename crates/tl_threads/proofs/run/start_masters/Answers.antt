@@ -17,7 +17,8 @@ loop-thread-init g c =
     record {
       count = search rules;
       room = c.requires.room;
-      masters = subst (λ (n : ℕ). AreFrom new n (into_iter_items c.into_iter-thread-iterator.result)) (sym none) (subst (λ (ts : List MasterThread). AreFrom new 0 ts) (sym given.0) c.requires.masters);
+      masters = subst (λ (n : ℕ). AreFrom new n (into_iter_items c.into_iter-thread-iterator.result)) (sym none)
+          (subst (λ (ts : List MasterThread). AreFrom new 0 ts) (sym given.0) c.requires.masters);
       promised = row_empty (IsPromised c.args.shared.now.arena.now s.ranges s.jobs) 0 c.args.handles.items none;
     }
 
@@ -26,7 +27,8 @@ start_master-requires-clause-new g c κs within =
     let new = IsNewMasterThread c.args.shared.now.arena.now c.args.shared.now.system.now in
     let num : c.len-number.result ≡ length c.loop-thread.handles.items = grind (arith, common_steps) in
     let step = c.in-Some.ensures.steps in
-    (subst (λ (n : ℕ). new n c.in-Some.thread) (sym num) (row_head new (length c.loop-thread.handles.items) c.in-Some.thread _ _ step.0 c.loop-thread.invariant.masters)).idle
+    (subst (λ (n : ℕ). new n c.in-Some.thread) (sym num)
+        (row_head new (length c.loop-thread.handles.items) c.in-Some.thread _ _ step.0 c.loop-thread.invariant.masters)).idle
 
 pub start_master-requires-clause-room : goal.start_master-requires-clause-room
 start_master-requires-clause-room g c κs within =
@@ -35,8 +37,10 @@ start_master-requires-clause-room g c κs within =
     let num : c.len-number.result ≡ length c.loop-thread.handles.items = grind (arith, common_steps) in
     let lt : c.len-number.result < length c.jobs.result.now = grind (arith, common_steps) in
     let step = c.in-Some.ensures.steps in
-    let is = subst (λ (n : ℕ). new n c.in-Some.thread) (sym num) (row_head new (length c.loop-thread.handles.items) c.in-Some.thread _ _ step.0 c.loop-thread.invariant.masters) in
-    is.room c.index-jobs-number.result (listed_at s c.jobs.result.now c.len-number.result c.index-jobs-number.result c.jobs.ensures.value lt c.index-jobs-number.is)
+    let is = subst (λ (n : ℕ). new n c.in-Some.thread) (sym num)
+        (row_head new (length c.loop-thread.handles.items) c.in-Some.thread _ _ step.0 c.loop-thread.invariant.masters) in
+    is.room c.index-jobs-number.result
+        (listed_at s c.jobs.result.now c.len-number.result c.index-jobs-number.result c.jobs.ensures.value lt c.index-jobs-number.is)
 
 pub start_master-requires-clause-bells : goal.start_master-requires-clause-bells
 start_master-requires-clause-bells g c κs within =
@@ -56,12 +60,16 @@ loop-thread-preserved g c =
     let num : c.len-number.result ≡ length c.loop-thread.handles.items = grind (arith, common_steps) in
     let lt : c.len-number.result < length c.jobs.result.now = grind (arith, common_steps) in
     let at : slice_get s.jobs c.len-number.result ≡ Some h.promise.jobs.value =
-    listed_at s c.jobs.result.now c.len-number.result c.index-jobs-number.result c.jobs.ensures.value lt c.index-jobs-number.is ∙ ap (λ (own : List Job). Some own) (sym made.3) in
+    listed_at s c.jobs.result.now c.len-number.result c.index-jobs-number.result c.jobs.ensures.value lt c.index-jobs-number.is
+        ∙ ap (λ (own : List Job). Some own) (sym made.3) in
     record {
       count = omega (arith, step.1, push.len, was.count);
       room = rw push.capacity was.room;
-      masters = row_tail (IsNewMasterThread a s) (length done) (length c.push_reserved.new.self.items) c.in-Some.thread _ _ step.0 (length_more done c.push_reserved.new.self.items h push.items) was.masters;
-      promised = row_more (IsPromised a s.ranges s.jobs) done c.push_reserved.new.self.items h push.items was.promised (record {
+      masters = row_tail (IsNewMasterThread a s) (length done)
+          (length c.push_reserved.new.self.items) c.in-Some.thread _ _ step.0
+          (length_more done c.push_reserved.new.self.items h push.items) was.masters;
+      promised = row_more (IsPromised a s.ranges s.jobs) done c.push_reserved.new.self.items h push.items was.promised
+          (record {
         number_is = made.0 ∙ num;
         arena_is = made.1;
         map_is = made.2;

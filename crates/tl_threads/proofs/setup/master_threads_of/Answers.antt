@@ -7,7 +7,9 @@ use Rattle.tl_threads.proofs.setup.master_threads_of.Goals as goal
 pub master_thread_of-requires-clause-seat : goal.master_thread_of-requires-clause-seat
 master_thread_of-requires-clause-seat c =
     let num : length c.loop-seat.threads.items ≡ c.len-in-loop-seat.result = grind (arith, common_steps) in
-    subst (λ (n : ℕ). IsNewMaster c.args.arena.now n c.in-Some.seat) num (row_head (IsNewMaster c.args.arena.now) (length c.loop-seat.threads.items) c.in-Some.seat _ _ c.in-Some.ensures.steps.0 c.loop-seat.invariant.seats)
+    subst (λ (n : ℕ). IsNewMaster c.args.arena.now n c.in-Some.seat) num
+        (row_head (IsNewMaster c.args.arena.now)
+        (length c.loop-seat.threads.items) c.in-Some.seat _ _ c.in-Some.ensures.steps.0 c.loop-seat.invariant.seats)
 
 pub loop-seat-preserved : goal.loop-seat-preserved
 loop-seat-preserved c =
@@ -25,5 +27,6 @@ loop-seat-preserved c =
       room = rw push.capacity was.room;
       bells = grind (arith, common_steps);
       seats = row_tail (IsNewMaster a) (length done) (length after) c.in-Some.seat _ _ step.0 more was.seats;
-      threads = row_more (IsNewMasterThread a s) done after c.in_ok-thread.thread push.items was.threads (subst (λ (n : ℕ). IsNewMasterThread a s n c.in_ok-thread.thread) num c.in_ok-thread.ensures);
+      threads = row_more (IsNewMasterThread a s) done after c.in_ok-thread.thread push.items was.threads
+          (subst (λ (n : ℕ). IsNewMasterThread a s n c.in_ok-thread.thread) num c.in_ok-thread.ensures);
     }

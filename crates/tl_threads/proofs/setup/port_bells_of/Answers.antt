@@ -17,5 +17,6 @@ loop-port-preserved c =
     } in
     record {
       bells = omega (arith, c.in_ok-push.ensures.len, c.loop-port.invariant.bells);
-      heard = All-same (IsHeardAt journals c.args.workers) _ _ c.in_ok-push-2.ensures.items (All-push (IsHeardAt journals c.args.workers) c.loop-port.heard.items here c.loop-port.invariant.heard heard);
+      heard = All-same (IsHeardAt journals c.args.workers) _ _ c.in_ok-push-2.ensures.items
+          (All-push (IsHeardAt journals c.args.workers) c.loop-port.heard.items here c.loop-port.invariant.heard heard);
     }

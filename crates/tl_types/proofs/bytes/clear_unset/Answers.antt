@@ -14,8 +14,10 @@ loop-place-preserved c =
     let byte = slice_index bytes k in
     let made : c.if-flags-place-eq0.bytes ≡ unwrap_or (given_byte (flags k) byte) 0 =
     elim c.if-flags-place-eq0.branch [
-      | then-flags-place-eq0 w ↦ w.bytes-is ∙ sym (ap (λ flag. unwrap_or (given_byte flag byte) 0) w.if-flags-place-eq0.true)
-      | else-flags-place-eq0 w ↦ w.bytes-is ∙ sym (ap (λ given. unwrap_or given 0) (given_flag (flags k) byte w.if-flags-place-eq0.false))
+      | then-flags-place-eq0 w ↦ w.bytes-is ∙ sym
+          (ap (λ flag. unwrap_or (given_byte flag byte) 0) w.if-flags-place-eq0.true)
+      | else-flags-place-eq0 w ↦ w.bytes-is ∙ sym
+          (ap (λ given. unwrap_or given 0) (given_flag (flags k) byte w.if-flags-place-eq0.false))
     ] in
     cleared_to flags c.args.bytes.now bytes k c.if-flags-place-eq0.bytes c.loop-place.invariant c.loop-place-test.true made
 
@@ -26,4 +28,6 @@ returns c =
     let new = plain_of (given_in flags old) in
     let k = c.loop-place.place in
     let past = c.loop-place-test.false in
-    c.loop-place.invariant ∙ ap (λ xs. xs ++ drop k old) (take_all k new (omega (arith, past, length-cleared flags old))) ∙ ap (λ xs. new ++ xs) (drop_all k old past) ∙ append-nil new
+    c.loop-place.invariant ∙ ap (λ xs. xs ++ drop k old)
+        (take_all k new (omega (arith, past, length-cleared flags old))) ∙ ap (λ xs. new ++ xs) (drop_all k old past)
+        ∙ append-nil new

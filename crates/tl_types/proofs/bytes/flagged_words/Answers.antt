@@ -13,12 +13,16 @@ loop-word-preserved c =
     let word = c.loop-word.word in
     let mask = c.flag_mask.result in
     let so_far = c.loop-word.invariant in
-    let within : word < length masks = omega (arith, so_far.counted, c.loop-word-test.true, c.div_ceil-word-end.ensures) in
+    let within : word < length masks =
+        omega (arith, so_far.counted, c.loop-word-test.true, c.div_ceil-word-end.ensures) in
     record {
-      flagged = flagged_more masks c.args.flags.now word mask (c.min.result - 8 * word) within (omega (arith, c.min.ensures)) c.flag_mask.ensures so_far.flagged;
+      flagged = flagged_more masks c.args.flags.now word mask (c.min.result - 8 * word) within
+          (omega (arith, c.min.ensures)) c.flag_mask.ensures so_far.flagged;
       counted = length-set masks word mask ∙ so_far.counted;
       small = small_set masks word mask so_far.small c.flag_mask.type_inv;
     }
 
 pub returns-clause-bits : goal.returns-clause-bits
-returns-clause-bits c place = all_flagged c.loop-word.masks c.args.flags.now (8 * c.loop-word.word) (omega (arith, c.loop-word-test.false, c.div_ceil-word-end.ensures)) c.loop-word.invariant.flagged place
+returns-clause-bits c place =
+    all_flagged c.loop-word.masks c.args.flags.now (8 * c.loop-word.word)
+    (omega (arith, c.loop-word-test.false, c.div_ceil-word-end.ensures)) c.loop-word.invariant.flagged place

@@ -19,17 +19,22 @@ loop-word-preserved c =
     }
 
 pub returns-then-count-gt0-clause-counted : goal.returns-then-count-gt0-clause-counted
-returns-then-count-gt0-clause-counted c = length-set c.loop-word.masks (c.args.count / 8) _ ∙ c.loop-word.invariant.counted
+returns-then-count-gt0-clause-counted c =
+    length-set c.loop-word.masks (c.args.count / 8) _ ∙ c.loop-word.invariant.counted
 
 pub returns-then-count-gt0-clause-small : goal.returns-then-count-gt0-clause-small
-returns-then-count-gt0-clause-small c = small_set c.loop-word.masks (c.args.count / 8) _ c.loop-word.invariant.small (small_ones (c.args.count % 8) (omega arith))
+returns-then-count-gt0-clause-small c =
+    small_set c.loop-word.masks (c.args.count / 8) _ c.loop-word.invariant.small
+    (small_ones (c.args.count % 8) (omega arith))
 
 pub returns-then-count-gt0-clause-given : goal.returns-then-count-gt0-clause-given
 returns-then-count-gt0-clause-given c =
     let words : c.loop-word.word ≡ c.args.count / 8 = omega arith in
-    (first_end c.loop-word.masks c.args.count (omega (arith, c.loop-word.invariant.counted, c.if-count-gt0.true)) (rw (← words) c.loop-word.invariant.first)).0
+    (first_end c.loop-word.masks c.args.count (omega (arith, c.loop-word.invariant.counted, c.if-count-gt0.true))
+        (rw (← words) c.loop-word.invariant.first)).0
 
 pub returns-then-count-gt0-clause-past : goal.returns-then-count-gt0-clause-past
 returns-then-count-gt0-clause-past c =
     let words : c.loop-word.word ≡ c.args.count / 8 = omega arith in
-    (first_end c.loop-word.masks c.args.count (omega (arith, c.loop-word.invariant.counted, c.if-count-gt0.true)) (rw (← words) c.loop-word.invariant.first)).1
+    (first_end c.loop-word.masks c.args.count (omega (arith, c.loop-word.invariant.counted, c.if-count-gt0.true))
+        (rw (← words) c.loop-word.invariant.first)).1

@@ -8,4 +8,5 @@ pub returns-clause-small : goal.returns-clause-small
 returns-clause-small c = small_set (replicate MAX_WORDS 0) 0 c.flag_mask.result kept_none.small c.flag_mask.type_inv
 
 pub returns-clause-bits : goal.returns-clause-bits
-returns-clause-bits c = flagged_one c.args.flags.now c.flag_mask.result (omega (arith, c.if-flags-gt-WORD_BYTES.false)) c.flag_mask.ensures
+returns-clause-bits c =
+    flagged_one c.args.flags.now c.flag_mask.result (omega (arith, c.if-flags-gt-WORD_BYTES.false)) c.flag_mask.ensures

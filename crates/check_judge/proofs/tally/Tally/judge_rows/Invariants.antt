@@ -10,7 +10,9 @@ use Rattle.check_judge.proofs.tally.Tally.judge_rows.Given as goal
 abbrev pub invariant-loop-row : goal.invariant-loop-row
 invariant-loop-row l = record {
   trace : l.self.trace ≡ l.initial.self.trace;
-  keeps : (plan : Plan) (before : List Row) → Kept plan before l.initial.self → Kept plan (reverse (take l.row-index l.rows) ++ before) l.self;
+  keeps : (plan : Plan) (before : List Row) → Kept plan before l.initial.self
+      → Kept plan (reverse (take l.row-index l.rows) ++ before) l.self;
   told : (plan : Plan) (before : List Row) → Kept plan before l.initial.self
-      → AppendsTold l.initial.self.trace plan (seen plan.layout before) (seen plan.layout (reverse (take l.row-index l.rows) ++ before)) l.initial.text.items l.text.items;
+      → AppendsTold l.initial.self.trace plan (seen plan.layout before)
+          (seen plan.layout (reverse (take l.row-index l.rows) ++ before)) l.initial.text.items l.text.items;
 }

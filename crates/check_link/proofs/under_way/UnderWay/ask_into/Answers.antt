@@ -13,7 +13,8 @@ put_ask-requires c =
 
 -- several beats
 pub put_long_ask-requires-clause-room : goal.put_long_ask-requires-clause-room
-put_long_ask-requires-clause-room c = rw c.deref.ensures.0 (room_for_ask c.self.inside.asking.items c.self.inside.replying.items c.self.invariant)
+put_long_ask-requires-clause-room c =
+    rw c.deref.ensures.0 (room_for_ask c.self.inside.asking.items c.self.inside.replying.items c.self.invariant)
 
 pub put_long_ask-requires-clause-whole : goal.put_long_ask-requires-clause-whole
 put_long_ask-requires-clause-whole c =

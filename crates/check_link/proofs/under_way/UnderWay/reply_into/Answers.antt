@@ -13,7 +13,8 @@ put_reply-requires c =
 
 -- several beats
 pub put_long_reply-requires-clause-room : goal.put_long_reply-requires-clause-room
-put_long_reply-requires-clause-room c = rw c.deref.ensures.0 (room_for_reply c.self.inside.asking.items c.self.inside.replying.items c.self.invariant)
+put_long_reply-requires-clause-room c =
+    rw c.deref.ensures.0 (room_for_reply c.self.inside.asking.items c.self.inside.replying.items c.self.invariant)
 
 pub put_long_reply-requires-clause-whole : goal.put_long_reply-requires-clause-whole
 put_long_reply-requires-clause-whole c =

@@ -21,7 +21,8 @@ returns-then-not-is_empty-clause-skips g c =
       line_is = does.line;
       same = does.reader;
     } in
-    between-trans (left read c.args.self.now) (left read old) (left read new) HasSameNext HasSameNext HasSameNext same-trans c.loop.invariant
+    between-trans (left read c.args.self.now) (left read old)
+        (left read new) HasSameNext HasSameNext HasSameNext same-trans c.loop.invariant
     (skipped read old new ends.result.count ends.result.feeds is (rw c.text.ensures at ends.ensures.all))
 
 pub returns-then-not-branch-clause-skips : goal.returns-then-not-branch-clause-skips
@@ -39,7 +40,8 @@ returns-then-not-branch-clause-skips g c =
       same = does.reader;
     } in
     let so_far : Between (left read c.args.self.now) (left read mid) HasSameNext =
-    between-trans (left read c.args.self.now) (left read old) (left read mid) HasSameNext HasSameNext HasSameNext same-trans c.loop.invariant
+    between-trans (left read c.args.self.now) (left read old)
+        (left read mid) HasSameNext HasSameNext HasSameNext same-trans c.loop.invariant
     (skipped read old mid ends.result.count ends.result.feeds is (rw c.text.ensures at ends.ensures.all)) in
     between-refill read (left read c.args.self.now) mid new HasSameNext so_far
     (record {
@@ -64,7 +66,8 @@ loop-preserved g c =
       same = does.reader;
     } in
     let so_far : Between (left read c.args.self.now) (left read mid) HasSameNext =
-    between-trans (left read c.args.self.now) (left read old) (left read mid) HasSameNext HasSameNext HasSameNext same-trans c.loop.invariant
+    between-trans (left read c.args.self.now) (left read old)
+        (left read mid) HasSameNext HasSameNext HasSameNext same-trans c.loop.invariant
     (skipped read old mid ends.result.count ends.result.feeds is (rw c.text.ensures at ends.ensures.all)) in
     between-refill read (left read c.args.self.now) mid new HasSameNext so_far
     (record {

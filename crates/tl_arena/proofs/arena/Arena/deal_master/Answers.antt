@@ -17,7 +17,8 @@ split_seat-seat-requires c =
     let view = ap (λ (m : Seat). m.0) c.requires.next ∙ ap (λ (a : About). Dealer a c.args.number 0) (sym about) in (
       c.requires.table ∙ ap (λ (a : ArenaId). a.table) (sym c.self.view_is),
       omega arith,
-      deals_master_at (about_in c.self.inside.table.shared.key) _ c.args.number 0 _ view (subst (λ (a : About). c.args.number < a.masters) (sym about) c.requires.more),
+      deals_master_at (about_in c.self.inside.table.shared.key) _ c.args.number 0 _ view
+          (subst (λ (a : About). c.args.number < a.masters) (sym about) c.requires.more),
     )
 
 pub invariant_of-result : goal.invariant_of-result

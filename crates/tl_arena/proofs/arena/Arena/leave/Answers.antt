@@ -14,7 +14,10 @@ store-requires c =
     let about = ap (λ (a : ArenaId). a.about.masters) c.self.view_is in
     let arena = ap (λ (v : MasterView). v.arena.about.masters) c.master.view_is in
     let arena_same = ap (λ (a : ArenaId). a.about.masters) c.requires.arena in (
-      ap (λ (v : MasterView). v.arena.table) c.master.view_is ∙ ap (λ (a : ArenaId). a.table) (c.requires.arena ∙ sym c.self.view_is),
+      ap (λ (v : MasterView). v.arena.table) c.master.view_is
+          ∙ ap (λ (a : ArenaId). a.table) (c.requires.arena ∙ sym c.self.view_is),
       omega arith,
-      leaves_at (about_in c.self.inside.table.shared.key) _ _ c.master.inside.seat.me _ m.is m.present (none_held (as_master c.master.inside.seat.me.0).hand (ap owned_of c.master.view_is ∙ c.requires.empty)) (omega arith),
+      leaves_at (about_in c.self.inside.table.shared.key) _ _ c.master.inside.seat.me _ m.is m.present
+          (none_held (as_master c.master.inside.seat.me.0).hand (ap owned_of c.master.view_is ∙ c.requires.empty))
+          (omega arith),
     )

@@ -9,12 +9,14 @@ use Rattle.tl_arena.specs.Promises.{memory_of}
 use Rattle.tl_arena_tests.proofs.tests.floor.floor_of.Goals as goal
 
 -- what the banks hold are the memories of new ports
-memories : (a : ArenaId) (banks : List Store) (us : List PortView) → a.about.resets ≡ banks → AreNewPorts a (length banks) us → banks ≡ map memory_of us
+memories : (a : ArenaId) (banks : List Store) (us : List PortView) → a.about.resets ≡ banks
+    → AreNewPorts a (length banks) us → banks ≡ map memory_of us
 memories a banks us is P =
     same_lists banks (map memory_of us) (sym P.many ∙ sym (length-map us memory_of)) (λ k store lt.
     let near : k < length us = (let m = P.many in omega arith) in
     let port = P.each k (get_or us k (new_port a 0)) (slice_get-get_or us k (new_port a 0) near) in
-    ap (λ (l : List Store). get_or l k store) (sym is) ∙ get_or_default a.about.resets k store no_store (let e = ap (λ (l : List Store). length l) is in omega arith)
+    ap (λ (l : List Store). get_or l k store) (sym is)
+        ∙ get_or_default a.about.resets k store no_store (let e = ap (λ (l : List Store). length l) is in omega arith)
     ∙ sym (get_or-map memory_of us k (new_port a 0) store near ∙ ap memory_of port))
 
 pub invariant_of-result-clause-seats : goal.invariant_of-result-clause-seats

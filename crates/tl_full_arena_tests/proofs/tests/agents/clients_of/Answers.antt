@@ -15,7 +15,8 @@ first a v vs ws is new = ap (λ (w : MasterView). w.arena) ((subst (AreNew a) is
 -- a new master is of its seat's arena
 pub invariant_of-push : goal.invariant_of-push
 invariant_of-push g c = record {
-  here = ap (λ (m : MasterState). m.seat.arena) c.in-Ok.ensures.ok ∙ first c.args.arena.now c.in-Some.seat _ _ c.in-Some.ensures.steps.0 c.loop-seat.invariant;
+  here = ap (λ (m : MasterState). m.seat.arena) c.in-Ok.ensures.ok
+      ∙ first c.args.arena.now c.in-Some.seat _ _ c.in-Some.ensures.steps.0 c.loop-seat.invariant;
   ports = c.requires.ports;
 }
 

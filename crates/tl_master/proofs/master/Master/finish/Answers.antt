@@ -6,5 +6,7 @@ use Rattle.tl_master.proofs.master.Master.finish.Goals as goal
 pub returns-clause-widened : goal.returns-clause-widened
 returns-clause-widened c =
     let inside = c.self.inside in
-    let m : MasterState = record { seat = inside.seat; out = inside.out.items; trace = inside.trace.items; limit = inside.limit } in
-    subst (λ (n : MasterState). AreWidened n.seat.arena.about.counts n.seat.number inside.trace.items n.seat.got) c.self.view_is (kept_widened m inside.start inside.count c.self.invariant.0)
+    let m : MasterState =
+        record { seat = inside.seat; out = inside.out.items; trace = inside.trace.items; limit = inside.limit } in
+    subst (λ (n : MasterState). AreWidened n.seat.arena.about.counts n.seat.number inside.trace.items n.seat.got) c.self.view_is
+        (kept_widened m inside.start inside.count c.self.invariant.0)

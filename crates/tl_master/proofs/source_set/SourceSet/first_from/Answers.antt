@@ -11,10 +11,12 @@ loop-start-preserved c =
     }
 
 pub returns-in-Some-clause-some : goal.returns-in-Some-clause-some
-returns-in-Some-clause-some c = found_in_word c.args.self.now.words c.args.from c.loop-start.start _ c.loop-start.invariant.after c.loop-start-test.true c.loop-start.invariant.none c.in-Some.ensures.some
+returns-in-Some-clause-some c =
+    found_in_word c.args.self.now.words c.args.from c.loop-start.start _ c.loop-start.invariant.after c.loop-start-test.true c.loop-start.invariant.none c.in-Some.ensures.some
 
 pub returns-clause-none : goal.returns-clause-none
 returns-clause-none c = λ source after. ⊎_elim
     (λ (inside : source < c.loop-start.start). c.loop-start.invariant.none source after inside)
-    (λ (past : c.loop-start.start ≤ source). beyond_words c.args.self.now.words source (search rules) (let end = c.loop-start-test.false in omega arith))
+    (λ (past : c.loop-start.start ≤ source). beyond_words c.args.self.now.words source (search rules)
+        (let end = c.loop-start-test.false in omega arith))
     (cases_lt source c.loop-start.start)

@@ -6,5 +6,6 @@ use Rattle.tl_ops.proofs.lanes.Lanes.put.Given as goal
 -- the words so far are put
 abbrev pub invariant-loop-k : goal.invariant-loop-k
 invariant-loop-k l =
-    (l.self ≡ with_window l.initial.self l.start (merged (take (8 * l.k) (drop l.start l.initial.self)) (take (8 * l.k) l.given)))
+    (l.self ≡ with_window l.initial.self l.start
+        (merged (take (8 * l.k) (drop l.start l.initial.self)) (take (8 * l.k) l.given)))
     × (length l.self ≡ length l.initial.self)

@@ -34,7 +34,8 @@ invariant_of-self c =
     let long = length-given_in (bit_in masks) plain in
     let seen = ap length c.self.view_is in
     let within : length plain / 8 < length masks = omega (arith, long, seen, c.self.invariant.counted) in
-    rw (c.push.ensures.items, c.len-place.ensures.value) (appends_given plain masks c.in-Some.byte c.self.invariant within).kept
+    rw (c.push.ensures.items, c.len-place.ensures.value)
+        (appends_given plain masks c.in-Some.byte c.self.invariant within).kept
 
 pub returns-in-Some : goal.returns-in-Some
 returns-in-Some c =
@@ -43,7 +44,8 @@ returns-in-Some c =
     let long = length-given_in (bit_in masks) plain in
     let seen = ap length c.self.view_is in
     let within : length plain / 8 < length masks = omega (arith, long, seen, c.self.invariant.counted) in
-    rw (c.push.ensures.items, c.len-place.ensures.value, c.in-Some.is, ← c.self.view_is) (seen_given plain masks c.in-Some.byte c.self.invariant within)
+    rw (c.push.ensures.items, c.len-place.ensures.value, c.in-Some.is, ← c.self.view_is)
+        (seen_given plain masks c.in-Some.byte c.self.invariant within)
 
 pub returns-in-None : goal.returns-in-None
 returns-in-None c =

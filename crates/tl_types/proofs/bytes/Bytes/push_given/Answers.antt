@@ -25,7 +25,8 @@ invariant_of-self c =
     let within : length plain / 8 < length masks = omega (arith, long, seen, c.self.invariant.counted) in
     let aligned : length plain % 8 ≡ 0 = omega (arith, long, seen) in
     let items : c.try_extend_from_slice.new.self.items ≡ plain ++ c.args.bytes.now = search rules in
-    rw (items, c.len-word.ensures.value) (appends_word plain masks c.args.bytes.now c.self.invariant within aligned c.requires.in_word).kept
+    rw (items, c.len-word.ensures.value)
+        (appends_word plain masks c.args.bytes.now c.self.invariant within aligned c.requires.in_word).kept
 
 pub returns : goal.returns
 returns c =
@@ -36,4 +37,5 @@ returns c =
     let within : length plain / 8 < length masks = omega (arith, long, seen, c.self.invariant.counted) in
     let aligned : length plain % 8 ≡ 0 = omega (arith, long, seen) in
     let items : c.try_extend_from_slice.new.self.items ≡ plain ++ c.args.bytes.now = search rules in
-    rw (items, c.len-word.ensures.value, ← c.self.view_is) (seen_word plain masks c.args.bytes.now c.self.invariant within aligned c.requires.in_word)
+    rw (items, c.len-word.ensures.value, ← c.self.view_is)
+        (seen_word plain masks c.args.bytes.now c.self.invariant within aligned c.requires.in_word)

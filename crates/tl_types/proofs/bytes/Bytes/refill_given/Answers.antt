@@ -4,7 +4,8 @@ use Rattle.tl_types.proofs.bytes.Bytes.refill_given.Goals as goal
 pub invariant_of-self : goal.invariant_of-self
 invariant_of-self c =
     let masks = c.put_given_masks in
-    rw c.refill_room.ensures (kept_first c.args.plain.now masks.new.masks masks.ensures.counted masks.ensures.small masks.ensures.given masks.ensures.past)
+    rw c.refill_room.ensures
+        (kept_first c.args.plain.now masks.new.masks masks.ensures.counted masks.ensures.small masks.ensures.given masks.ensures.past)
 
 pub returns : goal.returns
 returns c =
