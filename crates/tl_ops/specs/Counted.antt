@@ -1,5 +1,5 @@
 -- A slave's memory that counts what it has served. It is this project's own.
-use Rattle.std.specs.Prelude.{ℕ, ◌+◌, ◌%◌, ◌^◌}
+use Rattle.std.specs.Prelude.{◌+◌, ◌%◌, ◌^◌}
 use Rattle.tl_types.specs.Request.{Request}
 use Rattle.tl_ops.specs.Store.{Store, after}
 use Rattle.tl_ops.specs.declared.counted.CountedBank.{CountedBank}

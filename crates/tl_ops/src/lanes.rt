@@ -33,7 +33,7 @@ impl Model for Lanes {
 
 impl Lanes {
     /// As many words of zeros.
-    fn zeros(alloc: Global, count: usize) -> Result<Lanes, AllocError>
+    pub fn zeros(alloc: Global, count: usize) -> Result<Lanes, AllocError>
         ensures { IfOk result (λ lanes. lanes ≡ replicate (WORD_BYTES * count) 0) }
     {
         Ok(Lanes {
