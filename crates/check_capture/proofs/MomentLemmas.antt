@@ -56,7 +56,7 @@ cross-first low first row d more (suc i) cross inside before =
 
 cross-insert : (low : ℕ) (rows : List Row) (i : ℕ) (row d : Row) → Cross low rows → low ≤ place_of row → i ≤ length rows
     → ((k : ℕ) → k + 1 ≡ i → place_of (get_or rows k d) < place_of row)
-        → (i < length rows → place_of row < place_of (get_or rows i d))
+    → (i < length rows → place_of row < place_of (get_or rows i d))
     → Cross low (insert rows i row)
 unfolding Cross
 cross-insert low rows zero row d cross above inside before behind = (above, cross-behind row rows low d cross behind)
@@ -95,14 +95,20 @@ length-more (first ∷ more) (suc i) row = ap suc (length-more more i row)
 
 pub moment-empty : (time : ℕ) → IsMoment (record { time = time; rows = [] })
 unfolding Cross
-moment-empty time = record { in_order = tt; at_time = (λ k d inside. absurd (omega (arith, inside)));
-    links = (λ k d inside. absurd (omega (arith, inside))) }
+moment-empty time = record {
+  in_order = tt;
+  at_time = (λ k d inside. absurd (omega (arith, inside)));
+  links = (λ k d inside. absurd (omega (arith, inside)));
+}
 
 pub moment-one : (row : Row) → IsLink row.sighting.link → IsMoment (record { time = row.time; rows = row ∷ [] })
 unfolding Cross
 moment-one row link =
-    record { in_order = (omega arith, tt); at_time = all-one (λ other. other.time ≡ row.time) row refl;
-    links = all-one (λ other. IsLink other.sighting.link) row link }
+    record {
+      in_order = (omega arith, tt);
+      at_time = all-one (λ other. other.time ≡ row.time) row refl;
+      links = all-one (λ other. IsLink other.sighting.link) row link;
+    }
 
 -- a row that is put in where it belongs
 pub record Belongs (moment : Moment) (i : ℕ) (row : Row) : Type 0 where
@@ -125,6 +131,6 @@ pub moment-room : (moment : Moment) (i : ℕ) (row : Row) → Belongs moment i r
 moment-room moment i row h =
     let more = moment-insert moment i row h in
     let short = cross-length 0 (insert moment.rows i row) more.in_order
-        (all-inside (insert moment.rows i row) more.links) in
+    (all-inside (insert moment.rows i row) more.links) in
     let one_more = length-more moment.rows i row in
     omega (arith, short, one_more)

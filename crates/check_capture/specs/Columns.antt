@@ -29,7 +29,7 @@ IsLinkOf masters ports (Port number) = number < ports
 unfoldable pub index_of : ℕ → List ℕ → Result ℕ RowFault
 index_of count digits =
     if are_digits 10 digits && nat_lt (digits_value 10 digits) count then Ok
-        (digits_value 10 digits) else Err fault.Link
+    (digits_value 10 digits) else Err fault.Link
 
 -- the link that a word names: `m` or `p` and a number that the system has
 unfoldable pub link_of : ℕ → ℕ → List ℕ → Result Link RowFault

@@ -24,8 +24,18 @@ ask_of columns = do
   lanes ← lanes_of (column columns 9)
   _ ← nothing_of (column columns 10)
   _ ← nothing_of (column columns 11)
-  Ok (beat.A (record { opcode = opcode; param = param; size = size; source = source; address = address; mask = mask;
-      lanes = bytes_of lanes }), known_of lanes)
+  Ok (
+    beat.A (record {
+      opcode = opcode;
+      param = param;
+      size = size;
+      source = source;
+      address = address;
+      mask = mask;
+      lanes = bytes_of lanes;
+    }),
+    known_of lanes,
+  )
 
 -- a beat of channel D has no parameter, address or mask
 unfoldable pub reply_of : List (List ℕ) → Result (Beat × ℕ) RowFault
@@ -39,8 +49,17 @@ reply_of columns = do
   lanes ← lanes_of (column columns 9)
   denied ← flag_of (column columns 10)
   corrupt ← flag_of (column columns 11)
-  Ok (beat.D (record { opcode = opcode; size = size; source = source; denied = denied; corrupt = corrupt;
-      lanes = bytes_of lanes }), known_of lanes)
+  Ok (
+    beat.D (record {
+      opcode = opcode;
+      size = size;
+      source = source;
+      denied = denied;
+      corrupt = corrupt;
+      lanes = bytes_of lanes;
+    }),
+    known_of lanes,
+  )
 
 -- the beat of a row, by its channel
 abbrev pub beat_of : Channel → List (List ℕ) → Result (Beat × ℕ) RowFault

@@ -3,9 +3,9 @@ ghost use Rattle.std.specs.Prelude.{◌≡◌, ◌<◌, IfOk};
 ghost use Rattle.csv.specs.Records.{fields_of};
 ghost use Rattle.check_capture.specs.Columns.{IsLinkOf, channel_of, column, flag_of, index_of, link_of, nothing_of};
 
-use check_link::Link;
 use crate::fault::RowFault;
 use crate::number::read_decimal;
+use check_link::Link;
 use csv::ByteRecord;
 
 /// A channel of a link.

@@ -6,8 +6,8 @@ ghost use Rattle.check_capture.specs.Moment.{Cross, HasFault, IsGap, IsLink, IsM
 use crate::fault::RowFault;
 use crate::row::Row;
 use arrayvec::ArrayVec;
-use std::marker::Model;
 use check_link::{Beat, Link};
+use std::marker::Model;
 use tl_types::{MAX_MASTERS, MAX_PORTS};
 
 /// The most beats of one time: one for each channel of each link.

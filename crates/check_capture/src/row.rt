@@ -4,11 +4,11 @@ ghost use Rattle.csv.specs.Records.{fields_of};
 ghost use Rattle.check_capture.specs.Columns.{IsLinkOf};
 ghost use Rattle.check_capture.specs.Row.{ask_of, beat_of, reply_of, row_of};
 
-use check_link::{Beat, Link, Sighting};
 use crate::columns::{Channel, column, read_channel, read_flag, read_link, read_nothing};
 use crate::fault::RowFault;
 use crate::lanes::{bytes_of, known_of, read_lanes};
 use crate::number::{read_address, read_decimal, read_mask};
+use check_link::{Beat, Link, Sighting};
 use csv::ByteRecord;
 use tl_beats::{ABeat, DBeat};
 

@@ -23,8 +23,10 @@ flight_at flights wide = unwrap_or (slice_get flights wide) idle
 -- a beat crosses a link, and nothing else changes
 abbrev pub side_crossed : SideView → ℕ → Beat → SideView
 side_crossed side number beat =
-    record { links = slice_set side.links number (under_after (under_at side.links number) beat);
-        flights = side.flights }
+    record {
+      links = slice_set side.links number (under_after (under_at side.links number) beat);
+      flights = side.flights;
+    }
 
 -- a beat crosses a link, and this is in flight of a wide source from then on
 abbrev pub side_with : SideView → ℕ → Beat → ℕ → Flight → SideView

@@ -11,8 +11,8 @@ ghost use Rattle.check_flight.specs.Flight.Crossing.{Waiting, Crossed, Given};
 ghost use Rattle.check_flight.specs.Flight.{idle, asked, given, flight_due, IsInFlight};
 ghost use Rattle.check_flight.specs.Slave.{slave_by, answer_by};
 
-use check_link::UnderWay;
 use crate::slave::Slave;
+use check_link::UnderWay;
 use std::marker::Model;
 use tl_beats::ABeat;
 use tl_types::{Ask, AskOp, Bytes, Reply, ReplyOp};

@@ -9,9 +9,9 @@ ghost use Rattle.check_flight.specs.Flight.{idle, asked};
 ghost use Rattle.check_flight.specs.Slave.{slave_by, answer_by};
 ghost use Rattle.check_flight.specs.Side.{under_at, flight_at, side_crossed, side_with, side_due};
 
-use check_link::UnderWay;
 use crate::flight::Flight;
 use crate::slave::Slave;
+use check_link::UnderWay;
 use std::alloc::{AllocError, Global};
 use std::marker::Model;
 use tl_beats::{ABeat, DBeat};

@@ -58,8 +58,8 @@ latest moment file before is same earlier =
     let P : Row → Type 0 = λ row. row.time ≤ moment.time in
     let now : All P moment.rows = λ k d inside. let e = is.at_time k d inside in omega (arith, e) in
     let past : All P before =
-        All-weaker (λ row. row.time < moment.time) P (λ row lt. omega (arith, lt)) before
-        (All-from_recursion (λ row. row.time < moment.time) before earlier) in
+    All-weaker (λ row. row.time < moment.time) P (λ row lt. omega (arith, lt)) before
+    (All-from_recursion (λ row. row.time < moment.time) before earlier) in
     All-permutation P (reverse moment.rows ++ before) file (IsPermutation-sym file _ same)
     (All-append P (reverse moment.rows) before (turned moment.rows P now) past)
 
@@ -69,7 +69,7 @@ in_file : (moment : Moment) (file before : List Row) (row : Row) → IsPermutati
 in_file moment file before row same there =
     Contains-permutation (reverse moment.rows ++ before) file row (IsPermutation-sym file _ same)
     (Contains-append_left (reverse moment.rows) before row
-        (Contains-permutation moment.rows (reverse moment.rows) row (IsPermutation-reverse moment.rows) there))
+    (Contains-permutation moment.rows (reverse moment.rows) row (IsPermutation-reverse moment.rows) there))
 
 counted_more : (n : ℕ) → (n % 2 ^ 64 + 1) % 2 ^ 64 ≡ (n + 1) % 2 ^ 64
 counted_more n = omega arith
@@ -83,7 +83,7 @@ falls_never : (file : List Row) (row : Row) (time : ℕ) → NeverFalls file →
     → time ≤ row.time → NeverFalls (file ++ row ∷ [])
 falls_never file row time never all le =
     IsNonDecreasingBy-push (λ (r : Row). r.time) file row never
-        (λ d some. let last = all (length file - 1) d (omega (arith, some)) in omega (arith, last, le))
+    (λ d some. let last = all (length file - 1) d (omega (arith, some)) in omega (arith, last, le))
 
 -- ---- a row of the moment's time
 
@@ -103,9 +103,9 @@ put_same : (row : Row) (rows next before : List Row) → IsPermutation (row ∷ 
     → IsPermutation (row ∷ (reverse rows ++ before)) (reverse next ++ before)
 put_same row rows next before same =
     let turned_back = IsPermutation-cons row (reverse rows) rows
-        (IsPermutation-sym rows (reverse rows) (IsPermutation-reverse rows)) in
+    (IsPermutation-sym rows (reverse rows) (IsPermutation-reverse rows)) in
     let all = IsPermutation-trans (row ∷ reverse rows) (row ∷ rows) (reverse next) turned_back
-        (IsPermutation-trans (row ∷ rows) next (reverse next) same (IsPermutation-reverse next)) in
+    (IsPermutation-trans (row ∷ rows) next (reverse next) same (IsPermutation-reverse next)) in
     IsPermutation-append (row ∷ reverse rows) (reverse next) before before all (IsPermutation-refl before)
 
 -- the rows of earlier times are the same
@@ -115,7 +115,7 @@ pub judges_now : (plan : Plan) (file : List Row) (row : Row) (old new : Judge) (
 judges_now plan file row old new judges takes more =
     let earlier : AllByRecursion (λ r. r.time < new.moment.time) judges.before =
     all_weaker (λ r. r.time < old.moment.time) (λ r. r.time < new.moment.time)
-        (λ r lt. let e = takes.time in omega (arith, lt, e)) judges.before judges.earlier in (
+    (λ r lt. let e = takes.time in omega (arith, lt, e)) judges.before judges.earlier in (
       record {
         before = judges.before;
         crossing = record {
@@ -130,7 +130,7 @@ judges_now plan file row old new judges takes more =
         begun = λ none. absurd (no_rows_left row old.moment.rows new.moment.rows takes.rows none);
         never_falls = falls_never file row old.moment.time judges.never_falls
             (latest old.moment file judges.before more.was judges.crossing.same judges.earlier)
-                (let e = takes.now in omega (arith, e));
+            (let e = takes.now in omega (arith, e));
         kept = (let P : Tally → Type 0 = λ t. Kept plan judges.before t in subst P (sym more.tally) judges.kept);
         rows = row_more file row old.rows new.rows judges.rows more.rows;
       },
@@ -151,7 +151,7 @@ pub later_all : (moment : Moment) (file before : List Row) (row : Row) → IsMom
     → AllByRecursion (λ r. r.time < moment.time) before → moment.time < row.time → All (λ r. r.time < row.time) file
 later_all moment file before row is same earlier later =
     All-weaker (λ r. r.time ≤ moment.time) (λ r. r.time < row.time) (λ r le. omega (arith, le, later)) file
-        (latest moment file before is same earlier)
+    (latest moment file before is same earlier)
 
 pub judges_later : (plan : Plan) (file : List Row) (row : Row) (old new : Judge) (judges : Judges plan file old)
     → IsLaterRow row old new
@@ -160,10 +160,10 @@ pub judges_later : (plan : Plan) (file : List Row) (row : Row) (old new : Judge)
 judges_later plan file row old new judges more kept =
     let crossed : List Row = reverse old.moment.rows ++ judges.before in
     let all_file : All (λ r. r.time < row.time) file =
-        later_all old.moment file judges.before row more.was judges.crossing.same judges.earlier more.later in
+    later_all old.moment file judges.before row more.was judges.crossing.same judges.earlier more.later in
     let all : AllByRecursion (λ r. r.time < row.time) crossed =
     recursion_from_All (λ r. r.time < row.time) crossed
-        (All-permutation (λ r. r.time < row.time) file crossed judges.crossing.same all_file) in
+    (All-permutation (λ r. r.time < row.time) file crossed judges.crossing.same all_file) in
     let rows_is : new.moment.rows ≡ row ∷ [] = ap (λ (m : Moment). m.rows) more.moment in
     let time_is : new.moment.time ≡ row.time = ap (λ (m : Moment). m.time) more.moment in
     let Crossing : List Row → Type 0 = λ l. IsCrossing (file ++ row ∷ []) (reverse l ++ crossed) in
@@ -174,15 +174,17 @@ judges_later plan file row old new judges more kept =
         crossing = subst Crossing (sym rows_is) (record {
           same = IsPermutation-push_more file crossed (row ∷ crossed) row judges.crossing.same
               (IsPermutation-refl (row ∷ crossed));
-          in_order = (all_weaker (λ r. r.time < row.time) (λ r. CrossesBefore r row) (λ r lt. inl lt) crossed all,
-              judges.crossing.in_order);
+          in_order = (
+            all_weaker (λ r. r.time < row.time) (λ r. CrossesBefore r row) (λ r lt. inl lt) crossed all,
+            judges.crossing.in_order,
+          );
         });
         now = subst Now (sym rows_is) (sym time_is, tt);
         earlier = subst Earlier (sym time_is) all;
         begun = λ none. absurd (cc);
         never_falls = falls_never file row old.moment.time judges.never_falls
             (latest old.moment file judges.before more.was judges.crossing.same judges.earlier)
-                (let lt = more.later in omega (arith, lt));
+            (let lt = more.later in omega (arith, lt));
         kept = kept;
         rows = row_more file row old.rows new.rows judges.rows more.rows;
       },
@@ -232,7 +234,7 @@ pub first_unlawful : (plan : Plan) (file : List Row) (judge : Judge) (found : Un
 first_unlawful plan file judge found judges stops =
     let P : List Row → Type 0 = λ l. IsCrossing file l in
     let is : reverse judge.moment.rows ++ judges.before ≡ reverse stops.left
-        ++ (found.row ∷ (reverse stops.done ++ judges.before)) =
+    ++ (found.row ∷ (reverse stops.done ++ judges.before)) =
     ap (λ l. reverse l ++ judges.before) stops.are ∙ reversed_middle stops.done stops.left judges.before found.row in (
       record {
         after = reverse stops.left;
@@ -248,10 +250,10 @@ pub not_lawful : (plan : Plan) (file : List Row) (found : Unlawful) → IsFirstU
     → IsLawfulFile plan file → ⊥
 not_lawful plan file found first whole =
     let same : whole.crossed ≡ first.after ++ found.row ∷ first.before =
-        crossing_is_unique file whole.crossed (first.after ++ found.row ∷ first.before) whole.crossing first.crossing in
+    crossing_is_unique file whole.crossed (first.after ++ found.row ∷ first.before) whole.crossing first.crossing in
     let P : List Row → Type 0 = λ l. IsLawful plan (seen plan.layout l) in
     let rest : IsLawful plan (seen plan.layout (found.row ∷ first.before)) =
-        lawful_rest plan first.after (found.row ∷ first.before) (subst P same whole.lawful) in
+    lawful_rest plan first.after (found.row ∷ first.before) (subst P same whole.lawful) in
     first.is.unlawful (subst (IsLawful plan) (seen_one plan.layout found.row first.before first.is.watched) rest)
 
 -- ---- what is told
@@ -267,9 +269,11 @@ rest_none now before is = let both = length-append now before in omega (arith, i
 pub told_none : (plan : Plan) (judge : Judge) → Judges plan [] judge → HasTold plan [] judge []
 told_none plan judge judges =
     let P : List Row → Type 0 = λ l. IsTold (is_traced judge) plan (seen plan.layout l) [] in
-    record { judges = judges;
-        told = subst P (sym (none judges.before (rest_none (reverse judge.moment.rows) judges.before
-        (length_permutation [] _ judges.crossing.same)))) refl }
+    record {
+      judges = judges;
+      told = subst P (sym (none judges.before (rest_none (reverse judge.moment.rows) judges.before
+          (length_permutation [] _ judges.crossing.same)))) refl;
+    }
 
 told_of : (trace other : Bool) (plan : Plan) (rows others : List Row) (text : List ℕ) → other ≡ trace → others ≡ rows
     → IsTold trace plan (seen plan.layout rows) text
@@ -281,7 +285,7 @@ pub told_later : (plan : Plan) (file : List Row) (row : Row) (old new : Judge) (
     (has : HasTold plan file old so_far) → IsLaterRow row old new
     → Kept plan (reverse old.moment.rows ++ has.judges.before) new.tally → is_traced new ≡ is_traced old
     → AppendsTold (is_traced old) plan (seen plan.layout has.judges.before)
-        (seen plan.layout (reverse old.moment.rows ++ has.judges.before)) now next
+    (seen plan.layout (reverse old.moment.rows ++ has.judges.before)) now next
     → TellsOn plan (file ++ row ∷ []) new so_far now next
 told_later plan file row old new so_far now next has more kept trace told =
     let judged = judges_later plan file row old new has.judges more kept in
@@ -318,23 +322,31 @@ pub told_before : (plan : Plan) (file : List Row) (judge : Judge) (found : Unlaw
     → StopsTelling (is_traced judge) plan judge.moment.rows has.judges.before now next found
     → (more : List ℕ) × (next ≡ now ++ more) × IsToldBefore (is_traced judge) plan file (so_far ++ more) found
 told_before plan file judge found so_far now next has stops =
-    let first = first_unlawful plan file judge found has.judges stops.stops in
-    (stops.told.more, stops.told.grown, record { first = first.0;
-        told = told_of (is_traced judge) (is_traced judge) plan _ _ _ refl first.1 (stops.told.told so_far has.told) })
+    let first = first_unlawful plan file judge found has.judges stops.stops in (
+      stops.told.more,
+      stops.told.grown,
+      record {
+        first = first.0;
+        told = told_of (is_traced judge) (is_traced judge) plan _ _ _ refl first.1 (stops.told.told so_far has.told);
+      },
+    )
 
 -- what is told of a lawful file
 pub told_file : (plan : Plan) (file : List Row) (judge : Judge) (tally : Tally) (so_far now next : List ℕ)
     (has : HasTold plan file judge so_far)
     → Kept plan (reverse judge.moment.rows ++ has.judges.before) tally
     → AppendsTold (is_traced judge) plan (seen plan.layout has.judges.before)
-        (seen plan.layout (reverse judge.moment.rows ++ has.judges.before)) now next
+    (seen plan.layout (reverse judge.moment.rows ++ has.judges.before)) now next
     → (more : List ℕ) × (next ≡ now ++ more) × IsToldFile (is_traced judge) plan file (so_far ++ more)
 told_file plan file judge tally so_far now next has kept told = (
   told.more,
   told.grown,
   record {
-    lawful = record { crossed = reverse judge.moment.rows ++ has.judges.before; crossing = has.judges.crossing;
-        lawful = kept.keeps.lawful };
+    lawful = record {
+      crossed = reverse judge.moment.rows ++ has.judges.before;
+      crossing = has.judges.crossing;
+      lawful = kept.keeps.lawful;
+    };
     told = told.told so_far has.told;
   },
 )
@@ -353,7 +365,7 @@ stops_so plan file row refusal.Memory later first = later
 
 pub tells_so : (trace : Bool) (plan : Plan) (file : List Row) (so_far now next : List ℕ) (why : Refusal)
     → OfUnlawful (λ found. (more : List ℕ) × (next ≡ now ++ more)
-        × IsToldBefore trace plan file (so_far ++ more) found) why
+    × IsToldBefore trace plan file (so_far ++ more) found) why
     → TellsStop trace plan file so_far now next (stop_of why)
 tells_so trace plan file so_far now next (refusal.Unlawful found) told = told
 tells_so trace plan file so_far now next refusal.Memory told = tt

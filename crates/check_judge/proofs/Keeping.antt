@@ -19,9 +19,9 @@ of_unlawful P Q refusal.Memory to is = tt
 pub stops_there : (trace : Bool) (plan : Plan) (rows before : List Row) (i : ℕ) (d : Row) (old now next : List ℕ)
     (why : Refusal) → i < length rows
     → OfUnlawful (λ found. found.row ≡ get_or rows i d) why
-        → OfUnlawful (IsUnlawfulAfter plan (reverse (take i rows) ++ before)) why
+    → OfUnlawful (IsUnlawfulAfter plan (reverse (take i rows) ++ before)) why
     → OfUnlawful (λ _. next ≡ now) why → AppendsTold trace plan (seen plan.layout before)
-        (seen plan.layout (reverse (take i rows) ++ before)) old now
+    (seen plan.layout (reverse (take i rows) ++ before)) old now
     → OfUnlawful (StopsTelling trace plan rows before old next) why
 stops_there trace plan rows before i d old now next (refusal.Unlawful found) inside here unlawful quiet told = record {
   stops = record {

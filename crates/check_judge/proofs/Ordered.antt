@@ -28,7 +28,7 @@ pub reversed_middle : (done left before : List Row) (row : Row)
     → reverse (done ++ row ∷ left) ++ before ≡ reverse left ++ (row ∷ (reverse done ++ before))
 reversed_middle done left before row =
     ap (λ l. l ++ before) (reverse-append done (row ∷ left) ∙ reversed_onto row left (reverse done))
-        ∙ append_assoc (reverse left) (row ∷ reverse done) before
+    ∙ append_assoc (reverse left) (row ∷ reverse done) before
 
 -- the row crosses before this place of this time
 abbrev IsBelow : ℕ → ℕ → Row → Type 0
@@ -51,14 +51,18 @@ unfolding Cross
 onto time low [] before cross now below order = order
 onto time low (row ∷ more) before cross now below order =
     let above : low ≤ place_of row = cross.0 in
-    let next : AllByRecursion (IsBelow time (place_of row + 1)) (row ∷ before) =
-    (inr (now.0, omega arith), all_weaker (IsBelow time low) (IsBelow time (place_of row + 1))
-        (λ other. higher time low (place_of row + 1) other (omega (arith, above))) before below) in
-    let first : AreInOrder (row ∷ before) =
-    (all_weaker (IsBelow time low) (λ other. CrossesBefore other row)
-        (λ other. below_row time low row other now.0 above) before below, order) in
+    let next : AllByRecursion (IsBelow time (place_of row + 1)) (row ∷ before) = (
+      inr (now.0, omega arith),
+      all_weaker (IsBelow time low) (IsBelow time (place_of row + 1))
+          (λ other. higher time low (place_of row + 1) other (omega (arith, above))) before below,
+    ) in
+    let first : AreInOrder (row ∷ before) = (
+      all_weaker (IsBelow time low) (λ other. CrossesBefore other row)
+          (λ other. below_row time low row other now.0 above) before below,
+      order,
+    ) in
     subst AreInOrder (sym (reversed_onto row more before))
-        (onto time (place_of row + 1) more (row ∷ before) cross.1 now.1 next first)
+    (onto time (place_of row + 1) more (row ∷ before) cross.1 now.1 next first)
 
 -- the rows of one time behind those of earlier times
 pub in_order_onto : (time : ℕ) (rows before : List Row) → Cross 0 rows → All (λ row. row.time ≡ time) rows

@@ -48,17 +48,17 @@ pub tells_step : (trace other : Bool) (plan : Plan) (past : List Sighting) (x : 
     (sees : Seen) (old new : List ℕ)
     → other ≡ trace → layout ≡ plan.layout → sees ≡ what_is_seen plan past x → IsAllowed plan (scene plan past x) x
     → (HasSource layout x.link (source_of x.beat)
-        → AppendsToldOf (other && is_counted layout.links x.link) layout.counts x.link (source_of x.beat) sees old new)
+    → AppendsToldOf (other && is_counted layout.links x.link) layout.counts x.link (source_of x.beat) sees old new)
     → AppendsToldOf (trace && is_counted plan.layout.links x.link) plan.layout.counts x.link (source_of x.beat)
-        (what_is_seen plan past x) old new
+    (what_is_seen plan past x) old new
 tells_step trace other plan past x layout sees old new same_trace same_layout same_seen allowed tells =
     let P : Bool → Layout → Seen → Type 0 =
-        λ t l s. HasSource l x.link (source_of x.beat)
-        → AppendsToldOf (t && is_counted l.links x.link) l.counts x.link (source_of x.beat) s old new in
+    λ t l s. HasSource l x.link (source_of x.beat)
+    → AppendsToldOf (t && is_counted l.links x.link) l.counts x.link (source_of x.beat) s old new in
     let by_trace : P trace layout sees = subst (λ t. P t layout sees) same_trace tells in
     let by_layout : P trace plan.layout sees = subst (λ l. P trace l sees) same_layout by_trace in
     let by_seen : P trace plan.layout (what_is_seen plan past x) =
-        subst (λ s. P trace plan.layout s) same_seen by_layout in
+    subst (λ s. P trace plan.layout s) same_seen by_layout in
     by_seen (has_source plan (scene plan past x) x allowed)
 
 -- ---- a text that grows
@@ -83,7 +83,7 @@ tells_then trace plan past mid now old between new one two = record {
 
 tells_one : (trace : Bool) (plan : Plan) (past : List Sighting) (x : Sighting) (old new : List ℕ)
     → AppendsToldOf (trace && is_counted plan.layout.links x.link) plan.layout.counts x.link (source_of x.beat)
-        (what_is_seen plan past x) old new
+    (what_is_seen plan past x) old new
     → AppendsTold trace plan past (x ∷ past) old new
 tells_one trace plan past x old new one = record {
   more = one.0;
@@ -95,12 +95,12 @@ tells_one trace plan past x old new one = record {
 pub tells_row : (trace : Bool) (plan : Plan) (before : List Row) (row : Row) (old new : List ℕ)
     → is_watched plan.layout row.sighting.link ≡ true
     → AppendsToldOf (trace && is_counted plan.layout.links row.sighting.link) plan.layout.counts row.sighting.link
-        (source_of row.sighting.beat)
+    (source_of row.sighting.beat)
     (what_is_seen plan (seen plan.layout before) row.sighting) old new
     → AppendsTold trace plan (seen plan.layout before) (seen plan.layout (row ∷ before)) old new
 tells_row trace plan before row old new watched one =
     subst (λ now. AppendsTold trace plan (seen plan.layout before) now old new)
-        (sym (seen_one plan.layout row before watched))
+    (sym (seen_one plan.layout row before watched))
     (tells_one trace plan (seen plan.layout before) row.sighting old new one)
 
 -- nothing is told of a row where replies are not told
@@ -115,7 +115,7 @@ pub tells_no_row : (trace : Bool) (plan : Plan) (before : List Row) (row : Row) 
     → AppendsTold trace plan (seen plan.layout before) (seen plan.layout (row ∷ before)) text text
 tells_no_row trace plan before row text watched =
     subst (λ now. AppendsTold trace plan (seen plan.layout before) now text text)
-        (sym (seen_other plan.layout row before watched))
+    (sym (seen_other plan.layout row before watched))
     (tells_nothing trace plan (seen plan.layout before) text)
 
 -- ---- one text is told
@@ -143,8 +143,8 @@ one_told trace plan [] text other one two = one ∙ sym two
 one_told trace plan (x ∷ past) text other one two =
     let so_far : one.0 ≡ two.0 = one_told trace plan past one.0 two.0 one.3 two.3 in
     let more : one.1 ≡ two.1 =
-        one_told_of (trace && is_counted plan.layout.links x.link) plan.layout.counts x.link (source_of x.beat)
-        (what_is_seen plan past x) one.1 two.1 one.4 two.4 in
+    one_told_of (trace && is_counted plan.layout.links x.link) plan.layout.counts x.link (source_of x.beat)
+    (what_is_seen plan past x) one.1 two.1 one.4 two.4 in
     one.2 ∙ (λ i. so_far i ++ more i) ∙ sym two.2
 
 -- ---- where replies are not traced nothing is told
@@ -157,4 +157,4 @@ pub untraced : (plan : Plan) (past : List Sighting) (text : List ℕ) → IsTold
 untraced plan [] text is = is
 untraced plan (x ∷ past) text is =
     is.2 ∙ ap (λ l. l ++ is.1) (untraced plan past is.0 is.3)
-        ∙ none_of plan.layout.counts x.link (source_of x.beat) (what_is_seen plan past x) is.1 is.4
+    ∙ none_of plan.layout.counts x.link (source_of x.beat) (what_is_seen plan past x) is.1 is.4

@@ -58,7 +58,7 @@ drop_first : (plan : Plan) (row : Row) (rest : List Row) (b : Bool) → is_watch
     → IsLawful plan (seen plan.layout (row ∷ rest)) → IsLawful plan (seen plan.layout rest)
 drop_first plan row rest true is lawful =
     let all : IsLawful plan (row.sighting ∷ seen plan.layout rest) =
-        subst (IsLawful plan) (seen_one plan.layout row rest is) lawful in all.0
+    subst (IsLawful plan) (seen_one plan.layout row rest is) lawful in all.0
 drop_first plan row rest false is lawful = subst (IsLawful plan) (seen_other plan.layout row rest is) lawful
 
 pub lawful_rest : (plan : Plan) (after before : List Row) → IsLawful plan (seen plan.layout (after ++ before))
@@ -66,4 +66,4 @@ pub lawful_rest : (plan : Plan) (after before : List Row) → IsLawful plan (see
 lawful_rest plan [] before lawful = lawful
 lawful_rest plan (row ∷ after) before lawful =
     lawful_rest plan after before (drop_first plan row (after ++ before)
-        (is_watched plan.layout row.sighting.link) refl lawful)
+    (is_watched plan.layout row.sighting.link) refl lawful)

@@ -53,11 +53,11 @@ fault_text (WrongReply expected captured) = wrong_text expected captured
 unfoldable pub lawful_line : Counts → List ℕ
 lawful_line counts =
     codes "lawful: " ++ decimal counts.rows ++ codes " rows, " ++ decimal counts.requests ++ codes " requests, "
-        ++ decimal counts.answered ++ codes " answered"
+    ++ decimal counts.answered ++ codes " answered"
     ++ 10 ∷ []
 
 unfoldable pub unlawful_line : Unlawful → List ℕ
 unlawful_line found =
     codes "unlawful: line " ++ decimal found.row.line ++ codes ", time " ++ decimal found.row.time ++ codes ", "
-        ++ link_text found.row.sighting.link
+    ++ link_text found.row.sighting.link
     ++ channel_text found.row.sighting.beat ++ fault_text found.fault ++ 10 ∷ []

@@ -16,8 +16,12 @@ use Rattle.check_judge.specs.Count.{is_counted}
 -- the entry with this source
 abbrev pub sent_by : ℕ → Entry → Entry
 sent_by source entry =
-    record { ask = record entry.ask { source = source }; reply = record entry.reply { source = source };
-    port = entry.port; index = entry.index }
+    record {
+      ask = record entry.ask { source = source };
+      reply = record entry.reply { source = source };
+      port = entry.port;
+      index = entry.index;
+    }
 
 -- the line of an entry whose reply was seen at a link, to this source of the link. At a port's link that is a wide
 -- source, and the line has the master that owns it and the master's own source
@@ -45,7 +49,7 @@ IsTold trace plan [] text = text ≡ []
 IsTold trace plan (x ∷ past) text =
     (so_far : List ℕ) × (more : List ℕ) × (text ≡ so_far ++ more) × IsTold trace plan past so_far
     × IsToldOf (trace && is_counted plan.layout.links x.link) plan.layout.counts x.link (source_of x.beat)
-        (what_is_seen plan past x) more
+    (what_is_seen plan past x) more
 
 -- ---- for the proofs: a text that grows
 
@@ -53,7 +57,7 @@ IsTold trace plan (x ∷ past) text =
 abbrev pub AppendsLine : List ℕ → Link → ℕ → Entry → List ℕ → List ℕ → Type 0
 AppendsLine counts link source entry old new =
     ((line : List ℕ) × (new ≡ old ++ line) × IsLine counts link source entry line)
-        ⊎ ((new ≡ old) × (HasOwner counts link source → ⊥))
+    ⊎ ((new ≡ old) × (HasOwner counts link source → ⊥))
 
 -- a text grew by what is told of a beat that ends this
 abbrev pub AppendsToldOf : Bool → List ℕ → Link → ℕ → Seen → List ℕ → List ℕ → Type 0

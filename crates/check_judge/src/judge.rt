@@ -7,10 +7,10 @@ ghost use Rattle.check_capture.specs.declared.row.Row.{Row};
 ghost use Rattle.check_judge.specs.View.{HasTold, Judges, TellsOn, TellsStop, is_traced};
 ghost use Rattle.check_judge.specs.Verdict.{HasCounts, IsFirstUnlawful, IsLawfulFile, IsStop, IsToldBefore, IsToldFile, OfUnlawful};
 
-use check_capture::{Moment, Row};
-use check_watch::Watch;
 use crate::stop::{Counts, Refusal, Stop, stop_of};
 use crate::tally::Tally;
+use check_capture::{Moment, Row};
+use check_watch::Watch;
 
 /// The judge of the rows of a file, which it takes in the order in which they stand there.
 #[derive(Drop)]

@@ -8,11 +8,11 @@ ghost use Rattle.check_judge.specs.Told.{AppendsTold, AppendsToldOf};
 ghost use Rattle.check_judge.specs.View.{Kept};
 ghost use Rattle.check_judge.specs.Verdict.{IsUnlawfulAfter, OfUnlawful, StopsTelling};
 
+use crate::stop::{Refusal, Unlawful};
+use crate::trace::{push_answer, source_of};
 use check_capture::Row;
 use check_link::{Link, Sighting};
 use check_watch::{Ended, Links, Seen, Watch};
-use crate::stop::{Refusal, Unlawful};
-use crate::trace::{push_answer, source_of};
 use std::alloc::AllocError;
 
 /// Whether messages are counted at a link: at the masters' where these are watched, else at the ports'.

@@ -4,9 +4,9 @@ ghost use Rattle.tl_script.specs.Trace.{reply_text};
 ghost use Rattle.tl_text.specs.Text.{BeginsWith};
 ghost use Rattle.check_judge.specs.Text.{channel_text, fault_text, form_text, lawful_line, link_text, unlawful_line, wrong_text};
 
+use crate::stop::{Counts, Unlawful};
 use check_link::{Beat, FormFault, Link};
 use check_watch::Fault;
-use crate::stop::{Counts, Unlawful};
 use std::alloc::AllocError;
 use tl_script::push_reply;
 use tl_text::push_field;

@@ -53,12 +53,12 @@ module _ (plan : Plan) (is_plan : IsPlan plan) (past : List Sighting) (watched :
   sent_so : (at : Link) (beat : ABeat) → KeepsRules plan (ask_at at known beat ∷ past)
       → ends_ask (asking (beats_at at past)) beat ≡ true
       → IsSent plan.layout at (scene_of plan s (ask_at at known beat)).sent
-          (scene_of plan s (ask_at at known beat)).crossing (ask_of beat (asking (beats_at at past) ++ beat ∷ []))
+      (scene_of plan s (ask_at at known beat)).crossing (ask_of beat (asking (beats_at at past) ++ beat ∷ []))
   sent_so (Master m) beat rules ends = tt
   sent_so (Port p) beat rules ends = λ both.
       let stands = all_stand plan is_plan both past watched lawful beat.source in
       sent_back plan past p known beat ends (rules.crossings both beat.source) (s.flights AtMasters beat.source).turn
-          (s.crossings beat.source) (s.flights AtPorts beat.source).turn stands
+      (s.crossings beat.source) (s.flights AtPorts beat.source).turn stands
 
   pub ask_allowed : (beat : ABeat) → KeepsRules plan (ask_at link known beat ∷ past)
       → IsSeenWhole plan past (ask_at link known beat) (A beat)
@@ -96,29 +96,29 @@ module _ (plan : Plan) (is_plan : IsPlan plan) (past : List Sighting) (watched :
   IsWell at beat ask given =
       let scene = scene_of plan s (reply_at at known beat) in
       (captured : Response) × IsLawfulResponse captured.op captured.size captured.denied captured.bytes
-          × SpellsReply captured ask.address (replying (beats_at at past) ++ beat ∷ [])
+      × SpellsReply captured ask.address (replying (beats_at at past) ++ beat ∷ [])
       × IsSomeAnd (must_by given beat.source scene.crossing scene.flight.due) (λ answer. answer.reply ≡ captured)
 
   -- the reply that ends is the one that must come, from a port or a memory
   given_so : (at : Link) (beat : DBeat) → KeepsRules plan (reply_at at known beat ∷ past) → (ask : Request)
       → (s.flights (side_of at) (wide_of plan at beat.source)).turn ≡ Asked (number_of at) ask
       → ends_reply (replying (beats_at at past)) beat ≡ true
-          → is_given plan.layout at (found_in plan s (reply_at at known beat)).port ≡ true → IsWell at beat ask true
+      → is_given plan.layout at (found_in plan s (reply_at at known beat)).port ≡ true → IsWell at beat ask true
   given_so (Port p) beat rules ask in_flight ends given = cc
   given_so (Master m) beat rules ask in_flight ends given =
       let wide = plan.wide m beat.source in
       let turn = (s.flights AtMasters wide).turn in
       let both = both_of plan.layout m (port_in plan turn) given in
       let out : is_out plan wide ask ≡ true =
-          ap (λ t. nat_lt (port_in plan t) (length plan.layout.ranges)) (sym in_flight) ∙ both.1 in
+      ap (λ t. nat_lt (port_in plan t) (length plan.layout.ranges)) (sym in_flight) ∙ both.1 in
       let stands : Stands plan wide (story_at plan wide past) (Asked m ask) (s.crossings wide)
-          (s.flights AtPorts wide).turn =
+      (s.flights AtPorts wide).turn =
       subst (λ t. Stands plan wide (story_at plan wide past) t (s.crossings wide)
-          (s.flights AtPorts wide).turn) in_flight (all_stand plan is_plan both.0 past watched lawful wide) in
+      (s.flights AtPorts wide).turn) in_flight (all_stand plan is_plan both.0 past watched lawful wide) in
       given_back plan past lawful m known beat ask in_flight ends out (rules.crossings both.0 wide) (s.crossings wide)
-          (s.flights AtPorts wide).turn
+      (s.flights AtPorts wide).turn
       (subst (λ b. IsOut plan wide (story_at plan wide past) b ask (s.crossings wide)
-          (s.flights AtPorts wide).turn) out stands)
+      (s.flights AtPorts wide).turn) out stands)
 
   well : (beat : DBeat) → KeepsRules plan (reply_at link known beat ∷ past) → (ask : Request)
       → (s.flights (side_of link) (wide_of plan link beat.source)).turn ≡ Asked (number_of link) ask
@@ -126,15 +126,15 @@ module _ (plan : Plan) (is_plan : IsPlan plan) (past : List Sighting) (watched :
   well beat rules ask in_flight ends_here =
       let found = (found_in plan s (reply_at link known beat)).port in
       let ends : ends_reply (replying (beats_at link past)) beat ≡ true =
-          ap (λ l. ends_reply l beat) (sym replying_is) ∙ ends_here in
+      ap (λ l. ends_reply l beat) (sym replying_is) ∙ ends_here in
       let is : IsWell link beat ask (is_given plan.layout link found) =
-          go (is_given plan.layout link found) refl ends in
+      go (is_given plan.layout link found) refl ends in
       subst (λ (l : List DBeat). (captured : Response)
-          × IsLawfulResponse captured.op captured.size captured.denied captured.bytes
-          × SpellsReply captured ask.address (l ++ beat ∷ [])
+      × IsLawfulResponse captured.op captured.size captured.denied captured.bytes
+      × SpellsReply captured ask.address (l ++ beat ∷ [])
       × IsSomeAnd (must_by (is_given plan.layout link found) beat.source
-          (scene_of plan s (reply_at link known beat)).crossing (scene_of plan s (reply_at link known beat)).flight.due)
-          (λ answer. answer.reply ≡ captured)) (sym replying_is) is
+      (scene_of plan s (reply_at link known beat)).crossing (scene_of plan s (reply_at link known beat)).flight.due)
+      (λ answer. answer.reply ≡ captured)) (sym replying_is) is
     where
       go : (given : Bool) → is_given plan.layout link (found_in plan s (reply_at link known beat)).port ≡ given
           → ends_reply (replying (beats_at link past)) beat ≡ true → IsWell link beat ask given
@@ -151,15 +151,20 @@ module _ (plan : Plan) (is_plan : IsPlan plan) (past : List Sighting) (watched :
       let scene = scene_of plan s (reply_at link known beat) in
       let fits = reply_fits past link known beat (rules.messages.links link) in
       let answering = answering_back plan past lawful link known beat fits.same
-          (rules.messages.sources (side_of link) wide) in
+      (rules.messages.sources (side_of link) wide) in
       let next = next_is plan past link wide turn answering.ask
-          (in_step plan past lawful (side_of link) wide) answering.in_flight in
+      (in_step plan past lawful (side_of link) wide) answering.in_flight in
       record {
         fits = subst (λ (l : List DBeat). FitsReply l beat) (sym replying_is) fits;
         source = rules.messages.known.0;
-        answers = subst (λ t. OfAsked (number_of link) t (IsAnswer beat known)) (sym answering.in_flight)
-            (refl, record { size = answering.answers.size; opcode = answering.answers.opcode;
-                lanes = seen answering.ask next });
+        answers = subst (λ t. OfAsked (number_of link) t (IsAnswer beat known)) (sym answering.in_flight) (
+          refl,
+          record {
+            size = answering.answers.size;
+            opcode = answering.answers.opcode;
+            lanes = seen answering.ask next;
+          },
+        );
         ends = subst (λ t. OfAsked (number_of link) t (EndsWell plan.layout link scene beat)) (sym answering.in_flight)
             (refl, well beat rules answering.ask answering.in_flight);
       }
@@ -174,7 +179,7 @@ rules_make_lawful plan (x ∷ past) is watched seen always =
     go : IsLawful plan past → (beat : Beat) → KeepsRules plan (record x { beat = beat } ∷ past)
         → IsSeenWhole plan past (record x { beat = beat }) beat
         → IsLawful plan past × IsAllowed plan (scene_of plan (state plan past) (record x { beat = beat }))
-            (record x { beat = beat })
+        (record x { beat = beat })
     go lawful (A beat) rules seen =
         (lawful, ask_allowed plan is past watched.1 lawful x.link x.known watched.0.0 watched.0.1 beat rules seen)
     go lawful (D beat) rules seen =

@@ -46,7 +46,7 @@ module _ (plan : Plan) (past : List Sighting) (p known : ℕ) (beat : ABeat)
       let last : AskSeen = record { link = Port p; ask = ask } in
       crossing.requests
       ∙ ap (λ l. requests_of l ++ crossing.waiting)
-          (asks_with_ask plan past (Port p) known beat ∙ ap (λ b. taken ++ (if b then last ∷ [] else [])) ends)
+      (asks_with_ask plan past (Port p) known beat ∙ ap (λ b. taken ++ (if b then last ∷ [] else [])) ends)
       ∙ ap (λ l. l ++ crossing.waiting) (requests_more taken last)
       ∙ append_assoc (requests_of taken) (ask ∷ []) crossing.waiting
 
@@ -54,8 +54,12 @@ module _ (plan : Plan) (past : List Sighting) (p known : ℕ) (beat : ABeat)
   too_few : sent_out plan wide (asks plan AtMasters wide past) ≡ requests_of taken → ⊥
   too_few same =
       let both : requests_of taken ≡ requests_of taken ++ (ask ∷ [] ++ crossing.waiting) = sym same ∙ sent_is in
-      absurd (omega (arith, ap (λ (l : List Request). length l) both,
-          length-append (requests_of taken) (ask ∷ [] ++ crossing.waiting), length-append (ask ∷ []) crossing.waiting))
+      absurd (omega (
+        arith,
+        ap (λ (l : List Request). length l) both,
+        length-append (requests_of taken) (ask ∷ [] ++ crossing.waiting),
+        length-append (ask ∷ []) crossing.waiting,
+      ))
 
   pub sent_back : (turn : Turn) (far : Crossing) (there : Turn)
       → Stands plan wide (story_at plan wide past) turn far there → IsAskedAs turn ask × (far ≡ Waiting)
@@ -71,5 +75,5 @@ module _ (plan : Plan) (past : List Sighting) (p known : ℕ) (beat : ABeat)
       go true Waiting stands =
           let lists : record sent { source = wide } ∷ [] ≡ ask ∷ [] ++ crossing.waiting =
           append_cancel_left (requests_of taken) (record sent { source = wide } ∷ []) (ask ∷ [] ++ crossing.waiting)
-              (sym stands.same ∙ sent_is) in
+          (sym stands.same ∙ sent_is) in
           (ap (head_of ask) lists, refl)

@@ -102,45 +102,45 @@ module _ (past : List Sighting) (link : Link) (known : ℕ) where
   ask_fits beat carries =
       let x : Sighting = record { link = link; beat = A beat; known = known } in
       go (ends_ask (asking (beats_at link past)) beat)
-          (subst (λ l. AllByRecursion IsSpelled (ended l)) (beats_here x past) carries.asks_spelled)
-          (subst (λ l. asking l ≢ [] → CanEnd (asking l)) (beats_here x past) carries.ask_begun)
+      (subst (λ l. AllByRecursion IsSpelled (ended l)) (beats_here x past) carries.asks_spelled)
+      (subst (λ l. asking l ≢ [] → CanEnd (asking l)) (beats_here x past) carries.ask_begun)
     where
       go : (ends : Bool) → AllByRecursion IsSpelled
           (if ends then ended (beats_at link past)
           ++ (ask_of beat (asking (beats_at link past) ++ beat ∷ []), asking (beats_at link past) ++ beat ∷ [])
           ∷ [] else ended (beats_at link past))
           → ((if ends then [] else asking (beats_at link past) ++ beat ∷ []) ≢ []
-              → CanEnd (if ends then [] else asking (beats_at link past) ++ beat ∷ []))
+          → CanEnd (if ends then [] else asking (beats_at link past) ++ beat ∷ []))
           → FitsAsk (asking (beats_at link past)) beat
       go true all can =
           let message : List ABeat = asking (beats_at link past) ++ beat ∷ [] in
           let is : IsSpelled (ask_of beat message, message) =
-              last_of_all IsSpelled (ended (beats_at link past)) (ask_of beat message, message) all in
+          last_of_all IsSpelled (ended (beats_at link past)) (ask_of beat message, message) all in
           spelled_fits (ask_of beat message) (asking (beats_at link past)) beat []
-              (subst (λ (l : List ABeat). IsSpelled (ask_of beat message, l)) (sym (append-nil message)) is)
+          (subst (λ (l : List ABeat). IsSpelled (ask_of beat message, l)) (sym (append-nil message)) is)
       go false all can =
           let end = can (some_ask (asking (beats_at link past)) beat) in
-              spelled_fits end.0 (asking (beats_at link past)) beat end.1 end.2
+          spelled_fits end.0 (asking (beats_at link past)) beat end.1 end.2
 
   pub reply_fits : (beat : DBeat) → CarriesMessages (record { link = link; beat = D beat; known = known } ∷ past) link
       → FitsReply (replying (beats_at link past)) beat
   reply_fits beat carries =
       let x : Sighting = record { link = link; beat = D beat; known = known } in
       go (ends_reply (replying (beats_at link past)) beat)
-          (subst (λ l. AllByRecursion IsReplySpelled (ended_replies l)) (beats_here x past) carries.replies_spelled)
-          (subst (λ l. replying l ≢ [] → ReplyCanEndSo (replying l)) (beats_here x past) carries.reply_begun)
+      (subst (λ l. AllByRecursion IsReplySpelled (ended_replies l)) (beats_here x past) carries.replies_spelled)
+      (subst (λ l. replying l ≢ [] → ReplyCanEndSo (replying l)) (beats_here x past) carries.reply_begun)
     where
       go : (ends : Bool) → AllByRecursion IsReplySpelled
           (if ends then ended_replies (beats_at link past)
           ++ (replying (beats_at link past) ++ beat ∷ []) ∷ [] else ended_replies (beats_at link past))
           → ((if ends then [] else replying (beats_at link past) ++ beat ∷ []) ≢ []
-              → ReplyCanEndSo (if ends then [] else replying (beats_at link past) ++ beat ∷ []))
+          → ReplyCanEndSo (if ends then [] else replying (beats_at link past) ++ beat ∷ []))
           → FitsReply (replying (beats_at link past)) beat
       go true all can =
           let message : List DBeat = replying (beats_at link past) ++ beat ∷ [] in
           reply_spelled_fits (replying (beats_at link past)) beat []
-              (subst (λ (l : List DBeat). IsReplySpelled l) (sym (append-nil message))
-              (last_of_all IsReplySpelled (ended_replies (beats_at link past)) message all))
+          (subst (λ (l : List DBeat). IsReplySpelled l) (sym (append-nil message))
+          (last_of_all IsReplySpelled (ended_replies (beats_at link past)) message all))
       go false all can =
           let end = can (some_reply (replying (beats_at link past)) beat) in
-              reply_spelled_fits (replying (beats_at link past)) beat end.0 end.1
+          reply_spelled_fits (replying (beats_at link past)) beat end.0 end.1

@@ -49,7 +49,7 @@ lawful_is_told store (entry ∷ history) lawful =
     let first : entry.1 ≡ reply store entry.0 = lawful 0 entry.0 entry.1 refl in
     ap (λ r. (entry.0, r) ∷ history) first
     ∙ ap (λ l. (entry.0, reply store entry.0) ∷ l)
-        (lawful_is_told (after store entry.0) history (λ k ask response at. lawful (suc k) ask response at))
+    (lawful_is_told (after store entry.0) history (λ k ask response at. lawful (suc k) ask response at))
     ∙ sym (told_cons store entry.0 (asks_of history))
 
 -- the entry of the last exchange is the one behind those of the others
@@ -57,7 +57,7 @@ last_entry_of : (wide : ℕ) (seen : List (AskSeen × ReplySeen)) (last : AskSee
     (front rest : List (Request × Response)) → AreMatched wide seen front
     → AreEntries wide (seen ++ last ∷ []) (front ++ rest)
     → (entry : Request × Response) × (more : List (Request × Response)) × (rest ≡ entry ∷ more)
-        × IsEntry wide last entry
+    × IsEntry wide last entry
 last_entry_of wide [] last [] [] all are = absurd are
 last_entry_of wide [] last [] (entry ∷ more) all are = (entry, more, refl, are.0)
 last_entry_of wide [] last (e ∷ front) rest all are = absurd all
@@ -94,22 +94,26 @@ owed_entry : (plan : Plan) (port wide n : ℕ) (link : Link) (ask : Request) (du
     (entry : Request × Response) (more : List (Request × Response)) (beats : List DBeat) → n ≡ number_of link
     → (port_for plan link ask == port) ≡ true
     → owed plan port wide (side_of link) (Asked n ask) due ≡ entry ∷ more → IsSourced (Asked n ask) due
-        → IsEntry wide (record { link = link; ask = ask }, record { link = link; beats = beats }) entry
+    → IsEntry wide (record { link = link; ask = ask }, record { link = link; beats = beats }) entry
     → (captured : Response) × IsLawfulResponse captured.op captured.size captured.denied captured.bytes
-        × SpellsReply captured ask.address beats × IsSomeAnd due (λ answer. answer.reply ≡ captured)
+    × SpellsReply captured ask.address beats × IsSomeAnd due (λ answer. answer.reply ≡ captured)
 owed_entry plan port wide n link ask None entry more beats number goes is sourced one = cc
 owed_entry plan port wide n link ask (Some answer) entry more beats number goes is sourced one =
     let there : link_on (side_of link) n ≡ link = ap (λ k. link_on (side_of link) k) number ∙ own_link link in
     let own : Request × Response = (record ask { source = wide }, record answer.reply { source = wide }) in
     let goes_so : (port_for plan (link_on (side_of link) n) ask == port) ≡ true =
-        ap (λ l. port_for plan l ask == port) there ∙ goes in
+    ap (λ l. port_for plan l ask == port) there ∙ goes in
     let lists : own ∷ [] ≡ entry ∷ more = sym (ap (λ b. if b then own ∷ [] else []) goes_so) ∙ is in
     let same : own ≡ entry = ap (first_entry own) lists in
     let this : IsEntry wide (record { link = link; ask = ask }, record { link = link; beats = beats }) own =
-        subst (λ e. IsEntry wide (record { link = link; ask = ask }, record { link = link; beats = beats }) e)
-        (sym same) one in
-    (answer.reply, this.lawful, subst (λ k. SpellsReply (record answer.reply { source = k }) ask.address beats)
-        (sym sourced) this.spelled, refl)
+    subst (λ e. IsEntry wide (record { link = link; ask = ask }, record { link = link; beats = beats }) e)
+    (sym same) one in (
+      answer.reply,
+      this.lawful,
+      subst (λ k. SpellsReply (record answer.reply { source = k }) ask.address beats)
+          (sym sourced) this.spelled,
+      refl,
+    )
 
 -- ---- a reply that ends
 
@@ -117,7 +121,7 @@ module _ (plan : Plan) (past : List Sighting) (watched : AreWatched plan.layout 
     (link : Link) (known : ℕ) (has : HasLink plan.layout link) (seen_here : IsWatched plan.layout.links link)
     (beat : DBeat)
     (ask : Request) (in_flight : ((state plan past).flights (side_of link) (wide_of plan link beat.source)).turn ≡ Asked
-        (number_of link) ask) (ends : ends_reply (replying (beats_at link past)) beat ≡ true) where
+    (number_of link) ask) (ends : ends_reply (replying (beats_at link past)) beat ≡ true) where
   abbrev s : State
   s = state plan past
 
@@ -160,7 +164,7 @@ module _ (plan : Plan) (past : List Sighting) (watched : AreWatched plan.layout 
       → ((port : ℕ) → (history : List (Request × Response))
       × IsDoneAt plan (reply_at link known beat ∷ past) port history)
       → (captured : Response) × IsLawfulResponse captured.op captured.size captured.denied captured.bytes
-          × SpellsReply captured ask.address message × IsSomeAnd due (λ answer. answer.reply ≡ captured)
+      × SpellsReply captured ask.address message × IsSomeAnd due (λ answer. answer.reply ≡ captured)
   memory_back given memories =
       let linked = links_are plan past in
       let steps = in_step plan past lawful in
@@ -168,41 +172,41 @@ module _ (plan : Plan) (past : List Sighting) (watched : AreWatched plan.layout 
       let replayed = are_replayed plan past watched lawful in
       let effect : takes_effect plan.layout link found ≡ true = effect_of plan.layout link found given in
       let same : same_side (side_of link) (side_for plan.layout found) ≡ true =
-          sym (takes plan.layout link found has seen_here (port_own plan link turn (D beat))) ∙ effect in
+      sym (takes plan.layout link found has seen_here (port_own plan link turn (D beat))) ∙ effect in
       let side : side_of link ≡ side_for plan.layout found =
-          same_side-true (side_of link) (side_for plan.layout found) same in
+      same_side-true (side_of link) (side_for plan.layout found) same in
       let goes : port_for plan link ask ≡ found =
-          goes_there plan s past linked steps dues replayed link known has seen_here beat ask in_flight in
+      goes_there plan s past linked steps dues replayed link known has seen_here beat ask in_flight in
       let goes_so : (port_for plan link ask == found) ≡ true = ap (λ n. n == found) goes ∙ eqb_own found in
       let for_it : is_for plan found last.0 ≡ true = ap (λ b. b && (port_for plan link ask == found)) same ∙ goes_so in
       let was = told_at plan s past found own own (side_for plan.layout found) (side_of link) side refl
-          (are_told plan past watched lawful found own) in
+      (are_told plan past watched lawful found own) in
       let done = memories found in
       let history_is : entries_of own done.0 ≡ was.front ++ owed plan found own (side_of link) turn due =
       ap (λ l. entries_of own l) (lawful_is_told (reset_of plan found) done.0 done.1.lawful
-          ∙ ap (λ l. told (reset_of plan found) l) done.1.order)
+      ∙ ap (λ l. told (reset_of plan found) l) done.1.order)
       ∙ put_last plan s past linked steps dues replayed link known has seen_here beat ask in_flight found was.front was.entries_are in
       let seen_is : exchanges_at plan found own (reply_at link known beat ∷ past) ≡ at_port plan found
-          (asks plan (side_of link) own past) (replies plan (side_of link) own past) ++ last ∷ [] =
+      (asks plan (side_of link) own past) (replies plan (side_of link) own past) ++ last ∷ [] =
       ap (λ sd. at_port plan found (asks plan sd own (reply_at link known beat ∷ past))
-          (replies plan sd own (reply_at link known beat ∷ past))) (sym side)
+      (replies plan sd own (reply_at link known beat ∷ past))) (sym side)
       ∙ ap (λ l. at_port plan found l (replies plan (side_of link) own (reply_at link known beat ∷ past))) asks_are
       ∙ ap (λ l. at_port plan found (asks plan (side_of link) own past ++ []) l) replies_are
       ∙ sym (seen_more plan found (asks plan (side_of link) own past) step.done
-          (replies plan (side_of link) own past) last.0 last.1 asked_is step.counted)
+      (replies plan (side_of link) own past) last.0 last.1 asked_is step.counted)
       ∙ ap (λ b. at_port plan found (asks plan (side_of link) own past) (replies plan (side_of link) own past)
-          ++ (if b then last ∷ [] else [])) for_it in
+      ++ (if b then last ∷ [] else [])) for_it in
       let entries : AreEntries own (at_port plan found (asks plan (side_of link) own past)
-          (replies plan (side_of link) own past) ++ last ∷ [])
-          (was.front ++ owed plan found own (side_of link) turn due) =
+      (replies plan (side_of link) own past) ++ last ∷ [])
+      (was.front ++ owed plan found own (side_of link) turn due) =
       subst (λ l. AreEntries own l (was.front ++ owed plan found own (side_of link) turn due)) seen_is
-          (subst (λ l. AreEntries own (exchanges_at plan found own (reply_at link known beat ∷ past)) l) history_is
-          (done.1.captured own)) in
+      (subst (λ l. AreEntries own (exchanges_at plan found own (reply_at link known beat ∷ past)) l) history_is
+      (done.1.captured own)) in
       let entry = last_entry_of own (at_port plan found (asks plan (side_of link) own past)
-          (replies plan (side_of link) own past)) last was.front
-          (owed plan found own (side_of link) turn due) was.matched entries in
+      (replies plan (side_of link) own past)) last was.front
+      (owed plan found own (side_of link) turn due) was.matched entries in
       owed_entry plan found own (number_of link) link ask due entry.0 entry.1 message refl goes_so
-          (ap (λ t. owed plan found own (side_of link) t due) (sym in_flight) ∙ entry.2)
+      (ap (λ t. owed plan found own (side_of link) t due) (sym in_flight) ∙ entry.2)
       (sourced_late plan s past linked steps dues replayed link known has seen_here beat ask in_flight) entry.3
 
 slice_last : (begun : List DBeat) (beat : DBeat) → slice_get (begun ++ beat ∷ []) (length begun) ≡ Some beat
@@ -213,8 +217,8 @@ slice_last (b ∷ begun) beat = slice_last begun beat
 module _ (plan : Plan) (past : List Sighting) (lawful : IsLawful plan past) (m known : ℕ) (beat : DBeat) (ask : Request)
     (in_flight : ((state plan past).flights AtMasters (plan.wide m beat.source)).turn ≡ Asked m ask)
     (ends : ends_reply (replying (beats_at (Master m) past)) beat ≡ true)
-        (out : is_out plan (plan.wide m beat.source) ask ≡ true)
-        (crossing : MessagesCross plan (reply_at (Master m) known beat ∷ past) (plan.wide m beat.source)) where
+    (out : is_out plan (plan.wide m beat.source) ask ≡ true)
+    (crossing : MessagesCross plan (reply_at (Master m) known beat ∷ past) (plan.wide m beat.source)) where
   abbrev wide : ℕ
   wide = plan.wide m beat.source
 
@@ -234,39 +238,41 @@ module _ (plan : Plan) (past : List Sighting) (lawful : IsLawful plan past) (m k
   given_now =
       let step = in_step plan past lawful AtMasters wide in
       let asked_so : asks plan AtMasters wide past ≡ step.done ++ one.0 ∷ [] =
-          step.asks_are ∙ ap (λ t. step.done ++ pending AtMasters t) in_flight in
+      step.asks_are ∙ ap (λ t. step.done ++ pending AtMasters t) in_flight in
       let seen : answered_from_outside plan (exchanges plan AtMasters wide
-          (reply_at (Master m) known beat ∷ past)) ≡ before ++ one ∷ [] =
+      (reply_at (Master m) known beat ∷ past)) ≡ before ++ one ∷ [] =
       ap (λ l. answered_from_outside plan (zip l (replies plan AtMasters wide (reply_at (Master m) known beat ∷ past))))
-          (asks_with_reply plan past (Master m) known beat ∙ sym (append-nil (asks plan AtMasters wide past)))
+      (asks_with_reply plan past (Master m) known beat ∙ sym (append-nil (asks plan AtMasters wide past)))
       ∙ ap (λ l. answered_from_outside plan (zip (asks plan AtMasters wide past ++ []) l))
-          (replies_with_reply plan past (Master m) known beat
+      (replies_with_reply plan past (Master m) known beat
       ∙ ap (λ b. replies plan AtMasters wide past
-          ++ (if b then record { link = Master m; beats = reply_beats } ∷ [] else [])) ends)
+      ++ (if b then record { link = Master m; beats = reply_beats } ∷ [] else [])) ends)
       ∙ outside_answered plan wide story step.done one.0 one.1 asked_so step.counted
       ∙ ap (λ b. before ++ (if b then one ∷ [] else [])) out in
       subst (λ l. AreGiven wide l (exchanges plan AtPorts wide past)) seen crossing.given
 
   pub given_back : (far : Crossing) (there : Turn) → IsOut plan wide story true ask far there
       → (captured : Response) × IsLawfulResponse captured.op captured.size captured.denied captured.bytes
-          × SpellsReply captured ask.address reply_beats
-          × IsSomeAnd (given_to beat.source far) (λ answer. answer.reply ≡ captured)
+      × SpellsReply captured ask.address reply_beats
+      × IsSomeAnd (given_to beat.source far) (λ answer. answer.reply ≡ captured)
   given_back Waiting there stands =
       absurd (not_all_given wide before (exchanges plan AtPorts wide past) one stands.given given_now)
   given_back Crossed there stands =
       absurd (not_all_given wide before (exchanges plan AtPorts wide past) one stands.given given_now)
   given_back (Given answer) there stands =
       let this : IsGiven wide one stands.last =
-          last_given wide before stands.front one stands.last stands.given
-          (subst (λ l. AreGiven wide (before ++ one ∷ []) l) stands.split given_now) in
+      last_given wide before stands.front one stands.last stands.given
+      (subst (λ l. AreGiven wide (before ++ one ∷ []) l) stands.split given_now) in
       let same : this.reply ≡ answer.reply =
-          same_reply this.reply answer.reply stands.last.0.ask.address stands.last.1.beats this.lawful stands.lawful this.at_port_spelled stands.spelled in
+      same_reply this.reply answer.reply stands.last.0.ask.address stands.last.1.beats this.lawful stands.lawful this.at_port_spelled stands.spelled in
       let spelled : SpellsReply (record answer.reply { source = ask.source }) ask.address reply_beats =
-          subst (λ (r : Response). SpellsReply
-          (record r { source = ask.source }) ask.address reply_beats) same this.at_master_spelled in
+      subst (λ (r : Response). SpellsReply
+      (record r { source = ask.source }) ask.address reply_beats) same this.at_master_spelled in
       let source : beat.source ≡ ask.source =
-          (spelled.each (length (replying (beats_at (Master m) past))) beat
-          (slice_last (replying (beats_at (Master m) past)) beat)).fields.source in
-      (record answer.reply { source = beat.source }, stands.lawful,
-          subst (λ k. SpellsReply (record answer.reply { source = k }) ask.address reply_beats) (sym source) spelled,
-          refl)
+      (spelled.each (length (replying (beats_at (Master m) past))) beat
+      (slice_last (replying (beats_at (Master m) past)) beat)).fields.source in (
+        record answer.reply { source = beat.source },
+        stands.lawful,
+        subst (λ k. SpellsReply (record answer.reply { source = k }) ask.address reply_beats) (sym source) spelled,
+        refl,
+      )

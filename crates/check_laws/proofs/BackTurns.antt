@@ -40,7 +40,7 @@ module _ (plan : Plan) (past : List Sighting) (link : Link) (known : ℕ) where
   asks_with_ask beat =
       let was = asks plan (side_of link) (wide_of plan link beat.source) past in
       ap (λ b. if b then was ++ ask_ended link (beats_at link past) (A beat) else was)
-          (is_of_own plan (ask_at link known beat))
+      (is_of_own plan (ask_at link known beat))
 
   pub replies_with_ask : (beat : ABeat) → replies plan (side_of link) (wide_of plan link beat.source)
       (ask_at link known beat ∷ past) ≡ replies plan (side_of link) (wide_of plan link beat.source) past
@@ -60,7 +60,7 @@ module _ (plan : Plan) (past : List Sighting) (link : Link) (known : ℕ) where
   replies_with_reply beat =
       let was = replies plan (side_of link) (wide_of plan link beat.source) past in
       ap (λ b. if b then was ++ reply_ended link (beats_at link past) (D beat) else was)
-          (is_of_own plan (reply_at link known beat))
+      (is_of_own plan (reply_at link known beat))
 
 -- ---- requests
 
@@ -78,8 +78,12 @@ module _ (plan : Plan) (past : List Sighting) (lawful : IsLawful plan past) (lin
 
   was : length (asks plan (side_of link) own past) ≡ length (replies plan (side_of link) own past) + length
       (pending (side_of link) turn)
-  was = omega (arith, ap (λ (l : List AskSeen). length l) step.asks_are,
-      length-append step.done (pending (side_of link) turn), step.counted)
+  was = omega (
+    arith,
+    ap (λ (l : List AskSeen). length l) step.asks_are,
+    length-append step.done (pending (side_of link) turn),
+    step.counted,
+  )
 
   -- how many there are with the beat
   now : (ends : Bool) → ends_ask (asking (beats_at link past)) beat ≡ ends
@@ -87,14 +91,14 @@ module _ (plan : Plan) (past : List Sighting) (lawful : IsLawful plan past) (lin
       (asks plan (side_of link) own past) + (if ends then 1 else 0)
   now true is = ap (λ (l : List AskSeen). length l) (asks_with_ask plan past link known beat)
       ∙ ap (λ b. length (asks plan (side_of link) own past
-          ++ (if b then record { link = link; ask = ask_of beat (asking (beats_at link past) ++ beat ∷ []) }
-          ∷ [] else []))) is
+      ++ (if b then record { link = link; ask = ask_of beat (asking (beats_at link past) ++ beat ∷ []) }
+      ∷ [] else []))) is
       ∙ length-append (asks plan (side_of link) own past)
-          (record { link = link; ask = ask_of beat (asking (beats_at link past) ++ beat ∷ []) } ∷ [])
+      (record { link = link; ask = ask_of beat (asking (beats_at link past) ++ beat ∷ []) } ∷ [])
   now false is = ap (λ (l : List AskSeen). length l) (asks_with_ask plan past link known beat)
       ∙ ap (λ b. length (asks plan (side_of link) own past
-          ++ (if b then record { link = link; ask = ask_of beat (asking (beats_at link past) ++ beat ∷ []) }
-          ∷ [] else []))) is
+      ++ (if b then record { link = link; ask = ask_of beat (asking (beats_at link past) ++ beat ∷ []) }
+      ∷ [] else []))) is
       ∙ ap (λ (l : List AskSeen). length l) (append-nil (asks plan (side_of link) own past)) ∙ omega arith
 
   answered_now : length (replies plan (side_of link) own (ask_at link known beat ∷ past)) ≡ length
@@ -111,8 +115,14 @@ module _ (plan : Plan) (past : List Sighting) (lawful : IsLawful plan past) (lin
       go : (t : Turn) → turn ≡ t → (ends : Bool) → ends_ask (asking (beats_at link past)) beat ≡ ends → t ≡ Idle
       go Idle is ends e = refl
       go (Asked n ask) is true e =
-          absurd (omega (arith, was, ap (λ t. length (pending (side_of link) t)) is, now true e, answered_now,
-          turns.one_unanswered))
+          absurd (omega (
+            arith,
+            was,
+            ap (λ t. length (pending (side_of link) t)) is,
+            now true e,
+            answered_now,
+            turns.one_unanswered,
+          ))
       go (Asked n ask) is false e =
           let even = turns.begins_answered link refl (asks_own plan past link known beat same e) in
           absurd (omega (arith, was, ap (λ t. length (pending (side_of link) t)) is, now false e, answered_now, even))
@@ -128,20 +138,26 @@ module _ (plan : Plan) (past : List Sighting) (lawful : IsLawful plan past) (lin
           other true here ends e =
               let at : link ≡ link_on (side_of link) n = same_link link (link_on (side_of link) n) here in
               let some : asking (beats_at link past) ≡ begun.first ∷ begun.more =
-                  ap (λ l. asking (beats_at l past)) at ∙ begun.begun in
+              ap (λ l. asking (beats_at l past)) at ∙ begun.begun in
               absurd (cc)
           other false here true e =
               let even = turns.begins_answered (link_on (side_of link) n) (side_here n)
-                  (asks_elsewhere plan past (ask_at link known beat) own (link_on (side_of link) n) here begun) in
-              absurd (omega (arith, was, ap (λ t. length (pending (side_of link) t)) is, now true e, answered_now,
-                  even))
+              (asks_elsewhere plan past (ask_at link known beat) own (link_on (side_of link) n) here begun) in
+              absurd (omega (
+                arith,
+                was,
+                ap (λ t. length (pending (side_of link) t)) is,
+                now true e,
+                answered_now,
+                even,
+              ))
           other false here false e =
               let at : link ≡ link_on (side_of link) n =
-                  turns.begins_once link (link_on (side_of link) n) refl (side_here n)
-                  (asks_own plan past link known beat same e)
+              turns.begins_once link (link_on (side_of link) n) refl (side_here n)
+              (asks_own plan past link known beat same e)
               (asks_elsewhere plan past (ask_at link known beat) own (link_on (side_of link) n) here begun) in
               let some : asking (beats_at link past) ≡ begun.first ∷ begun.more =
-                  ap (λ l. asking (beats_at l past)) at ∙ begun.begun in
+              ap (λ l. asking (beats_at l past)) at ∙ begun.begun in
               absurd (cc)
 
 -- a request begins at its port
@@ -156,8 +172,8 @@ placed_back plan past (Port p) known beat messages empty = go (ends_ask (asking 
     go false e =
         let begun : asking (beats_at (Port p) (ask_at (Port p) known beat ∷ past)) ≡ beat ∷ [] =
         ap (λ l. asking l) (beats_here (ask_at (Port p) known beat) past)
-            ∙ ap (λ b. if b then [] else asking (beats_at (Port p) past) ++ beat ∷ []) e
-            ∙ ap (λ l. l ++ beat ∷ []) empty in
+        ∙ ap (λ b. if b then [] else asking (beats_at (Port p) past) ++ beat ∷ []) e
+        ∙ ap (λ l. l ++ beat ∷ []) empty in
         messages.begun_placed p beat [] begun
     go true e =
         let wide = wide_of plan (Port p) beat.source in
@@ -166,8 +182,8 @@ placed_back plan past (Port p) known beat messages empty = go (ends_ask (asking 
         let seen : AskSeen = record { link = Port p; ask = ask_of beat message } in
         let all : AllByRecursion (IsInPlace plan.layout) (asks plan side wide past ++ seen ∷ []) =
         subst (λ l. AllByRecursion (IsInPlace plan.layout) l)
-            (asks_with_ask plan past (Port p) known beat
-            ∙ ap (λ b. asks plan side wide past ++ (if b then seen ∷ [] else [])) e) (messages.placed side wide) in
+        (asks_with_ask plan past (Port p) known beat
+        ∙ ap (λ b. asks plan side wide past ++ (if b then seen ∷ [] else [])) e) (messages.placed side wide) in
         last_of_all (IsInPlace plan.layout) (asks plan side wide past) seen all p refl
 
 -- ---- replies
@@ -188,8 +204,8 @@ next_pending plan past side wide turn step =
     let n = length (replies plan side wide past) in
     let one : suc n - n ≡ 1 = omega arith in
     ap (λ l. take (suc n - n) (drop n l)) step.asks_are
-        ∙ ap (λ l. take (suc n - n) l) (drop_front step.done (pending side turn) n step.counted)
-        ∙ ap (λ k. take k (pending side turn)) one ∙ all turn
+    ∙ ap (λ l. take (suc n - n) l) (drop_front step.done (pending side turn) n step.counted)
+    ∙ ap (λ k. take k (pending side turn)) one ∙ all turn
   where
     all : (t : Turn) → take 1 (pending side t) ≡ pending side t
     all Idle = refl
@@ -233,7 +249,7 @@ module _ (plan : Plan) (past : List Sighting) (lawful : IsLawful plan past) (lin
   of_pending (Asked n other) ask is =
       let seen = ap (first_seen (record { link = link; ask = ask })) is in
       let number : n ≡ number_of link =
-          sym (number_on (side_of link) n) ∙ ap (λ (a : AskSeen). number_of a.link) seen in
+      sym (number_on (side_of link) n) ∙ ap (λ (a : AskSeen). number_of a.link) seen in
       ap (λ k. Asked k other) number ∙ ap (λ (a : AskSeen). Asked (number_of link) a.ask) seen
 
   begins : ends_reply (replying (beats_at link past)) beat ≡ false
@@ -255,17 +271,17 @@ module _ (plan : Plan) (past : List Sighting) (lawful : IsLawful plan past) (lin
       let side = side_of link in
       let next : next_answered plan side mine past ≡ record { link = link; ask = asked.0 } ∷ [] =
       sym (ap (λ l. slice_range l (length (replies plan side mine (reply_at link known beat ∷ past)))
-          (suc (length (replies plan side mine (reply_at link known beat ∷ past)))))
-          (asks_with_reply plan past link known beat)
+      (suc (length (replies plan side mine (reply_at link known beat ∷ past)))))
+      (asks_with_reply plan past link known beat)
       ∙ ap (λ (l : List ReplySeen). slice_range (asks plan side mine past) (length l) (suc (length l)))
-          (replies_with_reply plan past link known beat
+      (replies_with_reply plan past link known beat
       ∙ ap (λ b. replies plan side mine past ++
-          (if b then record { link = link; beats = replying (beats_at link past) ++ beat ∷ [] } ∷ [] else [])) e
-          ∙ append-nil (replies plan side mine past)))
+      (if b then record { link = link; beats = replying (beats_at link past) ++ beat ∷ [] } ∷ [] else [])) e
+      ∙ append-nil (replies plan side mine past)))
       ∙ asked.1 in
       let begun : replying (beats_at link past) ++ beat ∷ [] ≡ there.first ∷ there.more =
       ap (λ b. if b then [] else replying (beats_at link past) ++ beat ∷ []) (sym e)
-          ∙ ap (λ l. replying l) (sym (beats_here (reply_at link known beat) past)) ∙ there.begun in
+      ∙ ap (λ l. replying l) (sym (beats_here (reply_at link known beat) past)) ∙ there.begun in
       record {
         ask = asked.0;
         in_flight = of_pending at asked.0 (sym (next_pending plan past side mine at kept) ∙ next);
@@ -301,13 +317,13 @@ module _ (plan : Plan) (past : List Sighting) (lawful : IsLawful plan past) (lin
           let reply : ReplySeen = record { link = link; beats = replying (beats_at link past) ++ beat ∷ [] } in
           let answered = replies plan (side_of link) mine past in
           let asked_is : asks plan (side_of link) mine (reply_at link known beat ∷ past) ≡ kept.done ++ last ∷ [] =
-              asks_with_reply plan past link known beat ∙ kept.asks_are
-              ∙ ap (λ t. kept.done ++ pending (side_of link) t) is in
+          asks_with_reply plan past link known beat ∙ kept.asks_are
+          ∙ ap (λ t. kept.done ++ pending (side_of link) t) is in
           let all : AllByRecursion IsAnswered (zip kept.done answered ++ (last, reply) ∷ []) =
-              subst (λ l. AllByRecursion IsAnswered l)
+          subst (λ l. AllByRecursion IsAnswered l)
           (ap (λ l. zip l (replies plan (side_of link) mine (reply_at link known beat ∷ past))) asked_is
-              ∙ ap (λ l. zip (kept.done ++ last ∷ []) l) replies_are
-              ∙ zip_more kept.done answered last reply (sym kept.counted)) turns.answered in
+          ∙ ap (λ l. zip (kept.done ++ last ∷ []) l) replies_are
+          ∙ zip_more kept.done answered last reply (sym kept.counted)) turns.answered in
           let one : IsAnswered (last, reply) = last_of_all IsAnswered (zip kept.done answered) (last, reply) all in
           let number : n ≡ number_of link = sym (number_on (side_of link) n) ∙ ap (λ l. number_of l) (sym one.link) in
           record {

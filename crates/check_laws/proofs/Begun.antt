@@ -39,8 +39,12 @@ asks_elsewhere plan past x wide at other was = record {
 pub asks_still : (plan : Plan) (past : List Sighting) (link : Link) (known : ℕ) (beat : DBeat) (wide : ℕ) (at : Link)
     → AsksAt plan past wide at → AsksAt plan (reply_at link known beat ∷ past) wide at
 asks_still plan past link known beat wide at was =
-    record { first = was.first; more = was.more; begun = go (is_link link (side_of at) (number_of at)) ∙ was.begun;
-    of = was.of }
+    record {
+      first = was.first;
+      more = was.more;
+      begun = go (is_link link (side_of at) (number_of at)) ∙ was.begun;
+      of = was.of;
+    }
   where
     go : (here : Bool) → asking (if here then D beat ∷ beats_at at past else beats_at at past) ≡ asking
         (beats_at at past)
@@ -108,9 +112,9 @@ module _ (plan : Plan) (s : State) (past : List Sighting) (linked : LinksAre s p
           let both = is_of_is plan (ask_at link known beat) side wide of in
           let P : Side → ℕ → Type 0 = λ sd w. AsksAt plan (ask_at link known beat ∷ past) w (link_on sd n) in
           let turn : turn_by (number_of link) (ask_by (asking (beats_at link past)) beat) ≡ Asking n =
-              ap (λ l. turn_by (number_of link) (ask_by l beat)) (sym under_is) ∙ is in
+          ap (λ l. turn_by (number_of link) (ask_by l beat)) (sym under_is) ∙ is in
           subst (λ sd. P sd wide) both.0 (subst (λ w. P (side_of link) w) both.1
-              (own (ends_ask (asking (beats_at link past)) beat) refl turn))
+          (own (ends_ask (asking (beats_at link past)) beat) refl turn))
       go false of is = other (is_link link (side_of (link_on side n)) (number_of (link_on side n))) refl
         where
           was : AsksAt plan past wide (link_on side n)
@@ -122,16 +126,16 @@ module _ (plan : Plan) (s : State) (past : List Sighting) (linked : LinksAre s p
           other true here =
               let at : link ≡ link_on side n = same_link link (link_on side n) here in
               let under_way : asking (beats_at link past) ≡ was.first ∷ was.more =
-                  ap (λ l. asking (beats_at l past)) at ∙ was.begun in
+              ap (λ l. asking (beats_at l past)) at ∙ was.begun in
               let source : beat.source ≡ was.first.source =
-                  (same was.first (ap (λ (l : List ABeat). slice_get l 0) under_way)).source in
+              (same was.first (ap (λ (l : List ABeat). slice_get l 0) under_way)).source in
               let wide_is : wide_of plan link beat.source ≡ wide =
-                  ap (λ k. wide_of plan link k) source ∙ ap (λ l. wide_of plan l was.first.source) at ∙ was.of in
+              ap (λ k. wide_of plan link k) source ∙ ap (λ l. wide_of plan l was.first.source) at ∙ was.of in
               let side_is : side_of link ≡ side = ap (λ l. side_of l) at ∙ side_on side n in
               let mine : is_of plan (ask_at link known beat) side wide ≡ true =
-                  subst (λ sd. is_of plan (ask_at link known beat) sd wide ≡ true) side_is
-                  (subst (λ w. is_of plan (ask_at link known beat) (side_of link) w ≡ true) wide_is
-                  (is_of_own plan (ask_at link known beat))) in
+              subst (λ sd. is_of plan (ask_at link known beat) sd wide ≡ true) side_is
+              (subst (λ w. is_of plan (ask_at link known beat) (side_of link) w ≡ true) wide_is
+              (is_of_own plan (ask_at link known beat))) in
               absurd (true_or_false (is_of plan (ask_at link known beat) side wide) mine of)
 
   pub reply_begun : (beat : DBeat) → IsAllowedReply plan.layout link
@@ -144,8 +148,8 @@ module _ (plan : Plan) (s : State) (past : List Sighting) (linked : LinksAre s p
       own true is = idle_or_asking n is
       own false is =
           let found = asked_at (number_of link)
-              (s.flights (side_of link) (wide_of plan link beat.source)).turn _ allowed.answers in
-              asked_or_asking (number_of link) n found.0 (sym found.1 ∙ is)
+          (s.flights (side_of link) (wide_of plan link beat.source)).turn _ allowed.answers in
+          asked_or_asking (number_of link) n found.0 (sym found.1 ∙ is)
 
       go : (of : Bool) → is_of plan (reply_at link known beat) side wide ≡ of
           → (if of then flight_after plan.layout link (scene_of plan s (reply_at link known beat))
@@ -162,7 +166,7 @@ asking_begun plan (x ∷ past) lawful = go (asking_begun plan past lawful.0) x.b
     go : AskingHasBegun plan (state plan past) past → (beat : Beat)
         → IsAllowed plan (scene_of plan (state plan past) (record x { beat = beat })) (record x { beat = beat })
         → AskingHasBegun plan (state_after plan (state plan past) (record x { beat = beat }))
-            (record x { beat = beat } ∷ past)
+        (record x { beat = beat } ∷ past)
     go before (A beat) allowed =
         ask_begun plan (state plan past) past (links_are plan past) before x.link x.known beat allowed
     go before (D beat) allowed =

@@ -58,9 +58,12 @@ asks_owned plan is (x ∷ past) lawful wide = go x.link x.beat lawful.1 (asks_ow
         (record { link = link; beat = beat; known = x.known })
         → AllByRecursion (IsOwned plan.layout wide) (asks plan AtMasters wide past)
         → AllByRecursion (IsOwned plan.layout wide)
-            (if is_of plan (record { link = link; beat = beat;
-            known = x.known }) AtMasters wide then asks plan AtMasters wide past
-            ++ ask_ended link (beats_at link past) beat else asks plan AtMasters wide past)
+        (if is_of plan (record {
+          link = link;
+          beat = beat;
+          known = x.known;
+        }) AtMasters wide then asks plan AtMasters wide past
+        ++ ask_ended link (beats_at link past) beat else asks plan AtMasters wide past)
     go (Port p) beat allowed before = before
     go (Master m) (D beat) allowed before = by_source (plan.wide m beat.source == wide)
       where
@@ -73,20 +76,25 @@ asks_owned plan is (x ∷ past) lawful wide = go x.link x.beat lawful.1 (asks_ow
       where
         by_source : (of : Bool) → (plan.wide m beat.source == wide) ≡ of
             → AllByRecursion (IsOwned plan.layout wide)
-                (if of then asks plan AtMasters wide past
-                ++ ask_ended (Master m) (beats_at (Master m) past) (A beat) else asks plan AtMasters wide past)
+            (if of then asks plan AtMasters wide past
+            ++ ask_ended (Master m) (beats_at (Master m) past) (A beat) else asks plan AtMasters wide past)
         by_source false so = before
         by_source true so = by_end (ends_ask (asking (beats_at (Master m) past)) beat)
           where
             by_end : (ends : Bool) → AllByRecursion (IsOwned plan.layout wide)
-                (asks plan AtMasters wide past ++ (if ends then record { link = Master m;
-                ask = ask_of beat (asking (beats_at (Master m) past) ++ beat ∷ []) } ∷ [] else []))
+                (asks plan AtMasters wide past ++ (if ends then record {
+                  link = Master m;
+                  ask = ask_of beat (asking (beats_at (Master m) past) ++ beat ∷ []);
+                } ∷ [] else []))
             by_end false = subst (λ l. AllByRecursion (IsOwned plan.layout wide) l)
                 (sym (append-nil (asks plan AtMasters wide past))) before
             by_end true = all_more (IsOwned plan.layout wide) (asks plan AtMasters wide past)
-                (record { link = Master m; ask = ask_of beat (asking (beats_at (Master m) past) ++ beat ∷ []) }) before
-                (m, refl, subst (λ w. IsWide plan.layout.counts m beat.source w)
-                    (eqb-true (plan.wide m beat.source) wide so) (wide_here plan is m beat.source allowed.source))
+                (record { link = Master m; ask = ask_of beat (asking (beats_at (Master m) past) ++ beat ∷ []) }) before (
+                  m,
+                  refl,
+                  subst (λ w. IsWide plan.layout.counts m beat.source w)
+                      (eqb-true (plan.wide m beat.source) wide so) (wide_here plan is m beat.source allowed.source),
+                )
 
 -- ---- ports that have links
 
@@ -174,18 +182,18 @@ module _ (plan : Plan) (is_plan : IsPlan plan) (both : plan.layout.links ≡ Bot
         let steps = in_step plan past lawful in
         let none = nothing_pending plan s past linked busy steps (Master m) known beat allowed in
         let counted = counted_free AtMasters (s.flights AtMasters sender).turn (asks plan AtMasters sender past)
-            (replies plan AtMasters sender past) (steps AtMasters sender) none in
+        (replies plan AtMasters sender past) (steps AtMasters sender) none in
         let rest = at_rest plan sender (story_at plan sender past) m (s.flights AtMasters sender).turn
-            (s.crossings sender) (s.flights AtPorts sender).turn
-            (open_before plan s past linked busy (Master m) known beat allowed) (before sender) in
+        (s.crossings sender) (s.flights AtPorts sender).turn
+        (open_before plan s past linked busy (Master m) known beat allowed) (before sender) in
         let begun = asking (beats_at (Master m) past) in
         subst (λ (l : List ABeat). Stands plan sender (record (story_at plan sender past) {
           sent = asks plan AtMasters sender past ++ ask_ended (Master m) (beats_at (Master m) past) (A beat);
           collected = replies plan AtMasters sender past ++ [];
         }) (turn_by m (ask_by l beat)) Waiting (s.flights AtPorts sender).turn)
-            (sym (ap (λ (u : Under). u.asking) (linked (Master m))))
+        (sym (ap (λ (u : Under). u.asking) (linked (Master m))))
         (master_asks plan sender (story_at plan sender past) (Master m) m (ask_of beat (begun ++ beat ∷ []))
-            (ends_ask begun beat) (s.flights AtPorts sender).turn rest counted)
+        (ends_ask begun beat) (s.flights AtPorts sender).turn rest counted)
 
     master_sends : AllStand plan (state_after plan s (ask_at (Master m) known beat))
         (ask_at (Master m) known beat ∷ past)
@@ -232,11 +240,11 @@ module _ (plan : Plan) (is_plan : IsPlan plan) (both : plan.layout.links ≡ Bot
     got_own : beat.source ≡ got_answers.0.source
     got_own =
         let owned = last_of_all (IsOwned plan.layout getter) got_step.done
-            (record { link = Master m; ask = got_answers.0 })
+        (record { link = Master m; ask = got_answers.0 })
         (subst (λ l. AllByRecursion (IsOwned plan.layout getter) l) got_asked
-            (asks_owned plan is_plan past lawful getter)) in
+        (asks_owned plan is_plan past lawful getter)) in
         one_source plan.layout.counts m beat.source owned.0 got_answers.0.source getter
-            (wide_here plan is_plan m beat.source allowed.source) owned.2
+        (wide_here plan is_plan m beat.source allowed.source) owned.2
 
     got : ends_reply (replying (beats_at (Master m) past)) beat ≡ true → is_out plan getter got_answers.0 ≡ true
         → IsGot plan getter got_answers.0 (replying (beats_at (Master m) past) ++ beat ∷ [])
@@ -244,11 +252,11 @@ module _ (plan : Plan) (is_plan : IsPlan plan) (both : plan.layout.links ≡ Bot
     got ends out =
         let well = got_answers.2 (ap (λ l. ends_reply l beat) got_under ∙ ends) in
         let route_is : port_in plan
-            (s.flights AtMasters getter).turn ≡ plan.route got_answers.0.address got_answers.0.size =
-            ap (λ t. port_in plan t) got_answers.1 in
+        (s.flights AtMasters getter).turn ≡ plan.route got_answers.0.address got_answers.0.size =
+        ap (λ t. port_in plan t) got_answers.1 in
         let given : is_given plan.layout (Master m) (port_in plan (s.flights AtMasters getter).turn) ≡ true =
         ap (λ l. are_both l && nat_lt (port_in plan (s.flights AtMasters getter).turn) (length plan.layout.ranges)) both
-            ∙ ap (λ p. nat_lt p (length plan.layout.ranges)) route_is ∙ out in
+        ∙ ap (λ p. nat_lt p (length plan.layout.ranges)) route_is ∙ out in
         record {
           captured = well.0;
           spelled = subst (λ (l : List DBeat). SpellsReply well.0 got_answers.0.address
@@ -271,18 +279,18 @@ module _ (plan : Plan) (is_plan : IsPlan plan) (both : plan.layout.links ≡ Bot
           collected = replies plan AtMasters getter past ++ reply_ended (Master m) (beats_at (Master m) past) (D beat);
         } in
         let stands : Stands plan getter (story_at plan getter past) (Asked m got_answers.0) (s.crossings getter)
-            (s.flights AtPorts getter).turn =
+        (s.flights AtPorts getter).turn =
         subst (λ t. Stands plan getter (story_at plan getter past) t (s.crossings getter)
-            (s.flights AtPorts getter).turn) got_answers.1 (before getter) in
+        (s.flights AtPorts getter).turn) got_answers.1 (before getter) in
         let turn_is : (if ends_reply (s.links AtMasters m).replying beat then idle else got_flight).turn ≡
-            (if ends then Idle else Asked m got_answers.0) =
+        (if ends then Idle else Asked m got_answers.0) =
         turn_after (ends_reply (s.links AtMasters m).replying beat) got_flight
-            ∙ ap (λ l. if ends_reply l beat then Idle else (s.flights AtMasters getter).turn) got_under
+        ∙ ap (λ l. if ends_reply l beat then Idle else (s.flights AtMasters getter).turn) got_under
         ∙ ap (λ t. if ends then Idle else t) got_answers.1 in
         subst (λ t. Stands plan getter later t (s.crossings getter) (s.flights AtPorts getter).turn) (sym turn_is)
         (master_gets plan getter (story_at plan getter past) (Master m) m got_answers.0 got_step.done
-            (begun ++ beat ∷ []) (s.crossings getter) beat.source
-            (s.flights AtPorts getter).turn got_asked got_step.counted stands ends got)
+        (begun ++ beat ∷ []) (s.crossings getter) beat.source
+        (s.flights AtPorts getter).turn got_asked got_step.counted stands ends got)
 
     master_collects : AllStand plan (state_after plan s (reply_at (Master m) known beat))
         (reply_at (Master m) known beat ∷ past)
@@ -320,14 +328,14 @@ module _ (plan : Plan) (is_plan : IsPlan plan) (both : plan.layout.links ≡ Bot
         let sent = allowed.sent (ap (λ l. ends_ask l beat) took_under ∙ ends) both in
         let ask = ask_of beat (asking (beats_at (Port p) past) ++ beat ∷ []) in
         let asked : IsAskedAs (s.flights AtMasters took).turn ask =
-            subst (λ (l : List ABeat). IsAskedAs (s.flights AtMasters took).turn
-            (ask_of beat (l ++ beat ∷ []))) took_under sent.0 in
+        subst (λ (l : List ABeat). IsAskedAs (s.flights AtMasters took).turn
+        (ask_of beat (l ++ beat ∷ []))) took_under sent.0 in
         let found = asked_as (s.flights AtMasters took).turn ask asked in
         let placed : RoutesBytes plan.layout.ranges beat.address beat.size p =
-            beat_placed plan past (asking_placed plan past lawful) (Port p) known beat allowed in
+        beat_placed plan past (asking_placed plan past lawful) (Port p) known beat allowed in
         let within : plan.route beat.address beat.size < length plan.layout.ranges =
-            goes_out_by plan.layout.ranges beat.address beat.size p (plan.route beat.address beat.size) has placed
-            (is_plan.route beat.address beat.size) in
+        goes_out_by plan.layout.ranges beat.address beat.size p (plan.route beat.address beat.size) has placed
+        (is_plan.route beat.address beat.size) in
         let place = same_place found.1 ask ask.source found.3 in
         let address : found.1.address ≡ beat.address = place.0 in
         let size : found.1.size ≡ beat.size = place.1 in
@@ -354,17 +362,17 @@ module _ (plan : Plan) (is_plan : IsPlan plan) (both : plan.layout.links ≡ Bot
         let steps = in_step plan past lawful in
         let none = nothing_pending plan s past linked busy steps (Port p) known beat allowed in
         let counted = counted_free AtPorts (s.flights AtPorts took).turn (asks plan AtPorts took past)
-            (replies plan AtPorts took past) (steps AtPorts took) none in
+        (replies plan AtPorts took past) (steps AtPorts took) none in
         let begun = asking (beats_at (Port p) past) in
         let later : Story = record (story_at plan took past) {
           taken = asks plan AtPorts took past ++ ask_ended (Port p) (beats_at (Port p) past) (A beat);
           gave = replies plan AtPorts took past ++ [];
         } in
         subst (λ (l : List ABeat). Stands plan took later (s.flights AtMasters took).turn
-            (if ends_ask l beat then Crossed else s.crossings took) (turn_by p (ask_by l beat))) (sym took_under)
+        (if ends_ask l beat then Crossed else s.crossings took) (turn_by p (ask_by l beat))) (sym took_under)
         (port_asks plan took (story_at plan took past) (Port p) p (ask_of beat (begun ++ beat ∷ []))
-            (s.flights AtMasters took).turn (s.crossings took) (s.flights AtPorts took).turn none counted (before took)
-            (ends_ask begun beat) the_sent)
+        (s.flights AtMasters took).turn (s.crossings took) (s.flights AtPorts took).turn none counted (before took)
+        (ends_ask begun beat) the_sent)
 
     port_takes : AllStand plan (state_after plan s (ask_at (Port p) known beat)) (ask_at (Port p) known beat ∷ past)
     port_takes wide = go (took == wide) refl
@@ -376,7 +384,7 @@ module _ (plan : Plan) (is_plan : IsPlan plan) (both : plan.layout.links ≡ Bot
         }) (s.flights AtMasters wide).turn (if of then
             (if ends_ask (s.links AtPorts p).asking beat then Crossed else s.crossings took) else s.crossings wide)
             (if of then flight_after plan.layout (Port p) (scene_of plan s (ask_at (Port p) known beat))
-                (A beat) else s.flights AtPorts wide).turn
+            (A beat) else s.flights AtPorts wide).turn
         go false is = before wide
         go true is = subst (λ w. Stands plan w (record (story_at plan w past) {
           taken = asks plan AtPorts w past ++ ask_ended (Port p) (beats_at (Port p) past) (A beat);
@@ -433,15 +441,15 @@ module _ (plan : Plan) (is_plan : IsPlan plan) (both : plan.layout.links ≡ Bot
           gave = replies plan AtPorts giver past ++ reply_ended (Port p) (beats_at (Port p) past) (D beat);
         } in
         let given = port_gives plan giver (story_at plan giver past) (Port p) p gift_answers.0 gift_step.done
-            (begun ++ beat ∷ []) (s.flights AtMasters giver).turn (s.crossings giver)
-            (s.flights AtPorts giver).turn gift_flight.due
+        (begun ++ beat ∷ []) (s.flights AtMasters giver).turn (s.crossings giver)
+        (s.flights AtPorts giver).turn gift_flight.due
         gift_answers.1 gift_asked gift_step.counted (before giver) ends gift in
         subst (λ (l : List DBeat). Stands plan giver later (s.flights AtMasters giver).turn
-            (if ends_reply l beat then given_by gift_flight.due (s.crossings giver) else s.crossings giver)
-            (if ends_reply l beat then idle else gift_flight).turn) (sym gift_under)
+        (if ends_reply l beat then given_by gift_flight.due (s.crossings giver) else s.crossings giver)
+        (if ends_reply l beat then idle else gift_flight).turn) (sym gift_under)
         (subst (λ t. Stands plan giver later (s.flights AtMasters giver).turn
-            (if ends then given_by gift_flight.due (s.crossings giver) else s.crossings giver) t)
-            (sym (turn_after ends gift_flight)) given)
+        (if ends then given_by gift_flight.due (s.crossings giver) else s.crossings giver) t)
+        (sym (turn_after ends gift_flight)) given)
 
     port_answers : AllStand plan (state_after plan s (reply_at (Port p) known beat))
         (reply_at (Port p) known beat ∷ past)
@@ -455,7 +463,7 @@ module _ (plan : Plan) (is_plan : IsPlan plan) (both : plan.layout.links ≡ Bot
             (if ends_reply (s.links AtPorts p).replying beat then given_by gift_flight.due
             (s.crossings giver) else s.crossings giver) else s.crossings wide)
             (if of then flight_after plan.layout (Port p) (scene_of plan s (reply_at (Port p) known beat))
-                (D beat) else s.flights AtPorts wide).turn
+            (D beat) else s.flights AtPorts wide).turn
         go false is = before wide
         go true is = subst (λ w. Stands plan w (record (story_at plan w past) {
           taken = asks plan AtPorts w past ++ [];
@@ -463,7 +471,7 @@ module _ (plan : Plan) (is_plan : IsPlan plan) (both : plan.layout.links ≡ Bot
         }) (s.flights AtMasters w).turn (if ends_reply (s.links AtPorts p).replying beat then given_by gift_flight.due
             (s.crossings giver) else s.crossings giver)
             (if ends_reply (s.links AtPorts p).replying beat then idle else gift_flight).turn)
-                (eqb-true giver wide is) own_given
+            (eqb-true giver wide is) own_given
 
 -- ---- all beats
 
@@ -478,7 +486,7 @@ all_stand plan is both (x ∷ past) watched lawful =
         (record { link = link; beat = beat; known = x.known })
         → AllStand plan (state plan past) past
         → AllStand plan (state_after plan (state plan past) (record { link = link; beat = beat; known = x.known }))
-            (record { link = link; beat = beat; known = x.known } ∷ past)
+        (record { link = link; beat = beat; known = x.known } ∷ past)
     go (Master m) (A beat) has allowed before = master_sends plan is both past lawful.0 before x.known m beat allowed
     go (Master m) (D beat) has allowed before = master_collects plan is both past lawful.0 before x.known m beat allowed
     go (Port p) (A beat) has allowed before = port_takes plan is both past lawful.0 before x.known p has beat allowed
@@ -498,9 +506,13 @@ module _ (plan : Plan) (past : List Sighting) (wide : ℕ)
       full : sent_out plan wide (asks plan AtMasters wide past) ≡ requests_of (asks plan AtPorts wide past)
           → AreGiven wide (answered_from_outside plan (exchanges plan AtMasters wide past))
           (exchanges plan AtPorts wide past) → MessagesCross plan past wide
-      full same given = record { owned = owned; waiting = [];
-          requests = same ∙ sym (append-nil (requests_of (asks plan AtPorts wide past))); one_waits = omega arith;
-          given = given }
+      full same given = record {
+        owned = owned;
+        waiting = [];
+        requests = same ∙ sym (append-nil (requests_of (asks plan AtPorts wide past)));
+        one_waits = omega arith;
+        given = given;
+      }
 
       none : (given : List (AskSeen × ReplySeen))
           → AreGiven wide (answered_from_outside plan (exchanges plan AtMasters wide past)) (given ++ [])
@@ -531,9 +543,9 @@ module _ (plan : Plan) (past : List Sighting) (wide : ℕ)
           (exchanges plan AtPorts wide past) [] stands.given (omega arith)))
       out true ask (Given answer) stands = full stands.same
           (subst (λ l. AreGiven wide (answered_from_outside plan (exchanges plan AtMasters wide past)) l)
-              (sym stands.split)
+          (sym stands.split)
           (given_but_one wide (answered_from_outside plan (exchanges plan AtMasters wide past)) stands.front
-              (stands.last ∷ []) stands.given (omega arith)))
+          (stands.last ∷ []) stands.given (omega arith)))
 
       go : (turn : Turn) (crossing : Crossing) → Stands plan wide story turn crossing there
           → MessagesCross plan past wide
@@ -546,4 +558,4 @@ pub crossing : (plan : Plan) (past : List Sighting) → IsPlan plan → plan.lay
 crossing plan past is both watched lawful wide =
     let s = state plan past in
     crossing_by plan past wide (asks_owned plan is past lawful wide) (s.flights AtMasters wide).turn (s.crossings wide)
-        (s.flights AtPorts wide).turn (all_stand plan is both past watched lawful wide)
+    (s.flights AtPorts wide).turn (all_stand plan is both past watched lawful wide)

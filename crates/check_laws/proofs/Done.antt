@@ -57,7 +57,7 @@ ask_effect plan s link known beat = effect plan.layout link (found_in plan s (as
 abbrev pub reply_effect : Plan → State → Link → ℕ → DBeat → Option Request
 reply_effect plan s link known beat =
     let found = found_in plan s (reply_at link known beat) in
-        late_effect plan.layout link found.port found.under.replying found.flight.turn
+    late_effect plan.layout link found.port found.under.replying found.flight.turn
 
 module _ (plan : Plan) (s : State) (past : List Sighting) (linked : LinksAre s past) (link : Link) (known : ℕ)
     (has : HasLink plan.layout link) (watched : IsWatched plan.layout.links link) where
@@ -65,37 +65,37 @@ module _ (plan : Plan) (s : State) (past : List Sighting) (linked : LinksAre s p
       → map (widened (wide_of plan link beat.source))
       (filter (is_for plan port) (ask_done plan plan.layout.order past (ask_at link known beat)))
       ≡ (if (found_in plan s (ask_at link known beat)).port == port then list_of (wide_of plan link beat.source)
-          (ask_effect plan s link known beat) else [])
+      (ask_effect plan s link known beat) else [])
   ask_does beat port =
       let wide = wide_of plan link beat.source in
       let turn = (s.flights (side_of link) wide).turn in
       let found = (found_in plan s (ask_at link known beat)).port in
       ask_taken plan link wide port found has watched
-          (port_own plan link turn (A beat)) plan.layout.order past known beat (ask_goes plan link turn beat)
+      (port_own plan link turn (A beat)) plan.layout.order past known beat (ask_goes plan link turn beat)
       ∙ ap (λ (l : List ABeat). if found == port then list_of wide
-          (effect_by (is_at_acceptance plan.layout.order && takes_effect plan.layout link found)
-          (ask_by l beat)) else []) (sym (ap (λ (u : Under). u.asking) (linked link)))
+      (effect_by (is_at_acceptance plan.layout.order && takes_effect plan.layout link found)
+      (ask_by l beat)) else []) (sym (ap (λ (u : Under). u.asking) (linked link)))
 
   pub reply_does : AreInStep plan s past → (beat : DBeat) (ask : Request)
       → (s.flights (side_of link) (wide_of plan link beat.source)).turn ≡ Asked (number_of link) ask → (port : ℕ)
       → map (widened (wide_of plan link beat.source))
-          (filter (is_for plan port) (ask_done plan plan.layout.order past (reply_at link known beat)))
+      (filter (is_for plan port) (ask_done plan plan.layout.order past (reply_at link known beat)))
       ≡ (if (found_in plan s (reply_at link known beat)).port == port then list_of (wide_of plan link beat.source)
-          (reply_effect plan s link known beat) else [])
+      (reply_effect plan s link known beat) else [])
   reply_does steps beat ask in_flight port =
       let wide = wide_of plan link beat.source in
       let turn = (s.flights (side_of link) wide).turn in
       let found = (found_in plan s (reply_at link known beat)).port in
       let takes : List DBeat → Bool =
-          λ l. is_at_reply plan.layout.order && takes_effect plan.layout link found && begins_reply l in
+      λ l. is_at_reply plan.layout.order && takes_effect plan.layout link found && begins_reply l in
       reply_taken plan link wide port found has watched
-          (port_own plan link turn (D beat)) plan.layout.order past known beat ask
-          (reply_goes plan link turn (number_of link) beat ask in_flight)
+      (port_own plan link turn (D beat)) plan.layout.order past known beat ask
+      (reply_goes plan link turn (number_of link) beat ask in_flight)
       (next_is plan past link wide turn ask (steps (side_of link) wide) in_flight)
       ∙ ap (λ (l : List DBeat). if found == port then list_of wide (effect_by (takes l) (Some ask)) else [])
-          (sym (ap (λ (u : Under). u.replying) (linked link)))
+      (sym (ap (λ (u : Under). u.replying) (linked link)))
       ∙ ap (λ t. if found == port then list_of wide
-          (effect_by (takes (s.links (side_of link) (number_of link)).replying) (asked t)) else []) (sym in_flight)
+      (effect_by (takes (s.links (side_of link) (number_of link)).replying) (asked t)) else []) (sym in_flight)
 
 -- ---- memories
 
@@ -103,7 +103,7 @@ module _ (plan : Plan) (s : State) (past : List Sighting) (linked : LinksAre s p
 bank_after : (slaves : ℕ → Slave) (reset : Store) (before : List Request) (port found wide : ℕ) (done : Option Request)
     → (slaves port).bank ≡ replay reset before
     → (if found == port then slave_by (slaves found) done else slaves port).bank ≡ replay reset
-        (before ++ (if found == port then list_of wide done else []))
+    (before ++ (if found == port then list_of wide done else []))
 bank_after slaves reset before port found wide done is = go (found == port) refl
   where
     go : (here : Bool) → (found == port) ≡ here
@@ -132,21 +132,21 @@ are_replayed plan (x ∷ past) watched lawful = go (are_replayed plan past watch
     go : AreReplayed plan (state plan past) past → (beat : Beat)
         → IsAllowed plan (scene_of plan (state plan past) (record x { beat = beat })) (record x { beat = beat })
         → AreReplayed plan (state_after plan (state plan past) (record x { beat = beat }))
-            (record x { beat = beat } ∷ past)
+        (record x { beat = beat } ∷ past)
     go replayed (A beat) allowed port =
         let s = state plan past in
         bank_after s.slaves (reset_of plan port) (asks_done plan port past) port
-            (found_in plan s (ask_at x.link x.known beat)).port (wide_of plan x.link beat.source)
+        (found_in plan s (ask_at x.link x.known beat)).port (wide_of plan x.link beat.source)
         (ask_effect plan s x.link x.known beat) (replayed port)
         ∙ ap (λ l. replay (reset_of plan port) (asks_done plan port past ++ l))
-            (sym (ask_does plan s past (links_are plan past) x.link x.known watched.0.0 watched.0.1 beat port))
+        (sym (ask_does plan s past (links_are plan past) x.link x.known watched.0.0 watched.0.1 beat port))
     go replayed (D beat) allowed port =
         let s = state plan past in
         let found = asked_at (number_of x.link) (s.flights (side_of x.link)
-            (wide_of plan x.link beat.source)).turn _ allowed.answers in
+        (wide_of plan x.link beat.source)).turn _ allowed.answers in
         bank_after s.slaves (reset_of plan port) (asks_done plan port past) port
-            (found_in plan s (reply_at x.link x.known beat)).port (wide_of plan x.link beat.source)
+        (found_in plan s (reply_at x.link x.known beat)).port (wide_of plan x.link beat.source)
         (reply_effect plan s x.link x.known beat) (replayed port)
         ∙ ap (λ l. replay (reset_of plan port) (asks_done plan port past ++ l))
-            (sym (reply_does plan s past (links_are plan past) x.link x.known watched.0.0 watched.0.1
-            (in_step plan past lawful.0) beat found.0 found.1 port))
+        (sym (reply_does plan s past (links_are plan past) x.link x.known watched.0.0 watched.0.1
+        (in_step plan past lawful.0) beat found.0 found.1 port))

@@ -68,7 +68,7 @@ new_sourced n port slave false (Some ask) = tt
 new_begun : (plan : Plan) (past : List Sighting) (side : Side) (wide n port : ℕ) (slave : Slave) (effect : Bool)
     (ended : Option Request) (order : Order) → order ≡ plan.layout.order
     → HasBegun plan past side wide (turn_by n ended)
-        (answer_by port slave (effect_by (is_at_acceptance order && effect) ended))
+    (answer_by port slave (effect_by (is_at_acceptance order && effect) ended))
 new_begun plan past side wide n port slave effect None order is = tt
 new_begun plan past side wide n port slave true (Some ask) Accept is =
     λ late. absurd (true_or_false (is_at_reply plan.layout.order) late (ap is_at_reply (sym is)))
@@ -159,12 +159,15 @@ module _ (plan : Plan) (s : State) (past : List Sighting) (linked : LinksAre s p
         → IsReplying plan (reply_at link known beat ∷ past) (wide_of plan link beat.source) link
     own_replying goes_on =
         let new : replying (beats_at link past) ++ beat ∷ [] ≡ replying (D beat ∷ beats_at link past) =
-            ap (λ b. if b then [] else replying (beats_at link past) ++ beat ∷ []) (sym goes_on) in
+        ap (λ b. if b then [] else replying (beats_at link past) ++ beat ∷ []) (sym goes_on) in
         let here : replying (D beat ∷ beats_at link past) ≡ replying (beats_at link (reply_at link known beat ∷ past)) =
-            ap (λ b. replying (if b then D beat ∷ beats_at link past else beats_at link past)) (sym (own_is link)) in
-        let parts = some_first (replying (beats_at link past)) beat in
-        (parts.0, parts.1, sym here ∙ sym new ∙ parts.2,
-            ap (λ n. wide_of plan link n) (replied (replying (beats_at link past)) beat parts.0 parts.1 same parts.2))
+        ap (λ b. replying (if b then D beat ∷ beats_at link past else beats_at link past)) (sym (own_is link)) in
+        let parts = some_first (replying (beats_at link past)) beat in (
+          parts.0,
+          parts.1,
+          sym here ∙ sym new ∙ parts.2,
+          ap (λ n. wide_of plan link n) (replied (replying (beats_at link past)) beat parts.0 parts.1 same parts.2),
+        )
       where
         own_is : (l : Link) → is_link l (side_of l) (number_of l) ≡ true
         own_is l = is_link_by l l refl refl
@@ -181,21 +184,21 @@ module _ (plan : Plan) (s : State) (past : List Sighting) (linked : LinksAre s p
 
         go : (here : Bool) → is_link link (side_of (link_on side n)) (number_of (link_on side n)) ≡ here
             → (first : DBeat) × (more : List DBeat) ×
-                (replying (if here then D beat ∷ beats_at (link_on side n) past else beats_at
-                (link_on side n) past) ≡ first ∷ more) × (wide_of plan (link_on side n) first.source ≡ wide)
+            (replying (if here then D beat ∷ beats_at (link_on side n) past else beats_at
+            (link_on side n) past) ≡ first ∷ more) × (wide_of plan (link_on side n) first.source ≡ wide)
         go true here =
             let is : link ≡ link_on side n = same_link link (link_on side n) here in
             let under_way : replying (beats_at link past) ≡ was.0 ∷ was.1 =
-                ap (λ l. replying (beats_at l past)) is ∙ was.2 in
+            ap (λ l. replying (beats_at l past)) is ∙ was.2 in
             let source : beat.source ≡ was.0.source =
-                (same was.0 (ap (λ (l : List DBeat). slice_get l 0) under_way)).source in
+            (same was.0 (ap (λ (l : List DBeat). slice_get l 0) under_way)).source in
             let wide_is : wide_of plan link beat.source ≡ wide =
-                ap (λ k. wide_of plan link k) source ∙ ap (λ l. wide_of plan l was.0.source) is ∙ was.3 in
+            ap (λ k. wide_of plan link k) source ∙ ap (λ l. wide_of plan l was.0.source) is ∙ was.3 in
             let side_is : side_of link ≡ side = ap (λ l. side_of l) is ∙ side_on side n in
             let mine : is_of plan (reply_at link known beat) side wide ≡ true =
-                subst (λ sd. is_of plan (reply_at link known beat) sd wide ≡ true) side_is
-                (subst (λ w. is_of plan (reply_at link known beat) (side_of link) w ≡ true) wide_is
-                (is_of_own plan (reply_at link known beat))) in
+            subst (λ sd. is_of plan (reply_at link known beat) sd wide ≡ true) side_is
+            (subst (λ w. is_of plan (reply_at link known beat) (side_of link) w ≡ true) wide_is
+            (is_of_own plan (reply_at link known beat))) in
             absurd (true_or_false (is_of plan (reply_at link known beat) side wide) mine other)
         go false here = was
 
@@ -219,10 +222,10 @@ module _ (plan : Plan) (s : State) (past : List Sighting) (linked : LinksAre s p
             let asked_is = asked_at (number_of link) was.turn _ allowed.answers in
             let found = found_in plan s (reply_at link known beat) in
             let late : Bool = is_at_reply plan.layout.order && takes_effect plan.layout link found.port
-                && begins_reply found.under.replying in
+            && begins_reply found.under.replying in
             let before : IsSourced (Asked (number_of link) asked_is.0) was.due =
-                subst (λ t. IsSourced t was.due) asked_is.1
-                (dues (side_of link) (wide_of plan link beat.source)).sourced in
+            subst (λ t. IsSourced t was.due) asked_is.1
+            (dues (side_of link) (wide_of plan link beat.source)).sourced in
             record {
               sourced = subst (λ t. IsSourced t (due_by was.due
                   (answer_by found.port found.slave (effect_by late (asked t))))) (sym asked_is.1)
@@ -231,7 +234,7 @@ module _ (plan : Plan) (s : State) (past : List Sighting) (linked : LinksAre s p
                   (wide_of plan link beat.source) t (due_by was.due
                   (answer_by found.port found.slave (effect_by late (asked t))))) (sym asked_is.1)
                   (begun_here asked_is.0 (due_by was.due (answer_by found.port found.slave
-                      (effect_by late (Some asked_is.0)))) is);
+                  (effect_by late (Some asked_is.0)))) is);
             }
 
         own : IsDue plan (reply_at link known beat ∷ past) (side_of link) (wide_of plan link beat.source)
@@ -249,8 +252,8 @@ module _ (plan : Plan) (s : State) (past : List Sighting) (linked : LinksAre s p
         go true is =
             let both = is_of_is plan (reply_at link known beat) side wide is in
             let P : Side → ℕ → Type 0 =
-                λ sd w. IsDue plan (reply_at link known beat ∷ past) sd w
-                (flight_after plan.layout link (scene_of plan s (reply_at link known beat)) (D beat)) in
+            λ sd w. IsDue plan (reply_at link known beat ∷ past) sd w
+            (flight_after plan.layout link (scene_of plan s (reply_at link known beat)) (D beat)) in
             subst (λ sd. P sd wide) both.0 (subst (λ w. P (side_of link) w) both.1 own)
         go false is =
             let was = dues side wide in

@@ -23,17 +23,21 @@ fitting plan (x ∷ past) lawful link =
   where
     fits : (beat : Beat) → IsAllowed plan (scene_of plan (state plan past) (record x { beat = beat }))
         (record x { beat = beat }) → AreFitting (beats_at x.link past) → AreFitting (beat ∷ beats_at x.link past)
-    fits (A beat) allowed before =
-        (before, subst (λ (l : List ABeat). FitsAsk l beat)
-        (ap (λ (u : Under). u.asking) (links_are plan past x.link)) allowed.fits)
-    fits (D beat) allowed before =
-        (before, subst (λ (l : List DBeat). FitsReply l beat)
-        (ap (λ (u : Under). u.replying) (links_are plan past x.link)) allowed.fits)
+    fits (A beat) allowed before = (
+      before,
+      subst (λ (l : List ABeat). FitsAsk l beat)
+          (ap (λ (u : Under). u.asking) (links_are plan past x.link)) allowed.fits,
+    )
+    fits (D beat) allowed before = (
+      before,
+      subst (λ (l : List DBeat). FitsReply l beat)
+          (ap (λ (u : Under). u.replying) (links_are plan past x.link)) allowed.fits,
+    )
 
     go : AreFitting (beats_at link past) → (here : Bool) → is_link x.link (side_of link) (number_of link) ≡ here
         → AreFitting (if here then x.beat ∷ beats_at link past else beats_at link past)
     go before true is =
         let at : x.link ≡ link = same_link x.link link is in
         subst (λ l. AreFitting (x.beat ∷ beats_at l past)) at
-            (fits x.beat lawful.1 (subst (λ l. AreFitting (beats_at l past)) (sym at) before))
+        (fits x.beat lawful.1 (subst (λ l. AreFitting (beats_at l past)) (sym at) before))
     go before false is = before

@@ -52,8 +52,8 @@ none_pending side n turn (inr is) = ap (pending side) is
 ask_steps : (link : Link) (turn : Turn) (begun : List ABeat) (beat : ABeat) (asked : List AskSeen)
     (answered : List ReplySeen) → pending (side_of link) turn ≡ [] → InStep (side_of link) turn asked answered
     → InStep (side_of link) (turn_by (number_of link) (ask_by begun beat))
-        (asked ++ (if ends_ask begun beat then record { link = link; ask = ask_of beat (begun ++ beat ∷ []) }
-        ∷ [] else [])) (answered ++ [])
+    (asked ++ (if ends_ask begun beat then record { link = link; ask = ask_of beat (begun ++ beat ∷ []) }
+    ∷ [] else [])) (answered ++ [])
 ask_steps link turn begun beat asked answered none step = go (ends_ask begun beat)
   where
     before : asked ≡ step.done
@@ -71,7 +71,7 @@ ask_steps link turn begun beat asked answered none step = go (ends_ask begun bea
       asks_are = ap (λ (l : List AskSeen). l ++ record { link = link; ask = ask_of beat (begun ++ beat ∷ []) }
           ∷ []) before
           ∙ ap (λ (l : Link). step.done ++ record { link = l; ask = ask_of beat (begun ++ beat ∷ []) } ∷ [])
-              (sym (own_link link));
+          (sym (own_link link));
       counted = same;
     }
     go false = record { done = step.done; asks_are = ap (λ (l : List AskSeen). l ++ []) before; counted = same }
@@ -81,7 +81,7 @@ reply_steps : (link : Link) (turn : Turn) (ask : Request) (begun : List DBeat) (
     (asked : List AskSeen) (answered : List ReplySeen) → turn ≡ Asked (number_of link) ask → flight.turn ≡ turn
     → InStep (side_of link) turn asked answered
     → (ends : Bool) → InStep (side_of link) (if ends then idle else flight).turn (asked ++ [])
-        (answered ++ (if ends then record { link = link; beats = begun ++ beat ∷ [] } ∷ [] else []))
+    (answered ++ (if ends then record { link = link; beats = begun ++ beat ∷ [] } ∷ [] else []))
 reply_steps link turn ask begun beat flight asked answered is same step true = record {
   done = asked ++ [];
   asks_are = sym (append-nil (asked ++ []));
@@ -131,16 +131,16 @@ module _ (plan : Plan) (s : State) (past : List Sighting) (linked : LinksAre s p
           → InStep side (if of then flight_after plan.layout link (scene_of plan s (ask_at link known beat))
           (A beat) else s.flights side wide).turn
           (if of then asks plan side wide past ++ ask_ended link (beats_at link past)
-              (A beat) else asks plan side wide past) (if of then replies plan side wide past
-              ++ [] else replies plan side wide past)
+          (A beat) else asks plan side wide past) (if of then replies plan side wide past
+          ++ [] else replies plan side wide past)
       go true is =
           let both = is_of_is plan (ask_at link known beat) side wide is in
           let P : Side → ℕ → Type 0 =
-              λ sd w. InStep sd (turn_by (number_of link)
-              (ask_by (s.links (side_of link) (number_of link)).asking beat))
-              (asks plan sd w past ++ ask_ended link (beats_at link past) (A beat)) (replies plan sd w past ++ []) in
+          λ sd w. InStep sd (turn_by (number_of link)
+          (ask_by (s.links (side_of link) (number_of link)).asking beat))
+          (asks plan sd w past ++ ask_ended link (beats_at link past) (A beat)) (replies plan sd w past ++ []) in
           subst (λ sd. P sd wide) both.0 (subst (λ w. P (side_of link) w) both.1
-              (subst Steps (sym (ap (λ (u : Under). u.asking) (linked link))) here))
+          (subst Steps (sym (ap (λ (u : Under). u.asking) (linked link))) here))
       go false is = steps side wide
 
   pub reply_step : (beat : DBeat) → IsAllowedReply plan.layout link
@@ -153,32 +153,32 @@ module _ (plan : Plan) (s : State) (past : List Sighting) (linked : LinksAre s p
           (scene_of plan s (reply_at link known beat)).flight).turn
           (asks plan (side_of link) (wide_of plan link beat.source) past ++ [])
           (replies plan (side_of link) (wide_of plan link beat.source) past
-              ++ reply_ended link (beats_at link past) (D beat))
+          ++ reply_ended link (beats_at link past) (D beat))
 
       here : Steps (replying (beats_at link past))
       here =
           let found = asked_at (number_of link)
-              (s.flights (side_of link) (wide_of plan link beat.source)).turn _ allowed.answers in
+          (s.flights (side_of link) (wide_of plan link beat.source)).turn _ allowed.answers in
           reply_steps link (s.flights (side_of link) (wide_of plan link beat.source)).turn found.0
-              (replying (beats_at link past)) beat (scene_of plan s (reply_at link known beat)).flight
-              (asks plan (side_of link) (wide_of plan link beat.source) past)
+          (replying (beats_at link past)) beat (scene_of plan s (reply_at link known beat)).flight
+          (asks plan (side_of link) (wide_of plan link beat.source) past)
           (replies plan (side_of link) (wide_of plan link beat.source) past) found.1 refl
-              (steps (side_of link) (wide_of plan link beat.source)) (ends_reply (replying (beats_at link past)) beat)
+          (steps (side_of link) (wide_of plan link beat.source)) (ends_reply (replying (beats_at link past)) beat)
 
       go : (of : Bool) → is_of plan (reply_at link known beat) side wide ≡ of
           → InStep side (if of then flight_after plan.layout link (scene_of plan s (reply_at link known beat))
           (D beat) else s.flights side wide).turn
           (if of then asks plan side wide past ++ [] else asks plan side wide past)
-              (if of then replies plan side wide past ++ reply_ended link (beats_at link past)
-              (D beat) else replies plan side wide past)
+          (if of then replies plan side wide past ++ reply_ended link (beats_at link past)
+          (D beat) else replies plan side wide past)
       go true is =
           let both = is_of_is plan (reply_at link known beat) side wide is in
           let P : Side → ℕ → Type 0 =
-              λ sd w. InStep sd (if ends_reply (s.links (side_of link) (number_of link)).replying beat then idle else
-              (scene_of plan s (reply_at link known beat)).flight).turn (asks plan sd w past ++ [])
-              (replies plan sd w past ++ reply_ended link (beats_at link past) (D beat)) in
+          λ sd w. InStep sd (if ends_reply (s.links (side_of link) (number_of link)).replying beat then idle else
+          (scene_of plan s (reply_at link known beat)).flight).turn (asks plan sd w past ++ [])
+          (replies plan sd w past ++ reply_ended link (beats_at link past) (D beat)) in
           subst (λ sd. P sd wide) both.0 (subst (λ w. P (side_of link) w) both.1
-              (subst Steps (sym (ap (λ (u : Under). u.replying) (linked link))) here))
+          (subst Steps (sym (ap (λ (u : Under). u.replying) (linked link))) here))
       go false is = steps side wide
 
 pub in_step : (plan : Plan) (past : List Sighting) → IsLawful plan past → AreInStep plan (state plan past) past
@@ -188,7 +188,7 @@ in_step plan (x ∷ past) lawful = go (in_step plan past lawful.0) x.beat lawful
     go : AreInStep plan (state plan past) past → (beat : Beat)
         → IsAllowed plan (scene_of plan (state plan past) (record x { beat = beat })) (record x { beat = beat })
         → AreInStep plan (state_after plan (state plan past) (record x { beat = beat }))
-            (record x { beat = beat } ∷ past)
+        (record x { beat = beat } ∷ past)
     go steps (A beat) allowed =
         ask_step plan (state plan past) past (links_are plan past)
         (asking_in_flight plan past lawful.0) steps x.link x.known beat allowed

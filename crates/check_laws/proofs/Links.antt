@@ -36,9 +36,9 @@ links_are plan (x ∷ past) link =
   where
     go : (here : Bool) → is_link x.link (side_of link) (number_of link) ≡ here
         → (state plan past).links (side_of x.link) (number_of x.link) ≡ under (beats_at x.link past)
-            → (state plan past).links (side_of link) (number_of link) ≡ under (beats_at link past)
+        → (state plan past).links (side_of link) (number_of link) ≡ under (beats_at link past)
         → (if here then under_after (scene plan past x).under x.beat else (state plan past).links (side_of link)
-            (number_of link))
+        (number_of link))
         ≡ under (if here then x.beat ∷ beats_at link past else beats_at link past)
     go true is there before =
         let at : x.link ≡ link = same_link x.link link is in

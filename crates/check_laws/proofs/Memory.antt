@@ -28,7 +28,7 @@ owed plan port wide side (Asking n) due = []
 owed plan port wide side (Asked n ask) None = []
 owed plan port wide side (Asked n ask) (Some answer) =
     if port_for plan (link_on side n) ask == port then
-        (record ask { source = wide }, record answer.reply { source = wide }) ∷ [] else []
+    (record ask { source = wide }, record answer.reply { source = wide }) ∷ [] else []
 
 -- the entries of a source are those that were captured, and the one of the request in flight
 pub record IsTold (plan : Plan) (port wide : ℕ) (side : Side) (flight : Flight) (seen : List (AskSeen × ReplySeen))
@@ -51,8 +51,8 @@ AreTold plan s past =
 pub new_owed : (plan : Plan) (port wide found index : ℕ) (link : Link) (slave : Slave) (effect : Bool)
     (ended : Option Request) → ((ask : Request) → ended ≡ Some ask → port_for plan link ask ≡ found)
     → owed plan port wide (side_of link) (turn_by (number_of link) ended)
-        (answer_by found slave (effect_by effect ended)) ≡
-        (if found == port then entry_list wide slave.bank (effect_by effect ended) else [])
+    (answer_by found slave (effect_by effect ended)) ≡
+    (if found == port then entry_list wide slave.bank (effect_by effect ended) else [])
 new_owed plan port wide found index link slave effect None goes = go (found == port) effect
   where
     go : (here effect : Bool) → ◌≡◌ {A = List (Request × Response)} []
@@ -62,9 +62,9 @@ new_owed plan port wide found index link slave effect None goes = go (found == p
     go false effect = refl
 new_owed plan port wide found index link slave true (Some ask) goes =
     ap (λ l. if port_for plan l ask == port then
-        (record ask { source = wide }, record (reply slave.bank ask) { source = wide }) ∷ [] else []) (own_link link)
+    (record ask { source = wide }, record (reply slave.bank ask) { source = wide }) ∷ [] else []) (own_link link)
     ∙ ap (λ p. if p == port then (record ask { source = wide }, record (reply slave.bank ask) { source = wide })
-        ∷ [] else []) (goes ask refl)
+    ∷ [] else []) (goes ask refl)
 new_owed plan port wide found index link slave false (Some ask) goes = go (found == port)
   where
     go : (here : Bool) → ◌≡◌ {A = List (Request × Response)} [] (if here then [] else [])
@@ -76,12 +76,12 @@ pub late_owed : (plan : Plan) (port wide found : ℕ) (link : Link) (slave : Sla
     (ask : Request) (due : Option Answer) → turn ≡ Asked (number_of link) ask → port_for plan link ask ≡ found
     → (late ≡ true → due ≡ None)
     → owed plan port wide (side_of link) turn due
-        ++ (if found == port then entry_list wide slave.bank (effect_by late (asked turn)) else [])
+    ++ (if found == port then entry_list wide slave.bank (effect_by late (asked turn)) else [])
     ≡ owed plan port wide (side_of link) turn (due_by due (answer_by found slave (effect_by late (asked turn))))
 late_owed plan port wide found link slave late turn ask due is goes fresh =
     subst (λ t. owed plan port wide (side_of link) t due
-        ++ (if found == port then entry_list wide slave.bank (effect_by late (asked t)) else []) ≡ owed plan port wide
-        (side_of link) t (due_by due (answer_by found slave (effect_by late (asked t)))))
+    ++ (if found == port then entry_list wide slave.bank (effect_by late (asked t)) else []) ≡ owed plan port wide
+    (side_of link) t (due_by due (answer_by found slave (effect_by late (asked t)))))
     (sym is) (go late refl)
   where
     none : (here : Bool) → ◌≡◌ {A = List (Request × Response)} (if here then [] else []) []
@@ -91,24 +91,24 @@ late_owed plan port wide found link slave late turn ask due is goes fresh =
     go : (effect : Bool) → late ≡ effect → owed plan port wide (side_of link) (Asked (number_of link) ask) due
         ++ (if found == port then entry_list wide slave.bank (effect_by effect (Some ask)) else [])
         ≡ owed plan port wide (side_of link) (Asked (number_of link) ask)
-            (due_by due (answer_by found slave (effect_by effect (Some ask))))
+        (due_by due (answer_by found slave (effect_by effect (Some ask))))
     go false so = ap (λ l. owed plan port wide (side_of link) (Asked (number_of link) ask) due ++ l)
         (none (found == port)) ∙ append-nil (owed plan port wide (side_of link) (Asked (number_of link) ask) due)
     go true so =
         ap (λ d. owed plan port wide (side_of link) (Asked (number_of link) ask) d
-            ++ (if found == port then entry_list wide slave.bank (Some ask) else [])) (fresh so)
+        ++ (if found == port then entry_list wide slave.bank (Some ask) else [])) (fresh so)
         ∙ sym (ap (λ l. if port_for plan l ask == port then
-            (record ask { source = wide }, record (reply slave.bank ask) { source = wide }) ∷ [] else [])
-            (own_link link)
+        (record ask { source = wide }, record (reply slave.bank ask) { source = wide }) ∷ [] else [])
+        (own_link link)
         ∙ ap (λ p. if p == port then (record ask { source = wide }, record (reply slave.bank ask) { source = wide })
-            ∷ [] else []) goes)
+        ∷ [] else []) goes)
 
 -- ---- one beat more
 
 module _ (plan : Plan) (link : Link) (has : HasLink plan.layout link) (watched : IsWatched plan.layout.links link)
     (found own : ℕ) (done : Option Request)
     (at_port : (p : ℕ) → link ≡ Port p → found ≡ p)
-        (unseen : takes_effect plan.layout link found ≡ false → done ≡ None) where
+    (unseen : takes_effect plan.layout link found ≡ false → done ≡ None) where
   -- what is done of another source is no entry of this one
   pub other_entry : (port wide : ℕ) (bank : Store)
       → (same_side (side_of link) (side_for plan.layout port) && (own == wide)) ≡ false
@@ -128,6 +128,6 @@ module _ (plan : Plan) (link : Link) (has : HasLink plan.layout link) (watched :
       go true true true here_is same_is seen_is =
           let side : same_side (side_of link) (side_for plan.layout port) ≡ true =
           ap (λ p. same_side (side_of link) (side_for plan.layout p)) (sym (eqb-true found port here_is))
-              ∙ sym (takes plan.layout link found has watched at_port) ∙ seen_is in
+          ∙ sym (takes plan.layout link found has watched at_port) ∙ seen_is in
           absurd (true_or_false (same_side (side_of link) (side_for plan.layout port) && (own == wide))
-              (rw (side, same_is) refl) other)
+          (rw (side, same_is) refl) other)

@@ -95,7 +95,7 @@ asking_placed plan (x ∷ past) lawful = step (asking_placed plan past lawful.0)
             → IsPlaced plan.layout link first
         go true here is =
             let P : Link → Type 0 =
-                λ l. asking (A beat ∷ beats_at l past) ≡ first ∷ more → IsPlaced plan.layout l first in
+            λ l. asking (A beat ∷ beats_at l past) ≡ first ∷ more → IsPlaced plan.layout l first in
             subst P (same_link x.link link here) (own (ends_ask (asking (beats_at x.link past)) beat)) is
         go false here is = before link first more is
 
@@ -113,20 +113,22 @@ asks_placed plan (x ∷ past) lawful side wide = go (asks_placed plan past lawfu
     ended : AllByRecursion (IsInPlace plan.layout) (asks plan side wide past) → (beat : Beat)
         → IsAllowed plan (scene_of plan (state plan past) (record x { beat = beat })) (record x { beat = beat })
         → AllByRecursion (IsInPlace plan.layout)
-            (asks plan side wide past ++ ask_ended x.link (beats_at x.link past) beat)
+        (asks plan side wide past ++ ask_ended x.link (beats_at x.link past) beat)
     ended before (D beat) allowed =
         subst (λ l. AllByRecursion (IsInPlace plan.layout) l) (sym (append-nil (asks plan side wide past))) before
     ended before (A beat) allowed = by_end (ends_ask (asking (beats_at x.link past)) beat)
       where
         by_end : (ends : Bool) → AllByRecursion (IsInPlace plan.layout)
-            (asks plan side wide past ++ (if ends then record { link = x.link;
-            ask = ask_of beat (asking (beats_at x.link past) ++ beat ∷ []) } ∷ [] else []))
+            (asks plan side wide past ++ (if ends then record {
+              link = x.link;
+              ask = ask_of beat (asking (beats_at x.link past) ++ beat ∷ []);
+            } ∷ [] else []))
         by_end false = subst (λ l. AllByRecursion (IsInPlace plan.layout) l)
             (sym (append-nil (asks plan side wide past))) before
         by_end true = all_more (IsInPlace plan.layout) (asks plan side wide past)
             (record { link = x.link; ask = ask_of beat (asking (beats_at x.link past) ++ beat ∷ []) }) before
             (in_place plan.layout x.link beat (asking (beats_at x.link past) ++ beat ∷ [])
-                (beat_placed plan past (asking_placed plan past lawful.0) x.link x.known beat allowed))
+            (beat_placed plan past (asking_placed plan past lawful.0) x.link x.known beat allowed))
 
     go : AllByRecursion (IsInPlace plan.layout) (asks plan side wide past) → (of : Bool)
         → AllByRecursion (IsInPlace plan.layout)

@@ -53,24 +53,24 @@ module _ (plan : Plan) (s : State) (past : List Sighting) (linked : LinksAre s p
     where
       go : (of : Bool) → is_of plan (ask_at link known beat) side wide ≡ of
           → AllByRecursion IsAnswered (zip (if of then asks plan side wide past
-              ++ ask_ended link (beats_at link past) (A beat) else asks plan side wide past)
-              (if of then replies plan side wide past ++ [] else replies plan side wide past))
+          ++ ask_ended link (beats_at link past) (A beat) else asks plan side wide past)
+          (if of then replies plan side wide past ++ [] else replies plan side wide past))
       go false is = before side wide
       go true is =
           let both = is_of_is plan (ask_at link known beat) side wide is in
           let none : pending side (s.flights side wide).turn ≡ [] =
           subst (λ sd. pending sd (s.flights sd wide).turn ≡ []) both.0
-              (subst (λ w. pending (side_of link) (s.flights (side_of link) w).turn ≡ []) both.1
-              (nothing_pending plan s past linked busy steps link known beat allowed)) in
+          (subst (λ w. pending (side_of link) (s.flights (side_of link) w).turn ≡ []) both.1
+          (nothing_pending plan s past linked busy steps link known beat allowed)) in
           let step = steps side wide in
           let counted : length (asks plan side wide past) ≡ length (replies plan side wide past) =
           ap (λ (l : List AskSeen). length l) (step.asks_are ∙ ap (λ l. step.done ++ l) none ∙ append-nil step.done)
-              ∙ sym step.counted in
+          ∙ sym step.counted in
           subst (λ l. AllByRecursion IsAnswered l)
-              (sym (zip_past (asks plan side wide past) (ask_ended link (beats_at link past) (A beat))
-              (replies plan side wide past) counted)
+          (sym (zip_past (asks plan side wide past) (ask_ended link (beats_at link past) (A beat))
+          (replies plan side wide past) counted)
           ∙ ap (λ l. zip (asks plan side wide past ++ ask_ended link (beats_at link past) (A beat)) l)
-              (sym (append-nil (replies plan side wide past)))) (before side wide)
+          (sym (append-nil (replies plan side wide past)))) (before side wide)
 
   module _ (beat : DBeat) (allowed : IsAllowedReply plan.layout link
       (scene_of plan s (reply_at link known beat)) beat known) where
@@ -90,11 +90,13 @@ module _ (plan : Plan) (s : State) (past : List Sighting) (linked : LinksAre s p
     whole ends =
         let message : List DBeat = replying (beats_at link past) ++ beat ∷ [] in
         let is : IsWholeReply message beat =
-            reply_is_whole (asking (beats_at link past)) (replying (beats_at link past)) beat
-            (kept_of_fitting (beats_at link past) (fits link)) fits_here ends in
+        reply_is_whole (asking (beats_at link past)) (replying (beats_at link past)) beat
+        (kept_of_fitting (beats_at link past) (fits link)) fits_here ends in
         all_from_each (Answers answers.0) message
-            (λ k other at. record { size = (is.each k other at).1.size ∙ answers.2.size;
-            opcode = (is.each k other at).1.opcode ∙ answers.2.opcode })
+        (λ k other at. record {
+          size = (is.each k other at).1.size ∙ answers.2.size;
+          opcode = (is.each k other at).1.opcode ∙ answers.2.opcode;
+        })
 
     own_answered : AllByRecursion IsAnswered
         (zip (asks plan (side_of link) own past ++ [])
@@ -103,8 +105,8 @@ module _ (plan : Plan) (s : State) (past : List Sighting) (linked : LinksAre s p
       where
         go : (ends : Bool) → ends_reply (replying (beats_at link past)) beat ≡ ends
             → AllByRecursion IsAnswered (zip (asks plan (side_of link) own past ++ [])
-                (replies plan (side_of link) own past ++
-                (if ends then record { link = link; beats = replying (beats_at link past) ++ beat ∷ [] } ∷ [] else [])))
+            (replies plan (side_of link) own past ++
+            (if ends then record { link = link; beats = replying (beats_at link past) ++ beat ∷ [] } ∷ [] else [])))
         go false is = subst (λ l. AllByRecursion IsAnswered l)
             (sym (ap (λ l. zip l (replies plan (side_of link) own past ++ []))
             (append-nil (asks plan (side_of link) own past))
@@ -116,16 +118,16 @@ module _ (plan : Plan) (s : State) (past : List Sighting) (linked : LinksAre s p
             let reply : ReplySeen = record { link = link; beats = replying (beats_at link past) ++ beat ∷ [] } in
             let answered = replies plan (side_of link) own past in
             let asked_is : asks plan (side_of link) own past ≡ step.done ++ last ∷ [] =
-                step.asks_are ∙ ap (λ t. step.done ++ pending (side_of link) t) answers.1
-                ∙ ap (λ (l : Link). step.done ++ record { link = l; ask = answers.0 } ∷ []) (own_link link) in
+            step.asks_are ∙ ap (λ t. step.done ++ pending (side_of link) t) answers.1
+            ∙ ap (λ (l : Link). step.done ++ record { link = l; ask = answers.0 } ∷ []) (own_link link) in
             let was : AllByRecursion IsAnswered (zip step.done answered) =
-                subst (λ l. AllByRecursion IsAnswered l)
-                (ap (λ l. zip l answered) asked_is ∙ zip_past step.done (last ∷ []) answered (sym step.counted))
-                (before (side_of link) own) in
             subst (λ l. AllByRecursion IsAnswered l)
-                (sym (ap (λ l. zip l (answered ++ reply ∷ []))
-                (append-nil (asks plan (side_of link) own past) ∙ asked_is)
-                ∙ zip_more step.done answered last reply (sym step.counted)))
+            (ap (λ l. zip l answered) asked_is ∙ zip_past step.done (last ∷ []) answered (sym step.counted))
+            (before (side_of link) own) in
+            subst (λ l. AllByRecursion IsAnswered l)
+            (sym (ap (λ l. zip l (answered ++ reply ∷ []))
+            (append-nil (asks plan (side_of link) own past) ∙ asked_is)
+            ∙ zip_more step.done answered last reply (sym step.counted)))
             (all_more IsAnswered (zip step.done answered) (last, reply) was (record { link = refl; beats = whole is }))
 
     pub reply_answered : AreAnswered plan (reply_at link known beat ∷ past)
@@ -133,14 +135,14 @@ module _ (plan : Plan) (s : State) (past : List Sighting) (linked : LinksAre s p
       where
         go : (of : Bool) → is_of plan (reply_at link known beat) side wide ≡ of
             → AllByRecursion IsAnswered (zip (if of then asks plan side wide past ++ [] else asks plan side wide past)
-                (if of then replies plan side wide past ++ reply_ended link (beats_at link past)
-                (D beat) else replies plan side wide past))
+            (if of then replies plan side wide past ++ reply_ended link (beats_at link past)
+            (D beat) else replies plan side wide past))
         go false is = before side wide
         go true is =
             let both = is_of_is plan (reply_at link known beat) side wide is in
             let P : Side → ℕ → Type 0 =
-                λ sd w. AllByRecursion IsAnswered (zip (asks plan sd w past ++ [])
-                (replies plan sd w past ++ reply_ended link (beats_at link past) (D beat))) in
+            λ sd w. AllByRecursion IsAnswered (zip (asks plan sd w past ++ [])
+            (replies plan sd w past ++ reply_ended link (beats_at link past) (D beat))) in
             subst (λ sd. P sd wide) both.0 (subst (λ w. P (side_of link) w) both.1 own_answered)
 
 pub are_answered : (plan : Plan) (past : List Sighting) → IsLawful plan past → AreAnswered plan past

@@ -27,5 +27,5 @@ pub always_keeps : (plan : Plan) (past : List Sighting) → IsPlan plan → AreW
     → AlwaysKeepsRules plan past
 always_keeps plan past is watched lawful later earlier so =
     keeps plan earlier is (earlier_watched plan.layout later earlier
-        (subst (λ l. AreWatched plan.layout l) (sym so) watched))
-        (earlier_is_lawful plan later earlier (subst (λ l. IsLawful plan l) (sym so) lawful))
+    (subst (λ l. AreWatched plan.layout l) (sym so) watched))
+    (earlier_is_lawful plan later earlier (subst (λ l. IsLawful plan l) (sym so) lawful))

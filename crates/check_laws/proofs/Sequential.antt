@@ -42,7 +42,7 @@ done_at plan past watched lawful port = (
         let so = are_told plan past watched lawful port wide in
         subst (λ l. AreEntries wide (exchanges_at plan port wide past) l) (sym so.entries_are)
         (matched_but_one wide (exchanges_at plan port wide past) so.front
-            (owed plan port wide side flight.turn flight.due) so.matched
-            (few_owed plan port wide side flight.turn flight.due));
+        (owed plan port wide side flight.turn flight.due) so.matched
+        (few_owed plan port wide side flight.turn flight.due));
   },
 )

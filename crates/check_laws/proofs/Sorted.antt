@@ -30,15 +30,17 @@ asks_more : (link : Link) (seen more : List AskSeen)
 asks_more link seen more =
     let test : AskSeen → Bool = λ one. is_link one.link (side_of link) (number_of link) in
     ap (λ l. map (λ (one : AskSeen). one.ask) l) (filter-append test seen more)
-        ∙ map-append (λ (one : AskSeen). one.ask) (filter test seen) (filter test more)
+    ∙ map-append (λ (one : AskSeen). one.ask) (filter test seen) (filter test more)
 
 asks_other : (link other : Link) (before : List Beat) (beat : Beat)
     → is_link other (side_of link) (number_of link) ≡ false → asks_at link (ask_ended other before beat) ≡ []
 asks_other link other before (D beat) is = refl
 asks_other link other before (A beat) is = go (ends_ask (asking before) beat)
   where
-    go : (ends : Bool) → asks_at link (if ends then record { link = other;
-        ask = ask_of beat (asking before ++ beat ∷ []) } ∷ [] else []) ≡ []
+    go : (ends : Bool) → asks_at link (if ends then record {
+      link = other;
+      ask = ask_of beat (asking before ++ beat ∷ []);
+    } ∷ [] else []) ≡ []
     go true = ap (λ b. map (λ (one : AskSeen). one.ask)
         (if b then record { link = other; ask = ask_of beat (asking before ++ beat ∷ []) } ∷ [] else [])) is
     go false = refl
@@ -47,7 +49,7 @@ asks_other link other before (A beat) is = go (ends_ask (asking before) beat)
 asks_own : (plan : Plan) (link : Link) (wide : ℕ) (before : List Beat) (beat : Beat)
     → asks_of_source plan link wide (ended (beat ∷ before))
     ≡ asks_of_source plan link wide (ended before)
-        ++ (if wide_of plan link (source_of beat) == wide then asks_at link (ask_ended link before beat) else [])
+    ++ (if wide_of plan link (source_of beat) == wide then asks_at link (ask_ended link before beat) else [])
 asks_own plan link wide before (D beat) =
     sym (ap (λ l. asks_of_source plan link wide (ended before) ++ l) (none (wide_of plan link beat.source == wide))
     ∙ append-nil (asks_of_source plan link wide (ended before)))
@@ -62,7 +64,7 @@ asks_own plan link wide before (A beat) = go (ends_ask (asking before) beat)
         ∷ [] else ended before)
         ≡ asks_of_source plan link wide (ended before)
         ++ (if wide_of plan link beat.source == wide then asks_at link
-            (if ends then record { link = link; ask = ask_of beat (asking before ++ beat ∷ []) } ∷ [] else []) else [])
+        (if ends then record { link = link; ask = ask_of beat (asking before ++ beat ∷ []) } ∷ [] else []) else [])
     go false = sym (ap (λ l. asks_of_source plan link wide (ended before) ++ l)
         (none (wide_of plan link beat.source == wide)) ∙ append-nil (asks_of_source plan link wide (ended before)))
       where
@@ -74,13 +76,13 @@ asks_own plan link wide before (A beat) = go (ends_ask (asking before) beat)
         let test : Request × List ABeat → Bool = λ one. wide_of plan link one.0.source == wide in
         ap (λ l. map (λ (one : Request × List ABeat). one.0) l) (filter-append test (ended before) (entry ∷ []))
         ∙ map-append (λ (one : Request × List ABeat). one.0) (filter test (ended before))
-            (if wide_of plan link beat.source == wide then entry ∷ [] else [])
+        (if wide_of plan link beat.source == wide then entry ∷ [] else [])
         ∙ ap (λ l. asks_of_source plan link wide (ended before) ++ l) (by (wide_of plan link beat.source == wide))
       where
         by : (b : Bool) → map (λ (one : Request × List ABeat). one.0)
             (if b then (ask_of beat (asking before ++ beat ∷ []), asking before ++ beat ∷ []) ∷ [] else [])
             ≡ (if b then asks_at link (record { link = link; ask = ask_of beat (asking before ++ beat ∷ []) }
-                ∷ []) else [])
+            ∷ []) else [])
         by true = ap (λ h. map (λ (one : AskSeen). one.ask)
             (if h then record { link = link; ask = ask_of beat (asking before ++ beat ∷ []) } ∷ [] else []))
             (sym (own_is link))
@@ -95,13 +97,13 @@ asks_sorted plan (x ∷ past) link wide =
     here : (l : Link) → l ≡ x.link → asks_at l (asks plan (side_of l) wide past) ≡ asks_of_source plan l wide
         (ended (beats_at l past))
         → asks_at l (if is_of plan x (side_of l) wide then asks plan (side_of l) wide past
-            ++ ask_ended x.link (beats_at x.link past) x.beat else asks plan
-            (side_of l) wide past) ≡ asks_of_source plan l wide (ended (x.beat ∷ beats_at l past))
+        ++ ask_ended x.link (beats_at x.link past) x.beat else asks plan
+        (side_of l) wide past) ≡ asks_of_source plan l wide (ended (x.beat ∷ beats_at l past))
     here l is before = subst (λ k. asks_at k (asks plan (side_of k) wide past) ≡ asks_of_source plan k wide
         (ended (beats_at k past))
         → asks_at k (if is_of plan x (side_of k) wide then asks plan (side_of k) wide past
-            ++ ask_ended x.link (beats_at x.link past) x.beat else asks plan
-            (side_of k) wide past) ≡ asks_of_source plan k wide (ended (x.beat ∷ beats_at k past))) (sym is) own before
+        ++ ask_ended x.link (beats_at x.link past) x.beat else asks plan
+        (side_of k) wide past) ≡ asks_of_source plan k wide (ended (x.beat ∷ beats_at k past))) (sym is) own before
       where
         of_is : is_of plan x (side_of x.link) wide ≡ (wide_of plan x.link (source_of x.beat) == wide)
         of_is = ap (λ b. b && (wide_of plan x.link (source_of x.beat) == wide)) (same_side-refl (side_of x.link))
@@ -109,20 +111,20 @@ asks_sorted plan (x ∷ past) link wide =
         own : asks_at x.link (asks plan (side_of x.link) wide past) ≡ asks_of_source plan x.link wide
             (ended (beats_at x.link past))
             → asks_at x.link (if is_of plan x (side_of x.link) wide then asks plan (side_of x.link) wide past
-                ++ ask_ended x.link (beats_at x.link past) x.beat else asks plan (side_of x.link) wide past)
+            ++ ask_ended x.link (beats_at x.link past) x.beat else asks plan (side_of x.link) wide past)
             ≡ asks_of_source plan x.link wide (ended (x.beat ∷ beats_at x.link past))
         own was =
             ap (λ b. asks_at x.link (if b then asks plan (side_of x.link) wide past
-                ++ ask_ended x.link (beats_at x.link past) x.beat else asks plan (side_of x.link) wide past)) of_is
+            ++ ask_ended x.link (beats_at x.link past) x.beat else asks plan (side_of x.link) wide past)) of_is
             ∙ by (wide_of plan x.link (source_of x.beat) == wide)
             ∙ ap (λ l. l ++ (if wide_of plan x.link (source_of x.beat) == wide then asks_at x.link
-                (ask_ended x.link (beats_at x.link past) x.beat) else [])) was
+            (ask_ended x.link (beats_at x.link past) x.beat) else [])) was
             ∙ sym (asks_own plan x.link wide (beats_at x.link past) x.beat)
           where
             by : (b : Bool) → asks_at x.link (if b then asks plan (side_of x.link) wide past
                 ++ ask_ended x.link (beats_at x.link past) x.beat else asks plan (side_of x.link) wide past)
                 ≡ asks_at x.link (asks plan (side_of x.link) wide past)
-                    ++ (if b then asks_at x.link (ask_ended x.link (beats_at x.link past) x.beat) else [])
+                ++ (if b then asks_at x.link (ask_ended x.link (beats_at x.link past) x.beat) else [])
             by true = asks_more x.link (asks plan (side_of x.link) wide past)
                 (ask_ended x.link (beats_at x.link past) x.beat)
             by false = sym (append-nil (asks_at x.link (asks plan (side_of x.link) wide past)))
@@ -130,7 +132,7 @@ asks_sorted plan (x ∷ past) link wide =
     go : (at : Bool) → is_link x.link (side_of link) (number_of link) ≡ at
         → asks_at link (asks plan (side_of link) wide past) ≡ asks_of_source plan link wide (ended (beats_at link past))
         → asks_at link (if is_of plan x (side_of link) wide then asks plan (side_of link) wide past
-            ++ ask_ended x.link (beats_at x.link past) x.beat else asks plan (side_of link) wide past)
+        ++ ask_ended x.link (beats_at x.link past) x.beat else asks plan (side_of link) wide past)
         ≡ asks_of_source plan link wide (ended (if at then x.beat ∷ beats_at link past else beats_at link past))
     go true is before = here link (sym (same_link x.link link is)) before
     go false is before = by (is_of plan x (side_of link) wide) ∙ before
@@ -141,8 +143,8 @@ asks_sorted plan (x ∷ past) link wide =
         by false = refl
         by true = asks_more link (asks plan (side_of link) wide past) (ask_ended x.link (beats_at x.link past) x.beat)
             ∙ ap (λ l. asks_at link (asks plan (side_of link) wide past) ++ l)
-                (asks_other link x.link (beats_at x.link past) x.beat is)
-                ∙ append-nil (asks_at link (asks plan (side_of link) wide past))
+            (asks_other link x.link (beats_at x.link past) x.beat is)
+            ∙ append-nil (asks_at link (asks plan (side_of link) wide past))
 
 -- ---- replies
 
@@ -151,7 +153,7 @@ replies_more : (link : Link) (seen more : List ReplySeen)
 replies_more link seen more =
     let test : ReplySeen → Bool = λ one. is_link one.link (side_of link) (number_of link) in
     ap (λ l. map (λ (one : ReplySeen). one.beats) l) (filter-append test seen more)
-        ∙ map-append (λ (one : ReplySeen). one.beats) (filter test seen) (filter test more)
+    ∙ map-append (λ (one : ReplySeen). one.beats) (filter test seen) (filter test more)
 
 replies_other : (link other : Link) (before : List Beat) (beat : Beat)
     → is_link other (side_of link) (number_of link) ≡ false → replies_at link (reply_ended other before beat) ≡ []
@@ -177,7 +179,7 @@ source_is (b ∷ begun) beat same = sym (same b refl).source
 replies_own : (plan : Plan) (link : Link) (wide : ℕ) (before : List Beat) (beat : Beat) → HasSame before beat
     → replies_of_source plan link wide (ended_replies (beat ∷ before))
     ≡ replies_of_source plan link wide (ended_replies before)
-        ++ (if wide_of plan link (source_of beat) == wide then replies_at link (reply_ended link before beat) else [])
+    ++ (if wide_of plan link (source_of beat) == wide then replies_at link (reply_ended link before beat) else [])
 replies_own plan link wide before (A beat) same =
     sym (ap (λ l. replies_of_source plan link wide (ended_replies before) ++ l)
     (none (wide_of plan link beat.source == wide))
@@ -192,7 +194,7 @@ replies_own plan link wide before (D beat) same = go (ends_reply (replying befor
         (if ends then ended_replies before ++ (replying before ++ beat ∷ []) ∷ [] else ended_replies before)
         ≡ replies_of_source plan link wide (ended_replies before)
         ++ (if wide_of plan link beat.source == wide then replies_at link
-            (if ends then record { link = link; beats = replying before ++ beat ∷ [] } ∷ [] else []) else [])
+        (if ends then record { link = link; beats = replying before ++ beat ∷ [] } ∷ [] else []) else [])
     go false = sym (ap (λ l. replies_of_source plan link wide (ended_replies before) ++ l)
         (none (wide_of plan link beat.source == wide))
         ∙ append-nil (replies_of_source plan link wide (ended_replies before)))
@@ -205,9 +207,9 @@ replies_own plan link wide before (D beat) same = go (ends_reply (replying befor
         let test : List DBeat → Bool = λ one. wide_of plan link (source_of_reply one) == wide in
         filter-append test (ended_replies before) (entry ∷ [])
         ∙ ap (λ n. replies_of_source plan link wide (ended_replies before)
-            ++ (if wide_of plan link n == wide then entry ∷ [] else [])) (source_is (replying before) beat same)
+        ++ (if wide_of plan link n == wide then entry ∷ [] else [])) (source_is (replying before) beat same)
         ∙ ap (λ l. replies_of_source plan link wide (ended_replies before) ++ l)
-            (by (wide_of plan link beat.source == wide))
+        (by (wide_of plan link beat.source == wide))
       where
         by : (b : Bool) → (if b then (replying before ++ beat ∷ []) ∷ [] else [])
             ≡ (if b then replies_at link (record { link = link; beats = replying before ++ beat ∷ [] } ∷ []) else [])
@@ -232,14 +234,14 @@ replies_sorted plan (x ∷ past) lawful link wide =
     here : (l : Link) → l ≡ x.link → replies_at l (replies plan (side_of l) wide past) ≡ replies_of_source plan l wide
         (ended_replies (beats_at l past))
         → replies_at l (if is_of plan x (side_of l) wide then replies plan (side_of l) wide past
-            ++ reply_ended x.link (beats_at x.link past) x.beat else replies plan
-            (side_of l) wide past) ≡ replies_of_source plan l wide (ended_replies (x.beat ∷ beats_at l past))
+        ++ reply_ended x.link (beats_at x.link past) x.beat else replies plan
+        (side_of l) wide past) ≡ replies_of_source plan l wide (ended_replies (x.beat ∷ beats_at l past))
     here l is before = subst (λ k. replies_at k (replies plan (side_of k) wide past) ≡ replies_of_source plan k wide
         (ended_replies (beats_at k past))
         → replies_at k (if is_of plan x (side_of k) wide then replies plan (side_of k) wide past
-            ++ reply_ended x.link (beats_at x.link past) x.beat else replies plan
-            (side_of k) wide past) ≡ replies_of_source plan k wide (ended_replies (x.beat ∷ beats_at k past)))
-            (sym is) own before
+        ++ reply_ended x.link (beats_at x.link past) x.beat else replies plan
+        (side_of k) wide past) ≡ replies_of_source plan k wide (ended_replies (x.beat ∷ beats_at k past)))
+        (sym is) own before
       where
         of_is : is_of plan x (side_of x.link) wide ≡ (wide_of plan x.link (source_of x.beat) == wide)
         of_is = ap (λ b. b && (wide_of plan x.link (source_of x.beat) == wide)) (same_side-refl (side_of x.link))
@@ -247,20 +249,20 @@ replies_sorted plan (x ∷ past) lawful link wide =
         own : replies_at x.link (replies plan (side_of x.link) wide past) ≡ replies_of_source plan x.link wide
             (ended_replies (beats_at x.link past))
             → replies_at x.link (if is_of plan x (side_of x.link) wide then replies plan (side_of x.link) wide past
-                ++ reply_ended x.link (beats_at x.link past) x.beat else replies plan (side_of x.link) wide past)
+            ++ reply_ended x.link (beats_at x.link past) x.beat else replies plan (side_of x.link) wide past)
             ≡ replies_of_source plan x.link wide (ended_replies (x.beat ∷ beats_at x.link past))
         own was =
             ap (λ b. replies_at x.link (if b then replies plan (side_of x.link) wide past
-                ++ reply_ended x.link (beats_at x.link past) x.beat else replies plan (side_of x.link) wide past)) of_is
+            ++ reply_ended x.link (beats_at x.link past) x.beat else replies plan (side_of x.link) wide past)) of_is
             ∙ by (wide_of plan x.link (source_of x.beat) == wide)
             ∙ ap (λ l. l ++ (if wide_of plan x.link (source_of x.beat) == wide then replies_at x.link
-                (reply_ended x.link (beats_at x.link past) x.beat) else [])) was
+            (reply_ended x.link (beats_at x.link past) x.beat) else [])) was
             ∙ sym (replies_own plan x.link wide (beats_at x.link past) x.beat (same_at x.beat lawful.1))
           where
             by : (b : Bool) → replies_at x.link (if b then replies plan (side_of x.link) wide past
                 ++ reply_ended x.link (beats_at x.link past) x.beat else replies plan (side_of x.link) wide past)
                 ≡ replies_at x.link (replies plan (side_of x.link) wide past)
-                    ++ (if b then replies_at x.link (reply_ended x.link (beats_at x.link past) x.beat) else [])
+                ++ (if b then replies_at x.link (reply_ended x.link (beats_at x.link past) x.beat) else [])
             by true = replies_more x.link (replies plan (side_of x.link) wide past)
                 (reply_ended x.link (beats_at x.link past) x.beat)
             by false = sym (append-nil (replies_at x.link (replies plan (side_of x.link) wide past)))
@@ -269,9 +271,9 @@ replies_sorted plan (x ∷ past) lawful link wide =
         → replies_at link (replies plan (side_of link) wide past) ≡ replies_of_source plan link wide
         (ended_replies (beats_at link past))
         → replies_at link (if is_of plan x (side_of link) wide then replies plan (side_of link) wide past
-            ++ reply_ended x.link (beats_at x.link past) x.beat else replies plan (side_of link) wide past)
+        ++ reply_ended x.link (beats_at x.link past) x.beat else replies plan (side_of link) wide past)
         ≡ replies_of_source plan link wide (ended_replies
-            (if at then x.beat ∷ beats_at link past else beats_at link past))
+        (if at then x.beat ∷ beats_at link past else beats_at link past))
     go true is before = here link (sym (same_link x.link link is)) before
     go false is before = by (is_of plan x (side_of link) wide) ∙ before
       where
@@ -282,5 +284,5 @@ replies_sorted plan (x ∷ past) lawful link wide =
         by true = replies_more link (replies plan (side_of link) wide past)
             (reply_ended x.link (beats_at x.link past) x.beat)
             ∙ ap (λ l. replies_at link (replies plan (side_of link) wide past) ++ l)
-                (replies_other link x.link (beats_at x.link past) x.beat is)
-                ∙ append-nil (replies_at link (replies plan (side_of link) wide past))
+            (replies_other link x.link (beats_at x.link past) x.beat is)
+            ∙ append-nil (replies_at link (replies plan (side_of link) wide past))

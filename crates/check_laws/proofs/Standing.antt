@@ -105,7 +105,7 @@ module _ (plan : Plan) (wide : ℕ) where
       → outside (record story { sent = story.sent ++ more; collected = story.collected ++ [] }) ≡ outside story
   outside_asked story more counted =
       ap (λ l. answered_from_outside plan (zip (story.sent ++ more) l)) (append-nil story.collected)
-          ∙ ap (λ l. answered_from_outside plan l) (zip_past story.sent more story.collected counted)
+      ∙ ap (λ l. answered_from_outside plan l) (zip_past story.sent more story.collected counted)
 
   sent_more : (sent : List AskSeen) (one : AskSeen)
       → sent_out plan wide (sent ++ one ∷ []) ≡ sent_out plan wide sent
@@ -121,8 +121,10 @@ module _ (plan : Plan) (wide : ℕ) where
 
   pub master_asks : (story : Story) (link : Link) (n : ℕ) (ask : Request) (ends : Bool) (there : Turn)
       → IsAtRest story there → length story.sent ≡ length story.collected
-      → Stands (record story { sent = story.sent ++ (if ends then record { link = link; ask = ask } ∷ [] else []);
-          collected = story.collected ++ [] }) (turn_by n (if ends then Some ask else None)) Waiting there
+      → Stands (record story {
+        sent = story.sent ++ (if ends then record { link = link; ask = ask } ∷ [] else []);
+        collected = story.collected ++ [];
+      }) (turn_by n (if ends then Some ask else None)) Waiting there
   master_asks story link n ask false there rest counted = record {
     same = ap (λ l. sent_out plan wide l) (append-nil story.sent) ∙ rest.same;
     free = rest.free;
@@ -131,8 +133,10 @@ module _ (plan : Plan) (wide : ℕ) where
   master_asks story link n ask true there rest counted = go (is_out ask) refl
     where
       go : (out : Bool) → is_out ask ≡ out → IsOut
-          (record story { sent = story.sent ++ record { link = link; ask = ask } ∷ [];
-          collected = story.collected ++ [] }) out ask Waiting there
+          (record story {
+            sent = story.sent ++ record { link = link; ask = ask } ∷ [];
+            collected = story.collected ++ [];
+          }) out ask Waiting there
       go true is = record {
         same = sent_more story.sent (record { link = link; ask = ask })
             ∙ ap (λ b. sent_out plan wide story.sent ++ (if b then record ask { source = wide } ∷ [] else [])) is
@@ -161,16 +165,16 @@ module _ (plan : Plan) (wide : ℕ) where
   pub outside_answered : (story : Story) (done : List AskSeen) (last : AskSeen) (reply : ReplySeen)
       → story.sent ≡ done ++ last ∷ [] → length story.collected ≡ length done
       → outside (record story { sent = story.sent ++ []; collected = story.collected ++ reply ∷ [] }) ≡ outside story
-          ++ (if goes_out plan last then (last, reply) ∷ [] else [])
+      ++ (if goes_out plan last then (last, reply) ∷ [] else [])
   outside_answered story done last reply is counted =
       let test : AskSeen × ReplySeen → Bool = λ seen. goes_out plan seen.0 in
       ap (λ l. answered_from_outside plan (zip l (story.collected ++ reply ∷ []))) (append-nil story.sent ∙ is)
       ∙ ap (λ l. answered_from_outside plan l) (zip_more done story.collected last reply (sym counted))
       ∙ filter-append test (zip done story.collected) ((last, reply) ∷ [])
       ∙ ap (λ l. filter test l ++ (if goes_out plan last then (last, reply) ∷ [] else []))
-          (sym (zip_past done (last ∷ []) story.collected (sym counted)))
+      (sym (zip_past done (last ∷ []) story.collected (sym counted)))
       ∙ ap (λ l. answered_from_outside plan (zip l story.collected)
-          ++ (if goes_out plan last then (last, reply) ∷ [] else [])) (sym is)
+      ++ (if goes_out plan last then (last, reply) ∷ [] else [])) (sym is)
 
   story_same : (story : Story) → story ≡ record story { sent = story.sent ++ []; collected = story.collected ++ [] }
   story_same story = ap (λ l. record story { sent = l }) (sym (append-nil story.sent))
@@ -180,10 +184,12 @@ module _ (plan : Plan) (wide : ℕ) where
       (crossing : Crossing) (source : ℕ) (there : Turn) → story.sent ≡ done ++ record { link = link; ask = ask } ∷ []
       → length story.collected ≡ length done
       → Stands story (Asked n ask) crossing there → (ends : Bool)
-          → (ends ≡ true → is_out ask ≡ true → IsGot ask message crossing source)
-      → Stands (record story { sent = story.sent ++ [];
-          collected = story.collected ++ (if ends then record { link = link; beats = message } ∷ [] else []) })
-          (if ends then Idle else Asked n ask) crossing there
+      → (ends ≡ true → is_out ask ≡ true → IsGot ask message crossing source)
+      → Stands (record story {
+        sent = story.sent ++ [];
+        collected = story.collected ++ (if ends then record { link = link; beats = message } ∷ [] else []);
+      })
+      (if ends then Idle else Asked n ask) crossing there
   master_gets story link n ask done message crossing source there is counted stands false got =
       subst (λ s. Stands s (Asked n ask) crossing there) (story_same story) stands
   master_gets story link n ask done message crossing source there is counted stands true got =
@@ -191,16 +197,20 @@ module _ (plan : Plan) (wide : ℕ) where
     where
       go : (out : Bool) → is_out ask ≡ out → (crossing : Crossing) → IsOut story out ask crossing there
           → (is_out ask ≡ true → IsGot ask message crossing source)
-          → IsAtRest (record story { sent = story.sent ++ [];
-              collected = story.collected ++ record { link = link; beats = message } ∷ [] }) there
+          → IsAtRest (record story {
+            sent = story.sent ++ [];
+            collected = story.collected ++ record { link = link; beats = message } ∷ [];
+          }) there
       go false out crossing stands got = record {
         same = ap (λ l. sent_out plan wide l) (append-nil story.sent) ∙ stands.same;
         free = stands.free;
         given = subst (λ l. AllGiven wide l (zip story.taken story.gave))
             (sym (outside_answered story done (record { link = link; ask = ask })
             (record { link = link; beats = message }) is counted
-            ∙ ap (λ b. outside story ++ (if b then (record { link = link; ask = ask },
-                record { link = link; beats = message }) ∷ [] else [])) out ∙ append-nil (outside story))) stands.given;
+            ∙ ap (λ b. outside story ++ (if b then (
+              record { link = link; ask = ask },
+              record { link = link; beats = message },
+            ) ∷ [] else [])) out ∙ append-nil (outside story))) stands.given;
       }
       go true out Waiting stands got = absurd (got out).must
       go true out Crossed stands got = absurd (got out).must
@@ -217,9 +227,9 @@ module _ (plan : Plan) (wide : ℕ) where
                 (sym (ap (λ k. record answer.reply { source = k }) (sym this.own) ∙ this.must)) this.spelled;
           } in
           let seen : outside story ++ (last, reply)
-              ∷ [] ≡ outside (record story { sent = story.sent ++ []; collected = story.collected ++ reply ∷ [] }) =
+          ∷ [] ≡ outside (record story { sent = story.sent ++ []; collected = story.collected ++ reply ∷ [] }) =
           sym (outside_answered story done last reply is counted
-              ∙ ap (λ b. outside story ++ (if b then (last, reply) ∷ [] else [])) out) in
+          ∙ ap (λ b. outside story ++ (if b then (last, reply) ∷ [] else [])) out) in
           record {
             same = ap (λ l. sent_out plan wide l) (append-nil story.sent) ∙ stands.same;
             free = stands.free;
@@ -258,8 +268,17 @@ module _ (plan : Plan) (wide : ℕ) where
       go true Waiting stands = record { same = stands.same; free = free; given = stands.given }
       go true Crossed stands = absurd (not_pending there stands.port (record ask { source = wide }) stands.is none)
       go true (Given answer) stands =
-          record { same = stands.same; free = free; front = stands.front; last = stands.last; split = stands.split;
-          given = stands.given; ask_is = stands.ask_is; lawful = stands.lawful; spelled = stands.spelled }
+          record {
+            same = stands.same;
+            free = free;
+            front = stands.front;
+            last = stands.last;
+            split = stands.split;
+            given = stands.given;
+            ask_is = stands.ask_is;
+            lawful = stands.lawful;
+            spelled = stands.spelled;
+          }
 
   -- the request that a port takes is the one that is out
   pub record IsTheSent (turn : Turn) (crossing : Crossing) (ask : Request) : Type 0 where
@@ -275,22 +294,26 @@ module _ (plan : Plan) (wide : ℕ) where
       (there : Turn) → pending AtPorts there ≡ [] → length story.taken ≡ length story.gave
       → Stands story turn crossing there
       → (ends : Bool) → (ends ≡ true → IsTheSent turn crossing ask)
-      → Stands (record story { taken = story.taken ++ (if ends then record { link = link; ask = ask } ∷ [] else []);
-          gave = story.gave ++ [] }) turn (if ends then Crossed else crossing)
-          (turn_by p (if ends then Some ask else None))
+      → Stands (record story {
+        taken = story.taken ++ (if ends then record { link = link; ask = ask } ∷ [] else []);
+        gave = story.gave ++ [];
+      }) turn (if ends then Crossed else crossing)
+      (turn_by p (if ends then Some ask else None))
   port_asks story link p ask turn crossing there none counted stands false sent =
       subst (λ s. Stands s turn crossing (Asking p)) (taken_same story)
-          (stands_free story turn crossing there (Asking p) none refl stands)
+      (stands_free story turn crossing there (Asking p) none refl stands)
   port_asks story link p ask turn crossing there none counted stands true sent =
       let this = sent refl in
-      let after : Story = record story { taken = story.taken ++ record { link = link; ask = ask } ∷ [];
-          gave = story.gave ++ [] } in
+      let after : Story = record story {
+        taken = story.taken ++ record { link = link; ask = ask } ∷ [];
+        gave = story.gave ++ [];
+      } in
       let ask_is : record this.sent { source = wide } ≡ ask =
-          ap (λ k. record this.sent { source = k }) (sym this.own) ∙ this.same in
+      ap (λ k. record this.sent { source = k }) (sym this.own) ∙ this.same in
       let out : IsSentOut story this.sent there =
-          subst (λ b. IsOut story b this.sent Waiting there) this.out
-          (subst (λ c. IsOut story (is_out this.sent) this.sent c there) this.waits
-          (subst (λ t. Stands story t crossing there) this.in_flight stands)) in
+      subst (λ b. IsOut story b this.sent Waiting there) this.out
+      (subst (λ c. IsOut story (is_out this.sent) this.sent c there) this.waits
+      (subst (λ t. Stands story t crossing there) this.in_flight stands)) in
       let taken : IsTaken after this.sent (Asked p ask) = record {
         same = out.same ∙ ap (λ r. requests_of story.taken ++ r ∷ []) ask_is
             ∙ sym (map-append (λ (one : AskSeen). one.ask) story.taken (record { link = link; ask = ask } ∷ []));
@@ -300,7 +323,7 @@ module _ (plan : Plan) (wide : ℕ) where
             (gave_same story (record { link = link; ask = ask } ∷ []) counted) out.given;
       } in
       subst (λ t. Stands after t Crossed (Asked p ask)) (sym this.in_flight)
-          (subst (λ b. IsOut after b this.sent Crossed (Asked p ask)) (sym this.out) taken)
+      (subst (λ b. IsOut after b this.sent Crossed (Asked p ask)) (sym this.out) taken)
 
   -- the reply that a port gives
   pub record IsItsGift (ask : Request) (message : List DBeat) (due : Option Answer) : Type 0 where
@@ -313,8 +336,10 @@ module _ (plan : Plan) (wide : ℕ) where
       (sent : Request) (there : Turn) (due : Option Answer) → there ≡ Asked p ask
       → story.taken ≡ done ++ record { link = link; ask = ask } ∷ [] → length story.gave ≡ length done
       → IsTaken story sent there → IsItsGift ask message due
-          → IsOut (record story { taken = story.taken ++ [];
-          gave = story.gave ++ record { link = link; beats = message } ∷ [] }) true sent (given_by due Crossed) Idle
+      → IsOut (record story {
+        taken = story.taken ++ [];
+        gave = story.gave ++ record { link = link; beats = message } ∷ [];
+      }) true sent (given_by due Crossed) Idle
   back story link p ask done message sent there None is taken_is counted taken gift = absurd gift.must
   back story link p ask done message sent there (Some answer) is taken_is counted taken gift =
       let last : AskSeen = record { link = link; ask = ask } in
@@ -328,7 +353,7 @@ module _ (plan : Plan) (wide : ℕ) where
         split = ap (λ l. zip l (story.gave ++ reply ∷ [])) (append-nil story.taken ∙ taken_is)
             ∙ zip_more done story.gave last reply (sym counted)
             ∙ ap (λ l. l ++ (last, reply) ∷ []) (sym (zip_past done (last ∷ []) story.gave (sym counted))
-                ∙ ap (λ l. zip l story.gave) (sym taken_is));
+            ∙ ap (λ l. zip l story.gave) (sym taken_is));
         given = taken.given;
         ask_is = ask_is;
         lawful = subst (λ (r : Response). IsLawfulResponse r.op r.size r.denied r.bytes) (sym gift.must) gift.lawful;
@@ -347,10 +372,12 @@ module _ (plan : Plan) (wide : ℕ) where
       (turn : Turn) (crossing : Crossing) (there : Turn) (due : Option Answer) → there ≡ Asked p ask
       → story.taken ≡ done ++ record { link = link; ask = ask } ∷ []
       → length story.gave ≡ length done → Stands story turn crossing there → (ends : Bool)
-          → (ends ≡ true → IsItsGift ask message due)
-      → Stands (record story { taken = story.taken ++ [];
-          gave = story.gave ++ (if ends then record { link = link; beats = message } ∷ [] else []) }) turn
-          (if ends then given_by due crossing else crossing) (if ends then Idle else there)
+      → (ends ≡ true → IsItsGift ask message due)
+      → Stands (record story {
+        taken = story.taken ++ [];
+        gave = story.gave ++ (if ends then record { link = link; beats = message } ∷ [] else []);
+      }) turn
+      (if ends then given_by due crossing else crossing) (if ends then Idle else there)
   port_gives story link p ask done message turn crossing there due is taken_is counted stands false gift =
       subst (λ s. Stands s turn crossing there) (taken_same story) stands
   port_gives story link p ask done message Idle crossing there due is taken_is counted stands true gift =
@@ -361,8 +388,10 @@ module _ (plan : Plan) (wide : ℕ) where
       go (is_out sent) crossing stands
     where
       go : (out : Bool) (crossing : Crossing) → IsOut story out sent crossing there
-          → IsOut (record story { taken = story.taken ++ [];
-              gave = story.gave ++ record { link = link; beats = message } ∷ [] }) out sent (given_by due crossing) Idle
+          → IsOut (record story {
+            taken = story.taken ++ [];
+            gave = story.gave ++ record { link = link; beats = message } ∷ [];
+          }) out sent (given_by due crossing) Idle
       go false crossing stands = absurd (not_pending there p ask is stands.free)
       go true Waiting stands = absurd (not_pending there p ask is stands.free)
       go true (Given answer) stands = absurd (not_pending there p ask is stands.free)

@@ -54,7 +54,7 @@ pub takes : (layout : Layout) (link : Link) (port : ℕ) → HasLink layout link
 takes layout (Master m) port has watched own = at_masters layout.links (nat_lt port (length layout.ranges)) m watched
 takes layout (Port p) port has watched own =
     at_ports layout.links (nat_lt port (length layout.ranges)) p watched
-        (ap (λ n. nat_lt n (length layout.ranges)) (own p refl) ∙ less p (length layout.ranges) has)
+    (ap (λ n. nat_lt n (length layout.ranges)) (own p refl) ∙ less p (length layout.ranges) has)
 
 -- ---- the request of a port's memory
 
@@ -76,7 +76,7 @@ module _ (plan : Plan) (link : Link) (wide port found : ℕ) (has : HasLink plan
   -- a request that is done is one of this port, where it goes there
   taken : (ask : Request) → port_for plan link ask ≡ found
       → map (widened wide) (filter (is_for plan port) (record { link = link; ask = ask } ∷ [])) ≡
-          (if found == port then list_of wide (effect_by (takes_effect plan.layout link found) (Some ask)) else [])
+      (if found == port then list_of wide (effect_by (takes_effect plan.layout link found) (Some ask)) else [])
   taken ask goes = go (found == port) refl
     where
       -- by where it is seen and where it goes
@@ -100,9 +100,9 @@ module _ (plan : Plan) (link : Link) (wide port found : ℕ) (has : HasLink plan
       go true is =
           let there : found ≡ port = eqb-true found port is in
           ap (λ h. Done (same_side (side_of link) (side_for plan.layout port)) h) (here_is ∙ is)
-              ∙ at (same_side (side_of link) (side_for plan.layout port))
+          ∙ at (same_side (side_of link) (side_for plan.layout port))
           ∙ ap (λ p. list_of wide (effect_by (same_side (side_of link) (side_for plan.layout p)) (Some ask)))
-              (sym there)
+          (sym there)
           ∙ ap (λ b. list_of wide (effect_by b (Some ask))) (sym (takes plan.layout link found has watched own))
       go false is = ap (λ h. Done (same_side (side_of link) (side_for plan.layout port)) h) (here_is ∙ is)
           ∙ past (same_side (side_of link) (side_for plan.layout port))
@@ -112,7 +112,7 @@ module _ (plan : Plan) (link : Link) (wide port found : ℕ) (has : HasLink plan
       → ((ask : Request) → ask.address ≡ beat.address → ask.size ≡ beat.size → port_for plan link ask ≡ found)
       → map (widened wide) (filter (is_for plan port) (ask_done plan order past (ask_at link known beat)))
       ≡ (if found == port then list_of wide (effect_by (is_at_acceptance order && takes_effect plan.layout link found)
-          (ask_by (asking (beats_at link past)) beat)) else [])
+      (ask_by (asking (beats_at link past)) beat)) else [])
   ask_taken Reply past known beat goes = none_here wide (found == port)
   ask_taken Accept past known beat goes = go (ends_ask (asking (beats_at link past)) beat)
     where
@@ -123,7 +123,7 @@ module _ (plan : Plan) (link : Link) (wide port found : ℕ) (has : HasLink plan
           (if ends then record { link = link; ask = ask_of beat (asking (beats_at link past) ++ beat ∷ []) }
           ∷ [] else []))
           ≡ (if found == port then list_of wide (effect_by (takes_effect plan.layout link found)
-              (if ends then Some (ask_of beat (asking (beats_at link past) ++ beat ∷ [])) else None)) else [])
+          (if ends then Some (ask_of beat (asking (beats_at link past) ++ beat ∷ [])) else None)) else [])
       go true = taken (ask_of beat (asking (beats_at link past) ++ beat ∷ []))
           (goes (ask_of beat (asking (beats_at link past) ++ beat ∷ [])) refl refl)
       go false = none_taken wide (found == port) (takes_effect plan.layout link found)
@@ -134,8 +134,8 @@ module _ (plan : Plan) (link : Link) (wide port found : ℕ) (has : HasLink plan
       → next_answered plan (side_of link) (wide_of plan link beat.source) past ≡ record { link = link; ask = ask } ∷ []
       → map (widened wide) (filter (is_for plan port) (ask_done plan order past (reply_at link known beat)))
       ≡ (if found == port then list_of wide (effect_by
-          (is_at_reply order && takes_effect plan.layout link found && begins_reply (replying (beats_at link past)))
-          (Some ask)) else [])
+      (is_at_reply order && takes_effect plan.layout link found && begins_reply (replying (beats_at link past)))
+      (Some ask)) else [])
   reply_taken Accept past known beat ask goes next = none_here wide (found == port)
   reply_taken Reply past known beat ask goes next = go (begins_reply (replying (beats_at link past)))
     where
@@ -152,7 +152,7 @@ module _ (plan : Plan) (link : Link) (wide port found : ℕ) (has : HasLink plan
           (filter (is_for plan port) (if begins then next_answered plan (side_of link)
           (wide_of plan link beat.source) past else []))
           ≡ (if found == port then list_of wide (effect_by (takes_effect plan.layout link found && begins)
-              (Some ask)) else [])
+          (Some ask)) else [])
       go true = ap (λ l. map (widened wide) (filter (is_for plan port) l)) next ∙ taken ask goes
           ∙ on (takes_effect plan.layout link found)
       go false = off (takes_effect plan.layout link found)
@@ -161,7 +161,7 @@ module _ (plan : Plan) (link : Link) (wide port found : ℕ) (has : HasLink plan
 pub next_is : (plan : Plan) (past : List Sighting) (link : Link) (wide : ℕ) (turn : Turn) (ask : Request)
     → InStep (side_of link) turn (asks plan (side_of link) wide past) (replies plan (side_of link) wide past)
     → turn ≡ Asked (number_of link) ask → next_answered plan
-        (side_of link) wide past ≡ record { link = link; ask = ask } ∷ []
+    (side_of link) wide past ≡ record { link = link; ask = ask } ∷ []
 next_is plan past link wide turn ask step is =
     let n = length (replies plan (side_of link) wide past) in
     let one : suc n - n ≡ 1 = omega arith in

@@ -53,12 +53,12 @@ entry_list wide bank (Some ask) = (record ask { source = wide }, record (reply b
 pub entries_more : (store : Store) (asks : List Request) (wide other : ℕ) (here : Bool) (did : Option Request)
     → entries_of wide (told store (asks ++ (if here then list_of other did else [])))
     ≡ entries_of wide (told store asks) ++ (if here then
-        (if other == wide then entry_list other (replay store asks) did else []) else [])
+    (if other == wide then entry_list other (replay store asks) did else []) else [])
 entries_more store asks wide other false did =
     ap (λ l. entries_of wide (told store l)) (append-nil asks) ∙ sym (append-nil (entries_of wide (told store asks)))
 entries_more store asks wide other true None =
     ap (λ l. entries_of wide (told store l)) (append-nil asks) ∙ sym (append-nil (entries_of wide (told store asks)))
-        ∙ ap (λ l. entries_of wide (told store asks) ++ l) (both (other == wide))
+    ∙ ap (λ l. entries_of wide (told store asks) ++ l) (both (other == wide))
   where
     both : (b : Bool) → ◌≡◌ {A = List (Request × Response)} [] (if b then [] else [])
     both true = refl
@@ -67,7 +67,7 @@ entries_more store asks wide other true (Some ask) =
     let wide_ask : Request = record ask { source = other } in
     ap (λ l. entries_of wide l) (told_more store asks wide_ask)
     ∙ filter-append (λ (entry : Request × Response). entry.0.source == wide) (told store asks)
-        ((wide_ask, reply (replay store asks) wide_ask) ∷ [])
+    ((wide_ask, reply (replay store asks) wide_ask) ∷ [])
 
 -- ---- captured entries, one by one
 
@@ -80,7 +80,7 @@ AreMatched wide (seen ∷ more) (entry ∷ entries) = IsEntry wide seen entry ×
 pub matched_more : (wide : ℕ) (seen : List (AskSeen × ReplySeen)) (entries : List (Request × Response))
     (last : AskSeen × ReplySeen) (entry : Request × Response)
     → AreMatched wide seen entries → IsEntry wide last entry
-        → AreMatched wide (seen ++ last ∷ []) (entries ++ entry ∷ [])
+    → AreMatched wide (seen ++ last ∷ []) (entries ++ entry ∷ [])
 matched_more wide [] [] last entry all is = (is, tt)
 matched_more wide [] (e ∷ entries) last entry all is = absurd all
 matched_more wide (x ∷ seen) [] last entry all is = absurd all

@@ -46,8 +46,12 @@ module _ (plan : Plan) (past : List Sighting) (lawful : IsLawful plan past) (sid
 
   counted : length (asks plan side wide past) ≡ length (replies plan side wide past) + length
       (pending side ((state plan past).flights side wide).turn)
-  counted = omega (arith, ap (λ (l : List AskSeen). length l) step.asks_are,
-      length-append step.done (pending side ((state plan past).flights side wide).turn), step.counted)
+  counted = omega (
+    arith,
+    ap (λ (l : List AskSeen). length l) step.asks_are,
+    length-append step.done (pending side ((state plan past).flights side wide).turn),
+    step.counted,
+  )
 
   -- a request that has begun is in flight of its source
   asking_here : (link : Link) → side_of link ≡ side → AsksAt plan past wide link
@@ -62,15 +66,15 @@ module _ (plan : Plan) (past : List Sighting) (lawful : IsLawful plan past) (sid
     begins_answered = λ link is at. omega (arith, counted, ap (λ t. length (pending side t)) (asking_here link is at));
     begins_once = λ link other is other_is at there.
         same_link link other (is_link_by link other (is ∙ sym other_is)
-            (asking_same (number_of link) (number_of other)
-            (sym (asking_here link is at) ∙ asking_here other other_is there)));
+        (asking_same (number_of link) (number_of other)
+        (sym (asking_here link is at) ∙ asking_here other other_is there)));
     replies_asked = λ link is at.
         let found = asked_at (number_of link) ((state plan past).flights (side_of link)
-            (wide_of plan link at.first.source)).turn (λ ask. Answers ask at.first)
-            (replying_in_flight plan past lawful link at.first at.more at.begun) in
+        (wide_of plan link at.first.source)).turn (λ ask. Answers ask at.first)
+        (replying_in_flight plan past lawful link at.first at.more at.begun) in
         let next = next_is plan past link (wide_of plan link at.first.source)
-            ((state plan past).flights (side_of link) (wide_of plan link at.first.source)).turn found.0
-            (in_step plan past lawful (side_of link) (wide_of plan link at.first.source)) found.1 in
+        ((state plan past).flights (side_of link) (wide_of plan link at.first.source)).turn found.0
+        (in_step plan past lawful (side_of link) (wide_of plan link at.first.source)) found.1 in
         (found.0, rw (← is, ← at.of) next, found.2);
   }
 

@@ -124,7 +124,7 @@ module _ (plan : Plan) (s : State) (past : List Sighting) (linked : LinksAre s p
   -- a beat of a request finds nothing in flight of its source, or its own request
   pub open_before : (beat : ABeat) → IsAllowedAsk plan.layout link (scene_of plan s (ask_at link known beat)) beat known
       → ((s.flights (side_of link) (wide_of plan link beat.source)).turn ≡ Idle)
-          ⊎ ((s.flights (side_of link) (wide_of plan link beat.source)).turn ≡ Asking (number_of link))
+      ⊎ ((s.flights (side_of link) (wide_of plan link beat.source)).turn ≡ Asking (number_of link))
   open_before beat allowed = go (asking (beats_at link past)) refl
     where
       under_is : (s.links (side_of link) (number_of link)).asking ≡ asking (beats_at link past)
@@ -136,15 +136,15 @@ module _ (plan : Plan) (s : State) (past : List Sighting) (linked : LinksAre s p
       go [] is = inl (allowed.free (under_is ∙ is))
       go (first ∷ more) is =
           let source : beat.source ≡ first.source =
-              (allowed.fits.same first (ap (λ (l : List ABeat). slice_get l 0) (under_is ∙ is))).source in
+          (allowed.fits.same first (ap (λ (l : List ABeat). slice_get l 0) (under_is ∙ is))).source in
           inr (ap (λ n. (s.flights (side_of link) (wide_of plan link n)).turn) source ∙ busy link first more is)
 
   -- what is in flight after it at its own link
   own_asking : (beat : ABeat) → IsAllowedAsk plan.layout link (scene_of plan s (ask_at link known beat)) beat known
       → (first : ABeat) (more : List ABeat) → asking (A beat ∷ beats_at link past) ≡ first ∷ more
       → (if is_of plan (ask_at link known beat) (side_of link)
-          (wide_of plan link first.source) then flight_after plan.layout link (scene_of plan s (ask_at link known beat))
-          (A beat) else s.flights (side_of link) (wide_of plan link first.source)).turn ≡ Asking (number_of link)
+      (wide_of plan link first.source) then flight_after plan.layout link (scene_of plan s (ask_at link known beat))
+      (A beat) else s.flights (side_of link) (wide_of plan link first.source)).turn ≡ Asking (number_of link)
   own_asking beat allowed first more = go (ends_ask (asking (beats_at link past)) beat) refl
     where
       under_is : (s.links (side_of link) (number_of link)).asking ≡ asking (beats_at link past)
@@ -156,20 +156,20 @@ module _ (plan : Plan) (s : State) (past : List Sighting) (linked : LinksAre s p
       go : (ends : Bool) → ends_ask (asking (beats_at link past)) beat ≡ ends
           → (if ends then [] else asking (beats_at link past) ++ beat ∷ []) ≡ first ∷ more
           → (if is_of plan (ask_at link known beat) (side_of link)
-              (wide_of plan link first.source) then flight_after plan.layout link
-              (scene_of plan s (ask_at link known beat)) (A beat) else s.flights (side_of link)
-              (wide_of plan link first.source)).turn ≡ Asking (number_of link)
+          (wide_of plan link first.source) then flight_after plan.layout link
+          (scene_of plan s (ask_at link known beat)) (A beat) else s.flights (side_of link)
+          (wide_of plan link first.source)).turn ≡ Asking (number_of link)
       go true e is = cc
       go false e is =
           let source : first.source ≡ beat.source = head_source (asking (beats_at link past)) beat first more same is in
           let own : is_of plan (ask_at link known beat) (side_of link) (wide_of plan link first.source) ≡ true =
-              ap (λ n. is_of plan (ask_at link known beat) (side_of link) (wide_of plan link n)) source
-              ∙ is_of_own plan (ask_at link known beat) in
+          ap (λ n. is_of plan (ask_at link known beat) (side_of link) (wide_of plan link n)) source
+          ∙ is_of_own plan (ask_at link known beat) in
           let part : ask_by (s.links (side_of link) (number_of link)).asking beat ≡ None =
-              ap (λ (l : List ABeat). ask_by l beat) under_is
-              ∙ ap (λ b. if b then Some (ask_of beat (asking (beats_at link past) ++ beat ∷ [])) else None) e in
+          ap (λ (l : List ABeat). ask_by l beat) under_is
+          ∙ ap (λ b. if b then Some (ask_of beat (asking (beats_at link past) ++ beat ∷ [])) else None) e in
           ap (λ (b : Bool). (if b then flight_after plan.layout link (scene_of plan s (ask_at link known beat))
-              (A beat) else s.flights (side_of link) (wide_of plan link first.source)).turn) own
+          (A beat) else s.flights (side_of link) (wide_of plan link first.source)).turn) own
           ∙ ap (λ o. turn_by (number_of link) o) part
 
   -- what is in flight of a request that is under way stays, where the beat is none of it
@@ -177,13 +177,13 @@ module _ (plan : Plan) (s : State) (past : List Sighting) (linked : LinksAre s p
       → (s.flights (side_of at) (wide_of plan at first.source)).turn ≡ Asking (number_of at)
       → (is_of plan x (side_of at) (wide_of plan at first.source) ≡ true → ⊥)
       → (if is_of plan x (side_of at) (wide_of plan at first.source) then flight_after plan.layout link
-          (scene_of plan s x) x.beat else s.flights (side_of at) (wide_of plan at first.source)).turn ≡ Asking
-          (number_of at)
+      (scene_of plan s x) x.beat else s.flights (side_of at) (wide_of plan at first.source)).turn ≡ Asking
+      (number_of at)
   stays x at first here is none = go (is_of plan x (side_of at) (wide_of plan at first.source)) refl
     where
       go : (of : Bool) → is_of plan x (side_of at) (wide_of plan at first.source) ≡ of
           → (if of then flight_after plan.layout link (scene_of plan s x) x.beat else s.flights (side_of at)
-              (wide_of plan at first.source)).turn ≡ Asking (number_of at)
+          (wide_of plan at first.source)).turn ≡ Asking (number_of at)
       go true same = absurd (none same)
       go false same = is
 
@@ -195,9 +195,9 @@ module _ (plan : Plan) (s : State) (past : List Sighting) (linked : LinksAre s p
   reply_elsewhere beat allowed at first is same =
       let both = is_of_is plan (reply_at link known beat) (side_of at) (wide_of plan at first.source) same in
       let here : (s.flights (side_of link) (wide_of plan link beat.source)).turn ≡ Asking (number_of at) =
-          rw (both.0, both.1) is in
+      rw (both.0, both.1) is in
       not_asking (number_of link) (number_of at)
-          (s.flights (side_of link) (wide_of plan link beat.source)).turn _ allowed.answers here
+      (s.flights (side_of link) (wide_of plan link beat.source)).turn _ allowed.answers here
 
   -- nor is a beat of a request at another link
   ask_elsewhere : (beat : ABeat) → IsAllowedAsk plan.layout link (scene_of plan s (ask_at link known beat)) beat known
@@ -226,15 +226,15 @@ module _ (plan : Plan) (s : State) (past : List Sighting) (linked : LinksAre s p
       go : (here : Bool) → is_link link (side_of at) (number_of at) ≡ here
           → asking (if here then A beat ∷ beats_at at past else beats_at at past) ≡ first ∷ more
           → (if is_of plan (ask_at link known beat) (side_of at)
-              (wide_of plan at first.source) then flight_after plan.layout link
-              (scene_of plan s (ask_at link known beat)) (A beat) else s.flights (side_of at)
-              (wide_of plan at first.source)).turn ≡ Asking (number_of at)
+          (wide_of plan at first.source) then flight_after plan.layout link
+          (scene_of plan s (ask_at link known beat)) (A beat) else s.flights (side_of at)
+          (wide_of plan at first.source)).turn ≡ Asking (number_of at)
       go true here is =
           let P : Link → Type 0 = λ l. asking (A beat ∷ beats_at l past) ≡ first ∷ more
           → (if is_of plan (ask_at link known beat) (side_of l)
-              (wide_of plan l first.source) then flight_after plan.layout link
-              (scene_of plan s (ask_at link known beat)) (A beat) else s.flights (side_of l)
-              (wide_of plan l first.source)).turn ≡ Asking (number_of l) in
+          (wide_of plan l first.source) then flight_after plan.layout link
+          (scene_of plan s (ask_at link known beat)) (A beat) else s.flights (side_of l)
+          (wide_of plan l first.source)).turn ≡ Asking (number_of l) in
           subst P (same_link link at here) (own_asking beat allowed first more) is
       go false here is = stays (ask_at link known beat) at first refl (busy at first more is)
           (ask_elsewhere beat allowed at first here (busy at first more is))
@@ -247,9 +247,9 @@ module _ (plan : Plan) (s : State) (past : List Sighting) (linked : LinksAre s p
       go : (here : Bool) → is_link link (side_of at) (number_of at) ≡ here
           → asking (if here then D beat ∷ beats_at at past else beats_at at past) ≡ first ∷ more
           → (if is_of plan (reply_at link known beat) (side_of at)
-              (wide_of plan at first.source) then flight_after plan.layout link
-              (scene_of plan s (reply_at link known beat)) (D beat) else s.flights (side_of at)
-              (wide_of plan at first.source)).turn ≡ Asking (number_of at)
+          (wide_of plan at first.source) then flight_after plan.layout link
+          (scene_of plan s (reply_at link known beat)) (D beat) else s.flights (side_of at)
+          (wide_of plan at first.source)).turn ≡ Asking (number_of at)
       go true here is = stays (reply_at link known beat) at first refl (busy at first more is)
           (reply_elsewhere beat allowed at first (busy at first more is))
       go false here is = stays (reply_at link known beat) at first refl (busy at first more is)
@@ -263,7 +263,7 @@ asking_in_flight plan (x ∷ past) lawful = go (asking_in_flight plan past lawfu
     go : AskingIsInFlight plan (state plan past) past → (beat : Beat)
         → IsAllowed plan (scene_of plan (state plan past) (record x { beat = beat })) (record x { beat = beat })
         → AskingIsInFlight plan (state_after plan (state plan past) (record x { beat = beat }))
-            (record x { beat = beat } ∷ past)
+        (record x { beat = beat } ∷ past)
     go busy (A beat) allowed =
         ask_in_flight plan (state plan past) past (links_are plan past) busy x.link x.known beat allowed
     go busy (D beat) allowed =

@@ -27,7 +27,7 @@ abbrev pub ReplyingIsInFlight : Plan → State → List Sighting → Type 0
 ReplyingIsInFlight plan s past =
     (link : Link) (first : DBeat) (more : List DBeat) → replying (beats_at link past) ≡ first ∷ more
     → OfAsked (number_of link) (s.flights (side_of link) (wide_of plan link first.source)).turn
-        (λ ask. Answers ask first)
+    (λ ask. Answers ask first)
 
 of_weaker : (n : ℕ) (turn : Turn) (P Q : Request → Type 0) → OfAsked n turn P → ((ask : Request) → P ask → Q ask)
     → OfAsked n turn Q
@@ -52,8 +52,10 @@ first_answers [] beat first more ask same is answers = let at : beat ≡ first =
 first_answers (b ∷ begun) beat first more ask same is answers =
     let at : b ≡ first = cc in
     let fields = same b refl in
-    subst (λ (c : DBeat). Answers ask c) at (record { size = sym fields.size ∙ answers.size;
-        opcode = sym fields.opcode ∙ answers.opcode })
+    subst (λ (c : DBeat). Answers ask c) at (record {
+      size = sym fields.size ∙ answers.size;
+      opcode = sym fields.opcode ∙ answers.opcode;
+    })
 
 module _ (plan : Plan) (s : State) (past : List Sighting) (linked : LinksAre s past)
     (busy : AskingIsInFlight plan s past) (before : ReplyingIsInFlight plan s past) (link : Link) (known : ℕ) where
@@ -62,13 +64,13 @@ module _ (plan : Plan) (s : State) (past : List Sighting) (linked : LinksAre s p
       → OfAsked (number_of at) (s.flights (side_of at) (wide_of plan at first.source)).turn (λ ask. Answers ask first)
       → (is_of plan x (side_of at) (wide_of plan at first.source) ≡ true → ⊥)
       → OfAsked (number_of at) (if is_of plan x (side_of at)
-          (wide_of plan at first.source) then flight_after plan.layout link (scene_of plan s x) x.beat else s.flights
-          (side_of at) (wide_of plan at first.source)).turn (λ ask. Answers ask first)
+      (wide_of plan at first.source) then flight_after plan.layout link (scene_of plan s x) x.beat else s.flights
+      (side_of at) (wide_of plan at first.source)).turn (λ ask. Answers ask first)
   stays x at first is none = go (is_of plan x (side_of at) (wide_of plan at first.source)) refl
     where
       go : (of : Bool) → is_of plan x (side_of at) (wide_of plan at first.source) ≡ of
           → OfAsked (number_of at) (if of then flight_after plan.layout link (scene_of plan s x) x.beat else s.flights
-              (side_of at) (wide_of plan at first.source)).turn (λ ask. Answers ask first)
+          (side_of at) (wide_of plan at first.source)).turn (λ ask. Answers ask first)
       go true same = absurd (none same)
       go false same = is
 
@@ -79,9 +81,9 @@ module _ (plan : Plan) (s : State) (past : List Sighting) (linked : LinksAre s p
     where
       next : replying (beats_at at past) ≡ first ∷ more
           → OfAsked (number_of at) (if is_of plan (ask_at link known beat) (side_of at)
-              (wide_of plan at first.source) then flight_after plan.layout link
-              (scene_of plan s (ask_at link known beat)) (A beat) else s.flights (side_of at)
-              (wide_of plan at first.source)).turn (λ ask. Answers ask first)
+          (wide_of plan at first.source) then flight_after plan.layout link
+          (scene_of plan s (ask_at link known beat)) (A beat) else s.flights (side_of at)
+          (wide_of plan at first.source)).turn (λ ask. Answers ask first)
       next is = stays (ask_at link known beat) at first (before at first more is) other
         where
           other : is_of plan (ask_at link known beat) (side_of at) (wide_of plan at first.source) ≡ true → ⊥
@@ -103,9 +105,9 @@ module _ (plan : Plan) (s : State) (past : List Sighting) (linked : LinksAre s p
 
       go : (here : Bool) → replying (if here then A beat ∷ beats_at at past else beats_at at past) ≡ first ∷ more
           → OfAsked (number_of at) (if is_of plan (ask_at link known beat) (side_of at)
-              (wide_of plan at first.source) then flight_after plan.layout link
-              (scene_of plan s (ask_at link known beat)) (A beat) else s.flights (side_of at)
-              (wide_of plan at first.source)).turn (λ ask. Answers ask first)
+          (wide_of plan at first.source) then flight_after plan.layout link
+          (scene_of plan s (ask_at link known beat)) (A beat) else s.flights (side_of at)
+          (wide_of plan at first.source)).turn (λ ask. Answers ask first)
       go true = next
       go false = next
 
@@ -119,37 +121,37 @@ module _ (plan : Plan) (s : State) (past : List Sighting) (linked : LinksAre s p
 
     own_replying : (first : DBeat) (more : List DBeat) → replying (D beat ∷ beats_at link past) ≡ first ∷ more
         → OfAsked (number_of link) (if is_of plan (reply_at link known beat) (side_of link)
-            (wide_of plan link first.source) then flight_after plan.layout link
-            (scene_of plan s (reply_at link known beat)) (D beat) else s.flights (side_of link)
-            (wide_of plan link first.source)).turn (λ ask. Answers ask first)
+        (wide_of plan link first.source) then flight_after plan.layout link
+        (scene_of plan s (reply_at link known beat)) (D beat) else s.flights (side_of link)
+        (wide_of plan link first.source)).turn (λ ask. Answers ask first)
     own_replying first more = go (ends_reply (replying (beats_at link past)) beat) refl
       where
         go : (ends : Bool) → ends_reply (replying (beats_at link past)) beat ≡ ends
             → (if ends then [] else replying (beats_at link past) ++ beat ∷ []) ≡ first ∷ more
             → OfAsked (number_of link) (if is_of plan (reply_at link known beat) (side_of link)
-                (wide_of plan link first.source) then flight_after plan.layout link
-                (scene_of plan s (reply_at link known beat)) (D beat) else s.flights (side_of link)
-                (wide_of plan link first.source)).turn (λ ask. Answers ask first)
+            (wide_of plan link first.source) then flight_after plan.layout link
+            (scene_of plan s (reply_at link known beat)) (D beat) else s.flights (side_of link)
+            (wide_of plan link first.source)).turn (λ ask. Answers ask first)
         go true e is = cc
         go false e is =
             let source : first.source ≡ beat.source = replied (replying (beats_at link past)) beat first more same is in
             let mine : is_of plan (reply_at link known beat) (side_of link) (wide_of plan link first.source) ≡ true =
-                ap (λ n. is_of plan (reply_at link known beat) (side_of link) (wide_of plan link n)) source
-                ∙ is_of_own plan (reply_at link known beat) in
+            ap (λ n. is_of plan (reply_at link known beat) (side_of link) (wide_of plan link n)) source
+            ∙ is_of_own plan (reply_at link known beat) in
             let goes_on : ends_reply (s.links (side_of link) (number_of link)).replying beat ≡ false =
-                ap (λ l. ends_reply l beat) under_is ∙ e in
+            ap (λ l. ends_reply l beat) under_is ∙ e in
             let turn = (s.flights (side_of link) (wide_of plan link beat.source)).turn in
             let here : OfAsked (number_of link) turn (λ ask. Answers ask first) =
-                of_weaker (number_of link) turn (IsAnswer beat known) (λ ask. Answers ask first) allowed.answers
+            of_weaker (number_of link) turn (IsAnswer beat known) (λ ask. Answers ask first) allowed.answers
             (λ ask answer. first_answers (replying (beats_at link past)) beat first more ask same is
-                (record { size = answer.size; opcode = answer.opcode })) in
+            (record { size = answer.size; opcode = answer.opcode })) in
             subst (λ (b : Bool). OfAsked (number_of link)
-                (if b then flight_after plan.layout link (scene_of plan s (reply_at link known beat))
-                (D beat) else s.flights (side_of link) (wide_of plan link first.source)).turn
-                (λ ask. Answers ask first)) (sym mine)
+            (if b then flight_after plan.layout link (scene_of plan s (reply_at link known beat))
+            (D beat) else s.flights (side_of link) (wide_of plan link first.source)).turn
+            (λ ask. Answers ask first)) (sym mine)
             (subst (λ (b : Bool). OfAsked (number_of link)
-                (if b then idle else (scene_of plan s (reply_at link known beat)).flight).turn
-                (λ ask. Answers ask first)) (sym goes_on) here)
+            (if b then idle else (scene_of plan s (reply_at link known beat)).flight).turn
+            (λ ask. Answers ask first)) (sym goes_on) here)
 
     pub reply_replying : ReplyingIsInFlight plan (state_after plan s (reply_at link known beat))
         (reply_at link known beat ∷ past)
@@ -158,15 +160,15 @@ module _ (plan : Plan) (s : State) (past : List Sighting) (linked : LinksAre s p
         go : (here : Bool) → is_link link (side_of at) (number_of at) ≡ here
             → replying (if here then D beat ∷ beats_at at past else beats_at at past) ≡ first ∷ more
             → OfAsked (number_of at) (if is_of plan (reply_at link known beat) (side_of at)
-                (wide_of plan at first.source) then flight_after plan.layout link
-                (scene_of plan s (reply_at link known beat)) (D beat) else s.flights (side_of at)
-                (wide_of plan at first.source)).turn (λ ask. Answers ask first)
+            (wide_of plan at first.source) then flight_after plan.layout link
+            (scene_of plan s (reply_at link known beat)) (D beat) else s.flights (side_of at)
+            (wide_of plan at first.source)).turn (λ ask. Answers ask first)
         go true here is =
             let P : Link → Type 0 = λ l. replying (D beat ∷ beats_at l past) ≡ first ∷ more
             → OfAsked (number_of l) (if is_of plan (reply_at link known beat) (side_of l)
-                (wide_of plan l first.source) then flight_after plan.layout link
-                (scene_of plan s (reply_at link known beat)) (D beat) else s.flights (side_of l)
-                (wide_of plan l first.source)).turn (λ ask. Answers ask first) in
+            (wide_of plan l first.source) then flight_after plan.layout link
+            (scene_of plan s (reply_at link known beat)) (D beat) else s.flights (side_of l)
+            (wide_of plan l first.source)).turn (λ ask. Answers ask first) in
             subst P (same_link link at here) (own_replying first more) is
         go false here is = stays (reply_at link known beat) at first (before at first more is) other
           where
@@ -175,9 +177,9 @@ module _ (plan : Plan) (s : State) (past : List Sighting) (linked : LinksAre s p
                 let both = is_of_is plan (reply_at link known beat) (side_of at) (wide_of plan at first.source) mine in
                 let turn = (s.flights (side_of link) (wide_of plan link beat.source)).turn in
                 let there : OfAsked (number_of at) turn (λ ask. Answers ask first) =
-                    rw (both.0, both.1) (before at first more is) in
+                rw (both.0, both.1) (before at first more is) in
                 let number = one_number (number_of link) (number_of at) turn (IsAnswer beat known)
-                    (λ ask. Answers ask first) allowed.answers there in
+                (λ ask. Answers ask first) allowed.answers there in
                 true_or_false (is_link link (side_of at) (number_of at)) (is_link_by link at both.0 number) here
 
 pub replying_in_flight : (plan : Plan) (past : List Sighting) → IsLawful plan past
@@ -188,7 +190,7 @@ replying_in_flight plan (x ∷ past) lawful = go (replying_in_flight plan past l
     go : ReplyingIsInFlight plan (state plan past) past → (beat : Beat)
         → IsAllowed plan (scene_of plan (state plan past) (record x { beat = beat })) (record x { beat = beat })
         → ReplyingIsInFlight plan (state_after plan (state plan past) (record x { beat = beat }))
-            (record x { beat = beat } ∷ past)
+        (record x { beat = beat } ∷ past)
     go before (A beat) allowed =
         ask_replying plan (state plan past) past (links_are plan past)
         (asking_in_flight plan past lawful.0) before x.link x.known beat allowed

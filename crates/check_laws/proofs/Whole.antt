@@ -29,6 +29,6 @@ seen_whole plan (x ∷ past) lawful = (seen_whole plan past lawful.0, go x.beat 
         let turn = ((state plan past).flights (side_of x.link) wide).turn in
         let found = asked_at (number_of x.link) turn (IsAnswer beat x.known) allowed.answers in
         let also = next_is plan past x.link wide turn found.0
-            (in_step plan past lawful.0 (side_of x.link) wide) found.1 in
+        (in_step plan past lawful.0 (side_of x.link) wide) found.1 in
         let same : found.0 ≡ ask = ap (λ l. ask_in ask l) (sym also ∙ next) in
         subst (λ r. IsKnownReply r beat x.known) same found.2.lanes

@@ -39,7 +39,7 @@ pub record ReplySeen : Type 0 where
 abbrev pub ask_ended : Link → List Beat → Beat → List AskSeen
 ask_ended link before (A beat) =
     if ends_ask (asking before) beat then record { link = link; ask = ask_of beat (asking before ++ beat ∷ []) }
-        ∷ [] else []
+    ∷ [] else []
 ask_ended link before (D beat) = []
 
 -- the reply that a beat ends
@@ -72,4 +72,4 @@ exchanges plan side wide past = zip (asks plan side wide past) (replies plan sid
 abbrev pub next_answered : Plan → Side → ℕ → List Sighting → List AskSeen
 next_answered plan side wide past =
     let answered = length (replies plan side wide past) in
-        slice_range (asks plan side wide past) answered (suc answered)
+    slice_range (asks plan side wide past) answered (suc answered)

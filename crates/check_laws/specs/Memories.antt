@@ -53,7 +53,7 @@ abbrev pub ask_answered : Plan → List Sighting → Sighting → Beat → List 
 ask_answered plan past x (A beat) = []
 ask_answered plan past x (D beat) =
     if begins_reply (replying (beats_at x.link past)) then next_answered plan (side_of x.link)
-        (wide_of plan x.link beat.source) past else []
+    (wide_of plan x.link beat.source) past else []
 
 -- the request that is done as this beat crosses: the one that it ends, or the one whose reply it begins
 abbrev pub ask_done : Plan → Order → List Sighting → Sighting → List AskSeen
@@ -70,7 +70,7 @@ asks_done plan port [] = []
 asks_done plan port (x ∷ past) =
     asks_done plan port past
     ++ map (widened (wide_of plan x.link (source_of x.beat)))
-        (filter (is_for plan port) (ask_done plan plan.layout.order past x))
+    (filter (is_for plan port) (ask_done plan plan.layout.order past x))
 
 -- ---- the replies
 
@@ -96,7 +96,7 @@ AreEntries wide (seen ∷ more) (entry ∷ entries) = IsEntry wide seen entry ×
 abbrev pub exchanges_at : Plan → ℕ → ℕ → List Sighting → List (AskSeen × ReplySeen)
 exchanges_at plan port wide past =
     filter (λ (seen : AskSeen × ReplySeen). is_for plan port seen.0)
-        (exchanges plan (side_for plan.layout port) wide past)
+    (exchanges plan (side_for plan.layout port) wide past)
 
 abbrev pub entries_of : ℕ → List (Request × Response) → List (Request × Response)
 entries_of wide history = filter (λ (entry : Request × Response). entry.0.source == wide) history

@@ -28,7 +28,7 @@ pub record CarriesMessages (past : List Sighting) (link : Link) : Type 0 where
   pub ask_begun : asking (beats_at link past) ≢ [] → CanEnd (asking (beats_at link past))
   pub replies : reply_channel (beats_at link past)
       ≡ flat_map (λ (message : List DBeat). message) (ended_replies (beats_at link past))
-          ++ replying (beats_at link past)
+      ++ replying (beats_at link past)
   pub replies_spelled : AllByRecursion IsReplySpelled (ended_replies (beats_at link past))
   pub reply_begun : replying (beats_at link past) ≢ [] → ReplyCanEndSo (replying (beats_at link past))
 
@@ -71,7 +71,7 @@ pub record TakeTurns (plan : Plan) (past : List Sighting) (side : Side) (wide : 
   -- a reply begins where a request has none, at the link that this crossed
   pub replies_asked : (link : Link) → side_of link ≡ side → (at : RepliesAt plan past wide link)
       → (ask : Request) × (next_answered plan side wide past ≡ record { link = link; ask = ask } ∷ [])
-          × Answers ask at.first
+      × Answers ask at.first
 
 -- ---- links and sources
 
@@ -83,13 +83,13 @@ asks_at link seen =
 abbrev pub replies_at : Link → List ReplySeen → List (List DBeat)
 replies_at link seen =
     map (λ (one : ReplySeen). one.beats) (filter
-        (λ (one : ReplySeen). is_link one.link (side_of link) (number_of link)) seen)
+    (λ (one : ReplySeen). is_link one.link (side_of link) (number_of link)) seen)
 
 -- of the whole messages of a link those of this wide source
 abbrev pub asks_of_source : Plan → Link → ℕ → List (Request × List ABeat) → List Request
 asks_of_source plan link wide whole =
     map (λ (one : Request × List ABeat). one.0)
-        (filter (λ (one : Request × List ABeat). wide_of plan link one.0.source == wide) whole)
+    (filter (λ (one : Request × List ABeat). wide_of plan link one.0.source == wide) whole)
 
 -- the source of a reply is that of its first beat
 abbrev pub source_of_reply : List DBeat → ℕ
@@ -115,7 +115,7 @@ pub record AreMessages (plan : Plan) (past : List Sighting) : Type 0 where
       → asks_at link (asks plan (side_of link) wide past) ≡ asks_of_source plan link wide (ended (beats_at link past))
   pub replies_sorted : (link : Link) (wide : ℕ)
       → replies_at link (replies plan (side_of link) wide past) ≡ replies_of_source plan link wide
-          (ended_replies (beats_at link past))
+      (ended_replies (beats_at link past))
   -- each beat is of a source that the system has at its link
   pub known : AllByRecursion (λ (x : Sighting). HasSource plan.layout x.link (source_of x.beat)) past
   -- each request at a port's link is one of the port, once it has begun

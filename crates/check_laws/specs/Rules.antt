@@ -33,7 +33,7 @@ abbrev pub IsSeenWhole : Plan → List Sighting → Sighting → Beat → Type 0
 IsSeenWhole plan past x (A beat) = IsKnown beat x.known
 IsSeenWhole plan past x (D beat) =
     (ask : Request) → next_answered plan (side_of x.link)
-        (wide_of plan x.link beat.source) past ≡ record { link = x.link; ask = ask } ∷ []
+    (wide_of plan x.link beat.source) past ≡ record { link = x.link; ask = ask } ∷ []
     → IsKnownReply ask beat x.known
 
 abbrev pub AreSeenWhole : Plan → List Sighting → Type 0

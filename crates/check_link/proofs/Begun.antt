@@ -98,8 +98,12 @@ unfinished : (begun : List ABeat) (beat : ABeat) → Continues SameFields begun 
     → length (begun ++ beat ∷ []) ≤ ask_beats beat
 unfinished [] beat same kept = some (nat_lt beat.opcode 4) beat.size
 unfinished (first ∷ rest) beat same kept =
-    omega (arith, (kept first refl).unfinished, same_beats first beat (same first refl),
-        length-append (first ∷ rest) (beat ∷ []))
+    omega (
+      arith,
+      (kept first refl).unfinished,
+      same_beats first beat (same first refl),
+      length-append (first ∷ rest) (beat ∷ []),
+    )
 
 pub ask_goes_on : (asking : List ABeat) (replying : List DBeat) (beat : ABeat) → IsKept asking replying
     → FitsAsk asking beat
@@ -107,7 +111,7 @@ pub ask_goes_on : (asking : List ABeat) (replying : List DBeat) (beat : ABeat) �
 ask_goes_on asking replying beat kept fits ends =
     let each = each_so_far asking beat fits.formed fits.same kept.asks in
     let other : length (asking ++ beat ∷ []) ≡ ask_beats beat → ⊥ =
-        (λ e. let yes = eq-eqb (length (asking ++ beat ∷ [])) (ask_beats beat) e in absurd (cc)) in
+    (λ e. let yes = eq-eqb (length (asking ++ beat ∷ [])) (ask_beats beat) e in absurd (cc)) in
     let less = unfinished asking beat fits.same kept.asks in
     record {
       asks = λ first at.
@@ -157,7 +161,7 @@ earlier_replies (first ∷ rest) beat same kept b other at =
 each_reply_so_far : (begun : List DBeat) (beat : DBeat) → IsFormedReply beat → Continues SameReplyFields begun beat
     → ((first : DBeat) → slice_get begun 0 ≡ Some first → IsReplyBegun begun first)
     → (b : ℕ) (other : DBeat) → slice_get (begun ++ beat ∷ []) b ≡ Some other → IsFormedReply other
-        × SameReplyFields beat other
+    × SameReplyFields beat other
 each_reply_so_far begun beat formed same kept b other at = go (slice_get-push begun beat other b at)
   where
     go : (slice_get begun b ≡ Some other) ⊎ ((b ≡ length begun) × (beat ≡ other)) → IsFormedReply other
@@ -171,8 +175,12 @@ reply_unfinished : (begun : List DBeat) (beat : DBeat) → Continues SameReplyFi
     → length (begun ++ beat ∷ []) ≤ reply_beats beat
 reply_unfinished [] beat same kept = some (beat.opcode == 1) beat.size
 reply_unfinished (first ∷ rest) beat same kept =
-    omega (arith, (kept first refl).unfinished, same_reply_beats first beat (same first refl),
-        length-append (first ∷ rest) (beat ∷ []))
+    omega (
+      arith,
+      (kept first refl).unfinished,
+      same_reply_beats first beat (same first refl),
+      length-append (first ∷ rest) (beat ∷ []),
+    )
 
 pub reply_goes_on : (asking : List ABeat) (replying : List DBeat) (beat : DBeat) → IsKept asking replying
     → FitsReply replying beat
@@ -180,7 +188,7 @@ pub reply_goes_on : (asking : List ABeat) (replying : List DBeat) (beat : DBeat)
 reply_goes_on asking replying beat kept fits ends =
     let each = each_reply_so_far replying beat fits.formed fits.same kept.replies in
     let other : length (replying ++ beat ∷ []) ≡ reply_beats beat → ⊥ =
-        (λ e. let yes = eq-eqb (length (replying ++ beat ∷ [])) (reply_beats beat) e in absurd (cc)) in
+    (λ e. let yes = eq-eqb (length (replying ++ beat ∷ [])) (reply_beats beat) e in absurd (cc)) in
     let less = reply_unfinished replying beat fits.same kept.replies in
     record {
       asks = kept.asks;

@@ -27,12 +27,12 @@ cut_up (A beat ∷ past) = go (cut_up past) (ends_ask (asking past) beat)
     go : ask_channel past ≡ flat_map (λ (entry : Request × List ABeat). entry.1) (ended past) ++ asking past
         → (ends : Bool) → ask_channel past ++ beat ∷ []
         ≡ flat_map (λ (entry : Request × List ABeat). entry.1)
-            (if ends then ended past ++ (ask_of beat (asking past ++ beat ∷ []), asking past ++ beat ∷ [])
-            ∷ [] else ended past) ++ (if ends then [] else asking past ++ beat ∷ [])
+        (if ends then ended past ++ (ask_of beat (asking past ++ beat ∷ []), asking past ++ beat ∷ [])
+        ∷ [] else ended past) ++ (if ends then [] else asking past ++ beat ∷ [])
     go before true = ap (λ xs. xs ++ beat ∷ []) before
         ∙ append_assoc (flat_map (λ (entry : Request × List ABeat). entry.1) (ended past)) (asking past) (beat ∷ [])
         ∙ sym (flat_more (λ (entry : Request × List ABeat). entry.1) (ended past)
-            (ask_of beat (asking past ++ beat ∷ []), asking past ++ beat ∷ [])) ∙ sym (append-nil _)
+        (ask_of beat (asking past ++ beat ∷ []), asking past ++ beat ∷ [])) ∙ sym (append-nil _)
     go before false = ap (λ xs. xs ++ beat ∷ []) before
         ∙ append_assoc (flat_map (λ (entry : Request × List ABeat). entry.1) (ended past)) (asking past) (beat ∷ [])
 
@@ -45,12 +45,12 @@ replies_cut_up (D beat ∷ past) = go (replies_cut_up past) (ends_reply (replyin
     go : reply_channel past ≡ flat_map (λ (message : List DBeat). message) (ended_replies past) ++ replying past
         → (ends : Bool) → reply_channel past ++ beat ∷ []
         ≡ flat_map (λ (message : List DBeat). message)
-            (if ends then ended_replies past ++ (replying past ++ beat ∷ []) ∷ [] else ended_replies past)
-            ++ (if ends then [] else replying past ++ beat ∷ [])
+        (if ends then ended_replies past ++ (replying past ++ beat ∷ []) ∷ [] else ended_replies past)
+        ++ (if ends then [] else replying past ++ beat ∷ [])
     go before true = ap (λ xs. xs ++ beat ∷ []) before
         ∙ append_assoc (flat_map (λ (message : List DBeat). message) (ended_replies past)) (replying past) (beat ∷ [])
         ∙ sym (flat_more (λ (message : List DBeat). message) (ended_replies past) (replying past ++ beat ∷ []))
-            ∙ sym (append-nil _)
+        ∙ sym (append-nil _)
     go before false = ap (λ xs. xs ++ beat ∷ []) before
         ∙ append_assoc (flat_map (λ (message : List DBeat). message) (ended_replies past)) (replying past) (beat ∷ [])
 
@@ -87,7 +87,7 @@ all_spelled (A beat ∷ past) fitting = go (all_spelled past fitting.0) (ends_as
     go before true is =
         let whole = ask_is_whole (asking past) (replying past) beat (kept_of_fitting past fitting.0) fitting.1 is in
         all_more IsSpelled (ended past) (ask_of beat (asking past ++ beat ∷ []), asking past ++ beat ∷ []) before
-            (spelled (asking past ++ beat ∷ []) beat whole)
+        (spelled (asking past ++ beat ∷ []) beat whole)
     go before false is = before
 
 pub all_replies_spelled : (past : List Beat) → AreFitting past → AllByRecursion IsReplySpelled (ended_replies past)
@@ -102,5 +102,5 @@ all_replies_spelled (D beat ∷ past) fitting =
     go before true is =
         let whole = reply_is_whole (asking past) (replying past) beat (kept_of_fitting past fitting.0) fitting.1 is in
         all_more IsReplySpelled (ended_replies past) (replying past ++ beat ∷ []) before
-            (reply_spelled (replying past ++ beat ∷ []) beat whole)
+        (reply_spelled (replying past ++ beat ∷ []) beat whole)
     go before false is = before

@@ -36,7 +36,7 @@ flag_of_first op other denied denied' corrupt p q h = rw (← p, ← q) h
 told_stands : (denied : Bool) (message : List DBeat) (address size j : ℕ) (here : DBeat) (byte : ℕ)
     → slice_get message (j / 8) ≡ Some here
     → byte ≡ (if denied then 0 else slice_index (slice_index_or message (j / 8) no_beat).lanes (lane_of address size j))
-        → StandsInReply denied here.lanes (lane_of address size j) byte
+    → StandsInReply denied here.lanes (lane_of address size j) byte
 told_stands true message address size j here byte found is =
     record { given = λ no. absurd (cc); zero_of_denied = λ yes. is }
 told_stands false message address size j here byte found is = record {
@@ -69,17 +69,19 @@ reply_spelled (first ∷ rest) beat whole address =
           let there = whole.each k other at in
           let to_first : SameReplyFields first other = between_replies beat first other same there.1 in
           flag_of_first op there.0.op first.denied other.denied other.corrupt
-              (same_reply_op there.0.op op other.opcode there.0.code
-              (code ∙ sym to_first.opcode)) to_first.denied there.0.flag;
+          (same_reply_op there.0.op op other.opcode there.0.code
+          (code ∙ sym to_first.opcode)) to_first.denied there.0.flag;
       counted = length-map-range_with_len (told_byte message address first) 0 count;
       each = λ j byte here at found.
           let within : j < count =
-              rw (← length-map-range_with_len (told_byte message address first) 0 count)
-              (slice_get_within bytes j byte at) in
+          rw (← length-map-range_with_len (told_byte message address first) 0 count)
+          (slice_get_within bytes j byte at) in
           let is : byte ≡ told_byte message address first j =
           sym (get_or_from_slice_get bytes j byte 0 at)
-              ∙ get_or-map-range_with_len (told_byte message address first) 0 count j j 0 within (omega arith) in
+          ∙ get_or-map-range_with_len (told_byte message address first) 0 count j j 0 within (omega arith) in
           told_stands first.denied message address first.size j here byte found is;
-    } in
-    (read_reply first op bytes, reply_read_lawful message first op address begun bytes read,
-        reply_read_spells message first op address begun bytes read)
+    } in (
+      read_reply first op bytes,
+      reply_read_lawful message first op address begun bytes read,
+      reply_read_spells message first op address begun bytes read,
+    )

@@ -73,7 +73,7 @@ byte_in beat message j given here at found =
     let count = byte_count (op_of beat.opcode beat.param) beat.size in
     let f : ℕ → Option ℕ = λ k. byte_at (slice_get message (k / 8)) (lane_of beat.address beat.size k) in
     let within : j < count =
-        rw (← length-map-range_with_len f 0 count) (slice_get_within (bytes_of beat message) j given at) in
+    rw (← length-map-range_with_len f 0 count) (slice_get_within (bytes_of beat message) j given at) in
     sym (get_or_from_slice_get (bytes_of beat message) j given None at)
     ∙ get_or-map-range_with_len f 0 count j j None within (omega arith)
     ∙ ap (λ o. byte_at o (lane_of beat.address beat.size j)) found
@@ -94,14 +94,19 @@ from_first beat first other p q = record {
 same_request : (beat first : ABeat) (op : AskOp) (bytes : List (Option ℕ)) → SameFields beat first
     → op_of beat.opcode beat.param ≡ op
     → ◌≡◌ {A = Request} (read_request first op bytes)
-        (record { op = op_of beat.opcode beat.param; size = beat.size; source = beat.source; address = beat.address;
-        bytes = bytes })
+    (record {
+      op = op_of beat.opcode beat.param;
+      size = beat.size;
+      source = beat.source;
+      address = beat.address;
+      bytes = bytes;
+    })
 same_request beat first op bytes same is = rw (same.size, same.source, same.address, ← is) refl
 
 -- all beats of a message spell the request that is read from them
 pub spelled : (message : List ABeat) (beat : ABeat) → IsWhole message beat
     → IsLawfulRequest (ask_of beat message).op (ask_of beat message).size (ask_of beat message).bytes
-        × SpellsAsk (ask_of beat message) message
+    × SpellsAsk (ask_of beat message) message
 spelled [] beat whole = absurd (omega (arith, whole.counted, some_beat (nat_lt beat.opcode 4) beat.size))
 spelled (first ∷ rest) beat whole =
     let message : List ABeat = first ∷ rest in
@@ -112,8 +117,10 @@ spelled (first ∷ rest) beat whole =
     let carries : nat_lt beat.opcode 4 ≡ carries_bytes op = carries_named op beat.opcode beat.param whole.formed.code in
     let begun : IsBegunAs message first op = record {
       head = refl;
-      code = record { opcode_is = whole.formed.code.opcode_is ∙ sym same.opcode;
-          param_is = whole.formed.code.param_is ∙ sym same.param };
+      code = record {
+        opcode_is = whole.formed.code.opcode_is ∙ sym same.opcode;
+        param_is = whole.formed.code.param_is ∙ sym same.param;
+      };
       in_limit = head.0.in_limit;
       count = whole.counted ∙ ap (λ b. beat_count b beat.size) carries
           ∙ ap (λ n. beat_count (carries_bytes op) n) (sym same.size);
@@ -123,22 +130,25 @@ spelled (first ∷ rest) beat whole =
       masks = λ k other within at.
           let there = whole.each k other at in
           let code : IsCodeOf op other.opcode other.param =
-              record { opcode_is = whole.formed.code.opcode_is ∙ sym there.1.opcode;
-              param_is = whole.formed.code.param_is ∙ sym there.1.param } in
+          record {
+            opcode_is = whole.formed.code.opcode_is ∙ sym there.1.opcode;
+            param_is = whole.formed.code.param_is ∙ sym there.1.param;
+          } in
           same_mask first other op there.0.op (same_op there.0.op op other.opcode other.param there.0.code code)
-              (from_first beat first other same there.1) there.0.mask;
+          (from_first beat first other same there.1) there.0.mask;
       counted = length-map-range_with_len (λ j. byte_at (slice_get message (j / 8))
           (lane_of beat.address beat.size j)) 0 (byte_count (op_of beat.opcode beat.param) beat.size)
           ∙ ap (λ o. byte_count o beat.size) named ∙ ap (λ n. byte_count op n) (sym same.size);
       each = λ j given here at found.
           let is = byte_in beat message j given here at found in
           let lane : lane_of beat.address beat.size j ≡ lane_of first.address first.size j =
-              rw (same.size, same.address) refl in
+          rw (same.size, same.address) refl in
           subst (λ (l : ℕ). StandsAt here.mask here.lanes l given) lane
-              (subst (λ (g : Option ℕ). StandsAt here.mask here.lanes (lane_of beat.address beat.size j) g) (sym is)
-              (byte_stands here (lane_of beat.address beat.size j)));
+          (subst (λ (g : Option ℕ). StandsAt here.mask here.lanes (lane_of beat.address beat.size j) g) (sym is)
+          (byte_stands here (lane_of beat.address beat.size j)));
     } in
     let P : Request → Type 0 = λ ask. IsLawfulRequest ask.op ask.size ask.bytes × SpellsAsk ask message in
-    subst P (same_request beat first op (bytes_of beat message) same named)
-        (read_lawful message first op begun (bytes_of beat message) read,
-        read_spells message first op begun (bytes_of beat message) read)
+    subst P (same_request beat first op (bytes_of beat message) same named) (
+      read_lawful message first op begun (bytes_of beat message) read,
+      read_spells message first op begun (bytes_of beat message) read,
+    )

@@ -33,7 +33,7 @@ abbrev pub ended : List Beat → List (Request × List ABeat)
 ended [] = []
 ended (A beat ∷ past) =
     if ends_ask (asking past) beat then ended past
-        ++ (ask_of beat (asking past ++ beat ∷ []), asking past ++ beat ∷ []) ∷ [] else ended past
+    ++ (ask_of beat (asking past ++ beat ∷ []), asking past ++ beat ∷ []) ∷ [] else ended past
 ended (D beat ∷ past) = ended past
 
 -- the beats spell the request, which is lawful
@@ -77,13 +77,13 @@ ended_replies (D beat ∷ past) =
 abbrev pub IsReplySpelled : List DBeat → Type 0
 IsReplySpelled message =
     (address : ℕ) → (reply : Response) × IsLawfulResponse reply.op reply.size reply.denied reply.bytes
-        × SpellsReply reply address message
+    × SpellsReply reply address message
 
 -- the beats of channel D are those of replies, one after the other, and those of the reply that is under way
 abbrev pub ReplyChannelIsCutUp : Type 0
 ReplyChannelIsCutUp =
     (past : List Beat) → reply_channel past ≡ flat_map (λ (message : List DBeat). message) (ended_replies past)
-        ++ replying past
+    ++ replying past
 
 -- each reply that has ended is spelled by its beats
 abbrev pub ReplyIsSpelled : Type 0

@@ -27,5 +27,5 @@ pub have-read-more : (a b c : Reading) (rows : List Row) → HaveRead a rows b
     → HaveRead a (rows ++ c.row ∷ []) c
 have-read-more a b c rows so_far next =
     between-trans a.left b.left c.left (λ from to. Reads from rows to) (λ from to. Gives from c.row to)
-        (λ from to. Reads from (rows ++ c.row ∷ []) to)
+    (λ from to. Reads from (rows ++ c.row ∷ []) to)
     (λ x y z. reads-more x y z rows c.row) so_far next

@@ -59,7 +59,7 @@ unfolding bytes_from
 long-more p q xs byte rest so_far on full =
     let size = so_far.size (byte ∷ rest) in
     let more : full_size q (byte ∷ rest) ≡ q.size + suc
-        (length (bytes_from (step default_config q.state byte).0 rest)) = rw on refl in
+    (length (bytes_from (step default_config q.state byte).0 rest)) = rw on refl in
     omega (arith, size, more, full)
 
 -- ---- the next byte of a text
@@ -82,6 +82,6 @@ pub feed-long : (p q : Partial) (text : List ℕ) (i : ℕ) → i < length text 
 feed-long p q text i inside so_far on full rest =
     let parts : text ++ rest ≡ take i text ++ (get_or text i 0 ∷ (drop (i + 1) text ++ rest)) =
     ap (λ (xs : List ℕ). xs ++ rest) (split-at text i inside)
-        ∙ append_assoc (take i text) (get_or text i 0 ∷ drop (i + 1) text) rest in
+    ∙ append_assoc (take i text) (get_or text i 0 ∷ drop (i + 1) text) rest in
     let long = long-more p q (take i text) (get_or text i 0) (drop (i + 1) text ++ rest) so_far on full in
     subst (λ (xs : List ℕ). MAX_ROW < full_size p xs) (sym parts) long

@@ -21,7 +21,7 @@ between-trans a b c P Q S join one two =
     (λ from to. Q (record { line = b.line; text = from }) (record { line = c.line; text = to }))
     (λ from to. S (record { line = a.line; text = from }) (record { line = c.line; text = to }))
     (λ x y z. join (record { line = a.line; text = x }) (record { line = b.line; text = y })
-        (record { line = c.line; text = z }))
+    (record { line = c.line; text = z }))
     one two
 
 -- bytes at hand, and then those of a reader: a relation that holds whatever the reader has

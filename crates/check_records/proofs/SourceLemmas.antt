@@ -29,7 +29,7 @@ pub record IsAdvance {R : Type 0} (old : Source R) (count feeds : ℕ) (new : So
 parts : (count : ℕ) (hand rest : List ℕ) → hand ++ rest ≡ take count hand ++ (drop count hand ++ rest)
 parts count hand rest =
     ap (λ (xs : List ℕ). xs ++ rest) (sym (take-append-drop count hand))
-        ∙ append_assoc (take count hand) (drop count hand) rest
+    ∙ append_assoc (take count hand) (drop count hand) rest
 
 pub advanced : {R : Type 0} (remaining : R → Option (List ℕ)) (old new : Source R) (count feeds : ℕ)
     (P : Place → Place → Type 0)
@@ -41,7 +41,7 @@ advanced remaining old new count feeds P is all =
     rw (is.line_is, is.feeds_are, is.text, is.same)
     (both-hand (at_hand old) (drop count (at_hand old)) (remaining old.reader)
     (λ from to. P (record { line = old.line; text = from })
-        (record { line = old.line + line_feeds (take count (at_hand old)); text = to })) all)
+    (record { line = old.line + line_feeds (take count (at_hand old)); text = to })) all)
 
 -- ends of lines were taken
 pub skipped : {R : Type 0} (remaining : R → Option (List ℕ)) (old new : Source R) (count feeds : ℕ)
@@ -73,7 +73,7 @@ pub refilled : {R : Type 0} (remaining : R → Option (List ℕ)) (old new : Sou
     → Between (left remaining old) (left remaining new) (λ from to. to ≡ from)
 refilled remaining old new is =
     rw (is.none, is.line_is) (rw (prepend-none (remaining old.reader))
-        (kept (remaining old.reader) (left_of remaining new) old.line is.text))
+    (kept (remaining old.reader) (left_of remaining new) old.line is.text))
 
 -- a relation to a place goes on over a refill
 pub between-refill : {R : Type 0} (remaining : R → Option (List ℕ)) (from : Left) (old new : Source R)
@@ -81,7 +81,7 @@ pub between-refill : {R : Type 0} (remaining : R → Option (List ℕ)) (from : 
     → Between from (left remaining old) P → IsRefill remaining old new → Between from (left remaining new) P
 between-refill remaining from old new P so_far is =
     between-trans from (left remaining old) (left remaining new) P (λ a b. b ≡ a) P
-        (λ x y z here same. subst (P x) (sym same) here) so_far
+    (λ x y z here same. subst (P x) (sym same) here) so_far
     (refilled remaining old new is)
 
 -- ---- a record is read
@@ -92,7 +92,7 @@ pub within-first : {R : Type 0} (remaining : R → Option (List ℕ)) (source : 
 within-first remaining source first =
     both-hand (at_hand source) (at_hand source) (remaining source.reader)
     (λ from to. IsWithin (record { line = source.line; text = from }) blank source.line
-        (record { line = source.line; text = to }))
+    (record { line = source.line; text = to }))
     (λ rest. within-begin source.line (at_hand source) rest first.0 first.1)
 
 -- what is so of each place at which it may have begun
@@ -103,31 +103,34 @@ Carries p row P here to = (from : Place) → IsWithin from p row here → P from
 pub within-advance : {R : Type 0} (remaining : R → Option (List ℕ)) (from : Left) (old new : Source R) (p q : Partial)
     (row count feeds : ℕ)
     → Between from (left remaining old) (λ a b. IsWithin a p row b) → IsAdvance old count feeds new
-        → count ≡ length (at_hand old)
+    → count ≡ length (at_hand old)
     → GoesOn p (at_hand old) q → Between from (left remaining new) (λ a b. IsWithin a q row b)
 within-advance remaining from old new p q row count feeds so_far is all on =
     between-trans from (left remaining old) (left remaining new) (λ a b. IsWithin a p row b)
-        (Carries p row (λ a b. IsWithin a q row b))
+    (Carries p row (λ a b. IsWithin a q row b))
     (λ a b. IsWithin a q row b) (λ x y z within carry. carry x within) so_far
     (advanced remaining old new count feeds (Carries p row (λ a b. IsWithin a q row b)) is (λ rest x within.
-    rw (all, take_all (length (at_hand old)) (at_hand old) (omega arith),
-        drop_all (length (at_hand old)) (at_hand old) (omega arith))
+    rw (
+      all,
+      take_all (length (at_hand old)) (at_hand old) (omega arith),
+      drop_all (length (at_hand old)) (at_hand old) (omega arith),
+    )
     (within-more x p q row old.line (at_hand old) rest within on)))
 
 -- the bytes that were taken end it
 pub gives-advance : {R : Type 0} (remaining : R → Option (List ℕ)) (from : Left) (old new : Source R) (p : Partial)
     (row count feeds size : ℕ)
     (fields : List (List ℕ)) → Between from (left remaining old) (λ a b. IsWithin a p row b)
-        → IsAdvance old count feeds new
+    → IsAdvance old count feeds new
     → EndsWith p (take count (at_hand old)) fields size → size ≤ MAX_ROW
     → Between from (left remaining new) (λ a b. Gives a (record { line = row; fields = fields }) b)
 gives-advance remaining from old new p row count feeds size fields so_far is ends short =
     between-trans from (left remaining old) (left remaining new) (λ a b. IsWithin a p row b)
     (Carries p row (λ a b. Gives a (record { line = row; fields = fields }) b))
-        (λ a b. Gives a (record { line = row; fields = fields }) b)
+    (λ a b. Gives a (record { line = row; fields = fields }) b)
     (λ x y z within carry. carry x within) so_far
     (advanced remaining old new count feeds (Carries p row
-        (λ a b. Gives a (record { line = row; fields = fields }) b)) is (λ rest x within.
+    (λ a b. Gives a (record { line = row; fields = fields }) b)) is (λ rest x within.
     gives-end x p row old.line size count fields (at_hand old) rest within ends short))
 
 -- it gets too long
@@ -138,7 +141,7 @@ long-known from line hand known p row so_far long = go from.text known so_far
   where
     go : (text known : Option (List ℕ))
         → Between (record { line = from.line; text = text }) (record { line = line; text = prepend_known hand known })
-            (λ a b. IsWithin a p row b)
+        (λ a b. IsWithin a p row b)
         → StopsLong (record { line = from.line; text = text }) row
     go None known within = tt
     go (Some xs) None within = absurd within
@@ -147,7 +150,7 @@ long-known from line hand known p row so_far long = go from.text known so_far
 
 pub long-hand : {R : Type 0} (remaining : R → Option (List ℕ)) (from : Left) (source : Source R) (p : Partial) (row : ℕ)
     → Between from (left remaining source) (λ a b. IsWithin a p row b)
-        → ((rest : List ℕ) → MAX_ROW < full_size p (at_hand source ++ rest))
+    → ((rest : List ℕ) → MAX_ROW < full_size p (at_hand source ++ rest))
     → StopsLong from row
 long-hand remaining from source p row so_far long =
     long-known from source.line (at_hand source) (remaining source.reader) p row so_far long
@@ -159,12 +162,12 @@ at-end : {R : Type 0} (remaining : R → Option (List ℕ)) (source : Source R) 
     → at_hand source ≡ []
     → IsAtEnd (remaining source.reader)
     → P (record { line = source.line; text = [] }) (record { line = source.line; text = [] })
-        → Between (left remaining source) (left remaining source) P
+    → Between (left remaining source) (left remaining source) P
 at-end remaining source P none end is = rw none (go (remaining source.reader) end)
   where
     go : (known : Option (List ℕ)) → IsAtEnd known
         → Between (record { line = source.line; text = prepend_known [] known })
-            (record { line = source.line; text = prepend_known [] known }) P
+        (record { line = source.line; text = prepend_known [] known }) P
     go None end = tt
     go (Some xs) end = rw end is
 
@@ -172,38 +175,38 @@ at-end remaining source P none end is = rw none (go (remaining source.reader) en
 pub gives-at-end : {R : Type 0} (remaining : R → Option (List ℕ)) (from : Left) (source : Source R) (p : Partial)
     (row : ℕ)
     → Between from (left remaining source) (λ a b. IsWithin a p row b) → at_hand source ≡ []
-        → IsAtEnd (remaining source.reader)
+    → IsAtEnd (remaining source.reader)
     → ends_at_end p.state ≡ true → p.size ≤ MAX_ROW
     → Between from (left remaining source) (λ a b. Gives a
-        (record { line = row; fields = p.fields ++ (p.field ∷ []) }) b)
+    (record { line = row; fields = p.fields ++ (p.field ∷ []) }) b)
 gives-at-end remaining from source p row so_far none end ends short =
     between-trans from (left remaining source) (left remaining source) (λ a b. IsWithin a p row b)
     (Carries p row (λ a b. Gives a (record { line = row; fields = p.fields ++ (p.field ∷ []) }) b))
     (λ a b. Gives a (record { line = row; fields = p.fields ++ (p.field ∷ []) }) b)
     (λ x y z within carry. carry x within) so_far
     (at-end remaining source (Carries p row (λ a b. Gives a
-        (record { line = row; fields = p.fields ++ (p.field ∷ []) }) b)) none end
+    (record { line = row; fields = p.fields ++ (p.field ∷ []) }) b)) none end
     (λ x within. gives-last x p row source.line within ends short))
 
 -- or there was none
 pub ends-at-end : {R : Type 0} (remaining : R → Option (List ℕ)) (from : Left) (source : Source R) (p : Partial)
     (row : ℕ)
     → Between from (left remaining source) (λ a b. IsWithin a p row b) → at_hand source ≡ []
-        → IsAtEnd (remaining source.reader)
+    → IsAtEnd (remaining source.reader)
     → ends_at_end p.state ≡ false → Between from (left remaining source) Ends
 ends-at-end remaining from source p row so_far none end ends =
     between-trans from (left remaining source) (left remaining source) (λ a b. IsWithin a p row b)
-        (Carries p row Ends) Ends
+    (Carries p row Ends) Ends
     (λ x y z within carry. carry x within) so_far
     (at-end remaining source (Carries p row Ends) none end (λ x within. ends-last x p row source.line within ends))
 
 -- behind ends of lines
 pub ends-behind-lines : {R : Type 0} (remaining : R → Option (List ℕ)) (from : Left) (source : Source R)
     → Between from (left remaining source) HasSameNext → HasFirst remaining source false
-        → Between from (left remaining source) Ends
+    → Between from (left remaining source) Ends
 ends-behind-lines remaining from source same first =
     between-trans from (left remaining source) (left remaining source) HasSameNext Ends Ends
-        (λ x y z. ends-same x y z) same
+    (λ x y z. ends-same x y z) same
     (at-end remaining source Ends first.0 first.1 (ends-none source.line))
 
 -- a record behind them
@@ -212,7 +215,7 @@ pub gives-behind-lines : (from here to : Left) (row : Row) → Between from here
     → Between from to (λ a b. Gives a row b)
 gives-behind-lines from here to row same gives =
     between-trans from here to HasSameNext (λ a b. Gives a row b) (λ a b. Gives a row b)
-        (λ x y z. gives-same x y z row) same gives
+    (λ x y z. gives-same x y z row) same gives
 
 pub ends-behind : (from here to : Left) → Between from here HasSameNext → Between here to Ends → Between from to Ends
 ends-behind from here to same ends = between-trans from here to HasSameNext Ends Ends ends-same same ends
@@ -224,7 +227,7 @@ stops-behind-lines from here line same long = go from.text here.text same long
     go : (a b : Option (List ℕ)) → Between (record { line = from.line; text = a })
         (record { line = here.line; text = b }) HasSameNext
         → StopsLong (record { line = here.line; text = b }) line
-            → StopsLong (record { line = from.line; text = a }) line
+        → StopsLong (record { line = from.line; text = a }) line
     go None b same long = tt
     go (Some xs) None same long = absurd same
     go (Some xs) (Some ys) same long =
@@ -235,10 +238,10 @@ stops-behind-lines from here line same long = go from.text here.text same long
 pub answers-at-end : {R : Type 0} (remaining : R → Option (List ℕ)) (from : Left) (source : Source R) (p : Partial)
     (line : ℕ) (row : Row)
     (r : Result Bool RecordFault) → Between from (left remaining source) (λ a b. IsWithin a p line b)
-        → at_hand source ≡ []
+    → at_hand source ≡ []
     → IsAtEnd (remaining source.reader) → p.size ≤ MAX_ROW → IfOk r (λ ends. ends ≡ ends_at_end p.state)
     → (r ≡ Ok true → row.fields ≡ p.fields ++ (p.field ∷ [])) → row.line ≡ line
-        → IfOk r (Answers from (left remaining source) row)
+    → IfOk r (Answers from (left remaining source) row)
 answers-at-end remaining from source p line row (Ok true) within none end short ends fields same =
     let make : ℕ → List (List ℕ) → Row = λ at of. record { line = at; fields = of } in
     let is : row ≡ make line (p.fields ++ (p.field ∷ [])) = ap₂ make same (fields refl) in

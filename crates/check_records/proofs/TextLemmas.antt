@@ -35,7 +35,7 @@ pub feeds-no : (xs : List ℕ) (i : ℕ) → i < length xs → (get_or xs i 0 �
     → line_feeds (take (i + 1) xs) ≡ line_feeds (take i xs)
 feeds-no xs i inside not =
     let more = feeds-more xs i inside ∙ ap (λ (b : Bool). line_feeds (take i xs) + cond b 1 0)
-        (ne_eqb (get_or xs i 0) 10 not) in
+    (ne_eqb (get_or xs i 0) 10 not) in
     omega (arith, more)
 
 -- ---- ends of lines
@@ -72,24 +72,24 @@ pub all-more : (xs : List ℕ) (i : ℕ) → i < length xs → AllPass is_line_e
 all-more xs i inside all here =
     rw (take_more xs i 0 inside)
     (All-append (λ (byte : ℕ). is_line_end byte ≡ true) (take i xs) (get_or xs i 0 ∷ []) all
-        (all-one (get_or xs i 0) here))
+    (all-one (get_or xs i 0) here))
 
 ends-skip : (front rest : List ℕ) → AllPass is_line_end front → ends_before (front ++ rest) ≡ front ++ ends_before rest
 ends-skip [] rest all = refl
 ends-skip (byte ∷ front) rest all =
     ends-yes byte (front ++ rest) (head-of byte front all)
-        ∙ ap (λ (xs : List ℕ). byte ∷ xs) (ends-skip front rest (tail-of byte front all))
+    ∙ ap (λ (xs : List ℕ). byte ∷ xs) (ends-skip front rest (tail-of byte front all))
 
 from-skip : (front rest : List ℕ) → AllPass is_line_end front → from_record (front ++ rest) ≡ from_record rest
 from-skip [] rest all = refl
 from-skip (byte ∷ front) rest all =
     ap (λ (ends : List ℕ). drop (length ends) (byte ∷ (front ++ rest)))
-        (ends-yes byte (front ++ rest) (head-of byte front all))
+    (ends-yes byte (front ++ rest) (head-of byte front all))
     ∙ from-skip front rest (tail-of byte front all)
 
 reads-skip : (front rest : List ℕ) → AllPass is_line_end front
     → next_record default_config st.StartRecord [] []
-        (front ++ rest) ≡ next_record default_config st.StartRecord [] [] rest
+    (front ++ rest) ≡ next_record default_config st.StartRecord [] [] rest
 unfolding next_record
 reads-skip [] rest all = refl
 reads-skip (byte ∷ front) rest all =
@@ -98,7 +98,7 @@ reads-skip (byte ∷ front) rest all =
 -- ends of lines are skipped
 pub same-skip : (line : ℕ) (front rest : List ℕ) → AllPass is_line_end front
     → HasSameNext (record { line = line; text = front ++ rest })
-        (record { line = line + line_feeds front; text = rest })
+    (record { line = line + line_feeds front; text = rest })
 same-skip line front rest all =
     let before : line_feeds (ends_before (front ++ rest)) ≡ line_feeds front + line_feeds (ends_before rest) =
     ap line_feeds (ends-skip front rest all) ∙ feeds-append front (ends_before rest) in

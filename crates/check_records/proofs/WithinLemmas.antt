@@ -25,7 +25,7 @@ pub within-begin : (line : ℕ) (hand rest : List ℕ) → 0 < length hand → i
 within-begin line [] rest some first = absurd (omega (arith, some))
 within-begin line (byte ∷ more) rest some first =
     let same : length (record_bytes (byte ∷ (more ++ rest))) ≡ length
-        (bytes_from st.StartRecord (byte ∷ (more ++ rest))) =
+    (bytes_from st.StartRecord (byte ∷ (more ++ rest))) =
     ap (λ (text : List ℕ). length (bytes_from st.StartRecord text)) (from-first byte (more ++ rest) first) in
     record {
       reads = refl;
@@ -51,9 +51,9 @@ within-more from p q row line bytes rest within on =
 -- bytes that end it
 pub gives-end : (from : Place) (p : Partial) (row line size n : ℕ) (fields : List (List ℕ)) (hand rest : List ℕ)
     → IsWithin from p row (record { line = line; text = hand ++ rest }) → EndsWith p (take n hand) fields size
-        → size ≤ MAX_ROW
+    → size ≤ MAX_ROW
     → Gives from (record { line = row; fields = fields })
-        (record { line = line + line_feeds (take n hand); text = drop n hand ++ rest })
+    (record { line = line + line_feeds (take n hand); text = drop n hand ++ rest })
 gives-end from p row line size n fields hand rest within ends short =
     let parts : hand ++ rest ≡ take n hand ++ (drop n hand ++ rest) =
     ap (λ (xs : List ℕ). xs ++ rest) (sym (take-append-drop n hand)) ∙ append_assoc (take n hand) (drop n hand) rest in
@@ -61,7 +61,7 @@ gives-end from p row line size n fields hand rest within ends short =
     ap line_feeds parts ∙ feeds-append (take n hand) (drop n hand ++ rest) in
     let lines = within.lines in
     let whole : length (record_bytes from.text) ≡ size =
-        within.size ∙ ap (full_size p) parts ∙ ends.has_size (drop n hand ++ rest) in
+    within.size ∙ ap (full_size p) parts ∙ ends.has_size (drop n hand ++ rest) in
     record {
       state = ends.state;
       reads = within.reads ∙ ap (becomes p) parts ∙ ends.becomes (drop n hand ++ rest);
@@ -74,7 +74,7 @@ gives-end from p row line size n fields hand rest within ends short =
 pub gives-last : (from : Place) (p : Partial) (row line : ℕ) → IsWithin from p row (record { line = line; text = [] })
     → ends_at_end p.state ≡ true
     → p.size ≤ MAX_ROW → Gives from (record { line = row; fields = p.fields ++ (p.field ∷ []) })
-        (record { line = line; text = [] })
+    (record { line = line; text = [] })
 unfolding next_record bytes_from
 gives-last from p row line within ends short =
     let whole = within.size in

@@ -38,12 +38,12 @@ module _ (sizes : Sizes) (first now : Judge) (old mid : Option (List ℕ)) (text
   pub ends_lawful : (counts : Counts)
       → ((plan : Plan) (rows : List Row) → Judges plan rows now → IsLawfulFile plan rows × HasCounts plan rows counts)
       → ((plan : Plan) (rows : List Row) (so_far : List ℕ) → HasTold plan rows now so_far
-          → TellsFile (is_traced now) plan rows so_far text grown)
+      → TellsFile (is_traced now) plan rows so_far text grown)
       → IsJudged sizes first old mid grown a (Ok (verdict.Lawful counts))
   ends_lawful counts lawful tells =
       at_start a b (IsJudgedAt sizes first old mid grown (Ok (verdict.Lawful counts)))
       (between_map a b (AllTaken sizes first now old mid text)
-          (λ from to. IsJudgedAt sizes first old mid grown (Ok (verdict.Lawful counts)) from) (λ x y taken.
+      (λ from to. IsJudgedAt sizes first old mid grown (Ok (verdict.Lawful counts)) from) (λ x y taken.
       let took = taken.1 in record {
         rows = took.rows;
         last = taken.0;
@@ -54,7 +54,7 @@ module _ (sizes : Sizes) (first now : Judge) (old mid : Option (List ℕ)) (text
             let wrote = took.told plan start in
             let on = tells plan took.rows wrote.told wrote.holds in
             wrote_more (HasTold plan took.rows now) old mid text wrote
-                (IsToldFile (is_traced first) plan took.rows) on.0 grown on.1
+            (IsToldFile (is_traced first) plan took.rows) on.0 grown on.1
             (subst (λ t. IsToldFile t plan took.rows (wrote.told ++ on.0)) took.traced on.2);
       }) all)
 
@@ -62,12 +62,12 @@ module _ (sizes : Sizes) (first now : Judge) (old mid : Option (List ℕ)) (text
       → ((plan : Plan) (rows : List Row) → Judges plan rows now → OfUnlawful (IsFirstUnlawful plan rows) why)
       → ((plan : Plan) (rows : List Row) (so_far : List ℕ) → HasTold plan rows now so_far
       → OfUnlawful (λ found. (more : List ℕ) × (grown ≡ text ++ more)
-          × IsToldBefore (is_traced now) plan rows (so_far ++ more) found) why)
+      × IsToldBefore (is_traced now) plan rows (so_far ++ more) found) why)
       → IsJudged sizes first old mid grown a (refused why)
   ends_refused (refusal.Unlawful found) unlawful tells =
       at_start a b (IsJudgedAt sizes first old mid grown (refused (refusal.Unlawful found)))
       (between_map a b (AllTaken sizes first now old mid text)
-          (λ from to. IsJudgedAt sizes first old mid grown (refused (refusal.Unlawful found)) from) (λ x y taken.
+      (λ from to. IsJudgedAt sizes first old mid grown (refused (refusal.Unlawful found)) from) (λ x y taken.
       let took = taken.1 in record {
         rows = took.rows;
         last = taken.0;
@@ -78,13 +78,13 @@ module _ (sizes : Sizes) (first now : Judge) (old mid : Option (List ℕ)) (text
             let wrote = took.told plan start in
             let on = tells plan took.rows wrote.told wrote.holds in
             wrote_more (HasTold plan took.rows now) old mid text wrote
-                (λ t. IsToldBefore (is_traced first) plan took.rows t found) on.0 grown on.1
+            (λ t. IsToldBefore (is_traced first) plan took.rows t found) on.0 grown on.1
             (subst (λ t. IsToldBefore t plan took.rows (wrote.told ++ on.0) found) took.traced on.2);
       }) all)
   ends_refused refusal.Memory unlawful tells =
       at_start a b (IsJudgedAt sizes first old mid grown (refused refusal.Memory))
       (between_map a b (AllTaken sizes first now old mid text)
-          (λ from to. IsJudgedAt sizes first old mid grown (refused refusal.Memory) from) (λ x y taken.
+      (λ from to. IsJudgedAt sizes first old mid grown (refused refusal.Memory) from) (λ x y taken.
       let took = taken.1 in record {
         rows = took.rows;
         last = taken.0;
@@ -94,7 +94,7 @@ module _ (sizes : Sizes) (first now : Judge) (old mid : Option (List ℕ)) (text
             let wrote = took.told plan start in
             wrote_so_far (HasTold plan took.rows now) old mid text wrote (IsToldPart (is_traced first) plan took.rows)
             (subst (λ t. IsToldPart t plan took.rows wrote.told) took.traced
-                (told_earlier plan took.rows now wrote.told wrote.holds).part);
+            (told_earlier plan took.rows now wrote.told wrote.holds).part);
       }) all)
 
 -- ---- what is left is written
@@ -135,20 +135,20 @@ whole_out trace plan (Err fault.Write) rows old mid new text cut wrote written =
 part_out : (trace : Bool) (plan : Plan) (answer : Result Verdict CaptureFault) (rows : List Row)
     (old mid new : Option (List ℕ)) (text : List ℕ) → is_cut answer ≡ false
     → WroteBy trace plan answer rows old mid text → AppendsPart mid new text
-        → WritesPart (IsToldPart trace plan rows) old new
+    → WritesPart (IsToldPart trace plan rows) old new
 part_out trace plan (Ok v) rows old mid new text cut wrote front =
     wrote_part (IsToldBy trace plan v rows) old mid text wrote (IsToldPart trace plan rows) new front
-        (part_told trace plan rows wrote.told v wrote.holds)
+    (part_told trace plan rows wrote.told v wrote.holds)
 part_out trace plan (Err (fault.Header line)) rows old mid new text cut wrote front = absurd wrote
 part_out trace plan (Err (fault.TooLong line)) rows old mid new text cut wrote front =
     wrote_part (IsToldEarlier trace plan rows) old mid text wrote
-        (IsToldPart trace plan rows) new front wrote.holds.part
+    (IsToldPart trace plan rows) new front wrote.holds.part
 part_out trace plan (Err (fault.Row line why)) rows old mid new text cut wrote front =
     wrote_part (IsToldEarlier trace plan rows) old mid text wrote
-        (IsToldPart trace plan rows) new front wrote.holds.part
+    (IsToldPart trace plan rows) new front wrote.holds.part
 part_out trace plan (Err fault.Read) rows old mid new text cut wrote front =
     wrote_part (IsToldEarlier trace plan rows) old mid text wrote
-        (IsToldPart trace plan rows) new front wrote.holds.part
+    (IsToldPart trace plan rows) new front wrote.holds.part
 part_out trace plan (Err fault.Memory) rows old mid new text cut wrote front = absurd (cc)
 part_out trace plan (Err fault.Write) rows old mid new text cut wrote front = absurd (cc)
 
@@ -166,8 +166,12 @@ says_behind : (trace : Bool) (plan : Plan) (sizes : Sizes) (old new : Option (Li
     (answer : Result Verdict CaptureFault) (from : Place)
     → IsWrittenOf trace plan sizes from old new answer → Says trace plan sizes old new answer from
 says_behind trace plan sizes old new (Ok (verdict.Lawful counts)) from is = record {
-  verdict = (is.rows, record { last = is.at; end = is.answers.0.0; begins = is.begins; ends = is.answers.0.1 },
-      is.answers.1, is.answers.2);
+  verdict = (
+    is.rows,
+    record { last = is.at; end = is.answers.0.0; begins = is.begins; ends = is.answers.0.1 },
+    is.answers.1,
+    is.answers.2,
+  );
   fault = tt;
   written = is;
 }
@@ -188,7 +192,7 @@ says_behind trace plan sizes old new (Err fault.Write) from is = record { verdic
 finished : (trace : Bool) (plan : Plan) (sizes : Sizes) (from behind : Place) (old mid new : Option (List ℕ))
     (text : List ℕ) (answer result : Result Verdict CaptureFault) (first : Judge)
     → is_traced first ≡ trace → Judges plan [] first → HasHeader from behind
-        → IsJudgedAt sizes first old mid text answer behind → Finishes mid new text answer result
+    → IsJudgedAt sizes first old mid text answer behind → Finishes mid new text answer result
     → IsWrittenOf trace plan sizes from old new result
 finished trace plan sizes from behind old mid new text answer result first traced start top judged (inl cut) =
     let P : Result Verdict CaptureFault → Type 0 = λ r. IsWrittenOf trace plan sizes from old new r in
@@ -199,7 +203,7 @@ finished trace plan sizes from behind old mid new text answer result first trace
       answers = judged.answers plan start;
       out = subst (λ (o : Option (List ℕ)). IsOut trace plan answer judged.rows old o) (sym cut.2)
           (cut_out trace plan answer judged.rows old mid text cut.0
-              (subst (λ t. WroteBy t plan answer judged.rows old mid text) traced (judged.told plan start)));
+          (subst (λ t. WroteBy t plan answer judged.rows old mid text) traced (judged.told plan start)));
     })
 finished trace plan sizes from behind old mid new text answer result first traced start top judged (inr whole) =
     go whole.1
@@ -231,13 +235,13 @@ finished trace plan sizes from behind old mid new text answer result first trace
 pub says_judged : (plan : Plan) (sizes : Sizes) (a b : Left) (old mid new : Option (List ℕ)) (text : List ℕ)
     (answer result : Result Verdict CaptureFault) (first : Judge)
     → Judges plan [] first → Between a b HasHeader → IsJudged sizes first old mid text b answer
-        → Finishes mid new text answer result
+    → Finishes mid new text answer result
     → IfSome a.text (λ t. Says (is_traced first) plan sizes old new result (record { line = a.line; text = t }))
 says_judged plan sizes a b old mid new text answer result first start header judged finishes =
     behind_start a b HasHeader (IsJudgedAt sizes first old mid text answer)
-        (Says (is_traced first) plan sizes old new result)
+    (Says (is_traced first) plan sizes old new result)
     (λ x y top is. says_behind (is_traced first) plan sizes old new result x
-        (finished (is_traced first) plan sizes x y old mid new text answer result first refl start top is finishes))
+    (finished (is_traced first) plan sizes x y old mid new text answer result first refl start top is finishes))
     header judged
 
 -- is said of the start of what a reader gives

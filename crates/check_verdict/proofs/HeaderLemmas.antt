@@ -20,7 +20,7 @@ same_fields (x ∷ xs) [] counted same = absurd (omega (arith, counted))
 same_fields (x ∷ xs) (y ∷ ys) counted same =
     let first : x ≡ y = cc (same 0 (omega arith)) in
     let more : xs ≡ ys = same_fields xs ys (omega (arith, counted))
-        (λ j within. same (suc j) (omega (arith, within))) in
+    (λ j within. same (suc j) (omega (arith, within))) in
     rw (first, more) refl
 
 -- one field more

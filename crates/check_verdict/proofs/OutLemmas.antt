@@ -24,8 +24,13 @@ module _ (P : List ℕ → Type 0) (old mid : Option (List ℕ)) (text : List �
   -- nothing more is told
   pub wrote_as : (Q : List ℕ → Type 0) (next : List ℕ) → next ≡ text → Q wrote.told → Wrote Q old mid next
   wrote_as Q next same holds =
-      record { told = wrote.told; front = wrote.front; holds = holds;
-      is = wrote.is ∙ ap (λ l. wrote.front ++ l) (sym same); written = wrote.written }
+      record {
+        told = wrote.told;
+        front = wrote.front;
+        holds = holds;
+        is = wrote.is ∙ ap (λ l. wrote.front ++ l) (sym same);
+        written = wrote.written;
+      }
 
   -- a front of the text is written
   pub wrote_moved : (new : Option (List ℕ)) (left : List ℕ) → Moves mid new text left → Wrote P old new left

@@ -83,13 +83,13 @@ at_start a c Q holds = go a.text c.text holds
 pub behind_start : (a b : Left) (P : Place → Place → Type 0) (Q : Place → Type 0) (S : Place → Type 0)
     → ((x y : Place) → P x y → Q y → S x) → Between a b P
     → IfSome b.text (λ text. Q (record { line = b.line; text = text }))
-        → IfSome a.text (λ text. S (record { line = a.line; text = text }))
+    → IfSome a.text (λ text. S (record { line = a.line; text = text }))
 behind_start a b P Q S join one two = go a.text b.text one two
   where
     go : (from to : Option (List ℕ)) → Between (record { line = a.line; text = from })
         (record { line = b.line; text = to }) P
         → IfSome to (λ text. Q (record { line = b.line; text = text }))
-            → IfSome from (λ text. S (record { line = a.line; text = text }))
+        → IfSome from (λ text. S (record { line = a.line; text = text }))
     go None to one two = tt
     go (Some from) None one two = absurd one
     go (Some from) (Some to) one two =
@@ -103,29 +103,29 @@ module _ (sizes : Sizes) (r : Record) (row : Row) (spells : Spells sizes r row) 
       → Between a b (TakesNext sizes old new text grown true)
   row_taken old new text grown took =
       between_map a b (λ from to. Gives from r to) (TakesNext sizes old new text grown true)
-          (λ x y g. (row, record { next = r; gives = g; spells = spells }, took)) gives
+      (λ x y g. (row, record { next = r; gives = g; spells = spells }, took)) gives
 
   pub row_refused : (judge : Judge) (text grown : List ℕ) (why : RowFault)
       → ((plan : Plan) (rows : List Row) (so_far : List ℕ) → HasTold plan rows judge so_far → HasRowFault rows row why
-          × (grown ≡ text))
+      × (grown ≡ text))
       → StopsAt sizes judge text grown a b (halt.Fault (fault.Row r.line why))
   row_refused judge text grown why refused =
       between_map a b (λ from to. Gives from r to)
       (λ from to. (plan : Plan) (rows : List Row) (so_far : List ℕ) → HasTold plan rows judge so_far
-          → HasNoRow sizes rows r.line why from to × (grown ≡ text))
+      → HasNoRow sizes rows r.line why from to × (grown ≡ text))
       (λ x y g plan rows so_far has. let is = refused plan rows so_far has in
       (record { next = r; gives = g; on_line = refl; no_row = inr (row, spells, is.0) }, is.1)) gives
 
   pub row_unlawful : (judge : Judge) (text grown : List ℕ) (found : Unlawful)
       → ((plan : Plan) (rows : List Row) (so_far : List ℕ) → HasTold plan rows judge so_far
       → (IsLater rows row × IsFirstUnlawful plan rows found)
-          × TellsBefore (is_traced judge) plan rows so_far text grown found)
+      × TellsBefore (is_traced judge) plan rows so_far text grown found)
       → StopsAt sizes judge text grown a b (halt.Unlawful found)
   row_unlawful judge text grown found unlawful =
       between_map a b (λ from to. Gives from r to)
       (λ from to. (plan : Plan) (rows : List Row) (so_far : List ℕ) → HasTold plan rows judge so_far
       → IsUnlawfulBefore plan sizes rows found from to
-          × TellsBefore (is_traced judge) plan rows so_far text grown found)
+      × TellsBefore (is_traced judge) plan rows so_far text grown found)
       (λ x y g plan rows so_far has. let is = unlawful plan rows so_far has in (
         record {
           row = row;
@@ -140,11 +140,11 @@ module _ (sizes : Sizes) (r : Record) (row : Row) (spells : Spells sizes r row) 
 pub no_row : (sizes : Sizes) (r : Record) (why : RowFault) (a b : Left) (judge : Judge) (text : List ℕ)
     → Between a b (λ from to. Gives from r to)
     → row_of sizes.masters sizes.ports r.line r.fields ≡ Err why
-        → StopsAt sizes judge text text a b (halt.Fault (fault.Row r.line why))
+    → StopsAt sizes judge text text a b (halt.Fault (fault.Row r.line why))
 no_row sizes r why a b judge text gives is =
     between_map a b (λ from to. Gives from r to)
     (λ from to. (plan : Plan) (rows : List Row) (so_far : List ℕ) → HasTold plan rows judge so_far
-        → HasNoRow sizes rows r.line why from to × (text ≡ text))
+    → HasNoRow sizes rows r.line why from to × (text ≡ text))
     (λ x y g plan rows so_far has. (record { next = r; gives = g; on_line = refl; no_row = inl is }, refl)) gives
 
 -- ---- the loop
@@ -162,10 +162,10 @@ module _ (sizes : Sizes) (first : Judge) (old : Option (List ℕ)) where
   pub took_more : (now next : Judge) (mid new : Option (List ℕ)) (text grown left : List ℕ) (a b c : Left)
       → Between a b (TookRows sizes first now old mid text)
       → Between b c (TakesNext sizes now next text grown true) → Moves mid new grown left
-          → Between a c (TookRows sizes first next old new left)
+      → Between a c (TookRows sizes first next old new left)
   took_more now next mid new text grown left a b c so_far one moves =
       between-trans a b c (TookRows sizes first now old mid text) (TakesNext sizes now next text grown true)
-          (TookRows sizes first next old new left) (λ x y z took more. record {
+      (TookRows sizes first next old new left) (λ x y z took more. record {
         rows = took.rows ++ more.0 ∷ [];
         has = rows_more sizes took.rows more.0 x y z took.has more.1;
         traced = more.2.traced ∙ took.traced;
@@ -174,7 +174,7 @@ module _ (sizes : Sizes) (first : Judge) (old : Option (List ℕ)) where
             let on = more.2.tells plan took.rows wrote.told wrote.holds in
             wrote_moved (HasTold plan (took.rows ++ more.0 ∷ []) next) old mid grown
             (wrote_more (HasTold plan took.rows now) old mid text wrote
-                (HasTold plan (took.rows ++ more.0 ∷ []) next) on.more grown on.grown on.told)
+            (HasTold plan (took.rows ++ more.0 ∷ []) next) on.more grown on.grown on.told)
             new left moves;
       }) so_far one
 
@@ -183,7 +183,7 @@ module _ (sizes : Sizes) (first : Judge) (old : Option (List ℕ)) where
       → Between b c (TakesNext sizes now next text grown false) → Between a c (AllTaken sizes first next old mid grown)
   took_all now next mid text grown a b c so_far none =
       between-trans a b c (TookRows sizes first now old mid text) (TakesNext sizes now next text grown false)
-          (AllTaken sizes first next old mid grown)
+      (AllTaken sizes first next old mid grown)
       (λ x y z took ends.
       let by_judge = subst (λ (j : Judge). TookRows sizes first j old mid text x y) (sym ends.1) took in
       (y, subst (λ (t : List ℕ). TookRows sizes first next old mid t x y) (sym ends.2) by_judge, ends.0)) so_far none
@@ -198,11 +198,11 @@ module _ (sizes : Sizes) (first : Judge) (old : Option (List ℕ)) where
   pub fails : (now next : Judge) (mid new : Option (List ℕ)) (text grown left : List ℕ) (a b c : Left)
       → Between a b (TookRows sizes first now old mid text)
       → Between b c (TakesNext sizes now next text grown true) → AppendsPart mid new grown
-          → IsJudged sizes first old new left a (Err fault.Write)
+      → IsJudged sizes first old new left a (Err fault.Write)
   fails now next mid new text grown left a b c so_far one front =
       at_start a c (IsJudgedAt sizes first old new left (Err fault.Write))
       (between-trans a b c (TookRows sizes first now old mid text) (TakesNext sizes now next text grown true)
-          (λ from to. IsJudgedAt sizes first old new left (Err fault.Write) from) (λ x y z took more. record {
+      (λ from to. IsJudgedAt sizes first old new left (Err fault.Write) from) (λ x y z took more. record {
         rows = took.rows ++ more.0 ∷ [];
         last = z;
         has = rows_more sizes took.rows more.0 x y z took.has more.1;
@@ -212,7 +212,7 @@ module _ (sizes : Sizes) (first : Judge) (old : Option (List ℕ)) where
             let rows = took.rows ++ more.0 ∷ [] in
             let on = more.2.tells plan took.rows wrote.told wrote.holds in
             let is = wrote_more (HasTold plan took.rows now) old mid text wrote
-                (HasTold plan rows next) on.more grown on.grown on.told in
+            (HasTold plan rows next) on.more grown on.grown on.told in
             wrote_part (HasTold plan rows next) old mid grown is (IsToldPart (is_traced first) plan rows) new front
             (earlier plan rows next is.told (more.2.traced ∙ took.traced) is.holds).part;
       }) so_far one)
@@ -221,7 +221,7 @@ module _ (sizes : Sizes) (first : Judge) (old : Option (List ℕ)) where
   rest : (now : Judge) (mid : Option (List ℕ)) (text : List ℕ) (a b : Left) (S : Place → Type 0)
       → Between a b (TookRows sizes first now old mid text)
       → ((x y : Place) → TookRows sizes first now old mid text x y → S x)
-          → IfSome a.text (λ t. S (record { line = a.line; text = t }))
+      → IfSome a.text (λ t. S (record { line = a.line; text = t }))
   rest now mid text a b S so_far to =
       at_start a b S (between_map a b (TookRows sizes first now old mid text) (λ from at. S from) to so_far)
 
@@ -237,8 +237,8 @@ module _ (sizes : Sizes) (first : Judge) (old : Option (List ℕ)) where
         told = λ plan start.
             let wrote = took.told plan start in
             wrote_as (HasTold plan took.rows now) old mid text wrote
-                (IsToldEarlier (is_traced first) plan took.rows) grown same
-                (earlier plan took.rows now wrote.told took.traced wrote.holds);
+            (IsToldEarlier (is_traced first) plan took.rows) grown same
+            (earlier plan took.rows now wrote.told took.traced wrote.holds);
       })
 
   so_far_part : (now : Judge) (mid : Option (List ℕ)) (text : List ℕ) (x y : Place)
@@ -247,7 +247,7 @@ module _ (sizes : Sizes) (first : Judge) (old : Option (List ℕ)) where
   so_far_part now mid text x y took plan start =
       let wrote = took.told plan start in
       wrote_so_far (HasTold plan took.rows now) old mid text wrote (IsToldPart (is_traced first) plan took.rows)
-          (earlier plan took.rows now wrote.told took.traced wrote.holds).part
+      (earlier plan took.rows now wrote.told took.traced wrote.holds).part
 
   pub halts : (now : Judge) (mid : Option (List ℕ)) (text grown : List ℕ) (a b c : Left) (why : Halt)
       → Between a b (TookRows sizes first now old mid text)
@@ -256,10 +256,10 @@ module _ (sizes : Sizes) (first : Judge) (old : Option (List ℕ)) where
       at_start a c (IsJudgedAt sizes first old mid grown (answer_of (halt.Unlawful found)))
       (between-trans a b c (TookRows sizes first now old mid text)
       (λ from to. (plan : Plan) (rows : List Row) (told : List ℕ) → HasTold plan rows now told
-          → IsUnlawfulBefore plan sizes rows found from to
-          × TellsBefore (is_traced now) plan rows told text grown found)
+      → IsUnlawfulBefore plan sizes rows found from to
+      × TellsBefore (is_traced now) plan rows told text grown found)
       (λ from to. IsJudgedAt sizes first old mid grown (answer_of (halt.Unlawful found)) from)
-          (λ x y z took stopped. record {
+      (λ x y z took stopped. record {
         rows = took.rows;
         last = y;
         has = took.has;
@@ -271,14 +271,14 @@ module _ (sizes : Sizes) (first : Judge) (old : Option (List ℕ)) where
             let wrote = took.told plan start in
             let tells = (stopped plan took.rows wrote.told wrote.holds).1 in
             wrote_more (HasTold plan took.rows now) old mid text wrote
-                (λ t. IsToldBefore (is_traced first) plan took.rows t found) tells.0 grown tells.1
+            (λ t. IsToldBefore (is_traced first) plan took.rows t found) tells.0 grown tells.1
             (subst (λ t. IsToldBefore t plan took.rows (wrote.told ++ tells.0) found) took.traced tells.2);
       }) so_far stop)
   halts now mid text grown a b c (halt.Fault (fault.Row line kind)) so_far stop =
       at_start a c (IsJudgedAt sizes first old mid grown (Err (fault.Row line kind)))
       (between-trans a b c (TookRows sizes first now old mid text)
       (λ from to. (plan : Plan) (rows : List Row) (told : List ℕ) → HasTold plan rows now told
-          → HasNoRow sizes rows line kind from to × (grown ≡ text))
+      → HasNoRow sizes rows line kind from to × (grown ≡ text))
       (λ from to. IsJudgedAt sizes first old mid grown (Err (fault.Row line kind)) from) (λ x y z took stopped. record {
         rows = took.rows;
         last = y;
@@ -288,12 +288,12 @@ module _ (sizes : Sizes) (first : Judge) (old : Option (List ℕ)) where
         told = λ plan start.
             let wrote = took.told plan start in
             wrote_as (HasTold plan took.rows now) old mid text wrote
-                (IsToldEarlier (is_traced first) plan took.rows) grown (stopped plan took.rows wrote.told wrote.holds).1
+            (IsToldEarlier (is_traced first) plan took.rows) grown (stopped plan took.rows wrote.told wrote.holds).1
             (earlier plan took.rows now wrote.told took.traced wrote.holds);
       }) so_far stop)
   halts now mid text grown a b c (halt.Fault (fault.TooLong line)) so_far stop =
       behind_start a b (TookRows sizes first now old mid text) (λ at. IsTooLong at line)
-          (IsJudgedAt sizes first old mid grown (Err (fault.TooLong line))) (λ x y took long. record {
+      (IsJudgedAt sizes first old mid grown (Err (fault.TooLong line))) (λ x y took long. record {
         rows = took.rows;
         last = y;
         has = took.has;
@@ -301,8 +301,8 @@ module _ (sizes : Sizes) (first : Judge) (old : Option (List ℕ)) where
         told = λ plan start.
             let wrote = took.told plan start in
             wrote_as (HasTold plan took.rows now) old mid text wrote
-                (IsToldEarlier (is_traced first) plan took.rows) grown stop.1
-                (earlier plan took.rows now wrote.told took.traced wrote.holds);
+            (IsToldEarlier (is_traced first) plan took.rows) grown stop.1
+            (earlier plan took.rows now wrote.told took.traced wrote.holds);
       }) so_far stop.0
   halts now mid text grown a b c (halt.Fault (fault.Header line)) so_far stop = absurd stop
   halts now mid text grown a b c (halt.Fault fault.Read) so_far stop = read_fails now mid text grown a b so_far stop

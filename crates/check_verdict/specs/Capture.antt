@@ -42,13 +42,13 @@ IsVerdict plan sizes from (Lawful counts) =
     (rows : List Row) × IsCapture sizes from rows × IsLawfulFile plan rows × HasCounts plan rows counts
 IsVerdict plan sizes from (Unlawful found) =
     (rows : List Row) × (at : Place) × Begins sizes from rows at × IsTimeOver sizes rows at
-        × IsFirstUnlawful plan rows found
+    × IsFirstUnlawful plan rows found
 
 -- the first record is on this line and is not the header; or there is none, which is told of line 1
 abbrev pub HasNoHeader : Place → Place → ℕ → Type 0
 HasNoHeader from to line =
     (Ends from to × (line ≡ 1)) ⊎ ((first : Record) × Gives from first to × (line ≡ first.line)
-        × (first.fields ≢ header))
+    × (first.fields ≢ header))
 
 -- why a text is no capture: of the first record that is no row, or none that may stand there, its line
 abbrev pub IsFault : Plan → Sizes → Place → CaptureFault → Type 0

@@ -5,5 +5,5 @@ use Rattle.std.specs.Prelude.{ℕ, List, [], ◌∷◌, codes}
 abbrev pub header : List (List ℕ)
 header =
     codes "time" ∷ codes "link" ∷ codes "channel" ∷ codes "opcode" ∷ codes "param" ∷ codes "size" ∷ codes "source"
-        ∷ codes "address"
+    ∷ codes "address"
     ∷ codes "mask" ∷ codes "data" ∷ codes "denied" ∷ codes "corrupt" ∷ []

@@ -51,7 +51,7 @@ pub record HasRows (sizes : Sizes) (rows : List Row) (from to : Place) : Type 0 
 abbrev pub IsNoRow : Sizes → List Row → Record → RowFault → Type 0
 IsNoRow sizes rows r fault =
     (row_of sizes.masters sizes.ports r.line r.fields ≡ Err fault)
-        ⊎ ((row : Row) × Spells sizes r row × HasRowFault rows row fault)
+    ⊎ ((row : Row) × Spells sizes r row × HasRowFault rows row fault)
 
 -- the record on this line, the next one behind these rows, is no row there
 pub record HasNoRow (sizes : Sizes) (rows : List Row) (line : ℕ) (fault : RowFault) (from to : Place) : Type 0 where

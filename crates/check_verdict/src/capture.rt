@@ -6,12 +6,12 @@ ghost use Rattle.check_watch.specs.Plan.{Plan};
 ghost use Rattle.check_judge.specs.View.{Judges, is_traced};
 ghost use Rattle.check_verdict.specs.Capture.{HasHeader, HasHeaderFault, IsFault, IsVerdict, IsWritten};
 
-use check_judge::Judge;
-use check_records::Records;
 use crate::fault::{CaptureFault, Verdict};
 use crate::header::is_header;
 use crate::out::finish;
 use crate::rows::{Sizes, judge_rows};
+use check_judge::Judge;
+use check_records::Records;
 use std::alloc::Global;
 use std::io::{Read, Write};
 use tl_streams::LimitedWriter;

@@ -3,11 +3,11 @@ ghost use Rattle.std.specs.Prelude.{◌≡◌, ◌≤◌, [], None, OnOk, IfOk, 
 ghost use Rattle.check_records.specs.Source.{Between};
 ghost use Rattle.check_verdict.specs.Rows.{AllTaken, IsJudged, StopsAt, TakesNext, answer_of, refused};
 
+use crate::fault::{CaptureFault, Verdict};
+use crate::out::write_long;
 use check_capture::read_row;
 use check_judge::{Judge, Refusal, Stop, Unlawful};
 use check_records::Records;
-use crate::fault::{CaptureFault, Verdict};
-use crate::out::write_long;
 use std::io::{Read, Write};
 use tl_streams::LimitedWriter;
 use tl_types::{MAX_MASTERS, MAX_PORTS};

@@ -54,8 +54,8 @@ seen_watched layout (row ∷ crossed) = go (seen_watched layout crossed) (is_wat
   where
     go : AreWatched layout (seen layout crossed) → (watched : Bool) → is_watched layout row.sighting.link ≡ watched
         → AreWatched layout (map (λ (r : Row). r.sighting)
-            (if watched then row ∷ filter (λ (r : Row). is_watched layout r.sighting.link) crossed else filter
-            (λ (r : Row). is_watched layout r.sighting.link) crossed))
+        (if watched then row ∷ filter (λ (r : Row). is_watched layout r.sighting.link) crossed else filter
+        (λ (r : Row). is_watched layout r.sighting.link) crossed))
     go before true is = (watched_link layout row.sighting.link is, before)
     go before false is = before
 

@@ -21,9 +21,9 @@ module _ (plan : Plan) (view : View) (lawful : IsPlan plan) (layout : plan.layou
   pub fresh_keeps : ((number : ℕ) → under_at view.masters.links number ≡ nothing_under)
       → ((wide : ℕ) → flight_at view.masters.flights wide ≡ idle)
       → ((number : ℕ) → under_at view.ports.links number ≡ nothing_under)
-          → ((wide : ℕ) → flight_at view.ports.flights wide ≡ idle)
+      → ((wide : ℕ) → flight_at view.ports.flights wide ≡ idle)
       → ((wide : ℕ) → crossing_at view.crossings wide ≡ Waiting) → view.slaves ≡ map fresh_slave plan.resets
-          → Keeps plan [] view
+      → Keeps plan [] view
   fresh_keeps mlinks mflights plinks pflights crossings slaves = record {
     suits = record { lawful = lawful; layout = sym layout };
     lawful = tt;

@@ -43,8 +43,8 @@ port_is plan view address size port suits routes =
 
 pub port_found : (plan : Plan) (view : View) (link : Link) (turn : Turn) (beat : ABeat) (port : ℕ) → Suits plan view
     → ((number other : ℕ) → link ≡ Master number → (port ≡ other)
-        ↔ RoutesBytes view.layout.ranges beat.address beat.size other)
-        → ((number : ℕ) → link ≡ Port number → port ≡ number)
+    ↔ RoutesBytes view.layout.ranges beat.address beat.size other)
+    → ((number : ℕ) → link ≡ Port number → port ≡ number)
     → port ≡ port_of plan link turn (A beat)
 port_found plan view (Master m) turn beat port suits master at_port =
     port_is plan view beat.address beat.size port suits (λ other. master m other refl)
@@ -60,14 +60,14 @@ asked_is (Asked at other) ask is = (at, ap (λ r. Asked at r) (cc))
 pub port_asked : (plan : Plan) (view : View) (link : Link) (turn : Turn) (ask : Request) (beat : DBeat) (port : ℕ)
     → Suits plan view → asked turn ≡ Some ask
     → ((number other : ℕ) → link ≡ Master number → (port ≡ other)
-        ↔ RoutesBytes view.layout.ranges ask.address ask.size other)
-        → ((number : ℕ) → link ≡ Port number → port ≡ number)
+    ↔ RoutesBytes view.layout.ranges ask.address ask.size other)
+    → ((number : ℕ) → link ≡ Port number → port ≡ number)
     → port ≡ port_of plan link turn (D beat)
 port_asked plan view (Port p) turn ask beat port suits is master at_port = at_port p refl
 port_asked plan view (Master m) turn ask beat port suits is master at_port =
     let found = asked_is turn ask is in
     port_is plan view ask.address ask.size port suits (λ other. master m other refl)
-        ∙ ap (λ t. port_in plan t) (sym found.1)
+    ∙ ap (λ t. port_in plan t) (sym found.1)
 
 -- ---- requests
 
@@ -85,8 +85,8 @@ module _ (plan : Plan) (view : View) (link : Link) (beat : ABeat) (wide : ℕ) (
       → (IsTrue r ↔ EndsSent view.layout link (scene_in plan view link (A beat)) beat)
   sent_here sent =
       let P : ℕ → Type 0 = λ w. IsTrue r ↔ (IsTrue (ends_ask (under_in view link).asking beat)
-          → IsSent view.layout link (flight_at view.masters.flights w).turn (crossing_at view.crossings w)
-          (ask_of beat ((under_in view link).asking ++ beat ∷ []))) in
+      → IsSent view.layout link (flight_at view.masters.flights w).turn (crossing_at view.crossings w)
+      (ask_of beat ((under_in view link).asking ++ beat ∷ []))) in
       subst P (wide_is plan view link beat.source wide suits at) sent
 
 mask_same : (op other : AskOp) (size address mask : ℕ) → op ≡ other → IsLawfulMask op size address mask
@@ -100,7 +100,7 @@ no_form_fault begun beat known fits lanes Opcode has = has fits.formed.op fits.f
 no_form_fault begun beat known fits lanes Size has = omega (arith, fits.formed.in_limit, has)
 no_form_fault begun beat known fits lanes Mask has =
     has.2 (mask_same fits.formed.op has.0 beat.size beat.address beat.mask
-        (same_op fits.formed.op has.0 beat.opcode beat.param fits.formed.code has.1) fits.formed.mask)
+    (same_op fits.formed.op has.0 beat.opcode beat.param fits.formed.code has.1) fits.formed.mask)
 no_form_fault begun beat known fits lanes CorruptFlag has = has
 no_form_fault begun beat known fits lanes UnknownLanes has = has.1 (lanes has.0)
 

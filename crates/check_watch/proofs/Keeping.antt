@@ -54,19 +54,19 @@ stays {X} f k j = go (k == j) refl
 
 slaves_set : (slaves : List Slave) (port p : ℕ) (ask : Option Request) → port < length slaves
     → slave_at (slaves_with slaves port ask) p ≡
-        (if port == p then slave_by (slave_at slaves port) ask else slave_at slaves p)
+    (if port == p then slave_by (slave_at slaves port) ask else slave_at slaves p)
 slaves_set slaves port p None within = stays (λ k. slave_at slaves k) port p
 slaves_set slaves port p (Some ask) within = set_at no_slave slaves port p (served_by (slave_at slaves port) ask) within
 
 taken_set : (crossings : List Crossing) (wide w : ℕ) (ends : Bool) → wide < length crossings
     → crossing_at (crossings_taken crossings wide ends) w ≡
-        (if wide == w then (if ends then Crossed else crossing_at crossings wide) else crossing_at crossings w)
+    (if wide == w then (if ends then Crossed else crossing_at crossings wide) else crossing_at crossings w)
 taken_set crossings wide w true within = set_at Waiting crossings wide w Crossed within
 taken_set crossings wide w false within = stays (λ k. crossing_at crossings k) wide w
 
 given_set : (crossings : List Crossing) (wide w : ℕ) (due : Option Answer) → wide < length crossings
     → crossing_at (crossings_given crossings wide due) w ≡
-        (if wide == w then given_by due (crossing_at crossings wide) else crossing_at crossings w)
+    (if wide == w then given_by due (crossing_at crossings wide) else crossing_at crossings w)
 given_set crossings wide w None within = stays (λ k. crossing_at crossings k) wide w
 given_set crossings wide w (Some answer) within = set_at Waiting crossings wide w (Given answer) within
 
@@ -79,14 +79,14 @@ set_twice (z ∷ xs) (suc k) x y = ap (λ l. z ∷ l) (set_twice xs k x y)
 -- what is in flight, and then the reply that must come
 answered : (flights : List Flight) (wide : ℕ) (turn : Turn) (answer : Option Answer) → wide < length flights
     → flights_due (slice_set flights wide (record { turn = turn; due = None })) wide answer ≡ slice_set flights wide
-        (record { turn = turn; due = answer })
+    (record { turn = turn; due = answer })
 answered flights wide turn None within = refl
 answered flights wide turn (Some answer) within =
     let first : Flight = record { turn = turn; due = None } in
     let here : flight_at (slice_set flights wide first) wide ≡ first =
-        ap (λ o. unwrap_or o idle) (slice_get-set_same flights wide first within) in
+    ap (λ o. unwrap_or o idle) (slice_get-set_same flights wide first within) in
     ap (λ (f : Flight). slice_set (slice_set flights wide first) wide (flight_due f (Some answer))) here
-        ∙ set_twice flights wide first (record { turn = turn; due = Some answer })
+    ∙ set_twice flights wide first (record { turn = turn; due = Some answer })
 
 -- ---- room
 
@@ -121,8 +121,8 @@ module _ (plan : Plan) (view : View) (known : ℕ) (suits : Suits plan view) whe
   pub after_ask : (link : Link) (beat : ABeat) → HasRoom view link (wide_of plan link beat.source)
       → port_of plan link (flight_in view link (wide_of plan link beat.source)).turn (A beat) < length view.slaves
       → AreSame (state_in (with_ask view link (wide_of plan link beat.source)
-          (port_of plan link (flight_in view link (wide_of plan link beat.source)).turn (A beat)) beat))
-          (state_after plan (state_in view) (seen_at link (A beat)))
+      (port_of plan link (flight_in view link (wide_of plan link beat.source)).turn (A beat)) beat))
+      (state_after plan (state_in view) (seen_at link (A beat)))
   after_ask (Master m) beat room slot = record {
     links = links;
     flights = flights;
@@ -130,16 +130,16 @@ module _ (plan : Plan) (view : View) (known : ℕ) (suits : Suits plan view) whe
     slaves = λ p. slaves_set view.slaves (plan.route beat.address beat.size) p
         (effect_in view (Master m) (plan.route beat.address beat.size) (ask_at view (Master m) beat)) slot
         ∙ ap (λ (l : Layout). if plan.route beat.address beat.size == p then slave_by
-            (slave_at view.slaves (plan.route beat.address beat.size))
-            (effect_by (is_at_acceptance l.order && takes_effect l (Master m) (plan.route beat.address beat.size))
-            (ask_at view (Master m) beat)) else slave_at view.slaves p) suits.layout;
+        (slave_at view.slaves (plan.route beat.address beat.size))
+        (effect_by (is_at_acceptance l.order && takes_effect l (Master m) (plan.route beat.address beat.size))
+        (ask_at view (Master m) beat)) else slave_at view.slaves p) suits.layout;
   }
     where
       links : (side : Side) (number : ℕ) → under_at
           (side_in (with_ask view (Master m) (plan.wide m beat.source)
           (plan.route beat.address beat.size) beat) side).links number
           ≡ (if is_link (Master m) side number then under_after (under_at view.masters.links m) (A beat) else under_at
-              (side_in view side).links number)
+          (side_in view side).links number)
       links AtMasters number =
           set_at nothing_under view.masters.links m number
           (under_after (under_at view.masters.links m) (A beat)) room.at_link
@@ -149,12 +149,12 @@ module _ (plan : Plan) (view : View) (known : ℕ) (suits : Suits plan view) whe
           (side_in (with_ask view (Master m) (plan.wide m beat.source)
           (plan.route beat.address beat.size) beat) side).flights w
           ≡ (if is_of plan (seen_at (Master m) (A beat)) side w then flight_made view (Master m)
-              (plan.route beat.address beat.size) beat plan.layout else flight_at (side_in view side).flights w)
+          (plan.route beat.address beat.size) beat plan.layout else flight_at (side_in view side).flights w)
       flights AtMasters w =
           set_at idle view.masters.flights (plan.wide m beat.source) w
           (flight_made view (Master m) (plan.route beat.address beat.size) beat view.layout) room.in_flight
           ∙ ap (λ (l : Layout). if plan.wide m beat.source == w then flight_made view (Master m)
-              (plan.route beat.address beat.size) beat l else flight_at view.masters.flights w) suits.layout
+          (plan.route beat.address beat.size) beat l else flight_at view.masters.flights w) suits.layout
       flights AtPorts w = refl
   after_ask (Port n) beat room slot = record {
     links = links;
@@ -163,14 +163,14 @@ module _ (plan : Plan) (view : View) (known : ℕ) (suits : Suits plan view) whe
         (ends_ask (under_at view.ports.links n).asking beat) room.crossing;
     slaves = λ p. slaves_set view.slaves n p (effect_in view (Port n) n (ask_at view (Port n) beat)) slot
         ∙ ap (λ (l : Layout). if n == p then slave_by (slave_at view.slaves n)
-            (effect_by (is_at_acceptance l.order && takes_effect l (Port n) n)
-            (ask_at view (Port n) beat)) else slave_at view.slaves p) suits.layout;
+        (effect_by (is_at_acceptance l.order && takes_effect l (Port n) n)
+        (ask_at view (Port n) beat)) else slave_at view.slaves p) suits.layout;
   }
     where
       links : (side : Side) (number : ℕ) → under_at
           (side_in (with_ask view (Port n) beat.source n beat) side).links number
           ≡ (if is_link (Port n) side number then under_after (under_at view.ports.links n) (A beat) else under_at
-              (side_in view side).links number)
+          (side_in view side).links number)
       links AtMasters number = refl
       links AtPorts number =
           set_at nothing_under view.ports.links n number
@@ -178,35 +178,40 @@ module _ (plan : Plan) (view : View) (known : ℕ) (suits : Suits plan view) whe
 
       flights : (side : Side) (w : ℕ) → flight_at (side_in (with_ask view (Port n) beat.source n beat) side).flights w
           ≡ (if is_of plan (seen_at (Port n) (A beat)) side w then flight_made view
-              (Port n) n beat plan.layout else flight_at (side_in view side).flights w)
+          (Port n) n beat plan.layout else flight_at (side_in view side).flights w)
       flights AtMasters w = refl
       flights AtPorts w = set_at idle view.ports.flights beat.source w
           (flight_made view (Port n) n beat view.layout) room.in_flight
           ∙ ap (λ (l : Layout). if beat.source == w then flight_made view
-              (Port n) n beat l else flight_at view.ports.flights w) suits.layout
+          (Port n) n beat l else flight_at view.ports.flights w) suits.layout
 
 -- a request ends, and then it takes effect if it does so as it is accepted
 abbrev ask_ended : View → Link → ℕ → ABeat → View
 ask_ended view link wide beat =
-    with_ask_at view link wide beat (record { turn =
-    Asked (number_of link) (ask_of beat ((under_in view link).asking ++ beat ∷ [])); due = None })
+    with_ask_at view link wide beat (record {
+      turn =
+          Asked (number_of link) (ask_of beat ((under_in view link).asking ++ beat ∷ []));
+      due = None;
+    })
 
 pub ask_served : (view : View) (link : Link) (wide port : ℕ) (beat : ABeat) → HasRoom view link wide
     → ends_ask (under_in view link).asking beat ≡ true
     → with_answer (ask_ended view link wide beat) link wide port
-        (effect_in (ask_ended view link wide beat) link port
-        (asked (flight_in (ask_ended view link wide beat) link wide).turn)) ≡ with_ask view link wide port beat
+    (effect_in (ask_ended view link wide beat) link port
+    (asked (flight_in (ask_ended view link wide beat) link wide).turn)) ≡ with_ask view link wide port beat
 ask_served view (Master m) wide port beat room ends =
     let ask = ask_of beat ((under_in view (Master m)).asking ++ beat ∷ []) in
     let turn = Asked m ask in
     let first : Flight = record { turn = turn; due = None } in
     let here : flight_at (slice_set view.masters.flights wide first) wide ≡ first =
-        ap (λ o. unwrap_or o idle) (slice_get-set_same view.masters.flights wide first room.in_flight) in
+    ap (λ o. unwrap_or o idle) (slice_get-set_same view.masters.flights wide first room.in_flight) in
     let ended = ask_ended view (Master m) wide beat in
     let effect = effect_in view (Master m) port (Some ask) in
     ap (λ (f : Flight). with_answer ended (Master m) wide port (effect_in ended (Master m) port (asked f.turn))) here
-    ∙ ap (λ (l : List Flight). record ended { masters = record ended.masters { flights = l };
-        slaves = slaves_with view.slaves port effect })
+    ∙ ap (λ (l : List Flight). record ended {
+      masters = record ended.masters { flights = l };
+      slaves = slaves_with view.slaves port effect;
+    })
     (answered view.masters.flights wide turn (answer_by port (slave_at view.slaves port) effect) room.in_flight)
     ∙ rw ends refl
 ask_served view (Port p) wide port beat room ends =
@@ -214,12 +219,14 @@ ask_served view (Port p) wide port beat room ends =
     let turn = Asked p ask in
     let first : Flight = record { turn = turn; due = None } in
     let here : flight_at (slice_set view.ports.flights wide first) wide ≡ first =
-        ap (λ o. unwrap_or o idle) (slice_get-set_same view.ports.flights wide first room.in_flight) in
+    ap (λ o. unwrap_or o idle) (slice_get-set_same view.ports.flights wide first room.in_flight) in
     let ended = ask_ended view (Port p) wide beat in
     let effect = effect_in view (Port p) port (Some ask) in
     ap (λ (f : Flight). with_answer ended (Port p) wide port (effect_in ended (Port p) port (asked f.turn))) here
-    ∙ ap (λ (l : List Flight). record ended { ports = record ended.ports { flights = l };
-        slaves = slaves_with view.slaves port effect })
+    ∙ ap (λ (l : List Flight). record ended {
+      ports = record ended.ports { flights = l };
+      slaves = slaves_with view.slaves port effect;
+    })
     (answered view.ports.flights wide turn (answer_by port (slave_at view.slaves port) effect) room.in_flight)
     ∙ rw ends refl
 
@@ -227,7 +234,7 @@ ask_served view (Port p) wide port beat room ends =
 
 due_set : (flights : List Flight) (wide w : ℕ) (answer : Option Answer) → wide < length flights
     → flight_at (flights_due flights wide answer) w ≡
-        (if wide == w then flight_due (flight_at flights wide) answer else flight_at flights w)
+    (if wide == w then flight_due (flight_at flights wide) answer else flight_at flights w)
 due_set flights wide w None within = stays (λ k. flight_at flights k) wide w
 due_set flights wide w (Some answer) within =
     set_at idle flights wide w (flight_due (flight_at flights wide) (Some answer)) within
@@ -269,9 +276,9 @@ module _ (plan : Plan) (view : View) (known : ℕ) where
 
   pub after_part : (link : Link) (beat : DBeat) → HasRoom view link (wide_of plan link beat.source)
       → port_of plan link (flight_in view link (wide_of plan link beat.source)).turn (D beat) < length view.slaves
-          → ends_reply (under_in view link).replying beat ≡ false
+      → ends_reply (under_in view link).replying beat ≡ false
       → AreSame (state_in (with_part (with_late view link (wide_of plan link beat.source)
-          (port_of plan link (flight_in view link (wide_of plan link beat.source)).turn (D beat))) link beat))
+      (port_of plan link (flight_in view link (wide_of plan link beat.source)).turn (D beat))) link beat))
       (after_by view.layout plan (state_in view) (record { link = link; beat = D beat; known = known }))
   after_part (Master m) beat room slot is =
       let wide = plan.wide m beat.source in
@@ -288,7 +295,7 @@ module _ (plan : Plan) (view : View) (known : ℕ) where
           (port_in plan (flight_at view.masters.flights (plan.wide m beat.source)).turn))
           (Master m) beat) side).links number
           ≡ (if is_link (Master m) side number then under_after (under_at view.masters.links m) (D beat) else under_at
-              (side_in view side).links number)
+          (side_in view side).links number)
       links AtMasters number =
           set_at nothing_under view.masters.links m number
           (under_after (under_at view.masters.links m) (D beat)) room.at_link
@@ -299,10 +306,10 @@ module _ (plan : Plan) (view : View) (known : ℕ) where
           (port_in plan (flight_at view.masters.flights (plan.wide m beat.source)).turn))
           (Master m) beat) side).flights w
           ≡ (if is_of plan (record { link = Master m; beat = D beat; known = known }) side w then
-              (if ends_reply (under_at view.masters.links m).replying beat then idle else flight_late (Master m)
-              (plan.wide m beat.source)
-              (port_in plan (flight_at view.masters.flights (plan.wide m beat.source)).turn)) else flight_at
-              (side_in view side).flights w)
+          (if ends_reply (under_at view.masters.links m).replying beat then idle else flight_late (Master m)
+          (plan.wide m beat.source)
+          (port_in plan (flight_at view.masters.flights (plan.wide m beat.source)).turn)) else flight_at
+          (side_in view side).flights w)
       flights AtMasters w =
           rw is (due_set view.masters.flights (plan.wide m beat.source) w
           (late_answer view (Master m) (plan.wide m beat.source)
@@ -319,7 +326,7 @@ module _ (plan : Plan) (view : View) (known : ℕ) where
       links : (side : Side) (number : ℕ) → under_at
           (side_in (with_part (with_late view (Port n) beat.source n) (Port n) beat) side).links number
           ≡ (if is_link (Port n) side number then under_after (under_at view.ports.links n) (D beat) else under_at
-              (side_in view side).links number)
+          (side_in view side).links number)
       links AtMasters number = refl
       links AtPorts number =
           set_at nothing_under view.ports.links n number
@@ -328,8 +335,8 @@ module _ (plan : Plan) (view : View) (known : ℕ) where
       flights : (side : Side) (w : ℕ) → flight_at
           (side_in (with_part (with_late view (Port n) beat.source n) (Port n) beat) side).flights w
           ≡ (if is_of plan (record { link = Port n; beat = D beat; known = known }) side w then
-              (if ends_reply (under_at view.ports.links n).replying beat then idle else flight_late
-              (Port n) beat.source n) else flight_at (side_in view side).flights w)
+          (if ends_reply (under_at view.ports.links n).replying beat then idle else flight_late
+          (Port n) beat.source n) else flight_at (side_in view side).flights w)
       flights AtMasters w = refl
       flights AtPorts w = rw is (due_set view.ports.flights beat.source w
           (late_answer view (Port n) beat.source n) room.in_flight)
@@ -337,7 +344,7 @@ module _ (plan : Plan) (view : View) (known : ℕ) where
   -- nothing is in flight of a wide source any more
   ended : (flights : List Flight) (wide w : ℕ) (answer : Option Answer) → wide < length flights
       → flight_at (slice_set (flights_due flights wide answer) wide idle) w ≡
-          (if wide == w then idle else flight_at flights w)
+      (if wide == w then idle else flight_at flights w)
   ended flights wide w answer within =
       set_at idle (flights_due flights wide answer) wide w idle (rw (due_length flights wide answer) within)
       ∙ ap (λ (f : Flight). if wide == w then idle else f) (due_set flights wide w answer within)
@@ -345,10 +352,10 @@ module _ (plan : Plan) (view : View) (known : ℕ) where
 
   pub after_end : (link : Link) (beat : DBeat) → HasRoom view link (wide_of plan link beat.source)
       → port_of plan link (flight_in view link (wide_of plan link beat.source)).turn (D beat) < length view.slaves
-          → ends_reply (under_in view link).replying beat ≡ true
+      → ends_reply (under_in view link).replying beat ≡ true
       → AreSame (state_in (with_end (with_late view link (wide_of plan link beat.source)
-          (port_of plan link (flight_in view link (wide_of plan link beat.source)).turn (D beat))) link
-          (wide_of plan link beat.source) beat))
+      (port_of plan link (flight_in view link (wide_of plan link beat.source)).turn (D beat))) link
+      (wide_of plan link beat.source) beat))
       (after_by view.layout plan (state_in view) (record { link = link; beat = D beat; known = known }))
   after_end (Master m) beat room slot is =
       let wide = plan.wide m beat.source in
@@ -365,7 +372,7 @@ module _ (plan : Plan) (view : View) (known : ℕ) where
           (port_in plan (flight_at view.masters.flights (plan.wide m beat.source)).turn)) (Master m)
           (plan.wide m beat.source) beat) side).links number
           ≡ (if is_link (Master m) side number then under_after (under_at view.masters.links m) (D beat) else under_at
-              (side_in view side).links number)
+          (side_in view side).links number)
       links AtMasters number =
           set_at nothing_under view.masters.links m number
           (under_after (under_at view.masters.links m) (D beat)) room.at_link
@@ -376,10 +383,10 @@ module _ (plan : Plan) (view : View) (known : ℕ) where
           (port_in plan (flight_at view.masters.flights (plan.wide m beat.source)).turn)) (Master m)
           (plan.wide m beat.source) beat) side).flights w
           ≡ (if is_of plan (record { link = Master m; beat = D beat; known = known }) side w then
-              (if ends_reply (under_at view.masters.links m).replying beat then idle else flight_late (Master m)
-              (plan.wide m beat.source)
-              (port_in plan (flight_at view.masters.flights (plan.wide m beat.source)).turn)) else flight_at
-              (side_in view side).flights w)
+          (if ends_reply (under_at view.masters.links m).replying beat then idle else flight_late (Master m)
+          (plan.wide m beat.source)
+          (port_in plan (flight_at view.masters.flights (plan.wide m beat.source)).turn)) else flight_at
+          (side_in view side).flights w)
       flights AtMasters w =
           rw is (ended view.masters.flights (plan.wide m beat.source) w
           (late_answer view (Master m) (plan.wide m beat.source)
@@ -396,7 +403,7 @@ module _ (plan : Plan) (view : View) (known : ℕ) where
       links : (side : Side) (number : ℕ) → under_at
           (side_in (with_end (with_late view (Port n) beat.source n) (Port n) beat.source beat) side).links number
           ≡ (if is_link (Port n) side number then under_after (under_at view.ports.links n) (D beat) else under_at
-              (side_in view side).links number)
+          (side_in view side).links number)
       links AtMasters number = refl
       links AtPorts number =
           set_at nothing_under view.ports.links n number
@@ -405,8 +412,8 @@ module _ (plan : Plan) (view : View) (known : ℕ) where
       flights : (side : Side) (w : ℕ) → flight_at
           (side_in (with_end (with_late view (Port n) beat.source n) (Port n) beat.source beat) side).flights w
           ≡ (if is_of plan (record { link = Port n; beat = D beat; known = known }) side w then
-              (if ends_reply (under_at view.ports.links n).replying beat then idle else flight_late
-              (Port n) beat.source n) else flight_at (side_in view side).flights w)
+          (if ends_reply (under_at view.ports.links n).replying beat then idle else flight_late
+          (Port n) beat.source n) else flight_at (side_in view side).flights w)
       flights AtMasters w = refl
       flights AtPorts w = rw is (ended view.ports.flights beat.source w
           (late_answer view (Port n) beat.source n) room.in_flight)
@@ -422,8 +429,8 @@ module _ (plan : Plan) (view : View) (known : ℕ) where
           (flight_at (flights_due view.ports.flights beat.source
           (late_answer view (Port n) beat.source n)) beat.source).due) w
           ≡ (if beat.source == w then (if ends_reply (under_at view.ports.links n).replying beat then given_by
-              (flight_late (Port n) beat.source n).due
-              (crossing_at view.crossings beat.source) else crossing_at view.crossings beat.source) else crossing_at view.crossings w)
+          (flight_late (Port n) beat.source n).due
+          (crossing_at view.crossings beat.source) else crossing_at view.crossings beat.source) else crossing_at view.crossings w)
       crossings w = rw (is, given) (given_set view.crossings beat.source w
           (flight_late (Port n) beat.source n).due room.crossing)
 
@@ -434,8 +441,13 @@ same_found plan a b x same =
     let side = side_of x.link in
     let wide = wide_of plan x.link (source_of x.beat) in
     let port = port_of plan x.link (b.flights side wide).turn x.beat in
-    rw (same.links side (number_of x.link), same.flights side wide, same.flights AtMasters wide, same.crossings wide,
-        same.slaves port) refl
+    rw (
+      same.links side (number_of x.link),
+      same.flights side wide,
+      same.flights AtMasters wide,
+      same.crossings wide,
+      same.slaves port,
+    ) refl
 
 same_scene : (plan : Plan) (a b : State) (x : Sighting) → AreSame a b → scene_of plan a x ≡ scene_of plan b x
 same_scene plan a b x same = ap (λ (s : Scene). answering plan.layout x.link s x.beat) (same_found plan a b x same)
@@ -488,7 +500,7 @@ module _ (plan : Plan) (past : List Sighting) (view : View) (x : Sighting) (keep
       → Q plan.layout (scene plan past x)
   carried Q here =
       subst (λ (s : Scene). Q plan.layout s) scene_kept
-          (subst (λ (l : Layout). Q l (scene_of plan (state_in view) x)) keeps.suits.layout here)
+      (subst (λ (l : Layout). Q l (scene_of plan (state_in view) x)) keeps.suits.layout here)
 
 -- ---- steps, at the wide source and the port that a judge finds
 
@@ -511,20 +523,20 @@ module _ (plan : Plan) (past : List Sighting) (view new : View) (link : Link) (k
     (keeps : Keeps plan past view) where
   pub ask_step : (beat : ABeat) (wide port : ℕ) → HasRoom view link wide → IsWideAt view.layout link beat.source wide
       → port ≡ port_of plan link (flight_in view link wide).turn (A beat) → port < length view.slaves
-          → IsAllowedAsk view.layout link (scene_in plan view link (A beat)) beat known
+      → IsAllowedAsk view.layout link (scene_in plan view link (A beat)) beat known
       → new ≡ with_ask view link wide port beat
-          → Keeps plan (record { link = link; beat = A beat; known = known } ∷ past) new
+      → Keeps plan (record { link = link; beat = A beat; known = known } ∷ past) new
   ask_step beat wide port room found port_found slot allowed is =
       let x : Sighting = record { link = link; beat = A beat; known = known } in
       let R : ℕ → ℕ → Type 0 =
-          λ w p. HasRoom view link w → p < length view.slaves
-          → AreSame (state_in (with_ask view link w p beat)) (state_after plan (state_in view) x) in
+      λ w p. HasRoom view link w → p < length view.slaves
+      → AreSame (state_in (with_ask view link w p beat)) (state_after plan (state_in view) x) in
       let e = wide_is plan view link beat.source wide keeps.suits found in
       let port_so : port ≡ port_of plan link (flight_in view link (wide_of plan link beat.source)).turn (A beat) =
-          port_found ∙ ap (λ w. port_of plan link (flight_in view link w).turn (A beat)) e in
+      port_found ∙ ap (λ w. port_of plan link (flight_in view link w).turn (A beat)) e in
       let same = subst (λ w. R w port) (sym e)
-          (subst (λ p. R (wide_of plan link beat.source) p) (sym port_so)
-          (after_ask plan view known keeps.suits link beat)) room slot in
+      (subst (λ p. R (wide_of plan link beat.source) p) (sym port_so)
+      (after_ask plan view known keeps.suits link beat)) room slot in
       keeps_next plan past view x keeps new (ap (λ (v : View). v.layout) is ∙ layout_ask view link wide port beat)
       (subst (λ (v : View). AreSame (state_in v) (state_after plan (state_in view) x)) (sym is) same)
       (carried plan past view x keeps (λ l s. IsAllowedAsk l link s beat known) allowed)
@@ -534,56 +546,56 @@ module _ (plan : Plan) (past : List Sighting) (view new : View) (link : Link) (k
       → AreSame (state_in next) (after_by view.layout plan (state_in view)
       (record { link = link; beat = D beat; known = known }))
       → IsAllowedReply view.layout link (scene_in plan view link (D beat)) beat known
-          → Keeps plan (record { link = link; beat = D beat; known = known } ∷ past) next
+      → Keeps plan (record { link = link; beat = D beat; known = known } ∷ past) next
   reply_step beat next layout same allowed =
       let x : Sighting = record { link = link; beat = D beat; known = known } in
       keeps_next plan past view x keeps next layout
-          (subst (λ (l : Layout). AreSame (state_in next) (after_by l plan (state_in view) x)) keeps.suits.layout same)
+      (subst (λ (l : Layout). AreSame (state_in next) (after_by l plan (state_in view) x)) keeps.suits.layout same)
       (carried plan past view x keeps (λ l s. IsAllowedReply l link s beat known) allowed)
 
   pub part_step : (beat : DBeat) (wide port : ℕ) → HasRoom view link wide → IsWideAt view.layout link beat.source wide
       → port ≡ port_of plan link (flight_in view link wide).turn (D beat) → port < length view.slaves
       → ends_reply (under_in view link).replying beat ≡ false
-          → IsAllowedReply view.layout link (scene_in plan view link (D beat)) beat known
+      → IsAllowedReply view.layout link (scene_in plan view link (D beat)) beat known
       → new ≡ with_part (with_late view link wide port) link beat
-          → Keeps plan (record { link = link; beat = D beat; known = known } ∷ past) new
+      → Keeps plan (record { link = link; beat = D beat; known = known } ∷ past) new
   part_step beat wide port room found port_found slot ends allowed is =
       let x : Sighting = record { link = link; beat = D beat; known = known } in
       let R : ℕ → ℕ → Type 0 =
-          λ w p. HasRoom view link w → p < length view.slaves
-          → AreSame (state_in (with_part (with_late view link w p) link beat))
-          (after_by view.layout plan (state_in view) x) in
+      λ w p. HasRoom view link w → p < length view.slaves
+      → AreSame (state_in (with_part (with_late view link w p) link beat))
+      (after_by view.layout plan (state_in view) x) in
       let e = wide_is plan view link beat.source wide keeps.suits found in
       let port_so : port ≡ port_of plan link (flight_in view link (wide_of plan link beat.source)).turn (D beat) =
-          port_found ∙ ap (λ w. port_of plan link (flight_in view link w).turn (D beat)) e in
+      port_found ∙ ap (λ w. port_of plan link (flight_in view link w).turn (D beat)) e in
       let at : R (wide_of plan link beat.source)
-          (port_of plan link (flight_in view link (wide_of plan link beat.source)).turn (D beat)) =
-          λ r s. after_part plan view known link beat r s ends in
+      (port_of plan link (flight_in view link (wide_of plan link beat.source)).turn (D beat)) =
+      λ r s. after_part plan view known link beat r s ends in
       let same = subst (λ w. R w port) (sym e)
-          (subst (λ p. R (wide_of plan link beat.source) p) (sym port_so) at) room slot in
+      (subst (λ p. R (wide_of plan link beat.source) p) (sym port_so) at) room slot in
       reply_step beat new (ap (λ (v : View). v.layout) is ∙ layout_part view link wide port beat)
       (subst (λ (v : View). AreSame (state_in v) (after_by view.layout plan (state_in view) x)) (sym is) same) allowed
 
   pub end_step : (beat : DBeat) (wide port : ℕ) → HasRoom view link wide → IsWideAt view.layout link beat.source wide
       → port ≡ port_of plan link (flight_in view link wide).turn (D beat) → port < length view.slaves
       → ends_reply (under_in view link).replying beat ≡ true
-          → IsAllowedReply view.layout link (scene_in plan view link (D beat)) beat known
+      → IsAllowedReply view.layout link (scene_in plan view link (D beat)) beat known
       → new ≡ with_end (with_late view link wide port) link wide beat
-          → Keeps plan (record { link = link; beat = D beat; known = known } ∷ past) new
+      → Keeps plan (record { link = link; beat = D beat; known = known } ∷ past) new
   end_step beat wide port room found port_found slot ends allowed is =
       let x : Sighting = record { link = link; beat = D beat; known = known } in
       let R : ℕ → ℕ → Type 0 =
-          λ w p. HasRoom view link w → p < length view.slaves
-          → AreSame (state_in (with_end (with_late view link w p) link w beat))
-          (after_by view.layout plan (state_in view) x) in
+      λ w p. HasRoom view link w → p < length view.slaves
+      → AreSame (state_in (with_end (with_late view link w p) link w beat))
+      (after_by view.layout plan (state_in view) x) in
       let e = wide_is plan view link beat.source wide keeps.suits found in
       let port_so : port ≡ port_of plan link (flight_in view link (wide_of plan link beat.source)).turn (D beat) =
-          port_found ∙ ap (λ w. port_of plan link (flight_in view link w).turn (D beat)) e in
+      port_found ∙ ap (λ w. port_of plan link (flight_in view link w).turn (D beat)) e in
       let at : R (wide_of plan link beat.source)
-          (port_of plan link (flight_in view link (wide_of plan link beat.source)).turn (D beat)) =
-          λ r s. after_end plan view known link beat r s ends in
+      (port_of plan link (flight_in view link (wide_of plan link beat.source)).turn (D beat)) =
+      λ r s. after_end plan view known link beat r s ends in
       let same = subst (λ w. R w port) (sym e)
-          (subst (λ p. R (wide_of plan link beat.source) p) (sym port_so) at) room slot in
+      (subst (λ p. R (wide_of plan link beat.source) p) (sym port_so) at) room slot in
       reply_step beat new (ap (λ (v : View). v.layout) is ∙ layout_end view link wide port beat)
       (subst (λ (v : View). AreSame (state_in v) (after_by view.layout plan (state_in view) x)) (sym is) same) allowed
 

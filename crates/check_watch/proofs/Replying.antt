@@ -47,31 +47,43 @@ module _ (plan : Plan) (view : View) (link : Link) (wide : ℕ) (beat : DBeat) (
   pub whole_has : (given : Bool) (due : Option Answer) (captured : Response) (r : Option Fault)
       → given ≡ is_given view.layout link port → due ≡ due_by_port port
       → IsTrue (ends_reply (under_in view link).replying beat)
-          → IsLawfulResponse captured.op captured.size captured.denied captured.bytes
-          → SpellsReply captured ask.address ((under_in view link).replying ++ beat ∷ [])
+      → IsLawfulResponse captured.op captured.size captured.denied captured.bytes
+      → SpellsReply captured ask.address ((under_in view link).replying ++ beat ∷ [])
       → IfSome r (HasEndFault given due captured) → IfSome r (IsEndFault plan view link wide beat ask)
   whole_has given due captured None given_is due_is ends lawful spells has = tt
   whole_has given due captured (Some fault) given_is due_is ends lawful spells has =
       let given_so : given ≡ is_given view.layout link (port_of plan link (flight_in view link wide).turn (D beat)) =
-          given_is ∙ ap (λ p. is_given view.layout link p) port_here in
-      let due_so = due_here due due_is in
-      (ends, (captured, lawful, spells, subst (λ (o : Option Answer). HasEndFault
-          (is_given view.layout link
-          (port_of plan link (flight_in view link wide).turn (D beat))) o captured fault) due_so
-          (subst (λ (g : Bool). HasEndFault g due captured fault) given_so has)))
+      given_is ∙ ap (λ p. is_given view.layout link p) port_here in
+      let due_so = due_here due due_is in (
+        ends,
+        (
+          captured,
+          lawful,
+          spells,
+          subst (λ (o : Option Answer). HasEndFault
+              (is_given view.layout link
+              (port_of plan link (flight_in view link wide).turn (D beat))) o captured fault) due_so
+              (subst (λ (g : Bool). HasEndFault g due captured fault) given_so has),
+        ),
+      )
 
   pub whole_well : (due : Option Answer) (captured : Response) (r : Option Fault) → due ≡ due_by_port port
       → IsLawfulResponse captured.op captured.size captured.denied captured.bytes
-          → SpellsReply captured ask.address ((under_in view link).replying ++ beat ∷ [])
+      → SpellsReply captured ask.address ((under_in view link).replying ++ beat ∷ [])
       → IfNone r (IsSomeAnd due (λ answer. answer.reply ≡ captured)) → IfNone r (IsEndWell plan view link wide beat ask)
   whole_well due captured (Some fault) due_is lawful spells well = tt
   whole_well due captured None due_is lawful spells well =
-      (λ ends. (captured, lawful, spells, subst (λ (o : Option Answer). IsSomeAnd o (λ answer. answer.reply ≡ captured))
-          (due_here due due_is) well))
+      (λ ends. (
+        captured,
+        lawful,
+        spells,
+        subst (λ (o : Option Answer). IsSomeAnd o (λ answer. answer.reply ≡ captured))
+            (due_here due due_is) well,
+      ))
 
   pub whole_right : (due : Option Answer) (captured : Response) → due ≡ due_by_port port
       → IsLawfulResponse captured.op captured.size captured.denied captured.bytes
-          → SpellsReply captured ask.address ((under_in view link).replying ++ beat ∷ [])
+      → SpellsReply captured ask.address ((under_in view link).replying ++ beat ∷ [])
       → IsSomeAnd due (λ answer. answer.reply ≡ captured) → IsEndWell plan view link wide beat ask
   whole_right due captured due_is lawful spells well = whole_well due captured None due_is lawful spells well
 
@@ -85,13 +97,13 @@ module _ (plan : Plan) (view : View) (link : Link) (wide : ℕ) (beat : DBeat) (
   pub whole_wrong : (given : Bool) (due : Option Answer) (captured : Response) → given ≡ is_given view.layout link port
       → due ≡ due_by_port port
       → IsTrue (ends_reply (under_in view link).replying beat)
-          → IsLawfulResponse captured.op captured.size captured.denied captured.bytes
-          → SpellsReply captured ask.address ((under_in view link).replying ++ beat ∷ [])
+      → IsLawfulResponse captured.op captured.size captured.denied captured.bytes
+      → SpellsReply captured ask.address ((under_in view link).replying ++ beat ∷ [])
       → (IsSomeAnd due (λ answer. answer.reply ≡ captured) → ⊥) → (fault : Fault)
-          × IsEndFault plan view link wide beat ask fault
+      × IsEndFault plan view link wide beat ask fault
   whole_wrong given due captured given_is due_is ends lawful spells wrong =
       let found = some_fault given due captured wrong in
-          (found.0, whole_has given due captured (Some found.0) given_is due_is ends lawful spells found.1)
+      (found.0, whole_has given due captured (Some found.0) given_is due_is ends lawful spells found.1)
 
 -- the reply that is due, where the request takes effect as its reply begins, and where it does not
 pub due_late : (view : View) (link : Link) (wide port : ℕ) (ask : Request) (answer : Answer)
@@ -119,7 +131,7 @@ no_form_fault begun beat fits Size has = omega (arith, fits.formed.in_limit, has
 no_form_fault begun beat fits Mask has = has
 no_form_fault begun beat fits CorruptFlag has =
     let is = same_reply_op fits.formed.op has.0 beat.opcode fits.formed.code has.1 in
-        has.2 (subst (λ (o : ReplyOp). IsLawfulFlag o beat.denied beat.corrupt) is fits.formed.flag)
+    has.2 (subst (λ (o : ReplyOp). IsLawfulFlag o beat.denied beat.corrupt) is fits.formed.flag)
 no_form_fault begun beat fits UnknownLanes has = has
 
 answer_rank : (number : ℕ) (turn : Turn) (beat : DBeat) (known : ℕ) (fault : Fault)
@@ -239,7 +251,7 @@ module _ (layout : Layout) (link : Link) (scene : Scene) (beat : DBeat) (known :
       let second = asked_end scene.flight.turn _ other.1 in
       let given = first.1.3 in
       not_both (is_given layout link scene.port)
-          (must_come layout link scene beat.source) given.0 expected given.1 second.1.3.0
+      (must_come layout link scene beat.source) given.0 expected given.1 second.1.3.0
   none_before_wrong expected captured answers has (Form f) lower other =
       none_before_end answers (Form f) (small f) other
     where
@@ -278,10 +290,10 @@ module _ (layout : Layout) (link : Link) (scene : Scene) (beat : DBeat) (known :
   pub first_end : (at : ℕ) (ask : Request) (fault : Fault) → scene.flight.turn ≡ Asked at ask
       → OfAsked (number_of link) scene.flight.turn (IsAnswer beat known)
       → IsTrue (ends_reply scene.under.replying beat) → (captured : Response)
-          → IsLawfulResponse captured.op captured.size captured.denied captured.bytes
-          → SpellsReply captured ask.address (scene.under.replying ++ beat ∷ [])
+      → IsLawfulResponse captured.op captured.size captured.denied captured.bytes
+      → SpellsReply captured ask.address (scene.under.replying ++ beat ∷ [])
       → HasEndFault (is_given layout link scene.port) (must_come layout link scene beat.source) captured fault
-          → IsFirstReplyFault layout link scene beat known fault
+      → IsFirstReplyFault layout link scene beat known fault
   first_end at ask (Form f) turn_is answers ends captured lawful spells has = absurd has
   first_end at ask NoSuchSource turn_is answers ends captured lawful spells has = absurd has
   first_end at ask SourceBusy turn_is answers ends captured lawful spells has = absurd has
@@ -293,14 +305,19 @@ module _ (layout : Layout) (link : Link) (scene : Scene) (beat : DBeat) (known :
   first_end at ask UnknownData turn_is answers ends captured lawful spells has = absurd has
   first_end at ask NotSent turn_is answers ends captured lawful spells has = absurd has
   first_end at ask NotGiven turn_is answers ends captured lawful spells has = record {
-    applies = (ends, of_asked scene.flight.turn at ask turn_is (IsAnswer beat known) _ answers
-        (captured, lawful, spells, has));
+    applies = (
+      ends,
+      of_asked scene.flight.turn at ask turn_is (IsAnswer beat known) _ answers
+          (captured, lawful, spells, has),
+    );
     first = none_before_end answers;
   }
   first_end at ask (WrongReply e r) turn_is answers ends captured lawful spells has =
-      let applies : EndsWith layout link scene beat (WrongReply e r) =
-          (ends, of_asked scene.flight.turn at ask turn_is (IsAnswer beat known) _ answers
-          (captured, lawful, spells, has)) in
+      let applies : EndsWith layout link scene beat (WrongReply e r) = (
+        ends,
+        of_asked scene.flight.turn at ask turn_is (IsAnswer beat known) _ answers
+            (captured, lawful, spells, has),
+      ) in
       record { applies = applies; first = none_before_wrong e r answers applies }
 
 -- ---- what is lawful has no fault
@@ -312,25 +329,25 @@ module _ (layout : Layout) (link : Link) (scene : Scene) (beat : DBeat) (known :
       × SpellsReply captured ask.address (scene.under.replying ++ beat ∷ [])
       × IsSomeAnd due (λ answer. answer.reply ≡ captured))
       → OfAsked (number_of link) turn (λ ask. (captured : Response)
-          × IsLawfulResponse captured.op captured.size captured.denied captured.bytes
-          × SpellsReply captured ask.address (scene.under.replying ++ beat ∷ []) × HasEndFault given due captured fault)
+      × IsLawfulResponse captured.op captured.size captured.denied captured.bytes
+      × SpellsReply captured ask.address (scene.under.replying ++ beat ∷ []) × HasEndFault given due captured fault)
       → ((captured : Response) → IsSomeAnd due (λ answer. answer.reply ≡ captured)
-          → HasEndFault given due captured fault → ⊥) → ⊥
+      → HasEndFault given due captured fault → ⊥) → ⊥
   ends_twice Idle given due fault well has never = well
   ends_twice (Asking at) given due fault well has never = well
   ends_twice (Asked at ask) given due fault well has never =
       let mine = well.1 in
       let other = has.1 in
       let same = same_reply mine.0 other.0 ask.address
-          (scene.under.replying ++ beat ∷ []) mine.1 other.1 mine.2 other.2 in
+      (scene.under.replying ++ beat ∷ []) mine.1 other.1 mine.2 other.2 in
       never other.0 (subst (λ (r : Response). IsSomeAnd due (λ answer. answer.reply ≡ r)) same mine.3) other.3
 
   give_ends : (turn : Turn) → IsTrue (ends_reply scene.under.replying beat)
       → OfAsked (number_of link) turn (EndsWell layout link scene beat)
       → OfAsked (number_of link) turn (λ ask. (captured : Response)
-          × IsLawfulResponse captured.op captured.size captured.denied captured.bytes
-          × SpellsReply captured ask.address (scene.under.replying ++ beat ∷ [])
-          × IsSomeAnd (must_come layout link scene beat.source) (λ answer. answer.reply ≡ captured))
+      × IsLawfulResponse captured.op captured.size captured.denied captured.bytes
+      × SpellsReply captured ask.address (scene.under.replying ++ beat ∷ [])
+      × IsSomeAnd (must_come layout link scene beat.source) (λ answer. answer.reply ≡ captured))
   give_ends Idle ends well = well
   give_ends (Asking at) ends well = well
   give_ends (Asked at ask) ends well = (well.0, well.1 ends)
@@ -359,10 +376,10 @@ module _ (layout : Layout) (link : Link) (scene : Scene) (beat : DBeat) (known :
   no_reply_fault allowed NotSent has = has
   no_reply_fault allowed NotGiven has =
       ends_twice scene.flight.turn (is_given layout link scene.port) (must_come layout link scene beat.source) NotGiven
-          (give_ends scene.flight.turn has.0 allowed.ends) has.1 (λ captured well wrong. wrong.1 well)
+      (give_ends scene.flight.turn has.0 allowed.ends) has.1 (λ captured well wrong. wrong.1 well)
   no_reply_fault allowed (WrongReply e r) has =
       ends_twice scene.flight.turn (is_given layout link scene.port) (must_come layout link scene beat.source)
-          (WrongReply e r) (give_ends scene.flight.turn has.0 allowed.ends) has.1
+      (WrongReply e r) (give_ends scene.flight.turn has.0 allowed.ends) has.1
       (λ captured well wrong. wrong.3 (two_replies (must_come layout link scene beat.source) e captured wrong.1 well))
 
   -- a lawful beat that ends a reply is told as one that does
@@ -371,7 +388,7 @@ module _ (layout : Layout) (link : Link) (scene : Scene) (beat : DBeat) (known :
   tells_reply allowed last =
       ap (λ b. ended (if b then seen_reply scene.flight.turn (must_come layout link scene beat.source) else Part)) last
       ∙ by_turn scene.flight.turn (must_come layout link scene beat.source)
-          (give_ends scene.flight.turn last allowed.ends)
+      (give_ends scene.flight.turn last allowed.ends)
     where
       by_turn : (turn : Turn) (due : Option Answer)
           → OfAsked (number_of link) turn (λ ask. (captured : Response)
@@ -417,7 +434,7 @@ module _ (plan : Plan) (view : View) (link : Link) (beat : DBeat) (known wide : 
 
   pub end_first : (fault : Fault) → OfAsked (number_of link) (flight_in view link wide).turn (IsAnswer beat known)
       → ((at : ℕ) (ask : Request) → (flight_in view link wide).turn ≡ Asked at ask
-          → IsEndFault plan view link wide beat ask fault)
+      → IsEndFault plan view link wide beat ask fault)
       → IsFirstReplyFault view.layout link (scene_in plan view link (D beat)) beat known fault
   end_first fault answers has =
       carried_here (λ s. IsFirstReplyFault view.layout link s beat known fault)
@@ -431,11 +448,11 @@ module _ (plan : Plan) (view : View) (link : Link) (beat : DBeat) (known wide : 
       by_turn (Asked at ask) is of =
           let h = has at ask is in
           first_end view.layout link (scene_at view.layout wide) beat known fits
-              (wide, found) at ask fault is answers h.0 h.1.0 h.1.1 h.1.2 h.1.3
+          (wide, found) at ask fault is answers h.0 h.1.0 h.1.1 h.1.2 h.1.3
 
   pub some_end_first : OfAsked (number_of link) (flight_in view link wide).turn (IsAnswer beat known)
       → ((at : ℕ) (ask : Request) → (flight_in view link wide).turn ≡ Asked at ask → (fault : Fault)
-          × IsEndFault plan view link wide beat ask fault)
+      × IsEndFault plan view link wide beat ask fault)
       → (fault : Fault) × IsFirstReplyFault view.layout link (scene_in plan view link (D beat)) beat known fault
   some_end_first answers has =
       carried_here (λ s. (fault : Fault) × IsFirstReplyFault view.layout link s beat known fault)
@@ -447,13 +464,15 @@ module _ (plan : Plan) (view : View) (link : Link) (beat : DBeat) (known wide : 
       by_turn Idle is of = absurd of
       by_turn (Asking at) is of = absurd of
       by_turn (Asked at ask) is of =
-          let h = has at ask is in
-          (h.0, first_end view.layout link (scene_at view.layout wide) beat known fits
-              (wide, found) at ask h.0 is answers h.1.0 h.1.1.0 h.1.1.1 h.1.1.2 h.1.1.3)
+          let h = has at ask is in (
+            h.0,
+            first_end view.layout link (scene_at view.layout wide) beat known fits
+                (wide, found) at ask h.0 is answers h.1.0 h.1.1.0 h.1.1.1 h.1.1.2 h.1.1.3,
+          )
 
   pub reply_allowed : OfAsked (number_of link) (flight_in view link wide).turn (IsAnswer beat known)
       → ((at : ℕ) (ask : Request) → (flight_in view link wide).turn ≡ Asked at ask
-          → IsEndWell plan view link wide beat ask)
+      → IsEndWell plan view link wide beat ask)
       → IsAllowedReply view.layout link (scene_in plan view link (D beat)) beat known
   reply_allowed answers well =
       carried_here (λ s. IsAllowedReply view.layout link s beat known)

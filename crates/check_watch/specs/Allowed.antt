@@ -58,7 +58,7 @@ BeginsPlaced layout link scene beat = scene.under.asking ≡ [] → IsPlaced lay
 abbrev pub EndsSent : Layout → Link → Scene → ABeat → Type 0
 EndsSent layout link scene beat =
     IsTrue (ends_ask scene.under.asking beat)
-        → IsSent layout link scene.sent scene.crossing (ask_of beat (scene.under.asking ++ beat ∷ []))
+    → IsSent layout link scene.sent scene.crossing (ask_of beat (scene.under.asking ++ beat ∷ []))
 
 -- a beat of a request is lawful
 pub record IsAllowedAsk (layout : Layout) (link : Link) (scene : Scene) (beat : ABeat) (known : ℕ) : Type 0 where
@@ -82,7 +82,7 @@ OfAsked number (Asked at ask) P = (at ≡ number) × P ask
 abbrev pub IsKnownReply : Request → DBeat → ℕ → Type 0
 IsKnownReply ask beat known =
     beat.opcode ≡ 1 → beat.denied ≡ false → bit_and
-        (active_mask ask.address ask.size) known ≡ active_mask ask.address ask.size
+    (active_mask ask.address ask.size) known ≡ active_mask ask.address ask.size
 
 -- the beat is one of a reply to this request
 pub record IsAnswer (beat : DBeat) (known : ℕ) (ask : Request) : Type 0 where

@@ -116,7 +116,7 @@ IsEndFault plan view link wide beat ask fault =
     × IsLawfulResponse captured.op captured.size captured.denied captured.bytes
     × SpellsReply captured ask.address ((under_in view link).replying ++ beat ∷ [])
     × HasEndFault (is_given view.layout link (port_of plan link (flight_in view link wide).turn (D beat)))
-        (due_at plan view link wide beat) captured fault)
+    (due_at plan view link wide beat) captured fault)
 
 -- the reply to this request that a beat ends, if it ends one, is the one that must come
 abbrev pub IsEndWell : Plan → View → Link → ℕ → DBeat → Request → Type 0
@@ -197,13 +197,13 @@ with_due view (Port p) wide answer = record view { ports = side_due view.ports w
 abbrev pub with_answer : View → Link → ℕ → ℕ → Option Request → View
 with_answer view link wide port ask =
     with_due (record view { slaves = slaves_with view.slaves port ask }) link wide
-        (answer_by port (slave_at view.slaves port) ask)
+    (answer_by port (slave_at view.slaves port) ask)
 
 -- the request in flight takes effect, if it does so as its reply begins
 abbrev pub with_late : View → Link → ℕ → ℕ → View
 with_late view link wide port =
     with_due (record view { slaves = slaves_with view.slaves port (late_in view link wide port) }) link wide
-        (late_answer view link wide port)
+    (late_answer view link wide port)
 
 -- a beat of a reply crosses that does not end it
 abbrev pub with_part : View → Link → DBeat → View

@@ -16,10 +16,10 @@ ghost use Rattle.check_watch.specs.Allowed.{is_second, IsAskedAs, IsSent, IsPlac
 ghost use Rattle.check_watch.specs.Faults.{IsFirstAskFault, fault_of};
 ghost use Rattle.check_watch.specs.View.{Suits, under_in, flight_in, crossing_at, scene_in};
 
-use check_flight::Flight;
-use check_link::{Link, UnderWay};
 use crate::fault::Reason;
 use crate::watch::Watch;
+use check_flight::Flight;
+use check_link::{Link, UnderWay};
 use tl_beats::ABeat;
 use tl_types::Ask;
 

@@ -18,12 +18,12 @@ ghost use Rattle.check_watch.specs.Allowed.{OfAsked, IsKnownReply, IsAnswer, IsA
 ghost use Rattle.check_watch.specs.Faults.{HasAnswerFault, HasEndFault, IsFirstReplyFault, fault_of, fault_rank};
 ghost use Rattle.check_watch.specs.View.{Suits, under_in, flight_in, scene_in, must_in, due_in, due_at, IsEndFault, IsEndWell};
 
-use check_flight::{Answer, Crossing, Flight};
-use check_link::Link;
 use crate::asks::Place;
 use crate::fault::{Fault, Reason};
 use crate::seen::Seen;
 use crate::watch::Watch;
+use check_flight::{Answer, Crossing, Flight};
+use check_link::Link;
 use tl_beats::{DBeat, active_mask};
 use tl_types::{Ask, Entry, Reply, reply_opcode};
 

@@ -19,14 +19,14 @@ ghost use Rattle.check_watch.specs.Scene.{takes_effect, is_given, ended};
 ghost use Rattle.check_watch.specs.Lawful.{IsLawful, IsFirstFault, what_is_seen};
 ghost use Rattle.check_watch.specs.View.{View, IsSized, Suits, Keeps, side_in, under_in, flight_in, crossing_at, fresh_slave, slave_at, slaves_with, effect_in, is_late_in, late_answer, with_answer, with_ask_at, with_ask, with_due, with_late, with_part, with_end};
 
-use check_flight::{Answer, Crossing, Flight, Side, Slave, WIDES};
-use check_link::{Beat, Link, Sighting, UnderWay};
 use crate::asks::judge_ask;
 use crate::fault::Fault;
 use crate::links::Links;
 use crate::order::Order;
 use crate::replies::{judge_reply, lawful_reply, seen_end};
 use crate::seen::{Ended, Seen};
+use check_flight::{Answer, Crossing, Flight, Side, Slave, WIDES};
+use check_link::{Beat, Link, Sighting, UnderWay};
 use std::alloc::{AllocError, Global};
 use std::marker::Model;
 use tl_beats::{ABeat, DBeat};

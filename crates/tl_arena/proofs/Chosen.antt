@@ -38,7 +38,7 @@ module _ {X : Type 0} (number : X → ℕ) (P : X → Type 0) where
           (λ (e : x ≡ y). (let same = ap number e in omega arith, subst P e p)) (Contains-push_cases xs x y in_list),
       λ q. let lt = q.0 in ⊎_elim (λ e. subst (λ z. Contains (xs ++ x ∷ []) z) (sym (one y e q.1)) (Contains-push xs x))
           (λ (ne : number y ≢ n). Contains-append_left xs (x ∷ []) y ((c.just y).1 (omega arith, q.1)))
-              (cases_eq (number y) n),
+          (cases_eq (number y) n),
     );
     rising = all_pairs_push (λ (a b : X). number a < number b) xs x c.rising
         (λ k d lt. let t = (c.just (get_or xs k d)).0 (Contains-get_or xs k d lt) in let below = t.0 in omega arith);
@@ -88,18 +88,18 @@ pub held_taken : (words : List ℕ) (xs ys : List HeldSlot) (n master : ℕ)
 held_taken words xs ys n master c lt one is = let word = get_or words n 0 in let at = slice_get-get_or words n 0 lt in
     subst (λ (zs : List HeldSlot). Chosen (λ (h : HeldSlot). h.slot) (IsHeld words) (n + 1) zs) (sym is)
     (chosen_more (λ (h : HeldSlot). h.slot) (IsHeld words) n xs (record { slot = n; master = master }) c refl
-        (record { found = word; at = at; of = (one master).0 refl })
+    (record { found = word; at = at; of = (one master).0 refl })
     (λ y e p. let same : p.found ≡ word = one_some p.found word (sym p.at ∙ ap (λ (k : ℕ). slice_get words k) e ∙ at) in
     let m : master ≡ y.master =
-        one_some master y.master ((one y.master).1 (subst (λ (w : ℕ). IsHeldWord w y.master) same p.of)) in
-        (λ t. record { slot = e t; master = sym m t })))
+    one_some master y.master ((one y.master).1 (subst (λ (w : ℕ). IsHeldWord w y.master) same p.of)) in
+    (λ t. record { slot = e t; master = sym m t })))
 
 pub held_skipped : (words : List ℕ) (xs : List HeldSlot) (n : ℕ) → Chosen (λ (h : HeldSlot). h.slot) (IsHeld words) n xs
     → n < length words → HoldsJust (get_or words n 0) None → Chosen (λ (h : HeldSlot). h.slot) (IsHeld words) (n + 1) xs
 held_skipped words xs n c lt none = let word = get_or words n 0 in let at = slice_get-get_or words n 0 lt in
     chosen_skip (λ (h : HeldSlot). h.slot) (IsHeld words) n xs c
     (λ x e p. let same : p.found ≡ word = one_some p.found word (sym p.at ∙ ap (λ (k : ℕ). slice_get words k) e ∙ at) in
-        let e = (none x.master).1 (subst (λ (w : ℕ). IsHeldWord w x.master) same p.of) in absurd cc)
+    let e = (none x.master).1 (subst (λ (w : ℕ). IsHeldWord w x.master) same p.of) in absurd cc)
 
 pub held_all : (words : List ℕ) (xs : List HeldSlot) (n : ℕ) → Chosen (λ (h : HeldSlot). h.slot) (IsHeld words) n xs
     → length words ≤ n → (h : HeldSlot) → Contains xs h ↔ IsHeld words h

@@ -34,8 +34,10 @@ module _ (a : About) (slots leaves : List ℕ) (W : AreArenaWords a (slots ++ le
     (free : List ℕ) (held : List HeldSlot) (left : List ℕ) (account : IsAccountOf slots leaves free held left) where
   -- the word of a slot codes a phase
   codes : (i : ℕ) → i < a.slots → (f : Phase) × IsWordOf f (get_or slots i 0)
-  codes i lt = let t = W.phases i lt in (t.0,
-      subst (λ (w : ℕ). IsWordOf t.0 w) (slot_word slots leaves i (omega (arith, lt, many_slots))) t.1)
+  codes i lt = let t = W.phases i lt in (
+    t.0,
+    subst (λ (w : ℕ). IsWordOf t.0 w) (slot_word slots leaves i (omega (arith, lt, many_slots))) t.1,
+  )
 
   at_slot : (i : ℕ) → i < a.slots → slice_get slots i ≡ Some (get_or slots i 0)
   at_slot i lt = slice_get-get_or slots i 0 (omega (arith, lt, many_slots))
@@ -43,10 +45,15 @@ module _ (a : About) (slots leaves : List ℕ) (W : AreArenaWords a (slots ++ le
   each : (i : ℕ) → i < a.slots → Contains free i ⊎ ((m : ℕ) × Contains held (record { slot = i; master = m }))
   each i lt = let t = codes i lt in ⊎_elim
       (λ (e : t.0 ≡ Free). inl ((account.free_just i).1 (at_slot i lt ∙ ap (λ (w : ℕ). Some w) (t.1.is ∙ ap word e))))
-      (λ (n : (m : ℕ) × Names t.0 m). inr (n.0,
-          (account.held_just (record { slot = i; master = n.0 })).1
-          (record { found = get_or slots i 0; at = at_slot i lt;
-          of = record { phase = t.0; codes = t.1; names = n.1 } })))
+      (λ (n : (m : ℕ) × Names t.0 m). inr (
+        n.0,
+        (account.held_just (record { slot = i; master = n.0 })).1
+            (record {
+              found = get_or slots i 0;
+              at = at_slot i lt;
+              of = record { phase = t.0; codes = t.1; names = n.1 };
+            }),
+      ))
       (free_or t.0)
 
   -- a held slot, with the phase that its word codes
@@ -59,16 +66,20 @@ module _ (a : About) (slots leaves : List ℕ) (W : AreArenaWords a (slots ++ le
   held_at : (h : HeldSlot) → Contains held h → HeldAt h
   held_at h c = let t = (account.held_just h).0 c in let lt = slice_get_within slots h.slot t.found t.at in
       let word_is : get_or (slots ++ leaves) h.slot 0 ≡ t.found =
-          slot_word slots leaves h.slot lt ∙ get_or_from_slice_get slots h.slot t.found 0 t.at in
-      record { inside = omega (arith, lt, many_slots); phase = t.of.phase;
-          codes = subst (λ (w : ℕ). IsWordOf t.of.phase w) (sym word_is) t.of.codes; names = t.of.names }
+      slot_word slots leaves h.slot lt ∙ get_or_from_slice_get slots h.slot t.found 0 t.at in
+      record {
+        inside = omega (arith, lt, many_slots);
+        phase = t.of.phase;
+        codes = subst (λ (w : ℕ). IsWordOf t.of.phase w) (sym word_is) t.of.codes;
+        names = t.of.names;
+      }
 
   apart : (h : HeldSlot) → Contains held h → Contains free h.slot → ⊥
   apart h c d = let t = (account.held_just h).0 c in let at = (account.free_just h.slot).0 d in
       let same : t.found ≡ word Free = one_found (t.at) at in
       let f_is : t.of.phase ≡ Free =
-          one_phase t.of.phase Free t.found t.of.codes
-          (record { fits = record { owner = tt; port = tt }; is = same }) in
+      one_phase t.of.phase Free t.found t.of.codes
+      (record { fits = record { owner = tt; port = tt }; is = same }) in
       free_names_none h.master (subst (λ (f : Phase). Names f h.master) f_is t.of.names)
     where
       one_found : {x y : ℕ} → slice_get slots h.slot ≡ Some x → slice_get slots h.slot ≡ Some y → x ≡ y
@@ -96,19 +107,19 @@ pub closing : (a : About) (s : State Berth View) (slots leaves : List ℕ) (free
     → IsAccountOf slots leaves free held left → IsClosing a free held left
 closing a s slots leaves free held left F words many_slots many_leaves account = let W =
     subst (AreArenaWords a) words (words_law a s F) in record {
-  table = s;
-  fits = F;
-  slots = slots;
-  leaves = leaves;
-  words = words;
-  many_slots = many_slots;
-  many_leaves = many_leaves;
-  account = account;
-  each = each a slots leaves W many_slots many_leaves free held left account;
-  apart = apart a slots leaves W many_slots many_leaves free held left account;
-  present = present a slots leaves W many_slots many_leaves free held left account;
-  all_free = all_free a slots leaves W many_slots many_leaves free held left account;
-}
+      table = s;
+      fits = F;
+      slots = slots;
+      leaves = leaves;
+      words = words;
+      many_slots = many_slots;
+      many_leaves = many_leaves;
+      account = account;
+      each = each a slots leaves W many_slots many_leaves free held left account;
+      apart = apart a slots leaves W many_slots many_leaves free held left account;
+      present = present a slots leaves W many_slots many_leaves free held left account;
+      all_free = all_free a slots leaves W many_slots many_leaves free held left account;
+    }
 
 -- ---- the words of a table, from a place on
 

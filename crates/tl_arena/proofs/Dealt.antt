@@ -73,14 +73,20 @@ pub masters_more : (a : ArenaId) (n : ℕ) (vs : List MasterView) (v : MasterVie
     → AreNewMasters a n vs → AreNewMasters a (n + 1) (vs ++ v ∷ [])
 masters_more a n vs v is A = record {
   many = let l = length-append vs (v ∷ []) in let m = A.many in omega arith;
-  each = λ m w e. elim (slice_get-push vs v w m e) [ inl e ↦ A.each m w e | inr p ↦ sym p.1 ∙ is
-      ∙ ap (λ (k : ℕ). new_master a k) (sym A.many ∙ sym p.0) ];
+  each = λ m w e. elim (slice_get-push vs v w m e) [
+    | inl e ↦ A.each m w e
+    | inr p ↦ sym p.1 ∙ is
+        ∙ ap (λ (k : ℕ). new_master a k) (sym A.many ∙ sym p.0)
+  ];
 }
 
 pub ports_more : (a : ArenaId) (n : ℕ) (us : List PortView) (u : PortView) → u ≡ new_port a n → AreNewPorts a n us
     → AreNewPorts a (n + 1) (us ++ u ∷ [])
 ports_more a n us u is A = record {
   many = let l = length-append us (u ∷ []) in let m = A.many in omega arith;
-  each = λ p w e. elim (slice_get-push us u w p e) [ inl e ↦ A.each p w e | inr q ↦ sym q.1 ∙ is
-      ∙ ap (λ (k : ℕ). new_port a k) (sym A.many ∙ sym q.0) ];
+  each = λ p w e. elim (slice_get-push us u w p e) [
+    | inl e ↦ A.each p w e
+    | inr q ↦ sym q.1 ∙ is
+        ∙ ap (λ (k : ℕ). new_port a k) (sym A.many ∙ sym q.0)
+  ];
 }

@@ -41,17 +41,21 @@ order_left m m₁ before mid after i B e = sym (e ∙ ap (λ (l : List ℕ). dro
 -- a seat's view names the arena: so the seat is of its table, and they know the same of what never changes
 pub master_arena : (table : TableId) (w : View) (v : MasterView) (a : ArenaId) (own : TableId) (about : About)
     → master_view table w ≡ v → v.arena ≡ a → arena_id own about ≡ a → (table ≡ own) × ((as_master w).about ≡ about)
-master_arena table w v a own about seen same is =
-    (ap (λ (x : MasterView). x.arena.table) seen
-    ∙ ap (λ (x : ArenaId). x.table) (same ∙ sym is), ap (λ (x : MasterView). x.arena.about) seen
-    ∙ ap (λ (x : ArenaId). x.about) (same ∙ sym is))
+master_arena table w v a own about seen same is = (
+  ap (λ (x : MasterView). x.arena.table) seen
+      ∙ ap (λ (x : ArenaId). x.table) (same ∙ sym is),
+  ap (λ (x : MasterView). x.arena.about) seen
+      ∙ ap (λ (x : ArenaId). x.about) (same ∙ sym is),
+)
 
 pub port_arena : (table : TableId) (w : View) (v : PortView) (a : ArenaId) (own : TableId) (about : About)
     → port_view table w ≡ v → v.arena ≡ a → arena_id own about ≡ a → (table ≡ own) × ((as_port w).about ≡ about)
-port_arena table w v a own about seen same is =
-    (ap (λ (x : PortView). x.arena.table) seen
-    ∙ ap (λ (x : ArenaId). x.table) (same ∙ sym is), ap (λ (x : PortView). x.arena.about) seen
-    ∙ ap (λ (x : ArenaId). x.about) (same ∙ sym is))
+port_arena table w v a own about seen same is = (
+  ap (λ (x : PortView). x.arena.table) seen
+      ∙ ap (λ (x : ArenaId). x.table) (same ∙ sym is),
+  ap (λ (x : PortView). x.arena.about) seen
+      ∙ ap (λ (x : ArenaId). x.about) (same ∙ sym is),
+)
 
 -- ---- a master's seat
 
@@ -72,22 +76,22 @@ module _ (m : Seat) (order : List ℕ) (capacity number owned collected : ℕ)
   master_moved : (n : Seat) (after : List ℕ) (owns has_got i : ℕ) (x : Held) (got : List Entry) (cs : List (ℕ × Berth))
       → n ≡ (Master (with_hand (as_master m.0) i x got), cs) → firsts cs ≡ after
       → CarriesHand (set (as_master m.0).hand i x) after → count_by is_held (set (as_master m.0).hand i x) ≡ owns
-          → length got ≡ has_got
+      → length got ≡ has_got
       → IsMasterKept n after capacity number owns has_got
   master_moved n after owns has_got i x got cs e mirror carried many long =
       subst (λ (y : Seat). IsMasterKept y after capacity number owns has_got) (sym e) (record {
-    is = refl;
-    numbered = K.numbered;
-    present = K.present;
-    in_range = K.in_range;
-    in_limit = K.in_limit;
-    wide = length-set (as_master m.0).hand i x ∙ K.wide;
-    mirror = mirror;
-    carried = carried;
-    room = K.room;
-    owns = many;
-    has_got = long;
-  })
+        is = refl;
+        numbered = K.numbered;
+        present = K.present;
+        in_range = K.in_range;
+        in_limit = K.in_limit;
+        wide = length-set (as_master m.0).hand i x ∙ K.wide;
+        mirror = mirror;
+        carried = carried;
+        room = K.room;
+        owns = many;
+        has_got = long;
+      })
 
   -- the records that are out with the seat are not in the way of one more
   pub master_room : (i : ℕ) → i < length (as_master m.0).hand → is_carried (in_hand (as_master m.0) i) ≡ false
@@ -103,36 +107,36 @@ module _ (m : Seat) (order : List ℕ) (capacity number owned collected : ℕ)
       (ap (λ (l : List ℕ). i ∷ l) K.mirror)
       (takes_one (as_master m.0).hand order i Filled lt (ap is_carried was) refl K.carried)
       (let s = held_set (as_master m.0).hand order i Filled lt in
-          let b : bit (is_held (in_hand (as_master m.0) i)) ≡ 0 = ap (λ h. bit (is_held h)) was in let o = K.owns in
-          omega arith)
+      let b : bit (is_held (in_hand (as_master m.0) i)) ≡ 0 = ap (λ h. bit (is_held h)) was in let o = K.owns in
+      omega arith)
       K.has_got
 
   pub collect_kept : (n : Seat) (i : ℕ) (blank : Berth) (ask : Request) (p known : ℕ) (e : Entry)
       → n ≡ (Master (with_hand (as_master m.0) i (Taken p) ((as_master m.0).got ++ e ∷ [])), (i, blank) ∷ m.1)
       → in_hand (as_master m.0) i ≡ Sent ask p known → i < length (as_master m.0).hand
-          → IsMasterKept n (i ∷ order) capacity number owned (collected + 1)
+      → IsMasterKept n (i ∷ order) capacity number owned (collected + 1)
   collect_kept n i blank ask p known e is was lt =
       master_moved n (i ∷ order) owned (collected + 1) i (Taken p) ((as_master m.0).got ++ e ∷ []) ((i, blank) ∷ m.1) is
       (ap (λ (l : List ℕ). i ∷ l) K.mirror)
       (takes_one (as_master m.0).hand order i (Taken p) lt (ap is_carried was) refl K.carried)
       (let s = held_set (as_master m.0).hand order i (Taken p) lt in
-          let b : bit (is_held (in_hand (as_master m.0) i)) ≡ 1 = ap (λ h. bit (is_held h)) was in let o = K.owns in
-          omega arith)
+      let b : bit (is_held (in_hand (as_master m.0) i)) ≡ 1 = ap (λ h. bit (is_held h)) was in let o = K.owns in
+      omega arith)
       (let l = length-append (as_master m.0).got (e ∷ []) in let h = K.has_got in omega arith)
 
   -- a slot that is out is given back
   given_back : (m₁ n : Seat) (mid after : List ℕ) (owns i : ℕ) (x : Held) → IsBrought m m₁ order mid i
       → after ≡ drop 1 mid → n ≡ (handed m i x, rest m₁.1) → i < length (as_master m.0).hand
       → is_carried (in_hand (as_master m.0) i) ≡ true → is_carried x ≡ false
-          → count_by is_held (set (as_master m.0).hand i x) ≡ owns → IsMasterKept n after capacity number owns collected
+      → count_by is_held (set (as_master m.0).hand i x) ≡ owns → IsMasterKept n after capacity number owns collected
   given_back m₁ n mid after owns i x B left e lt was is many =
       let hand = (as_master m.0).hand in
       let rests = order_left m m₁ order mid after i B left in
       let there : mid ≡ i ∷ after = order_of_brought m m₁ order mid i B ∙ ap (λ (l : List ℕ). i ∷ l) rests in
       let carried = subst (λ (l : List ℕ). CarriesHand hand l) there
-          (hand_reordered hand order mid B.members B.many K.carried) in
+      (hand_reordered hand order mid B.members B.many K.carried) in
       master_moved n after owns collected i x (as_master m.0).got (rest m₁.1) e rests
-          (gives_one hand after i x lt was is carried) many K.has_got
+      (gives_one hand after i x lt was is carried) many K.has_got
 
   pub post_kept : (m₁ n : Seat) (mid after : List ℕ) (i : ℕ) (ask : Request) (p known : ℕ) → IsBrought m m₁ order mid i
       → after ≡ drop 1 mid → n ≡ (handed m i (Sent ask p known), rest m₁.1) → in_hand (as_master m.0) i ≡ Filled
@@ -141,16 +145,16 @@ module _ (m : Seat) (order : List ℕ) (capacity number owned collected : ℕ)
       let lt = in_hand_of (as_master m.0).hand i (λ z. absurd (cc)) in
       given_back m₁ n mid after owned i (Sent ask p known) B left e lt (ap is_carried was) refl
       (let s = held_set (as_master m.0).hand order i (Sent ask p known) lt in
-          let b : bit (is_held (in_hand (as_master m.0) i)) ≡ 1 = ap (λ h. bit (is_held h)) was in let o = K.owns in
-          omega arith)
+      let b : bit (is_held (in_hand (as_master m.0) i)) ≡ 1 = ap (λ h. bit (is_held h)) was in let o = K.owns in
+      omega arith)
 
   -- a slot in the hand is one that the seat owns
   pub owns_some : (i p : ℕ) → in_hand (as_master m.0) i ≡ Taken p → 0 < owned
   owns_some i p was =
       let lt = in_hand_of (as_master m.0).hand i (λ z. absurd (cc)) in
       let s = held_set (as_master m.0).hand order i Nothing lt in
-          let b : bit (is_held (in_hand (as_master m.0) i)) ≡ 1 = ap (λ h. bit (is_held h)) was in let o = K.owns in
-          omega arith
+      let b : bit (is_held (in_hand (as_master m.0) i)) ≡ 1 = ap (λ h. bit (is_held h)) was in let o = K.owns in
+      omega arith
 
   pub release_kept : (m₁ n : Seat) (mid after : List ℕ) (i p owns : ℕ) → IsBrought m m₁ order mid i → after ≡ drop 1 mid
       → n ≡ (handed m i Nothing, rest m₁.1) → in_hand (as_master m.0) i ≡ Taken p → owns + 1 ≡ owned
@@ -159,8 +163,8 @@ module _ (m : Seat) (order : List ℕ) (capacity number owned collected : ℕ)
       let lt = in_hand_of (as_master m.0).hand i (λ z. absurd (cc)) in
       given_back m₁ n mid after owns i Nothing B left e lt (ap is_carried was) refl
       (let s = held_set (as_master m.0).hand order i Nothing lt in
-          let b : bit (is_held (in_hand (as_master m.0) i)) ≡ 1 = ap (λ h. bit (is_held h)) was in let o = K.owns in
-          omega arith)
+      let b : bit (is_held (in_hand (as_master m.0) i)) ≡ 1 = ap (λ h. bit (is_held h)) was in let o = K.owns in
+      omega arith)
 
 -- ---- a port's seat
 
@@ -180,10 +184,13 @@ module _ (m : Seat) (order : List ℕ) (capacity : ℕ) (owners : List ℕ) (num
       let k = ap (λ (x : List (ℕ × Request)). length x) e in let c = K.carried.many in let r = K.room in omega arith
 
   pub accept_kept : (n : Seat) (i owner : ℕ) (ask : Request) (blank : Berth)
-      → n ≡ (Port (with_serving (as_port m.0) ((as_port m.0).serving ++ (i, ask) ∷ []) (as_port m.0).list), (i, blank)
-      ∷ m.1)
+      → n ≡ (
+        Port (with_serving (as_port m.0) ((as_port m.0).serving ++ (i, ask) ∷ []) (as_port m.0).list),
+        (i, blank)
+            ∷ m.1,
+      )
       → service_of m i ≡ None → IsLawfulDesk (as_port n.0) → i < (as_port m.0).about.slots
-          → IsOwner (as_port m.0).about owner ask.source
+      → IsOwner (as_port m.0).about owner ask.source
       → IsPortKept n (i ∷ order) capacity (set owners i owner) number served
   accept_kept n i owner ask blank e free law lt own =
       let u = as_port m.0 in
@@ -202,28 +209,31 @@ module _ (m : Seat) (order : List ℕ) (capacity : ℕ) (owners : List ℕ) (num
         owned = λ j other there. dite (ℕ_discrete j i)
             (λ same.
             let here : ask ≡ other =
-                (let p = push_here u.serving i ask free in
-                let q = subst (λ (k : ℕ). ask_at v.serving k ≡ Some other) same there in cc) in
+            (let p = push_here u.serving i ask free in
+            let q = subst (λ (k : ℕ). ask_at v.serving k ≡ Some other) same there in cc) in
             let w = get_or-set_same owners i owner 0 (let w = K.wide in omega arith) in
             subst (λ (k : ℕ). IsOwner u.about (get_or (set owners i owner) k 0) other.source) (sym same)
             (subst (λ (o : ℕ). IsOwner u.about o other.source) (sym w)
-                (subst (λ (q : Request). IsOwner u.about owner q.source) here own)))
+            (subst (λ (q : Request). IsOwner u.about owner q.source) here own)))
             (λ ne. subst (λ (o : ℕ). IsOwner u.about o other.source) (sym (get_or-set_other owners i j owner 0 ne))
-                (K.owned j other (sym (push_else u.serving i j ask ne) ∙ there)));
+            (K.owned j other (sym (push_else u.serving i j ask ne) ∙ there)));
       })
 
   pub answer_kept : (m₁ n : Seat) (mid after : List ℕ) (i : ℕ) (ask : Request) (reply : Response)
       → IsBrought m m₁ order mid i → after ≡ drop 1 mid
-      → n ≡ (Port (with_serving (as_port m.0) (drop_slot i (as_port m.0).serving)
-          ((as_port m.0).list ++ (ask, reply) ∷ [])), rest m₁.1) → service_of m i ≡ Some ask
-          → IsLawfulDesk (as_port n.0)
+      → n ≡ (
+        Port (with_serving (as_port m.0) (drop_slot i (as_port m.0).serving)
+            ((as_port m.0).list ++ (ask, reply) ∷ [])),
+        rest m₁.1,
+      ) → service_of m i ≡ Some ask
+      → IsLawfulDesk (as_port n.0)
       → IsPortKept n after capacity owners number (served + 1)
   answer_kept m₁ n mid after i ask reply B left e there law =
       let u = as_port m.0 in
       let rests = order_left m m₁ order mid after i B left in
       let order_is : mid ≡ i ∷ after = order_of_brought m m₁ order mid i B ∙ ap (λ (l : List ℕ). i ∷ l) rests in
       let carried = subst (λ (l : List ℕ). CarriesServed u.serving l) order_is
-          (service_reordered u.serving order mid B.members B.many K.carried) in
+      (service_reordered u.serving order mid B.members B.many K.carried) in
       subst (λ (y : Seat). IsPortKept y after capacity owners number (served + 1)) (sym e) (record {
         is = refl;
         numbered = K.numbered;
@@ -236,6 +246,6 @@ module _ (m : Seat) (order : List ℕ) (capacity : ℕ) (owners : List ℕ) (num
         wide = K.wide;
         owned = λ j other is. dite (ℕ_discrete j i)
             (λ same. let none = drop_here u.serving i K.law.slots in
-                let gone = subst (λ (k : ℕ). ask_at (drop_slot i u.serving) k ≡ Some other) same is in absurd (cc))
+            let gone = subst (λ (k : ℕ). ask_at (drop_slot i u.serving) k ≡ Some other) same is in absurd (cc))
             (λ ne. K.owned j other (sym (drop_else u.serving i j ne) ∙ is));
       })

@@ -98,29 +98,34 @@ module _ (st : Step Berth) (m n : Seat) (C : Collects st m n) where
   pub collected : (table now : TableId) (w : View) (t : TicketView) (index : ℕ) (reply : Response) (letter : SlotRecord)
       → now ≡ table → w ≡ n.0 → t.slot ≡ st.word → views.in_hand (as_master m.0) st.word ≡ Sent t.ask t.port t.known
       → letter ≡ C.letter → index ≡ letter.index → SpellsAnswer letter t.ask.address reply
-      → IsCollected (master_view table m.0) t (record { slot = t.slot; ask = t.ask; port = t.port; index = index;
-          reply = reply }) (master_view now w)
+      → IsCollected (master_view table m.0) t (record {
+        slot = t.slot;
+        ask = t.ask;
+        port = t.port;
+        index = index;
+        reply = reply;
+      }) (master_view now w)
   collected table now w t index reply letter same view at sent is place answers =
       let asks : C.ask ≡ t.ask = (let z = C.was in cc) in
       let ports : C.port ≡ t.port = (let z = C.was in cc) in
       let knows : C.known ≡ t.known = (let z = C.was in cc) in
       let mine = subst (λ (q : Request). SpellsAnswer C.letter q.address C.reply) asks C.answer in
       let replies : C.reply ≡ reply =
-          answers_one C.letter t.ask.address C.reply reply mine
-          (subst (λ (l : SlotRecord). SpellsAnswer l t.ask.address reply) is answers) in
+      answers_one C.letter t.ask.address C.reply reply mine
+      (subst (λ (l : SlotRecord). SpellsAnswer l t.ask.address reply) is answers) in
       let indexes : C.letter.index ≡ index = sym (place ∙ ap (λ (l : SlotRecord). l.index) is) in
       let ticket : TicketView = record { slot = st.word; ask = C.ask; port = C.port; known = C.known } in
       let ticket_is : ticket ≡ t = λ i. record { slot = sym at i; ask = asks i; port = ports i; known = knows i } in
       let served : ServedView =
-          record { slot = st.word; ask = C.ask; port = C.port; index = C.letter.index; reply = C.reply } in
+      record { slot = st.word; ask = C.ask; port = C.port; index = C.letter.index; reply = C.reply } in
       let other : ServedView = record { slot = t.slot; ask = t.ask; port = t.port; index = index; reply = reply } in
       let served_is : served ≡ other =
-          λ i. record { slot = sym at i; ask = asks i; port = ports i; index = indexes i; reply = replies i } in
+      λ i. record { slot = sym at i; ask = asks i; port = ports i; index = indexes i; reply = replies i } in
       let seat_is : master_view table n.0 ≡ master_view now w = λ i. master_view (sym same i) (sym view i) in
       subst (λ (x : MasterView). IsCollected (master_view table m.0) t other x) seat_is
       (subst (λ (x : ServedView). IsCollected (master_view table m.0) t x (master_view table n.0)) served_is
       (subst (λ (x : TicketView). IsCollected (master_view table m.0) x served (master_view table n.0)) ticket_is
-          (collected_told table)))
+      (collected_told table)))
 
 module _ (st : Step Berth) (m n : Seat) (A : Accepts st m n) where
   pub accepted : (table now : TableId) (w : View) (v : PortView) (i : ℕ) (ask : Request) (letter : SlotRecord)
@@ -128,7 +133,7 @@ module _ (st : Step Berth) (m n : Seat) (A : Accepts st m n) where
       → (ask_at v.serving i ≡ None) × (port_view now w ≡ with_accepted v (i, ask))
   accepted table now w v i ask letter same view seen at is spells =
       let asks : A.ask ≡ ask =
-          spells_one A.letter A.ask ask A.spells (subst (λ (l : SlotRecord). Spells l ask) is spells) in (
+      spells_one A.letter A.ask ask A.spells (subst (λ (l : SlotRecord). Spells l ask) is spells) in (
         subst (λ (x : PortView). ask_at x.serving i ≡ None) seen
             (subst (λ (k : ℕ). ask_at (port_view table m.0).serving k ≡ None) (sym at) A.free),
         (λ k. port_view (same k) (view k)) ∙ ap (λ (x : Seat). port_view table x.0) A.seat
@@ -143,8 +148,8 @@ pub port_stepped : (event : Event) (table now : TableId) (m : Seat) (w : View) (
 port_stepped event table now m w d u v is e seen shown one =
     let before : m.0 ≡ Port (desk_of (port_view table m.0)) = (λ t. (port_seat_is m is t).0) in
     let after : w ≡ Port (desk_of (port_view now w)) =
-        subst (λ (y : View). y ≡ Port (desk_of (port_view now y))) (sym e) refl in
+    subst (λ (y : View). y ≡ Port (desk_of (port_view now y))) (sym e) refl in
     subst (λ (y : PortView). IsPortStep event u y) shown
-        (subst (λ (y : PortView). IsPortStep event y (port_view now w)) seen
+    (subst (λ (y : PortView). IsPortStep event y (port_view now w)) seen
     (subst (λ (y : View). IsEventOf (as_port m.0).about event (Port (desk_of (port_view table m.0))) y) after
-        (subst (λ (y : View). IsEventOf (as_port m.0).about event y w) before one)))
+    (subst (λ (y : View). IsEventOf (as_port m.0).about event y w) before one)))

@@ -33,8 +33,12 @@ pub record IsArenaKept (table : TableId) (about : About) (slots masters ports : 
 -- what callers see of the seat of a table with this view
 abbrev pub master_view : TableId → View → MasterView
 master_view table w =
-    record { arena = arena_id table (as_master w).about; number = (as_master w).number; hand = (as_master w).hand;
-    got = (as_master w).got }
+    record {
+      arena = arena_id table (as_master w).about;
+      number = (as_master w).number;
+      hand = (as_master w).hand;
+      got = (as_master w).got;
+    }
 
 -- the numbers beside a master's seat are those of its view, and the order is that of the slots that it has taken out
 pub record IsMasterKept (me : Seat) (order : List ℕ) (capacity number owned collected : ℕ) : Type 0 where
@@ -53,8 +57,12 @@ pub record IsMasterKept (me : Seat) (order : List ℕ) (capacity number owned co
 -- ---- a port's seat
 
 abbrev pub port_view : TableId → View → PortView
-port_view table w = record { arena = arena_id table (as_port w).about; number = (as_port w).number;
-    list = (as_port w).list; serving = (as_port w).serving }
+port_view table w = record {
+  arena = arena_id table (as_port w).about;
+  number = (as_port w).number;
+  list = (as_port w).list;
+  serving = (as_port w).serving;
+}
 
 -- the source is of the master's block, and the master fits a word
 pub record IsOwner (about : About) (master source : ℕ) : Type 0 where

@@ -4,5 +4,10 @@ use Rattle.tl_rule.specs.declared.view.About.{About}
 use Rattle.tl_arena.specs.declared.key.Key.{Key}
 
 abbrev pub about_in : Key → About
-about_in key = record { slots = key.slots; masters = key.masters; ports = key.ports; counts = key.sources.value;
-    resets = map (λ bank. bank.value) key.resets.items }
+about_in key = record {
+  slots = key.slots;
+  masters = key.masters;
+  ports = key.ports;
+  counts = key.sources.value;
+  resets = map (λ bank. bank.value) key.resets.items;
+}

@@ -17,12 +17,24 @@ pub set_at : {A : Type 0} (rows : List (List A)) (row : List A) (p i : ℕ) (x y
     → IsSetAt p i x rows (set rows p (set row i x))
 set_at rows row p i x y there here q j = ⊎_elim
     (λ same. ⊎_elim
-    (λ also. rw (same.0, also.0, ← same.1, ← also.1,
-        slice_get-set_same rows p (set row i x) (slice_get_within rows p row there),
-        slice_get-set_same row i x (slice_get_within row i y here), there, here) refl)
-    (λ apart. rw (same.0, apart.0, ← same.1,
-        slice_get-set_same rows p (set row i x) (slice_get_within rows p row there),
-        slice_get-set_other row i j x apart.1, there) refl)
+    (λ also. rw (
+      same.0,
+      also.0,
+      ← same.1,
+      ← also.1,
+      slice_get-set_same rows p (set row i x) (slice_get_within rows p row there),
+      slice_get-set_same row i x (slice_get_within row i y here),
+      there,
+      here,
+    ) refl)
+    (λ apart. rw (
+      same.0,
+      apart.0,
+      ← same.1,
+      slice_get-set_same rows p (set row i x) (slice_get_within rows p row there),
+      slice_get-set_other row i j x apart.1,
+      there,
+    ) refl)
     (eqb_tells i j))
     (λ other. rw (other.0, slice_get-set_other rows p q (set row i x) other.1) refl)
     (eqb_tells p q)
@@ -38,7 +50,7 @@ put_at {A} rows default p i x there = by_row (slice_get rows p) refl where
       absurd (false≢true (rw (slice_get-map (λ (w : Vec A Global). w.items) rows p, at, none) at there))
   by_cell v at (Some y) here =
       let row : slice_get (rows_in rows) p ≡ Some v.items =
-          rw (slice_get-map (λ (w : Vec A Global). w.items) rows p, at) refl in
+      rw (slice_get-map (λ (w : Vec A Global). w.items) rows p, at) refl in
       rw (get_or_from_slice_get rows p v default at, map-set (λ (w : Vec A Global). w.items) rows p (with_item v i x))
       (set_at (rows_in rows) v.items p i x y row here)
 

@@ -52,7 +52,7 @@ marked_more old rows new trace k e mark here before at put p i = by_name (names 
       let index = eqb-true e.index i parts.1 in
       let marked : cell rows p i ≡ Some mark = rw (← port, ← index) at in
       let was : option_map (next_times (times_in p i (take k trace))) (cell old p i) ≡ Some mark =
-          rw (← before p i) marked in
+      rw (← before p i) marked in
       let now = next_in (times_in p i (take k trace)) (cell old p i) mark was in
       rw (counted_last p i k trace e here, once p i e is, now, put p i, is, marked) refl
   by_name false is =
@@ -81,7 +81,7 @@ times_last p i (first ∷ traces) trace = rw (times_last p i traces trace) (omeg
 pub marked_with : (old rows new : List (List Mark)) (traces : List (List Entry)) (k : ℕ) (trace : List Entry)
     → slice_get traces k ≡ Some trace
     → AreMarkedBy (times_named (take k traces)) old rows → AreMarkedBy (λ p i. times_in p i trace) rows new
-        → AreMarkedBy (times_named (take (k + 1) traces)) old new
+    → AreMarkedBy (times_named (take (k + 1) traces)) old new
 marked_with old rows new traces k trace here before more p i =
     let next : k + 1 ≡ suc k = omega arith in
     rw (

@@ -18,7 +18,7 @@ pub all_more : {A : Type 0} (P : A → Type 0) (xs : List A) (k : ℕ) (x : A) �
 all_more P xs k x at all is =
     let next : k + 1 ≡ suc k = omega arith in
     rw (next, take-suc xs k x (slice_get_within xs k x at), get_or_from_slice_get xs k x x at)
-        (All-push P (take k xs) x all is)
+    (All-push P (take k xs) x all is)
 
 -- the entry stands in the master's trace
 pub entry_in : (traces : List (List Entry)) (m k : ℕ) (trace : List Entry) (e : Entry) → slice_get traces m ≡ Some trace

@@ -16,13 +16,13 @@ module _ (traces : List (List Entry)) (histories : List (List (Request × Respon
   pub again : (p i : ℕ) → cell rows p i ≡ Some NamedAgain → HasPlace histories p i × (1 < times_named traces p i)
   again p i is =
       let told = cell_of (next_times (times_named traces p i) Unnamed) NamedAgain (cell histories p i)
-          (rw (counted p i) at is) in
+      (rw (counted p i) at is) in
       (told.0, named_again (times_named traces p i) told.1)
 
   pub never : (p i : ℕ) → cell rows p i ≡ Some Unnamed → HasPlace histories p i × (times_named traces p i ≡ 0)
   never p i is =
       let told = cell_of (next_times (times_named traces p i) Unnamed) Unnamed (cell histories p i)
-          (rw (counted p i) at is) in
+      (rw (counted p i) at is) in
       (told.0, named_never (times_named traces p i) told.1)
 
   marked : (p i : ℕ) (mark : Mark) → HasPlace histories p i → next_times (times_named traces p i) Unnamed ≡ mark

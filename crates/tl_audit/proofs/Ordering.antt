@@ -42,7 +42,7 @@ is_itself e = both_true (eq-eqb e.port e.port refl) (eq-eqb e.ask.source e.ask.s
 module _ (trace : List Entry) (k : ℕ) (e : Entry) (lasts new : List (List (Option ℕ))) (last : Option ℕ)
     (here : slice_get trace k ≡ Some e)
     (kept : IsOrderedTo trace k lasts) (at : cell lasts e.port e.ask.source ≡ Some last)
-        (more : IsAtLeast last e.index → ⊥)
+    (more : IsAtLeast last e.index → ⊥)
     (put : IsSetAt e.port e.ask.source (Some e.index) lasts new) where
   -- what is kept of the entry's own source and port
   own : (p s : ℕ) → ((e.port == p) && (e.ask.source == s)) ≡ true → (cell lasts p s ≡ Some last)
@@ -72,8 +72,8 @@ module _ (trace : List Entry) (k : ℕ) (e : Entry) (lasts new : List (List (Opt
       (cases_lt j k)
   bounds_more j d now false is below there cell_is = ⊎_elim
       (λ (earlier : j < k). kept.bounds j d now earlier there
-          (let same = put d.port d.ask.source in
-          let unchanged : cell new d.port d.ask.source ≡ cell lasts d.port d.ask.source = rw is at same in cc))
+      (let same = put d.port d.ask.source in
+      let unchanged : cell new d.port d.ask.source ≡ cell lasts d.port d.ask.source = rw is at same in cc))
       (λ (later : k ≤ j).
       let last_place : j ≡ k = omega arith in
       let same_entry : d ≡ e = let there_k = rw last_place at there in cc in
@@ -134,10 +134,10 @@ pub cells_more : (trace : List Entry) (p s : ℕ) (x : Option ℕ) (lasts new : 
     → IsSetAt p s x lasts new → HaveCells lasts trace → HaveCells new trace
 cells_more trace p s x lasts new put cells j d there =
     by_cell (cell lasts d.port d.ask.source) ((p == d.port) && (s == d.ask.source)) refl refl where
-  by_cell : (o : Option (Option ℕ)) (b : Bool) → cell lasts d.port d.ask.source ≡ o
-      → ((p == d.port) && (s == d.ask.source)) ≡ b → IsSome (cell new d.port d.ask.source)
-  by_cell None b none is =
-      absurd (let there_is : IsSome (cell lasts d.port d.ask.source) = cells j d there in
-      false≢true (rw none at there_is))
-  by_cell (Some y) true was is = rw (put d.port d.ask.source, is, was) refl
-  by_cell (Some y) false was is = rw (put d.port d.ask.source, is, was) refl
+      by_cell : (o : Option (Option ℕ)) (b : Bool) → cell lasts d.port d.ask.source ≡ o
+          → ((p == d.port) && (s == d.ask.source)) ≡ b → IsSome (cell new d.port d.ask.source)
+      by_cell None b none is =
+          absurd (let there_is : IsSome (cell lasts d.port d.ask.source) = cells j d there in
+          false≢true (rw none at there_is))
+      by_cell (Some y) true was is = rw (put d.port d.ask.source, is, was) refl
+      by_cell (Some y) false was is = rw (put d.port d.ask.source, is, was) refl

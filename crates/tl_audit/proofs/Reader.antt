@@ -47,7 +47,7 @@ carried : (counts : List ℕ) (books : List BookView) (m : ℕ) (e : Entry) → 
     → IsRecorded counts (histories_of books) m e → CarriesReply counts books m e
 carried counts books m e lawful recorded =
     let found = in_book books e.port e.index
-        (record e.ask { source = recorded.wide }, record e.reply { source = recorded.wide }) recorded.at in
+    (record e.ask { source = recorded.wide }, record e.reply { source = recorded.wide }) recorded.at in
     let law = lawful e.port found.book found.at in
     record {
       book = found.book;
@@ -101,9 +101,9 @@ later_in : (p i : ℕ) (d : Entry) (trace : List Entry) → names p i d ≡ fals
     → IsNamedIn p i (d ∷ trace)
 later_in p i d trace other rest =
     record { place = suc rest.place; entry = rest.entry; at = rest.at; named = rest.named; alone = only } where
-  only : (k : ℕ) (e : Entry) → slice_get (d ∷ trace) k ≡ Some e → names p i e ≡ true → k ≡ suc rest.place
-  only zero e there is = let same : d ≡ e = cc in absurd (let is_d : names p i d ≡ true = rw same is in cc)
-  only (suc k) e there is = ap suc (rest.alone k e there is)
+      only : (k : ℕ) (e : Entry) → slice_get (d ∷ trace) k ≡ Some e → names p i e ≡ true → k ≡ suc rest.place
+      only zero e there is = let same : d ≡ e = cc in absurd (let is_d : names p i d ≡ true = rw same is in cc)
+      only (suc k) e there is = ap suc (rest.alone k e there is)
 
 named_in : (p i : ℕ) (trace : List Entry) → times_in p i trace ≡ 1 → IsNamedIn p i trace
 named_in p i [] one = absurd (omega (arith, one))
@@ -126,16 +126,22 @@ first_of_all : (p i : ℕ) (trace : List Entry) (traces : List (List Entry)) →
     → times_named traces p i ≡ 0 → IsNamedOf p i (trace ∷ traces)
 first_of_all p i trace traces mine others =
     record { master = 0; place = mine.place; entry = mine.entry; at = mine.at; named = mine.named; alone = only } where
-  only : (m k : ℕ) (e : Entry) → HasEntry (trace ∷ traces) m k e → names p i e ≡ true → (m ≡ 0) × (k ≡ mine.place)
-  only zero k e has is = (refl, mine.alone k e has is)
-  only (suc m) k e has is = absurd (none_of p i traces others m k e has is)
+      only : (m k : ℕ) (e : Entry) → HasEntry (trace ∷ traces) m k e → names p i e ≡ true → (m ≡ 0) × (k ≡ mine.place)
+      only zero k e has is = (refl, mine.alone k e has is)
+      only (suc m) k e has is = absurd (none_of p i traces others m k e has is)
 
 -- no entry of the first trace does
 later_of_all : (p i : ℕ) (trace : List Entry) (traces : List (List Entry)) → times_in p i trace ≡ 0
     → IsNamedOf p i traces → IsNamedOf p i (trace ∷ traces)
 later_of_all p i trace traces none rest =
-    record { master = suc rest.master; place = rest.place; entry = rest.entry; at = rest.at; named = rest.named;
-        alone = only }
+    record {
+      master = suc rest.master;
+      place = rest.place;
+      entry = rest.entry;
+      at = rest.at;
+      named = rest.named;
+      alone = only;
+    }
   where
     only : (m k : ℕ) (e : Entry) → HasEntry (trace ∷ traces) m k e → names p i e ≡ true → (m ≡ suc rest.master)
         × (k ≡ rest.place)
@@ -171,8 +177,17 @@ in_turn : (trace : List Entry) → IsNeverOutOfOrder trace → IsServedInOrder t
 in_turn trace ordered j k earlier later first second before source port = ⊎_elim
     (λ (less : earlier.index < later.index). less)
     (λ (more : later.index ≤ earlier.index).
-    absurd (ordered k (record { early = j; before = before; earlier = earlier; later = later; at_early = first;
-        at = second; source = source; port = port; index = more })))
+    absurd (ordered k (record {
+      early = j;
+      before = before;
+      earlier = earlier;
+      later = later;
+      at_early = first;
+      at = second;
+      source = source;
+      port = port;
+      index = more;
+    })))
     (cases_lt earlier.index later.index)
 
 pub agreeing_is_one_threads : (counts : List ℕ) (traces : List (List Entry)) (books : List BookView) → AreLawful books

@@ -31,7 +31,7 @@ pub same_op : (op other : AskOp) (opcode param : ℕ) → IsCodeOf op opcode par
     → op ≡ other
 same_op op other opcode param code code' =
     let numbers : op_at (opcode_of op) (param_of op) ≡ op_at (opcode_of other) (param_of other) =
-        rw (code.opcode_is, code.param_is, code'.opcode_is, code'.param_is) refl in
+    rw (code.opcode_is, code.param_is, code'.opcode_is, code'.param_is) refl in
     sym (op_at-code op) ∙ numbers ∙ op_at-code other
 
 pub reply_op_at-code : (op : ReplyOp) → reply_op_at (reply_opcode_of op) ≡ op

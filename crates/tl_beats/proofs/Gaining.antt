@@ -18,7 +18,7 @@ gains_push P count old new x gains holds = record {
   counted = omega (arith, gains.counted, length-append new (x ∷ []));
   each = λ j y at. ⊎_elim
       (λ before. ⊎_elim (λ kept. inl kept) (λ gained. inr (gained.0, gained.1, omega (arith, gained.2), gained.3))
-          (gains.each j y before))
+      (gains.each j y before))
       (λ last. inr (count, last.0 ∙ gains.counted, omega arith, subst (λ w. P count w) last.1 holds))
       (slice_get-push new x y j at);
 }
@@ -96,7 +96,7 @@ gains_beat Q address size b count old new beat o n gains so_far j x at =
     let place = place_of_gained address size b gained.0 (length old) count beat o n gained.2 in
     let in_beat : j / 8 ≡ b = ap (λ i. i / 8) gained.1 ∙ place.0 in
     let lane : lane_of address size j ≡ low address size % 8 + gained.0 =
-        ap (λ i. lane_of address size i) gained.1 ∙ place.1 in
+    ap (λ i. lane_of address size i) gained.1 ∙ place.1 in
     rw (in_beat, lane) gained.3)
     (gains.each j x at)
 

@@ -26,7 +26,7 @@ run_below zero count i below = absurd (omega (arith, below))
 run_below (suc first) count zero below = bit_at_lowest (run (suc first) count) ∙ omega (arith, twice first count)
 run_below (suc first) count (suc i) below =
     bit_at-suc (run (suc first) count) i ∙ ap (λ n. bit_at n i) (half first count)
-        ∙ run_below first count i (omega (arith, below))
+    ∙ run_below first count i (omega (arith, below))
 
 run_within : (first count i : ℕ) → first ≤ i → i < first + count → bit_at (run first count) i ≡ 1
 run_within zero count i from below =
@@ -36,7 +36,7 @@ run_within zero count i from below =
 run_within (suc first) count zero from below = absurd (omega (arith, from))
 run_within (suc first) count (suc i) from below =
     bit_at-suc (run (suc first) count) i ∙ ap (λ n. bit_at n i) (half first count)
-        ∙ run_within first count i (omega (arith, from)) (omega (arith, below))
+    ∙ run_within first count i (omega (arith, from)) (omega (arith, below))
 
 run_above : (first count i : ℕ) → first + count ≤ i → bit_at (run first count) i ≡ 0
 run_above first count i above =
@@ -45,13 +45,13 @@ run_above first count i above =
 set_is_from : (first count i : ℕ) → bit_at (run first count) i ≡ 1 → first ≤ i
 set_is_from first count i set =
     ⊎_elim (λ (below : i < first). absurd (omega (arith, set, run_below first count i below)))
-        (λ (from : first ≤ i). from) (cases_lt i first)
+    (λ (from : first ≤ i). from) (cases_lt i first)
 
 set_is_below : (first count i : ℕ) → bit_at (run first count) i ≡ 1 → i < first + count
 set_is_below first count i set =
     ⊎_elim (λ (below : i < first + count). below)
-        (λ (above : first + count ≤ i). absurd (omega (arith, set, run_above first count i above)))
-        (cases_lt i (first + count))
+    (λ (above : first + count ≤ i). absurd (omega (arith, set, run_above first count i above)))
+    (cases_lt i (first + count))
 
 pub active_lanes_are_set : MaskSetsActiveLanes
 active_lanes_are_set address size lane =

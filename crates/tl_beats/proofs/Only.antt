@@ -33,7 +33,7 @@ pub code_of_spelled : (ask : Request) (beats : List ABeat) (first : ABeat) → s
     → SpellsAsk ask beats → IsCodeOf ask.op first.opcode first.param
 code_of_spelled ask beats first head spells =
     let fields = (spells.each 0 first head).fields in
-        record { opcode_is = sym fields.opcode; param_is = sym fields.param }
+    record { opcode_is = sym fields.opcode; param_is = sym fields.param }
 
 pub same_ask : (ask other : Request) (beats : List ABeat) → IsLawfulRequest ask.op ask.size ask.bytes
     → IsLawfulRequest other.op other.size other.bytes → SpellsAsk ask beats → SpellsAsk other beats → ask ≡ other
@@ -44,8 +44,8 @@ same_ask ask other (first ∷ rest) lawful lawful' spells spells' =
     let fields = (spells.each 0 first refl).fields in
     let fields' = (spells'.each 0 first refl).fields in
     let op : ask.op ≡ other.op =
-        same_op ask.op other.op first.opcode first.param (code_of_spelled ask beats first refl spells)
-        (code_of_spelled other beats first refl spells') in
+    same_op ask.op other.op first.opcode first.param (code_of_spelled ask beats first refl spells)
+    (code_of_spelled other beats first refl spells') in
     let size : ask.size ≡ other.size = sym fields.size ∙ fields'.size in
     let source : ask.source ≡ other.source = sym fields.source ∙ fields'.source in
     let address : ask.address ≡ other.address = sym fields.address ∙ fields'.address in
@@ -54,14 +54,14 @@ same_ask ask other (first ∷ rest) lawful lawful' spells spells' =
     let bytes : ask.bytes ≡ other.bytes =
     same_lists ask.bytes other.bytes long (λ j d h.
     let there : j / 8 < length beats =
-        rw spells.count (beat_of_byte (carries_bytes ask.op) ask.size j (rw lawful.counted at h)) in
+    rw spells.count (beat_of_byte (carries_bytes ask.op) ask.size j (rw lawful.counted at h)) in
     let beat = get_or beats (j / 8) first in
     let at : slice_get beats (j / 8) ≡ Some beat = slice_get-get_or beats (j / 8) first there in
     let ours = (spells.each (j / 8) beat at).bytes j (get_or ask.bytes j d) (slice_get-get_or ask.bytes j d h) refl in
     let theirs = (spells'.each (j / 8) beat at).bytes j (get_or other.bytes j d)
-        (slice_get-get_or other.bytes j d (rw (← long) h)) refl in
+    (slice_get-get_or other.bytes j d (rw (← long) h)) refl in
     let lane : lane_of other.address other.size j ≡ lane_of ask.address ask.size j = rw (address, size) refl in
     StandsAt-same beat.mask beat.lanes (lane_of ask.address ask.size j) (get_or ask.bytes j d)
-        (get_or other.bytes j d) ours (subst (λ (l : ℕ). StandsAt beat.mask beat.lanes l
-        (get_or other.bytes j d)) lane theirs)) in
+    (get_or other.bytes j d) ours (subst (λ (l : ℕ). StandsAt beat.mask beat.lanes l
+    (get_or other.bytes j d)) lane theirs)) in
     λ i. record { op = op i; size = size i; source = source i; address = address i; bytes = bytes i }

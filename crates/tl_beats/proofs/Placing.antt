@@ -42,8 +42,8 @@ plain_at_place-given bytes first place = go (cases_lt place first)
         ∙ sym (ap (λ o. unwrap_or o 0) (byte_at_place-before bytes first place below))
     go (inr above) =
         plain_at_place-first (plain_of bytes) first (place - first) place (omega (arith, above))
-            ∙ plain_byte bytes (place - first) ∙ sym
-            (ap (λ o. unwrap_or o 0) (byte_at_place-first bytes first (place - first) place (omega (arith, above))))
+        ∙ plain_byte bytes (place - first) ∙ sym
+        (ap (λ o. unwrap_or o 0) (byte_at_place-first bytes first (place - first) place (omega (arith, above))))
 
 -- a bit of a mask that is moved to the first lane
 low_bit : (n k : ℕ) → k < 8 → bit_at (n % 256) k ≡ bit_at n k
@@ -73,8 +73,8 @@ masked bytes first b mask aligned is k in_bus = go aligned (cases_lt k first)
         (ap mask_bit (byte_at_place-before bytes first (8 * b + k) (omega (arith, only, below))))
     go _ (inr above) =
         moved_above mask first k in_bus above ∙ is (k - first) (omega (arith, in_bus))
-            ∙ sym (ap mask_bit (byte_at_place-first bytes first (8 * b + (k - first)) (8 * b + k)
-            (omega (arith, above))))
+        ∙ sym (ap mask_bit (byte_at_place-first bytes first (8 * b + (k - first)) (8 * b + k)
+        (omega (arith, above))))
 
 -- a mask and lanes have what stands in beat b of a request
 pub record IsPlaced (ask : Request) (b mask : ℕ) (lanes : List ℕ) : Type 0 where
@@ -92,7 +92,7 @@ placed ask b first mask n plain lanes counted beat lane plain_is end is stands =
     let at = low ask.address ask.size % 8 in
     let aligned = first_or_only ask.address ask.size b beat in
     let total : length plain ≡ 2 ^ ask.size =
-        ap length plain_is ∙ length-map ask.bytes (λ byte. unwrap_or byte 0) ∙ counted in
+    ap length plain_is ∙ length-map ask.bytes (λ byte. unwrap_or byte 0) ∙ counted in
     let starts : 8 * b ≤ length plain = omega (arith, total, starts_within ask.size b beat) in
     record {
       masked = λ k in_bus. ap (λ f. bit_at (mask * 2 ^ f % 256) k) lane

@@ -45,15 +45,15 @@ bytes_more beats first op b d lane count old new within counted so_far lane_is c
     let at : slice_get beats b ≡ Some here = slice_get-get_or beats b d within in
     let beat : b < beat_count (carries_bytes op) first.size = rw (← counted) within in
     let left : count ≡ min (byte_count op first.size - length old) 8 =
-        count_of_beat (carries_bytes op) first.size b (length old) count beat so_far.counted count_is in
+    count_of_beat (carries_bytes op) first.size b (length old) count beat so_far.counted count_is in
     let Q : ℕ → ℕ → Option ℕ → Type 0 =
-        λ k l given. (x : ABeat) → slice_get beats k ≡ Some x → StandsAt x.mask x.lanes l given in
+    λ k l given. (x : ABeat) → slice_get beats k ≡ Some x → StandsAt x.mask x.lanes l given in
     let gained : Gains (λ k given. Q b (low first.address first.size % 8 + k) given) count old new =
     gains_so (λ k given. StandsAt here.mask here.lanes (lane + k) given)
-        (λ k given. Q b (low first.address first.size % 8 + k) given) count old new (λ k given h stands x found.
+    (λ k given. Q b (low first.address first.size % 8 + k) given) count old new (λ k given h stands x found.
     let is : here ≡ x = cc in
     subst (λ (y : ABeat). StandsAt y.mask y.lanes (low first.address first.size % 8 + k) given) is
-        (subst (λ (l : ℕ). StandsAt here.mask here.lanes (l + k) given) lane_is stands)) gains in
+    (subst (λ (l : ℕ). StandsAt here.mask here.lanes (l + k) given) lane_is stands)) gains in
     record {
       counted = gains.counted ∙ count_of_gained b (length old) count (byte_count op first.size) so_far.counted left;
       each = gains_in_message Q
@@ -110,7 +110,7 @@ no_bad_mask ask beats first op b head spells same fails =
     let lawful = (spells.each b found.0 found.1).mask in
     let there = (spells.each 0 first head).fields in
     found.2 (mask_same op ask.op first.size ask.size first.address ask.address found.0.mask same (sym there.size)
-        (sym there.address) lawful)
+    (sym there.address) lawful)
 
 -- ---- beats whose first beat has no fault
 
@@ -124,7 +124,7 @@ no_request beats first op Count begun h ask spells = h
 no_request beats first op (Changed b) begun h ask spells = no_change ask beats first b begun.head spells h
 no_request beats first op (Mask b) begun h ask spells =
     let same : ask.op ≡ op =
-        same_op ask.op op first.opcode first.param (code_of_spelled ask beats first begun.head spells) begun.code in
+    same_op ask.op op first.opcode first.param (code_of_spelled ask beats first begun.head spells) begun.code in
     no_bad_mask ask beats first op b begun.head spells same h.1
 no_request beats first op (CorruptFlag b) begun h ask spells = h
 
@@ -144,7 +144,7 @@ module _ (beats : List ABeat) (first : ABeat) (op : AskOp) (begun : IsBegun beat
   no_earlier Size rank h = omega (arith, begun.in_limit, of_first (λ x. MAX_SIZE < x.size) h)
   no_earlier Count rank h =
       let named = of_first (λ x. (o : AskOp) × IsCodeOf o x.opcode x.param
-          × (length beats ≢ beat_count (carries_bytes o) x.size)) h in
+      × (length beats ≢ beat_count (carries_bytes o) x.size)) h in
       let same : op ≡ named.0 = same_op op named.0 first.opcode first.param begun.code named.1 in
       named.2 (begun.count ∙ ap (λ o. beat_count (carries_bytes o) first.size) same)
   no_earlier (Changed k) rank h = absurd (omega (arith, rank))
@@ -199,9 +199,9 @@ module _ (beats : List ABeat) (first : ABeat) (op : AskOp) (begun : IsBegun beat
       let lane = lane_of first.address first.size j in
       let mask : beat.mask ≡ active_mask first.address first.size = (read.masks (j / 8) beat there at).whole whole in
       some_from_bit beat.mask beat.lanes lane (get_or bytes j d)
-          (read.each j (get_or bytes j d) beat (slice_get-get_or bytes j d h) at)
-          (ap (λ m. bit_at m lane) mask ∙ active_lane first.address first.size j
-          (counted_within (carries_bytes op) first.size j counted))
+      (read.each j (get_or bytes j d) beat (slice_get-get_or bytes j d h) at)
+      (ap (λ m. bit_at m lane) mask ∙ active_lane first.address first.size j
+      (counted_within (carries_bytes op) first.size j counted))
 
   pub read_lawful : IsLawfulRequest op first.size bytes
   read_lawful = record { in_limit = begun.in_limit; counted = read.counted; whole = read_whole }
@@ -213,9 +213,13 @@ module _ (beats : List ABeat) (first : ABeat) (op : AskOp) (begun : IsBegun beat
         let within = slice_get_within beats b beat at in
         let same = read.same b beat within at in
         record {
-          fields = record { opcode = same.opcode ∙ sym begun.code.opcode_is;
-              param = same.param ∙ sym begun.code.param_is; size = same.size; source = same.source;
-              address = same.address };
+          fields = record {
+            opcode = same.opcode ∙ sym begun.code.opcode_is;
+            param = same.param ∙ sym begun.code.param_is;
+            size = same.size;
+            source = same.source;
+            address = same.address;
+          };
           mask = read.masks b beat within at;
           bytes = λ j given found in_beat. read.each j given beat found (ap (λ k. slice_get beats k) in_beat ∙ at);
         };

@@ -53,9 +53,9 @@ wide_bytes beats first op address lanes not_denied wide room are =
       each = λ j byte beat at found.
           let here : slice_index lanes j ≡ byte = get_or_from_slice_get lanes j byte 0 (taken count lanes j byte at) in
           let lane : lane_of address first.size j ≡ j % 8 =
-              lane_in_wide address first.size j (carries_all (reply_carries_bytes op) first.size wide) in
+          lane_in_wide address first.size j (carries_all (reply_carries_bytes op) first.size wide) in
           stands_given first.denied beat.lanes (lane_of address first.size j) byte not_denied
-              (ap (λ l. slice_index beat.lanes l) lane ∙ sym (are j beat found) ∙ here);
+          (ap (λ l. slice_index beat.lanes l) lane ∙ sym (are j beat found) ∙ here);
     }
 
 -- the bytes of a reply of a word at most are some lanes of its one beat
@@ -67,24 +67,24 @@ narrow_bytes beats first op address lane head eight not_denied narrow lane_is in
     let count = reply_byte_count op first.size in
     let part = take count (drop lane first.lanes) in
     let counted : length part ≡ count =
-        omega (arith, length-take count (drop lane first.lanes), length-drop lane first.lanes, eight, in_bus) in
+    omega (arith, length-take count (drop lane first.lanes), length-drop lane first.lanes, eight, in_bus) in
     record {
       counted = counted;
       each = λ j byte beat at found.
           let below : j < count = rw (← counted) (slice_get_within part j byte at) in
           let there = carries_within (reply_carries_bytes op) first.size j below narrow in
           let in_first : slice_get first.lanes (lane + j) ≡ Some byte =
-              sym (slice_get-drop lane first.lanes j) ∙ taken count (drop lane first.lanes) j byte at in
+          sym (slice_get-drop lane first.lanes j) ∙ taken count (drop lane first.lanes) j byte at in
           let here : slice_index first.lanes (lane + j) ≡ byte =
-              get_or_from_slice_get first.lanes (lane + j) byte 0 in_first in
+          get_or_from_slice_get first.lanes (lane + j) byte 0 in_first in
           let place : lane_of address first.size j ≡ lane + j =
-              lane_in_narrow address first.size j there.0 there.1 ∙ ap (λ l. l + j) (sym lane_is) in
+          lane_in_narrow address first.size j there.0 there.1 ∙ ap (λ l. l + j) (sym lane_is) in
           let beat_zero : j / 8 ≡ 0 = omega (arith, below, narrow) in
           let found_first : slice_get beats 0 ≡ Some beat = ap (λ k. slice_get beats k) (sym beat_zero) ∙ found in
           let same : first ≡ beat = cc in
           stands_given first.denied beat.lanes (lane_of address first.size j) byte not_denied
-              (ap (λ (x : DBeat). slice_index x.lanes (lane_of address first.size j)) (sym same)
-              ∙ ap (λ l. slice_index first.lanes l) place ∙ here);
+          (ap (λ (x : DBeat). slice_index x.lanes (lane_of address first.size j)) (sym same)
+          ∙ ap (λ l. slice_index first.lanes l) place ∙ here);
     }
 
 -- the bytes of a denied reply are zero
@@ -101,7 +101,9 @@ denied_bytes beats first op address room denied fits =
           let there : slice_get zeros j ≡ Some byte = taken count zeros j byte at in
           let within : j < room = rw (← long) (slice_get_within zeros j byte there) in
           let zero_is : byte ≡ 0 =
-              sym (get_or_from_slice_get zeros j byte 0 there) ∙ get_or-replicate room j 0 0 within in
-          record { given = λ no. let yes : true ≡ false = sym denied ∙ no in absurd (cc);
-              zero_of_denied = λ _. zero_is };
+          sym (get_or_from_slice_get zeros j byte 0 there) ∙ get_or-replicate room j 0 0 within in
+          record {
+            given = λ no. let yes : true ≡ false = sym denied ∙ no in absurd (cc);
+            zero_of_denied = λ _. zero_is;
+          };
     }

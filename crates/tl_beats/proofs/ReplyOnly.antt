@@ -21,7 +21,7 @@ same_reply reply other address (first ∷ rest) lawful lawful' spells spells' =
     let fields = (spells.each 0 first refl).fields in
     let fields' = (spells'.each 0 first refl).fields in
     let op : reply.op ≡ other.op =
-        same_reply_op reply.op other.op first.opcode (sym fields.opcode) (sym fields'.opcode) in
+    same_reply_op reply.op other.op first.opcode (sym fields.opcode) (sym fields'.opcode) in
     let size : reply.size ≡ other.size = sym fields.size ∙ fields'.size in
     let source : reply.source ≡ other.source = sym fields.source ∙ fields'.source in
     let denied : reply.denied ≡ other.denied = sym fields.denied ∙ fields'.denied in
@@ -31,7 +31,7 @@ same_reply reply other address (first ∷ rest) lawful lawful' spells spells' =
     same_lists reply.bytes other.bytes long (λ j d h.
     let h' : j < length other.bytes = rw (← long) h in
     let there : j / 8 < length beats =
-        rw spells.count (beat_of_byte (reply_carries_bytes reply.op) reply.size j (rw lawful.counted at h)) in
+    rw spells.count (beat_of_byte (reply_carries_bytes reply.op) reply.size j (rw lawful.counted at h)) in
     same_byte j d h h' denied size there reply.denied refl) in
     λ i. record { op = op i; size = size i; source = source i; denied = denied i; bytes = bytes i }
   where
@@ -44,7 +44,7 @@ same_reply reply other address (first ∷ rest) lawful lawful' spells spells' =
         let beat = get_or beats (j / 8) first in
         let at : slice_get beats (j / 8) ≡ Some beat = slice_get-get_or beats (j / 8) first there in
         let ours = (spells.each (j / 8) beat at).bytes is j (get_or reply.bytes j d)
-            (slice_get-get_or reply.bytes j d h) refl in
+        (slice_get-get_or reply.bytes j d h) refl in
         let theirs = (spells'.each (j / 8) beat at).bytes (sym denied ∙ is) j (get_or other.bytes j d)
-            (slice_get-get_or other.bytes j d h') refl in
+        (slice_get-get_or other.bytes j d h') refl in
         sym ours ∙ ap (λ s. slice_index beat.lanes (lane_of address s j)) size ∙ theirs

@@ -69,7 +69,7 @@ no_reply beats first op (Changed b) begun h reply address spells =
 no_reply beats first op (Mask b) begun h reply address spells = h
 no_reply beats first op (CorruptFlag b) begun h reply address spells =
     let same : reply.op ≡ op =
-        same_reply_op reply.op op first.opcode (sym (spells.each 0 first begun.head).fields.opcode) begun.code in
+    same_reply_op reply.op op first.opcode (sym (spells.each 0 first begun.head).fields.opcode) begun.code in
     no_bad_flag reply address beats first op b begun.head spells same h.1
 
 -- an opcode that a reply has is not at fault
@@ -94,7 +94,7 @@ module _ (beats : List DBeat) (first : DBeat) (op : ReplyOp) (begun : IsReplyBeg
   no_earlier Size rank h = omega (arith, begun.in_limit, of_first (λ x. MAX_SIZE < x.size) h)
   no_earlier Count rank h =
       let named = of_first (λ x. (o : ReplyOp) × (reply_opcode_of o ≡ x.opcode)
-          × (length beats ≢ beat_count (reply_carries_bytes o) x.size)) h in
+      × (length beats ≢ beat_count (reply_carries_bytes o) x.size)) h in
       let same : op ≡ named.0 = same_reply_op op named.0 first.opcode begun.code named.1 in
       named.2 (begun.count ∙ ap (λ o. beat_count (reply_carries_bytes o) first.size) same)
   no_earlier (Changed k) rank h = absurd (omega (arith, rank))
@@ -139,9 +139,9 @@ module _ (beats : List DBeat) (first : DBeat) (op : ReplyOp) (address : ℕ) (be
     clean = λ denied j d h.
         let counted : j < reply_byte_count op first.size = rw read.counted at h in
         let there : j / 8 < length beats =
-            rw begun.count (beat_of_byte (reply_carries_bytes op) first.size j counted) in
+        rw begun.count (beat_of_byte (reply_carries_bytes op) first.size j counted) in
         (read.each j (get_or bytes j d) (get_or beats (j / 8) first) (slice_get-get_or bytes j d h)
-            (slice_get-get_or beats (j / 8) first there)).zero_of_denied denied;
+        (slice_get-get_or beats (j / 8) first there)).zero_of_denied denied;
   }
 
   pub reply_read_spells : SpellsReply (read_reply first op bytes) address beats
@@ -151,8 +151,12 @@ module _ (beats : List DBeat) (first : DBeat) (op : ReplyOp) (address : ℕ) (be
         let within = slice_get_within beats b beat at in
         let same = read.same b beat within at in
         record {
-          fields = record { opcode = same.opcode ∙ sym begun.code; size = same.size; source = same.source;
-              denied = same.denied };
+          fields = record {
+            opcode = same.opcode ∙ sym begun.code;
+            size = same.size;
+            source = same.source;
+            denied = same.denied;
+          };
           corrupt = read.flags b beat within at;
           bytes = λ given j byte found in_beat. (read.each j byte beat found
               (ap (λ k. slice_get beats k) in_beat ∙ at)).given given;

@@ -22,7 +22,7 @@ pub slice_index-word : (bytes : List ℕ) (s n k : ℕ) → n ≡ min (length by
     → slice_index (take n (drop s bytes)) k ≡ slice_index bytes (s + k)
 slice_index-word bytes s n k e starts in_bus =
     sym (unwrap_or-slice_get (take n (drop s bytes)) k 0)
-        ∙ ap (λ o. unwrap_or o 0) (slice_get-word bytes s n k e starts in_bus) ∙ unwrap_or-slice_get bytes (s + k) 0
+    ∙ ap (λ o. unwrap_or o 0) (slice_get-word bytes s n k e starts in_bus) ∙ unwrap_or-slice_get bytes (s + k) 0
 
 -- byte j is at the place first + j, and none before
 pub plain_at_place-first : (bytes : List ℕ) (first j place : ℕ) → place ≡ first + j
@@ -41,7 +41,7 @@ pub plain_at_place-past : (bytes : List ℕ) (first place : ℕ) → first + len
     → plain_at_place bytes first place ≡ 0
 plain_at_place-past bytes first place h =
     plain_at_place-first bytes first (place - first) place (omega arith)
-        ∙ slice_index-past bytes (place - first) (omega arith)
+    ∙ slice_index-past bytes (place - first) (omega arith)
 
 -- what stands at a lane of beat b, seen from its own bytes and from those of the reply
 pub plain_at_place-word : (bytes : List ℕ) (first b n k : ℕ) → (first ≡ 0) ⊎ (b ≡ 0)
@@ -54,11 +54,11 @@ plain_at_place-word bytes first b n k aligned e starts in_bus = go aligned (case
     go (inl at_zero) (inl below) = absurd (omega (arith, at_zero, below))
     go (inr only) (inl below) =
         plain_at_place-before (take n (drop (8 * b) bytes)) first k below
-            ∙ sym (plain_at_place-before bytes first (8 * b + k) (omega (arith, only, below)))
+        ∙ sym (plain_at_place-before bytes first (8 * b + k) (omega (arith, only, below)))
     go _ (inr above) =
         plain_at_place-first (take n (drop (8 * b) bytes)) first (k - first) k (omega (arith, above))
-            ∙ slice_index-word bytes (8 * b) n (k - first) e starts (omega (arith, in_bus))
-            ∙ sym (plain_at_place-first bytes first (8 * b + (k - first)) (8 * b + k) (omega (arith, above)))
+        ∙ slice_index-word bytes (8 * b) n (k - first) e starts (omega (arith, in_bus))
+        ∙ sym (plain_at_place-first bytes first (8 * b + (k - first)) (8 * b + k) (omega (arith, above)))
 
 -- where all bytes are zero, each place is
 pub plain_at_place-zero : (bytes : List ℕ) (first place : ℕ) → All (λ byte. byte ≡ 0) bytes
@@ -79,7 +79,7 @@ pub filled_wide : (bytes : List ℕ) (first b : ℕ) → first ≡ 0 → 8 * b +
     → slice_index (take 8 (drop (8 * b) bytes)) k ≡ plain_at_place bytes first (8 * b + k)
 filled_wide bytes first b at_zero within k in_bus =
     slice_index-word bytes (8 * b) 8 k (omega (arith, within)) (omega (arith, within)) in_bus
-        ∙ sym (plain_at_place-first bytes first (8 * b + k) (8 * b + k) (omega (arith, at_zero)))
+    ∙ sym (plain_at_place-first bytes first (8 * b + k) (8 * b + k) (omega (arith, at_zero)))
 
 module _ (reply : Response) (address b : ℕ) (lanes : List ℕ)
     (counted : length reply.bytes ≡ reply_byte_count reply.op reply.size)
@@ -99,7 +99,7 @@ module _ (reply : Response) (address b : ℕ) (lanes : List ℕ)
       let same_beat : (first + j) / 8 ≡ j / 8 = place_beat address reply.size j (omega (arith, within, no_more)) in
       let place : 8 * b + lane ≡ first + j = omega arith in
       filled lane (omega arith) ∙ plain_at_place-first reply.bytes first j (8 * b + lane) place
-          ∙ get_or_from_slice_get reply.bytes j byte 0 at
+      ∙ get_or_from_slice_get reply.bytes j byte 0 at
 
   -- no byte stands at a lane that is not active
   pub reply_idle : (k : ℕ) → k < 8 → (IsActive address reply.size k → ⊥) → slice_index lanes k ≡ 0
@@ -113,7 +113,7 @@ module _ (reply : Response) (address b : ℕ) (lanes : List ℕ)
       go (inr above) (inr past) = plain_at_place-past reply.bytes _ _ past
       go (inr above) (inl below) =
           let active = place_is_active address reply.size b k in_bus
-              (beat_of_size (reply_carries_bytes reply.op) reply.size b beat) above (omega (arith, below, no_more)) in
+          (beat_of_size (reply_carries_bytes reply.op) reply.size b beat) above (omega (arith, below, no_more)) in
           absurd (idle record { above = active.0; below = active.1 })
 
   -- none stands in a reply that carries no bytes

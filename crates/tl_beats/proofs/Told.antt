@@ -28,7 +28,7 @@ count_is reply address beats first op head lawful spells code =
     let fields = (spells.each 0 first head).fields in
     let same : reply.op ≡ op = same_reply_op reply.op op first.opcode (sym fields.opcode) code in
     lawful.counted ∙ (ap (λ (o : ReplyOp). reply_byte_count o reply.size) same
-        ∙ ap (λ (s : ℕ). reply_byte_count op s) (sym fields.size))
+    ∙ ap (λ (s : ℕ). reply_byte_count op s) (sym fields.size))
 
 -- a byte of the reply is in one of the beats
 pub in_beats : (reply : Response) (address : ℕ) (beats : List DBeat)
@@ -53,7 +53,7 @@ module _ (reply : Response) (address : ℕ) (first : DBeat) (rest : List DBeat)
   byte_is j h false is =
       let beat = get_or beats (j / 8) no_beat in
       let at : slice_get beats (j / 8) ≡ Some beat =
-          slice_get-get_or beats (j / 8) no_beat (in_beats reply address beats lawful spells j h) in
+      slice_get-get_or beats (j / 8) no_beat (in_beats reply address beats lawful spells j h) in
       sym ((spells.each (j / 8) beat at).bytes is j (get_or reply.bytes j 0) (slice_get-get_or reply.bytes j 0 h) refl)
 
   pub told_at : (j : ℕ) → j < length reply.bytes → get_or reply.bytes j 0 ≡ told_byte beats address first j
@@ -61,21 +61,26 @@ module _ (reply : Response) (address : ℕ) (first : DBeat) (rest : List DBeat)
       let fields = (spells.each 0 first refl).fields in
       byte_is j h reply.denied refl
       ∙ (ap (λ (d : Bool). if d then 0 else slice_index (get_or beats (j / 8) no_beat).lanes
-          (lane_of address reply.size j)) (sym fields.denied)
+      (lane_of address reply.size j)) (sym fields.denied)
       ∙ ap (λ (s : ℕ). if first.denied then 0 else slice_index (get_or beats (j / 8) no_beat).lanes
-          (lane_of address s j)) (sym fields.size))
+      (lane_of address s j)) (sym fields.size))
 
   told_here : told_reply (first ∷ rest) address ≡ reply
   told_here =
       let fields = (spells.each 0 first refl).fields in
       let count : reply_byte_count (reply_op_at first.opcode) first.size ≡ reply_byte_count reply.op reply.size =
-          rw (op_is, fields.size) refl in
+      rw (op_is, fields.size) refl in
       let long : length reply.bytes ≡ reply_byte_count (reply_op_at first.opcode) first.size =
-          lawful.counted ∙ sym count in
+      lawful.counted ∙ sym count in
       let bytes = fill_by_all (told_byte beats address first) reply.bytes
-          (reply_byte_count (reply_op_at first.opcode) first.size) 0 long (λ k h. told_at k (rw long h)) in
-      λ i. record { op = op_is i; size = fields.size i; source = fields.source i; denied = fields.denied i;
-          bytes = sym bytes i }
+      (reply_byte_count (reply_op_at first.opcode) first.size) 0 long (λ k h. told_at k (rw long h)) in
+      λ i. record {
+        op = op_is i;
+        size = fields.size i;
+        source = fields.source i;
+        denied = fields.denied i;
+        bytes = sym bytes i;
+      }
 
 pub told_is : (reply : Response) (address : ℕ) (beats : List DBeat)
     → IsLawfulResponse reply.op reply.size reply.denied reply.bytes → SpellsReply reply address beats
@@ -93,7 +98,7 @@ byte_at reply address [] first head lawful spells j h = absurd (omega (arith, fi
 byte_at reply address (x ∷ rest) first head lawful spells j h =
     let same : x ≡ first = cc in
     slice_get-get_or reply.bytes j 0 h ∙ ap (λ (b : ℕ). Some b) (told_at reply address x rest lawful spells j h)
-        ∙ ap (λ (f : DBeat). Some (told_byte (x ∷ rest) address f j)) same
+    ∙ ap (λ (f : DBeat). Some (told_byte (x ∷ rest) address f j)) same
 
 -- the lane, counted from that of the address
 pub lane_from : (address size first j : ℕ) → first ≡ low address size % 8 → (first + j) % 8 ≡ lane_of address size j

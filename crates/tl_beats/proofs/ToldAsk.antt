@@ -31,26 +31,31 @@ module _ (ask : Request) (first : ABeat) (rest : List ABeat) (lawful : IsLawfulR
   given_at j h =
       let fields = (spells.each 0 first refl).fields in
       let there : j / 8 < length beats =
-          rw spells.count (beat_of_byte (carries_bytes ask.op) ask.size j (rw lawful.counted at h)) in
+      rw spells.count (beat_of_byte (carries_bytes ask.op) ask.size j (rw lawful.counted at h)) in
       let beat = get_or beats (j / 8) no_ask_beat in
       let at : slice_get beats (j / 8) ≡ Some beat = slice_get-get_or beats (j / 8) no_ask_beat there in
       let stands = (spells.each (j / 8) beat at).bytes j (get_or ask.bytes j None)
-          (slice_get-get_or ask.bytes j None h) refl in
+      (slice_get-get_or ask.bytes j None h) refl in
       stands_given beat.mask beat.lanes (lane_of ask.address ask.size j) (get_or ask.bytes j None) stands
       ∙ (λ i. lane_given (bit_at beat.mask (lane_of (sym fields.address i) (sym fields.size i) j))
-          (slice_index beat.lanes (lane_of (sym fields.address i) (sym fields.size i) j)))
+      (slice_index beat.lanes (lane_of (sym fields.address i) (sym fields.size i) j)))
 
   told_here : told_ask (first ∷ rest) ≡ ask
   told_here =
       let fields = (spells.each 0 first refl).fields in
       let count : byte_count (op_at first.opcode first.param) first.size ≡ byte_count ask.op ask.size =
-          (λ i. byte_count (op_is i) (fields.size i)) in
+      (λ i. byte_count (op_is i) (fields.size i)) in
       let long : length ask.bytes ≡ byte_count (op_at first.opcode first.param) first.size =
-          lawful.counted ∙ sym count in
+      lawful.counted ∙ sym count in
       let bytes = fill_by_all (told_given beats first) ask.bytes
-          (byte_count (op_at first.opcode first.param) first.size) None long (λ k h. given_at k (rw long h)) in
-      λ i. record { op = op_is i; size = fields.size i; source = fields.source i; address = fields.address i;
-          bytes = sym bytes i }
+      (byte_count (op_at first.opcode first.param) first.size) None long (λ k h. given_at k (rw long h)) in
+      λ i. record {
+        op = op_is i;
+        size = fields.size i;
+        source = fields.source i;
+        address = fields.address i;
+        bytes = sym bytes i;
+      }
 
 pub told_ask_is : (ask : Request) (beats : List ABeat) → IsLawfulRequest ask.op ask.size ask.bytes → SpellsAsk ask beats
     → told_ask beats ≡ ask

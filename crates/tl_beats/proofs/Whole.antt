@@ -21,16 +21,16 @@ gains_whole beat first count old lanes counted set read =
     let all : List (Option ℕ) = map (λ byte. Some byte) lanes in
     let many : length all ≡ count = length-map lanes (λ byte. Some byte) ∙ counted in
     subst (λ (n : ℕ). GainsLanes beat first n old (old ++ all)) many
-        (gains_so (λ k given. slice_get all k ≡ Some given) (λ k given. StandsAt beat.mask beat.lanes (first + k) given)
-        (length all) old (old ++ all) (λ k given h at. stands k given (omega (arith, h, many)) at)
-        (gains_append old all))
+    (gains_so (λ k given. slice_get all k ≡ Some given) (λ k given. StandsAt beat.mask beat.lanes (first + k) given)
+    (length all) old (old ++ all) (λ k given h at. stands k given (omega (arith, h, many)) at)
+    (gains_append old all))
   where
     stands : (k : ℕ) (given : Option ℕ) → k < count → slice_get (map (λ byte. Some byte) lanes) k ≡ Some given
         → StandsAt beat.mask beat.lanes (first + k) given
     stands k given below at =
         let found : slice_get (map (λ byte. Some byte) lanes) k ≡ Some (Some (slice_index lanes k)) =
-            slice_get-map (λ byte. Some byte) lanes k
-            ∙ ap (option_map (λ byte. Some byte)) (slice_get-get_or lanes k 0 (omega (arith, below, counted))) in
+        slice_get-map (λ byte. Some byte) lanes k
+        ∙ ap (option_map (λ byte. Some byte)) (slice_get-get_or lanes k 0 (omega (arith, below, counted))) in
         let is : given ≡ Some (slice_index beat.lanes (first + k)) =
-            some_is (slice_index lanes k) (slice_index beat.lanes (first + k)) given (sym found ∙ at) (read k below) in
+        some_is (slice_index lanes k) (slice_index beat.lanes (first + k)) given (sym found ∙ at) (read k below) in
         rw is (set k below, refl)

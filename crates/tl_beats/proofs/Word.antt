@@ -17,7 +17,7 @@ pub word_bytes : (beats : List ABeat) (first : ABeat) (op : AskOp) → slice_get
 word_bytes beats first op head word set eight =
     let begins = wide_first (carries_bytes op) first.address first.size (omega (arith, word)) in
     let gains : GainsLanes first 0 8 [] (map (λ byte. Some byte) first.lanes) =
-        gains_whole first 0 8 [] first.lanes eight
+    gains_whole first 0 8 [] first.lanes eight
     (λ k h. ap (λ m. bit_at m (0 + k)) set ∙ bit_at_ones 8 (0 + k) (omega (arith, h)))
     (λ k h.
     let lane : k ≡ 0 + k = omega arith in
@@ -35,6 +35,6 @@ word_bytes beats first op head word set eight =
           let same : first ≡ beat = cc in
           let lane : 0 + k ≡ lane_of first.address first.size j = omega (arith, begins, here, below) in
           subst (λ (y : ABeat). StandsAt y.mask y.lanes (lane_of first.address first.size j) given) same
-              (subst (λ (l : ℕ). StandsAt first.mask first.lanes l given) lane gained.3))
+          (subst (λ (l : ℕ). StandsAt first.mask first.lanes l given) lane gained.3))
           (gains.each j given at);
     }

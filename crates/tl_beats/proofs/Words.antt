@@ -21,7 +21,7 @@ slice_get-word {X} xs s n k e starts in_bus = go (cases_lt k n)
     go (inl below) = slice_get-take n (drop s xs) k below ∙ slice_get-drop s xs k
     go (inr above) =
         slice_get_past (take n (drop s xs)) k (omega (arith, above, length-word xs s n e))
-            ∙ sym (slice_get_past xs (s + k) (omega (arith, above, e, in_bus, starts)))
+        ∙ sym (slice_get_past xs (s + k) (omega (arith, above, e, in_bus, starts)))
 
 -- a message of several beats begins at lane 0
 pub first_or_only : (address size b : ℕ) → b < max 1 (2 ^ size / 8) → (low address size % 8 ≡ 0) ⊎ (b ≡ 0)

@@ -26,5 +26,5 @@ abbrev pub AtMostOneReply : Type 0
 AtMostOneReply =
     (reply other : Response) (address : ℕ) (beats : List DBeat)
     → IsLawfulResponse reply.op reply.size reply.denied reply.bytes
-        → IsLawfulResponse other.op other.size other.denied other.bytes
+    → IsLawfulResponse other.op other.size other.denied other.bytes
     → SpellsReply reply address beats → SpellsReply other address beats → reply ≡ other

@@ -92,7 +92,7 @@ pub record AreFaultlessReply (beats : List DBeat) (first : DBeat) (op : ReplyOp)
 abbrev pub AreLanesOf : List DBeat → List ℕ → Type 0
 AreLanesOf beats bytes =
     (j : ℕ) (beat : DBeat) → slice_get beats (j / BUS_BYTES) ≡ Some beat
-        → slice_index bytes j ≡ slice_index beat.lanes (j % BUS_BYTES)
+    → slice_index bytes j ≡ slice_index beat.lanes (j % BUS_BYTES)
 
 -- the bytes are those that stand in the beats
 pub record AreReplyBytesOf (beats : List DBeat) (first : DBeat) (op : ReplyOp) (address : ℕ)

@@ -55,36 +55,36 @@ shut_good null_ptr y h fits = (and_tt (has_ty (layout Z) h) fits.0, ((Ptr-Good n
 module _ {M : Type 1} {𝓤 : Ura M} {𝓛 : Logic 𝓤} {K : Type 0} {Γ : List (Item 𝓤)} {G : Goal 𝓤 𝓛.H} where
   pub shut_out : K → (d : Shut.Denot) (vs : List Val)
       → ((h : Val) → vs ≡ three (ptr_val d.at) (vbool d.live) h ∷ [] → Good (layout Z) h
-          → Seq K 𝓛 (‵ (holds R d.alloc d.at d.live d.value) ∷ ‵ (Z.own_val d.alloc (h ∷ [])) ∷ Γ) G)
+      → Seq K 𝓛 (‵ (holds R d.alloc d.at d.live d.value) ∷ ‵ (Z.own_val d.alloc (h ∷ [])) ∷ Γ) G)
       → Seq K 𝓛 (‵ (Shut.own_val d vs) ∷ Γ) G
   shut_out t d vs k =
       fsplit t $ fpick t (λ vss. fsplit t $ feq_l t
-          (λ ev. fsplit t $ feq_l t (λ ep. fsplit t $ feq_l t
-          (λ eb. fsplit t $ handle_tells al t d.alloc vss.1.1.0
-          (λ h ea fits. move t (1 ∷ []) $ drop t $ move t (1 ∷ []) $ k h
+      (λ ev. fsplit t $ feq_l t (λ ep. fsplit t $ feq_l t
+      (λ eb. fsplit t $ handle_tells al t d.alloc vss.1.1.0
+      (λ h ea fits. move t (1 ∷ []) $ drop t $ move t (1 ∷ []) $ k h
       (subst (λ (ws : List Val). vs ≡ vstruct (of_list (ptr_val d.at ∷ vbool d.live ∷ (ws ++ []))) ∷ []) ea
       (subst (λ (bs : List Val). vs ≡ vstruct (of_list (ptr_val d.at ∷ (bs ++ (vss.1.1.0 ++ [])))) ∷ []) eb
       (subst (λ (ps : List Val). vs ≡ vstruct (of_list (ps ++ (vss.1.0 ++ (vss.1.1.0 ++ [])))) ∷ []) ep ev))) fits)))))
 
   pub shut_in : K → (p : Ptr) (y : Bool) (h : Val) (a : Z.Denot) (x : Option R.Denot)
       → Step K 𝓛 (‵ (Shut.own_val (record { at = p; live = y; alloc = a; value = x })
-          (three (ptr_val p) (vbool y) h ∷ [])) ∷ Γ) G (‵ (holds R a p y x) ∷ ‵ (Z.own_val a (h ∷ [])) ∷ Γ) G
+      (three (ptr_val p) (vbool y) h ∷ [])) ∷ Γ) G (‵ (holds R a p y x) ∷ ‵ (Z.own_val a (h ∷ [])) ∷ Γ) G
   shut_in t p y h a x = step (λ s. let v : Val = three (ptr_val p) (vbool y) h in
       nothing t $ move t (2 ∷ 0 ∷ []) $ fjoin t $ feq_i t (List Val) (vbool y ∷ [])
-          (vbool y ∷ []) refl $ fjoin t $ feq_i t (List Val) (ptr_val p ∷ []) (ptr_val p ∷ []) refl $ fjoin t $ feq_i t
-          (List Val) (v ∷ []) (v ∷ []) refl $ fjoin t $
+      (vbool y ∷ []) refl $ fjoin t $ feq_i t (List Val) (ptr_val p ∷ []) (ptr_val p ∷ []) refl $ fjoin t $ feq_i t
+      (List Val) (v ∷ []) (v ∷ []) refl $ fjoin t $
       fpack t (Valss (RawPtr ∷ bool ∷ heap.the_field.row ∷ []))
-          (within (shape handle.the_type) (p, (y, (heap.the_field.into a, tt))) (v ∷ []))
-          (ptr_val p ∷ [], (vbool y ∷ [], (h ∷ [], tt))) $ fjoin t $ s)
+      (within (shape handle.the_type) (p, (y, (heap.the_field.into a, tt))) (v ∷ []))
+      (ptr_val p ∷ [], (vbool y ∷ [], (h ∷ [], tt))) $ fjoin t $ s)
 
 module _ {M : Type 1} {𝓤 : Ura M} {𝓛 : Logic 𝓤} {K : Type 0} {Γ : List (Item 𝓤)} {G : Goal 𝓤 𝓛.H} where
   pub opened : K → (a : Z.Denot) (p : Ptr) (y : Bool) (x : Option R.Denot)
       → (x ≡ None → y ≡ false → Seq K 𝓛 Γ G)
       → ((b o : ℕ) (e : R.Denot) → x ≡ Some e → y ≡ true → p ≡ block_ptr b o
-          → Seq K 𝓛 (‵ (box_owns (ghosts.dealloc_token a) R (block_ptr b o) e) ∷ Γ) G)
+      → Seq K 𝓛 (‵ (box_owns (ghosts.dealloc_token a) R (block_ptr b o) e) ∷ Γ) G)
       → Seq K 𝓛 (‵ (holds R a p y x) ∷ Γ) G
   opened t a p y None none some = feq_l t (λ e. none refl e)
   opened t a p y (Some x) none some = fsplit t $ feq_l t (λ e.
       in_a_block t p (λ at. box_owns (ghosts.dealloc_token a) R at x)
-          (fst∗ 𝓤 (never 𝓤) (sem 𝓛 (ghosts.dealloc_token a (bare (lone R.mir)) null_ptr)))
-          (λ b o at. some b o x refl e at))
+      (fst∗ 𝓤 (never 𝓤) (sem 𝓛 (ghosts.dealloc_token a (bare (lone R.mir)) null_ptr)))
+      (λ b o at. some b o x refl e at))

@@ -26,18 +26,18 @@ flagged wire (suc n) within =
     let some : n ≤ length wire.bytes = omega (arith, within) in
     let byte = get_or wire.bytes n 0 in
     let more : take (suc n) wire.bytes ≡ take n wire.bytes ++ byte ∷ [] =
-        take-suc wire.bytes n 0 (omega (arith, within)) in
+    take-suc wire.bytes n 0 (omega (arith, within)) in
     let count : length (take n wire.bytes) + 0 ≡ n = let few = length-take-le n wire.bytes some in omega (arith, few) in
     let apart = given_in-append (slice_index wire.set) (take n wire.bytes) (byte ∷ []) in
     let last : given_byte (slice_index wire.set (length (take n wire.bytes) + 0)) byte ≡ byte_at wire true n =
-        ap (λ k. given_byte (slice_index wire.set k) byte) count ∙ byte_by_flag (slice_index wire.set n) byte in
+    ap (λ k. given_byte (slice_index wire.set k) byte) count ∙ byte_by_flag (slice_index wire.set n) byte in
     let next : n + 1 ≡ suc n = omega arith in
     ap (given_in (slice_index wire.set)) more ∙ apart
-        ∙ ap (λ bytes. bytes ++ given_byte (slice_index wire.set (length (take n wire.bytes) + 0)) byte ∷ [])
-        (flagged wire n some)
+    ∙ ap (λ bytes. bytes ++ given_byte (slice_index wire.set (length (take n wire.bytes) + 0)) byte ∷ [])
+    (flagged wire n some)
     ∙ ap (λ b. map (byte_at wire true) (range_with_len 0 n) ++ b ∷ []) last
-        ∙ sym (map-range_with_len_more (byte_at wire true) 0 n n (omega arith))
-        ∙ ap (λ k. map (byte_at wire true) (range_with_len 0 k)) next
+    ∙ sym (map-range_with_len_more (byte_at wire true) 0 n n (omega arith))
+    ∙ ap (λ k. map (byte_at wire true) (range_with_len 0 k)) next
 
 pub length-flagged : (wire : WireAsk) (n : ℕ) → n ≤ length wire.bytes
     → length (given_in (slice_index wire.set) (take n wire.bytes)) ≡ n
@@ -53,12 +53,12 @@ plain wire (suc n) within =
     let some : n ≤ length wire.bytes = omega (arith, within) in
     let byte = get_or wire.bytes n 0 in
     let more : take (suc n) wire.bytes ≡ take n wire.bytes ++ byte ∷ [] =
-        take-suc wire.bytes n 0 (omega (arith, within)) in
+    take-suc wire.bytes n 0 (omega (arith, within)) in
     let next : n + 1 ≡ suc n = omega arith in
     ap (map (λ byte. Some byte)) more ∙ map-append (λ byte. Some byte) (take n wire.bytes) (byte ∷ [])
-        ∙ ap (λ bytes. bytes ++ Some byte ∷ []) (plain wire n some)
+    ∙ ap (λ bytes. bytes ++ Some byte ∷ []) (plain wire n some)
     ∙ sym (map-range_with_len_more (byte_at wire false) 0 n n (omega arith))
-        ∙ ap (λ k. map (byte_at wire false) (range_with_len 0 k)) next
+    ∙ ap (λ k. map (byte_at wire false) (range_with_len 0 k)) next
 
 pub length-plain : (wire : WireAsk) (n : ℕ) → n ≤ length wire.bytes
     → length (map (λ byte. Some byte) (take n wire.bytes)) ≡ n
@@ -71,8 +71,13 @@ all_given bytes = All-map (λ b. IsSome b) (λ byte. Some byte) bytes (λ k d wi
 
 pub is_flagged : (wire : WireAsk) (op : AskOp) (n : ℕ) → IsCodeOf op wire.opcode wire.param
     → n ≡ byte_count op wire.size → n ≤ length wire.bytes → true ≡ may_leave_unset op
-    → IsAskOf wire (record { op = op; size = wire.size; source = wire.source; address = wire.address;
-        bytes = given_in (slice_index wire.set) (take n wire.bytes) })
+    → IsAskOf wire (record {
+      op = op;
+      size = wire.size;
+      source = wire.source;
+      address = wire.address;
+      bytes = given_in (slice_index wire.set) (take n wire.bytes);
+    })
 is_flagged wire op n code count within unset = record {
   code = code;
   size = refl;
@@ -84,8 +89,13 @@ is_flagged wire op n code count within unset = record {
 
 pub is_plain : (wire : WireAsk) (op : AskOp) (n : ℕ) → IsCodeOf op wire.opcode wire.param → n ≡ byte_count op wire.size
     → n ≤ length wire.bytes → false ≡ may_leave_unset op
-    → IsAskOf wire (record { op = op; size = wire.size; source = wire.source; address = wire.address;
-        bytes = map (λ byte. Some byte) (take n wire.bytes) })
+    → IsAskOf wire (record {
+      op = op;
+      size = wire.size;
+      source = wire.source;
+      address = wire.address;
+      bytes = map (λ byte. Some byte) (take n wire.bytes);
+    })
 is_plain wire op n code count within whole = record {
   code = code;
   size = refl;

@@ -3,8 +3,8 @@ ghost use Rattle.std.specs.Prelude.{◌≡◌, ◌≢◌, ◌≤◌, ◌↔◌, 
 ghost use Rattle.tl_types.specs.Wire.{IsCodeOf};
 ghost use Rattle.tl_c.specs.Wire.{IsAnswerOf, IsAskOf, IsTooLarge, NamesNone, beat_of, flag_of, link_of, reply_beat, shown_by};
 
-use check_link::{Beat, Link, Sighting};
 use crate::fault::{NO_OPERATION, OK, SIZE};
+use check_link::{Beat, Link, Sighting};
 use tl_beats::{ABeat, DBeat};
 use tl_types::{Ask, AskOp, BUS_BYTES, MAX_SIZE, Reply, read_op, reply_opcode, write_over};
 

@@ -16,7 +16,7 @@ length-entries_of (pair ∷ pairs) (place ∷ places) counted =
 pub entries_of-push : (pairs : List (Request × Response)) (places : List Place) (pair : Request × Response)
     (place : Place) → length places ≡ length pairs
     → entries_of (pairs ++ pair ∷ []) (places ++ place ∷ []) ≡ entries_of pairs places
-        ++ entry_of pair.0 pair.1 place ∷ []
+    ++ entry_of pair.0 pair.1 place ∷ []
 entries_of-push [] [] pair place counted = refl
 entries_of-push [] (other ∷ places) pair place counted = absurd (omega (arith, counted))
 entries_of-push (other ∷ pairs) [] pair place counted = absurd (omega (arith, counted))

@@ -119,7 +119,7 @@ kept_bytes true bytes old new start count counted whole kept =
 kept_bytes false bytes old new start count counted whole kept =
     let plain : length (plain_of bytes) ≡ count = length-map bytes (λ byte. unwrap_or byte 0) ∙ counted in
     ap (map (λ byte. Some byte)) (plain_kept (plain_of bytes) old new start count plain kept)
-        ∙ some_plain bytes (whole refl)
+    ∙ some_plain bytes (whole refl)
 
 kept_within : (partial : Bool) (bytes : List (Option ℕ)) (old new : PoolsView) (start count : ℕ) → length bytes ≡ count
     → IsKept partial bytes old new start → start + count ≤ pool_len new partial
@@ -132,10 +132,10 @@ kept_within false bytes old new start count counted kept =
 pub sent_in : (ask : Request) (old new : PoolsView) (start : ℕ) → IsLawfulRequest ask.op ask.size ask.bytes
     → IsKept (may_leave_unset ask.op) ask.bytes old new start
     → AreIn new ask.op ask.size start × (bytes_in new (may_leave_unset ask.op) start
-        (byte_count ask.op ask.size) ≡ ask.bytes)
+    (byte_count ask.op ask.size) ≡ ask.bytes)
 sent_in ask old new start lawful kept =
     let is = kept_bytes (may_leave_unset ask.op) ask.bytes old new start
-        (byte_count ask.op ask.size) lawful.counted lawful.whole kept in (
+    (byte_count ask.op ask.size) lawful.counted lawful.whole kept in (
       record {
         within = kept_within (may_leave_unset ask.op) ask.bytes old new start
             (byte_count ask.op ask.size) lawful.counted kept;
@@ -188,14 +188,23 @@ pub record Takes (old new : PoolsView) (header : Header) (entry : Request × Res
 pub takes_entry : (source : ℕ) (ask : Request) (reply : Response) (old middle new : PoolsView) (start answer_start : ℕ)
     → IsLawfulRequest ask.op ask.size ask.bytes → IsLawfulResponse reply.op reply.size reply.denied reply.bytes
     → IsKept (may_leave_unset ask.op) ask.bytes old middle start → IsPlainKept reply.bytes middle new answer_start
-    → Takes old new (record { op = ask.op; size = ask.size; answer = reply.op; answer_size = reply.size;
-        denied = reply.denied; source = source; address = ask.address; start = start; answer_start = answer_start })
-        (record ask { source = source }, record reply { source = source })
+    → Takes old new (record {
+      op = ask.op;
+      size = ask.size;
+      answer = reply.op;
+      answer_size = reply.size;
+      denied = reply.denied;
+      source = source;
+      address = ask.address;
+      start = start;
+      answer_start = answer_start;
+    })
+    (record ask { source = source }, record reply { source = source })
 takes_entry source ask reply old middle new start answer_start lawful answered kept told_kept =
     let grow = grow_plain reply.bytes middle new answer_start told_kept in
     let sent = sent_in ask old middle start lawful kept in
     let told = plain_kept reply.bytes middle new answer_start
-        (reply_byte_count reply.op reply.size) answered.counted told_kept in
+    (reply_byte_count reply.op reply.size) answered.counted told_kept in
     record {
       grow = grow_both old middle new (grow_kept (may_leave_unset ask.op) ask.bytes old middle start kept) grow;
       stands = record {
@@ -204,8 +213,11 @@ takes_entry source ask reply old middle new start answer_start lawful answered k
             (reply_byte_count reply.op reply.size) answered.counted told_kept;
         lawful = rw told answered;
       };
-      is = rw (bytes_in-grow (may_leave_unset ask.op) start (byte_count ask.op ask.size) middle new sent.0.within grow,
-          sent.1, told) refl;
+      is = rw (
+        bytes_in-grow (may_leave_unset ask.op) start (byte_count ask.op ask.size) middle new sent.0.within grow,
+        sent.1,
+        told,
+      ) refl;
     }
 
 pub pushed_entries : (headers : List Header) (header : Header) (entry : Request × Response) (old new : PoolsView)
@@ -213,8 +225,8 @@ pub pushed_entries : (headers : List Header) (header : Header) (entry : Request 
     → map (entry_in new) (headers ++ header ∷ []) ≡ map (entry_in old) headers ++ entry ∷ []
 pushed_entries headers header entry old new takes was =
     map-append (entry_in new) headers (header ∷ [])
-        ∙ ap (λ (entries : List (Request × Response)). entries ++ entry_in new header ∷ [])
-        (entries-grow headers old new takes.grow was)
+    ∙ ap (λ (entries : List (Request × Response)). entries ++ entry_in new header ∷ [])
+    (entries-grow headers old new takes.grow was)
     ∙ ap (λ (e : Request × Response). map (entry_in old) headers ++ e ∷ []) takes.is
 
 pub pushed_in : (headers : List Header) (header : Header) (entry : Request × Response) (old new : PoolsView)

@@ -38,24 +38,60 @@ pub reply_fits : (partial : Bool) (bytes : List (Option ℕ)) (old new : PoolsVi
 reply_fits true bytes old new start left count has few told kept room =
     omega (arith, has.whole, few, told, ap length kept.0, room.0)
 reply_fits false bytes old new start left count has few told kept room =
-    omega (arith, has.whole, few, told, ap length kept.0, length-append old.whole (plain_of bytes),
-        length-map bytes (λ byte. unwrap_or byte 0), room.0)
+    omega (
+      arith,
+      has.whole,
+      few,
+      told,
+      ap length kept.0,
+      length-append old.whole (plain_of bytes),
+      length-map bytes (λ byte. unwrap_or byte 0),
+      room.0,
+    )
 
 -- what is left is room for the others
 pub left_fits : (partial : Bool) (bytes : List (Option ℕ)) (told : List ℕ) (old middle new : PoolsView)
     (start answer_start left : ℕ) → HasRoom old (suc left)
     → length bytes ≤ MAX_BYTES → length told ≤ MAX_BYTES
     → IsKept partial bytes old middle start → KeepsRoom old middle → IsPlainKept told middle new answer_start
-        → KeepsRoom middle new → HasRoom new left
+    → KeepsRoom middle new → HasRoom new left
 left_fits true bytes told old middle new start answer_start left has few few' kept room kept' room' = record {
-  whole = omega (arith, has.whole, few, few', ap length kept.0, ap length kept'.0, length-append middle.whole told,
-      room.0, room'.0);
-  partial = omega (arith, has.partial, few, ap length kept.1, ap length kept'.1, length-append old.partial bytes,
-      room.1, room'.1);
+  whole = omega (
+    arith,
+    has.whole,
+    few,
+    few',
+    ap length kept.0,
+    ap length kept'.0,
+    length-append middle.whole told,
+    room.0,
+    room'.0,
+  );
+  partial = omega (
+    arith,
+    has.partial,
+    few,
+    ap length kept.1,
+    ap length kept'.1,
+    length-append old.partial bytes,
+    room.1,
+    room'.1,
+  );
 }
 left_fits false bytes told old middle new start answer_start left has few few' kept room kept' room' = record {
-  whole = omega (arith, has.whole, few, few', ap length kept.0, length-append old.whole (plain_of bytes),
-      length-map bytes (λ byte. unwrap_or byte 0), ap length kept'.0, length-append middle.whole told, room.0, room'.0);
+  whole = omega (
+    arith,
+    has.whole,
+    few,
+    few',
+    ap length kept.0,
+    length-append old.whole (plain_of bytes),
+    length-map bytes (λ byte. unwrap_or byte 0),
+    ap length kept'.0,
+    length-append middle.whole told,
+    room.0,
+    room'.0,
+  );
   partial = omega (arith, has.partial, ap length kept.1, ap length kept'.1, room.1, room'.1);
 }
 

@@ -58,9 +58,10 @@ wide_at None source = 0
 wide_at (Some kept) source = kept.start + source
 
 pub has_wides : (blocks : List Kept) → ArePlaced (counts_of blocks) blocks → HasWides (counts_of blocks)
-has_wides blocks placed =
-    (λ master source. wide_at (slice_get blocks master) source,
-    λ master source wide wides. go master source wide wides (slice_get blocks master) refl)
+has_wides blocks placed = (
+  λ master source. wide_at (slice_get blocks master) source,
+  λ master source wide wides. go master source wide wides (slice_get blocks master) refl,
+)
   where
     go : (master source wide : ℕ) → IsWide (counts_of blocks) master source wide → (o : Option Kept)
         → slice_get blocks master ≡ o → wide_at o source ≡ wide

@@ -21,9 +21,9 @@ module _ (words : List ℕ) (source word : ℕ) (within : source / 64 < length w
       ap (λ (k : ℕ). bit_at (get_or (set words (source / 64) word) k 0) (other % 64)) same
       ∙ (ap (λ (n : ℕ). bit_at n (other % 64)) (get_or-set_same words (source / 64) word 0 within)
       ∙ (kept (other % 64) (omega arith) (λ at. differs (omega arith))
-          ∙ ap (λ (k : ℕ). bit_at (get_or words k 0) (other % 64)) (sym same))))
+      ∙ ap (λ (k : ℕ). bit_at (get_or words k 0) (other % 64)) (sym same))))
       (λ (apart : other / 64 ≢ source / 64). ap (λ (n : ℕ). bit_at n (other % 64))
-          (get_or-set_other words (source / 64) (other / 64) word 0 apart))
+      (get_or-set_other words (source / 64) (other / 64) word 0 apart))
       (cases_eq (other / 64) (source / 64))
 
 module _ (words : List ℕ) (source : ℕ) (within : source / 64 < length words) where
@@ -62,7 +62,7 @@ none_left word from empty bit at =
     let moved = shifted word from (bit - from) in
     let e : from + (bit - from) ≡ bit = omega arith in
     ap (λ (k : ℕ). bit_at word k) (sym e) ∙ (sym moved
-        ∙ (ap (λ (n : ℕ). bit_at n (bit - from)) empty ∙ bit_at-zero (bit - from)))
+    ∙ (ap (λ (n : ℕ). bit_at n (bit - from)) empty ∙ bit_at-zero (bit - from)))
 
 -- the lowest bit of what is left
 pub lowest_left : (word from : ℕ) → word < 2 ^ 64 → word / 2 ^ from ≢ 0
@@ -72,18 +72,18 @@ lowest_left word from fits some =
     let less = shr_le word from in
     let lowest = bit_at-trailing_zeros w64 rest (omega arith) (omega arith) in
     let at : bit_at word (from + trailing_zeros w64 rest) ≡ 1 =
-        sym (shifted word from (trailing_zeros w64 rest)) ∙ lowest.1 in
+    sym (shifted word from (trailing_zeros w64 rest)) ∙ lowest.1 in
     record {
       in_word = ⊎_elim (λ (below : from + trailing_zeros w64 rest < 64). below)
           (λ (above : 64 ≤ from + trailing_zeros w64 rest). absurd
-              (let none = bit_at_above word 64 (from + trailing_zeros w64 rest) fits above in omega arith))
+          (let none = bit_at_above word 64 (from + trailing_zeros w64 rest) fits above in omega arith))
           (cases_lt (from + trailing_zeros w64 rest) 64);
       not_below = omega arith;
       set = at;
       lowest = λ other after before.
           let e : from + (other - from) ≡ other = omega arith in
           ap (λ (k : ℕ). bit_at word k) (sym e) ∙ (sym (shifted word from (other - from))
-              ∙ lowest.2 (other - from) (omega arith));
+          ∙ lowest.2 (other - from) (omega arith));
     }
 
 -- ---- the lowest source of a set
@@ -111,7 +111,7 @@ found_in_word words from start bit after inside none found =
           (let e : (start / 64 * 64 + bit) % 64 ≡ bit = omega arith in e) ∙ found.set);
       lowest = λ other above below. ⊎_elim (λ (earlier : other < start). none other above earlier)
           (λ (later : start ≤ other). in_this_word words (start / 64) other (omega arith)
-              ∙ found.lowest (other % 64) (omega arith) (omega arith))
+          ∙ found.lowest (other % 64) (omega arith) (omega arith))
           (cases_lt other start);
     }
 

@@ -27,8 +27,8 @@ busy_set words now out s x was lt here else = record {
   known = let k = was.known in let same = length-set out s x in omega arith;
   each = λ z. ⊎_elim
       (λ (e : z ≡ s). ap (λ (k : ℕ). source_bit now k) e
-          ∙ (here ∙ sym (ap (λ (k : ℕ). shown (ticket_at (slice_set out s x) k)) e
-          ∙ ap shown (get_or-set_same out s x None lt))))
+      ∙ (here ∙ sym (ap (λ (k : ℕ). shown (ticket_at (slice_set out s x) k)) e
+      ∙ ap shown (get_or-set_same out s x None lt))))
       (λ (ne : z ≢ s). else z ne ∙ (was.each z ∙ ap shown (sym (get_or-set_other out s z x None ne))))
       (cases_eq z s);
 }

@@ -40,7 +40,7 @@ module _ (v : MasterView) (t : TicketView) (lt : t.slot < length v.hand) where
       let none : bit (is_held (get_or v.hand t.slot Nothing)) ≡ 0 = ap (λ (h : Held). bit (is_held h)) free in
       let second = held_set (set v.hand t.slot Filled) [] t.slot (Sent t.ask t.port t.known) long in
       let one : bit (is_held (get_or (set v.hand t.slot Filled) t.slot Nothing)) ≡ 1 =
-          ap (λ (h : Held). bit (is_held h)) (get_or-set_same v.hand t.slot Filled Nothing lt) in
+      ap (λ (h : Held). bit (is_held h)) (get_or-set_same v.hand t.slot Filled Nothing lt) in
       omega arith
 
 -- a slot less: it had what was sent, and its reply was taken
@@ -52,7 +52,7 @@ released_owned hand i p lt held =
     let same = length-set hand i (Taken p) in
     let second = held_set (set hand i (Taken p)) [] i Nothing (omega arith) in
     let one : bit (is_held (get_or (set hand i (Taken p)) i Nothing)) ≡ 1 =
-        ap (λ (h : Held). bit (is_held h)) (get_or-set_same hand i (Taken p) Nothing lt) in
+    ap (λ (h : Held). bit (is_held h)) (get_or-set_same hand i (Taken p) Nothing lt) in
     omega arith
 
 -- ---- what is out

@@ -36,7 +36,7 @@ module _ (m : MasterState) (start count : ℕ) (kept : IsKeptMaster m start coun
       let b = kept.out_sent z u second in
       let there : hand_at m.seat t.slot ≡ Sent u.ask u.port u.known = ap (λ (i : ℕ). hand_at m.seat i) same ∙ b.sent in
       let ask = ap (λ (q : Request). q.source)
-          (same_ask t.ask u.ask t.port u.port t.known u.known (sym a.sent ∙ there)) in
+      (same_ask t.ask u.ask t.port u.port t.known u.known (sym a.sent ∙ there)) in
       let mine = a.ask_source in
       let other = b.ask_source in
       omega arith
@@ -59,27 +59,27 @@ module _ (m : MasterState) (start count : ℕ) (kept : IsKeptMaster m start coun
       → IsIdleSource (with_held m.seat i Filled) (start + s)
   unsent s i idle free lt j p known ask sent same = dite (ℕ_discrete j i)
       (λ e. let here : hand_at (with_held m.seat i Filled) j ≡ Filled =
-          ap (λ (k : ℕ). hand_at (with_held m.seat i Filled) k) e ∙ get_or-set_same m.seat.hand i Filled Nothing lt in
-          absurd (let clash : Filled ≡ Sent ask p known = sym here ∙ sent in cc))
+      ap (λ (k : ℕ). hand_at (with_held m.seat i Filled) k) e ∙ get_or-set_same m.seat.hand i Filled Nothing lt in
+      absurd (let clash : Filled ≡ Sent ask p known = sym here ∙ sent in cc))
       (λ ne.
       let was : hand_at m.seat j ≡ Sent ask p known = sym (get_or-set_other m.seat.hand i j Filled Nothing ne) ∙ sent in
       let of_it = kept.sent_out j p known ask was in
       let out = kept.out_sent of_it.source of_it.ticket of_it.out in
       let there : hand_at m.seat j ≡ Sent of_it.ticket.ask of_it.ticket.port of_it.ticket.known =
-          ap (λ (k : ℕ). hand_at m.seat k) (sym of_it.here) ∙ out.sent in
+      ap (λ (k : ℕ). hand_at m.seat k) (sym of_it.here) ∙ out.sent in
       let one = ap (λ (q : Request). q.source)
-          (same_ask ask of_it.ticket.ask p of_it.ticket.port known of_it.ticket.known (sym was ∙ there)) in
+      (same_ask ask of_it.ticket.ask p of_it.ticket.port known of_it.ticket.known (sym was ∙ there)) in
       let mine = out.ask_source in
       let source : s ≡ of_it.source = omega arith in
       absurd (let clash : None ≡ Some of_it.ticket = sym idle
-          ∙ (ap (λ (k : ℕ). ticket_at m.out k) source ∙ of_it.out) in cc))
+      ∙ (ap (λ (k : ℕ). ticket_at m.out k) source ∙ of_it.out) in cc))
 
 -- ---- a request more
 
 pub sends_kept : (m : MasterState) (start count s : ℕ) (t : TicketView) → IsKeptMaster m start count → s < length m.out
     → ticket_at m.out s ≡ None → hand_at m.seat t.slot ≡ Nothing
     → t.slot < length m.seat.hand → t.ask.source ≡ start + s → t.known ≡ length m.trace
-        → length m.trace + count ≢ m.limit → IsKeptMaster (with_out m s t) start (count + 1)
+    → length m.trace + count ≢ m.limit → IsKeptMaster (with_out m s t) start (count + 1)
 sends_kept m start count s t kept within idle free lt source known room =
     let n : MasterState = with_out m s t in
     let long : length n.out ≡ length m.out = length-set m.out s (Some t) in
@@ -117,17 +117,23 @@ sends_kept m start count s t kept within idle free lt source known room =
       still_sent z u is = dite (ℕ_discrete z s)
           (λ e.
           let same : t ≡ u = (let both : Some t ≡ Some u = sym here
-              ∙ (ap (λ (k : ℕ). ticket_at n.out k) (sym e) ∙ is) in cc) in
+          ∙ (ap (λ (k : ℕ). ticket_at n.out k) (sym e) ∙ is) in cc) in
           subst (λ (w : TicketView). IsOut n start z w) same
-              (record { sent = posted_here m.seat t lt; ask_source = source ∙ ap (λ (k : ℕ). start + k) (sym e);
-              since = λ j d after at. subst (λ (k : ℕ). d.ask.source ≢ k) (sym e) (late j d after at) }))
+          (record {
+            sent = posted_here m.seat t lt;
+            ask_source = source ∙ ap (λ (k : ℕ). start + k) (sym e);
+            since = λ j d after at. subst (λ (k : ℕ). d.ask.source ≢ k) (sym e) (late j d after at);
+          }))
           (λ ne.
           let was = kept.out_sent z u (sym (else z ne) ∙ is) in
           let other : u.slot ≢ t.slot =
-              (λ same. let clash : Nothing ≡ Sent u.ask u.port u.known = sym free
-              ∙ (ap (λ (i : ℕ). hand_at m.seat i) (sym same) ∙ was.sent) in absurd (cc)) in
-          record { sent = posted_else m.seat t lt u.slot other ∙ was.sent; ask_source = was.ask_source;
-              since = was.since })
+          (λ same. let clash : Nothing ≡ Sent u.ask u.port u.known = sym free
+          ∙ (ap (λ (i : ℕ). hand_at m.seat i) (sym same) ∙ was.sent) in absurd (cc)) in
+          record {
+            sent = posted_else m.seat t lt u.slot other ∙ was.sent;
+            ask_source = was.ask_source;
+            since = was.since;
+          })
 
       still_out : (i p since : ℕ) (ask : Request) → hand_at n.seat i ≡ Sent ask p since → IsOfSource n i
       still_out i p since ask is = dite (ℕ_discrete i t.slot)
@@ -135,8 +141,8 @@ sends_kept m start count s t kept within idle free lt source known room =
           (λ ne.
           let was = kept.sent_out i p since ask (sym (posted_else m.seat t lt i ne) ∙ is) in
           let other : was.source ≢ s =
-              (λ same. let clash : None ≡ Some was.ticket = sym idle
-              ∙ (ap (λ (k : ℕ). ticket_at m.out k) (sym same) ∙ was.out) in absurd (cc)) in
+          (λ same. let clash : None ≡ Some was.ticket = sym idle
+          ∙ (ap (λ (k : ℕ). ticket_at m.out k) (sym same) ∙ was.out) in absurd (cc)) in
           record { source = was.source; ticket = was.ticket; out = else was.source other ∙ was.out; here = was.here })
 
 -- ---- a reply more
@@ -145,8 +151,12 @@ sends_kept m start count s t kept within idle free lt source known room =
 widened_back : (start s : ℕ) (e : Entry) → e.ask.source ≡ start + s → e.reply.source ≡ start + s
     → widened start (entry_from s e) ≡ e
 widened_back start s e ask reply =
-    ap (λ (k : ℕ). record { ask = ask_from k e.ask; reply = reply_to (start + s) e.reply; port = e.port;
-        index = e.index }) (sym ask)
+    ap (λ (k : ℕ). record {
+      ask = ask_from k e.ask;
+      reply = reply_to (start + s) e.reply;
+      port = e.port;
+      index = e.index;
+    }) (sym ask)
     ∙ ap (λ (k : ℕ). record { ask = e.ask; reply = reply_to k e.reply; port = e.port; index = e.index }) (sym reply)
 
 -- an entry more whose index is above all that were collected of its source and port
@@ -157,16 +167,16 @@ in_order_more es e order above j k d f before first second source port = ⊎_eli
     (λ (old : slice_get es k ≡ Some f).
     let inside = slice_get_within es k f old in
     order j k d f before (⊎_elim (λ (was : slice_get es j ≡ Some d). was)
-        (λ (last : (j ≡ length es) × (e ≡ d)). absurd (let at = last.0 in omega arith))
-        (slice_get-push es e d j first)) old source port)
+    (λ (last : (j ≡ length es) × (e ≡ d)). absurd (let at = last.0 in omega arith))
+    (slice_get-push es e d j first)) old source port)
     (λ (last : (k ≡ length es) × (e ≡ f)).
     let at = last.0 in
     let earlier = ⊎_elim (λ (was : slice_get es j ≡ Some d). was)
-        (λ (end : (j ≡ length es) × (e ≡ d)). absurd (let there = end.0 in omega arith))
-        (slice_get-push es e d j first) in
+    (λ (end : (j ≡ length es) × (e ≡ d)). absurd (let there = end.0 in omega arith))
+    (slice_get-push es e d j first) in
     let same = ap (λ (x : Entry). x.index) last.1 in
     let less = above j d earlier (source ∙ sym (ap (λ (x : Entry). x.ask.source) last.1))
-        (port ∙ sym (ap (λ (x : Entry). x.port) last.1)) in
+    (port ∙ sym (ap (λ (x : Entry). x.port) last.1)) in
     omega arith)
     (slice_get-push es e f k second)
 
@@ -232,7 +242,7 @@ collects_kept m start count s t r v kept is got =
       released : owned_of (with_held v r.slot Nothing) + 1 ≡ owned_of m.seat
       released =
           let held : is_held (get_or m.seat.hand r.slot Nothing) ≡ true =
-              ap is_held (ap (λ (i : ℕ). hand_at m.seat i) got.slot ∙ sent.sent) in
+          ap is_held (ap (λ (i : ℕ). hand_at m.seat i) got.slot ∙ sent.sent) in
           let count = released_owned m.seat.hand r.slot r.port slot_in held in
           let same = ap (λ (h : List Held). count_by is_held h) hand in
           omega arith
@@ -256,11 +266,11 @@ collects_kept m start count s t r v kept is got =
       still_sent : (z : ℕ) (u : TicketView) → ticket_at n.out z ≡ Some u → IsOut n start z u
       still_sent z u at =
           let ne : z ≢ s = (λ e. let clash : None ≡ Some u = sym none_here
-              ∙ (ap (λ (k : ℕ). ticket_at n.out k) (sym e) ∙ at) in absurd (cc)) in
+          ∙ (ap (λ (k : ℕ). ticket_at n.out k) (sym e) ∙ at) in absurd (cc)) in
           let was_at : ticket_at m.out z ≡ Some u = sym (else z ne) ∙ at in
           let was = kept.out_sent z u was_at in
           let other : u.slot ≢ r.slot =
-              (λ same. ne (one_source m start count kept z s u t was_at is (same ∙ got.slot))) in
+          (λ same. ne (one_source m start count kept z s u t was_at is (same ∙ got.slot))) in
           record {
             sent = hand_at_else u.slot other ∙ was.sent;
             ask_source = was.ask_source;
@@ -272,13 +282,13 @@ collects_kept m start count s t r v kept is got =
       still_out : (i p since : ℕ) (ask : Request) → hand_at n.seat i ≡ Sent ask p since → IsOfSource n i
       still_out i p since ask at =
           let ne : i ≢ r.slot =
-              (λ e. let clash : Nothing ≡ Sent ask p since = sym hand_at_here
-              ∙ (ap (λ (k : ℕ). hand_at n.seat k) (sym e) ∙ at) in absurd (cc)) in
+          (λ e. let clash : Nothing ≡ Sent ask p since = sym hand_at_here
+          ∙ (ap (λ (k : ℕ). hand_at n.seat k) (sym e) ∙ at) in absurd (cc)) in
           let was = kept.sent_out i p since ask (sym (hand_at_else i ne) ∙ at) in
           let other : was.source ≢ s =
-              (λ e. let same : t ≡ was.ticket = (let both : Some t ≡ Some was.ticket = sym is
-              ∙ (ap (λ (k : ℕ). ticket_at m.out k) (sym e) ∙ was.out) in cc) in
-              ne (sym was.here ∙ (ap (λ (x : TicketView). x.slot) (sym same) ∙ sym got.slot))) in
+          (λ e. let same : t ≡ was.ticket = (let both : Some t ≡ Some was.ticket = sym is
+          ∙ (ap (λ (k : ℕ). ticket_at m.out k) (sym e) ∙ was.out) in cc) in
+          ne (sym was.here ∙ (ap (λ (x : TicketView). x.slot) (sym same) ∙ sym got.slot))) in
           record { source = was.source; ticket = was.ticket; out = else was.source other ∙ was.out; here = was.here }
 
       above : (j : ℕ) (d : Entry) → slice_get m.trace j ≡ Some d → d.ask.source ≡ s → d.port ≡ r.port

@@ -18,7 +18,7 @@ count_found (x ∷ xs) (suc master) = count_found xs master
 pub all_wide : (counts : List ℕ) (master : ℕ) (o w : Option ℕ) → o ≡ slice_get counts master
     → (IsSomeAnd (slice_get counts master) (λ count. 0 < count) → IsSome w)
     → ((x : ℕ) → (w ≡ Some x) ↔ IsWide counts master 0 x) → (s : ℕ) → s < unwrap_or o 0
-        → IsWide counts master s (unwrap_or w 0 + s)
+    → IsWide counts master s (unwrap_or w 0 + s)
 all_wide counts master None w is has wides s below = absurd (omega arith)
 all_wide counts master (Some count) None is has wides s below = let none = has (rw (← is) (omega arith)) in absurd cc
 all_wide counts master (Some count) (Some x) is has wides s below =
@@ -45,12 +45,12 @@ none_at (suc n) (suc s) = none_at n s
 pub new_kept : (m : MasterState) (start count : ℕ) → owned_of m.seat ≡ 0 → m.seat.got ≡ []
     → m.out ≡ replicate count None → m.trace ≡ [] → count ≡ count_of m.seat.arena.about.counts m.seat.number
     → ((s : ℕ) → s < count → IsWide m.seat.arena.about.counts m.seat.number s (start + s)) → start + count ≤ 2 ^ 16
-        → IsKeptMaster m start 0
+    → IsKeptMaster m start 0
 new_kept m start count owned got out trace sources wide fits =
     let many : length m.out ≡ count = ap length out ∙ length-replicate count None in
     let no_entry : (j : ℕ) (e : Entry) → slice_get m.trace j ≡ Some e → ⊥ =
-        λ j e at. let none : slice_get [] j ≡ Some e = subst (λ (es : List Entry). slice_get es j ≡ Some e) trace at in
-        cc in
+    λ j e at. let none : slice_get [] j ≡ Some e = subst (λ (es : List Entry). slice_get es j ≡ Some e) trace at in
+    cc in
     record {
       sources = many ∙ sources;
       wide = λ s below. wide s (omega arith);

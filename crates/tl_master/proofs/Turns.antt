@@ -13,7 +13,7 @@ use Rattle.tl_master.proofs.Keeping.{above_trace, got_long, sends_kept, collects
 pub same_state : (v w : MasterView) (o p : List (Option TicketView)) (es fs : List Entry) (k l : ℕ) → v ≡ w → o ≡ p
     → es ≡ fs → k ≡ l
     → ◌≡◌ {A = MasterState} (record { seat = v; out = o; trace = es; limit = k })
-        (record { seat = w; out = p; trace = fs; limit = l })
+    (record { seat = w; out = p; trace = fs; limit = l })
 same_state v w o p es fs k l seat out trace limit = cc
 
 -- a poll that finds no reply leaves all as it was
@@ -29,24 +29,24 @@ stays m n s x t back was taken same seat out trace limit =
 pub collects_on : (m n : MasterState) (start count s : ℕ) (t : TicketView) (e : Entry) → IsKeptMaster m start count
     → ticket_at m.out s ≡ Some t → IsReply m.seat t s e n.seat
     → n.out ≡ slice_set m.out s None → n.trace ≡ m.trace ++ e ∷ [] → n.limit ≡ m.limit
-        → IsKeptMaster n start (count - 1)
+    → IsKeptMaster n start (count - 1)
 collects_on m n start count s t e kept was reply out trace limit =
     let r = reply.served in
     let is : n ≡ with_entry m s (with_held reply.taken r.slot Nothing) (entry_from s (entry_of r)) =
     same_state n.seat _ n.out _ n.trace _ n.limit _ reply.seat out
-        (trace ∙ ap (λ (x : Entry). m.trace ++ x ∷ []) reply.entry) limit in
+    (trace ∙ ap (λ (x : Entry). m.trace ++ x ∷ []) reply.entry) limit in
     subst (λ (x : MasterState). IsKeptMaster x start (count - 1)) (sym is)
-        (collects_kept m start count s t r reply.taken kept was reply.collected)
+    (collects_kept m start count s t r reply.taken kept was reply.collected)
 
 -- what a poll collects, and what was collected when it was issued
 pub collects_one : (m n : MasterState) (start count s place : ℕ) (t : TicketView) (e : Entry)
     → IsKeptMaster m start count → ticket_at m.out s ≡ Some t → IsReply m.seat t s e n.seat
     → place ≡ length m.trace → n.out ≡ slice_set m.out s None → n.trace ≡ m.trace ++ e ∷ [] → n.limit ≡ m.limit
-        → CollectsOne m s place n
+    → CollectsOne m s place n
 collects_one m n start count s place t e kept was reply at out trace limit =
     let got = reply.collected in
     let above : Above m.trace t.known reply.served.port reply.served.index =
-        above_trace m start count kept t.known reply.served.port reply.served.index got.above in
+    above_trace m start count kept t.known reply.served.port reply.served.index got.above in
     record {
       ticket = t;
       was = was;
@@ -60,16 +60,16 @@ collects_one m n start count s place t e kept was reply at out trace limit =
 pub sends_on : (m n : MasterState) (start count s i : ℕ) (t : TicketView) (v : MasterView) → IsKeptMaster m start count
     → s < length m.out → ticket_at m.out s ≡ None → length m.trace + count ≢ m.limit
     → i < length m.seat.hand → hand_at m.seat i ≡ Nothing → v ≡ with_held m.seat i Filled → t.slot ≡ i
-        → t.ask.source ≡ start + s → t.known ≡ length v.got
+    → t.ask.source ≡ start + s → t.known ≡ length v.got
     → n.seat ≡ with_held v i (Sent t.ask t.port t.known) → n.out ≡ slice_set m.out s (Some t) → n.trace ≡ m.trace
-        → n.limit ≡ m.limit → IsKeptMaster n start (count + 1)
+    → n.limit ≡ m.limit → IsKeptMaster n start (count + 1)
 sends_on m n start count s i t v kept within idle room lt free claimed from source known seat out trace limit =
     let posted : n.seat ≡ with_posted m.seat t = seat
     ∙ (ap (λ (w : MasterView). with_held w i (Sent t.ask t.port t.known)) claimed
-        ∙ ap (λ (k : ℕ). with_held (with_held m.seat k Filled) k (Sent t.ask t.port t.known)) (sym from)) in
+    ∙ ap (λ (k : ℕ). with_held (with_held m.seat k Filled) k (Sent t.ask t.port t.known)) (sym from)) in
     let is : n ≡ with_out m s t = same_state n.seat _ n.out _ n.trace _ n.limit _ posted out trace limit in
     let many : t.known ≡ length m.trace =
-        known ∙ (ap (λ (w : MasterView). length w.got) claimed ∙ got_long m start count kept) in
+    known ∙ (ap (λ (w : MasterView). length w.got) claimed ∙ got_long m start count kept) in
     subst (λ (x : MasterState). IsKeptMaster x start (count + 1)) (sym is)
     (sends_kept m start count s t kept within idle (ap (λ (k : ℕ). hand_at m.seat k) from ∙ free)
-        (subst (λ (k : ℕ). k < length m.seat.hand) (sym from) lt) source many room)
+    (subst (λ (k : ℕ). k < length m.seat.hand) (sym from) lt) source many room)

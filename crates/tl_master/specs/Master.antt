@@ -19,8 +19,12 @@ abbrev pub count_of : List ℕ → ℕ → ℕ
 count_of counts master = slice_index_or counts master 0
 
 abbrev pub new_state : MasterView → ℕ → MasterState
-new_state v limit = record { seat = v; out = replicate (count_of v.arena.about.counts v.number) None; trace = [];
-    limit = limit }
+new_state v limit = record {
+  seat = v;
+  out = replicate (count_of v.arena.about.counts v.number) None;
+  trace = [];
+  limit = limit;
+}
 
 -- what is out for the source
 abbrev pub ticket_at : List (Option TicketView) → ℕ → Option TicketView

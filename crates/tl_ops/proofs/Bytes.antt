@@ -75,5 +75,5 @@ pub low_bytes-mod_word : (n x : ℕ) → n ≤ 8 → low_bytes n (x % 2 ^ 64) �
 low_bytes-mod_word n x fits =
     let e : 64 ≡ (64 - 8 * n) + 8 * n = omega arith in
     let low : x % 2 ^ 64 % 2 ^ (8 * n) ≡ x % 2 ^ (8 * n) =
-        ap (λ k. x % 2 ^ k % 2 ^ (8 * n)) e ∙ mod-mod-pow x (64 - 8 * n) (8 * n) in
+    ap (λ k. x % 2 ^ k % 2 ^ (8 * n)) e ∙ mod-mod-pow x (64 - 8 * n) (8 * n) in
     sym (low_bytes-mod n (x % 2 ^ 64)) ∙ ap (low_bytes n) low ∙ low_bytes-mod n x

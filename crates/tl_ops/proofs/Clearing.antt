@@ -34,5 +34,5 @@ low_bytes-cleared n old ones fits below =
     let most : 2 ^ (8 * n) ≤ 2 ^ 64 = pow-le-pow_right (lit≤ tt) bits in
     low_bytes-and n old (2 ^ 64 - 1 - ones)
     ∙ ap (λ bytes. map (λ (p : ℕ × ℕ). bit_and p.0 p.1) (zip (low_bytes n old) bytes))
-        (low_bytes-not n 8 ones fits (omega (arith, most, below)))
+    (low_bytes-not n 8 ones fits (omega (arith, most, below)))
     ∙ zip-map not_byte (low_bytes n old) (low_bytes n ones)

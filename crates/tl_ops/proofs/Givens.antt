@@ -13,11 +13,11 @@ use Rattle.tl_ops.specs.Cell.{keep_of}
 -- a byte below the bytes that were gathered
 pub byte_below : (cell byte n : ℕ) → byte < 256 → cell < 2 ^ (8 * n) → n < 8
     → (low_bytes (suc n) (bit_or (cell * 256 % 2 ^ 64) byte) ≡ byte ∷ low_bytes n cell)
-        × (bit_or (cell * 256 % 2 ^ 64) byte < 2 ^ (8 * suc n))
+    × (bit_or (cell * 256 % 2 ^ 64) byte < 2 ^ (8 * suc n))
 byte_below cell byte n small fits room =
     let whole : cell * 256 % 2 ^ 64 ≡ cell * 256 = shl_whole cell (8 * n) 8 64 fits (omega arith) in
     let joined : bit_or (cell * 256 % 2 ^ 64) byte ≡ cell * 256 + byte =
-        ap (λ x. bit_or x byte) whole ∙ or_shifted cell 8 byte small in
+    ap (λ x. bit_or x byte) whole ∙ or_shifted cell 8 byte small in
     let low : (cell * 256 + byte) % 256 ≡ byte = omega (arith, small) in
     let high : (cell * 256 + byte) / 256 ≡ cell = omega (arith, small) in
     let more : 2 ^ (8 * suc n) ≡ 2 ^ (8 * n) * 256 = ap (λ k. 2 ^ k) (omega arith) ∙ pow-add 2 (8 * n) 8 in
@@ -26,7 +26,7 @@ byte_below cell byte n small fits room =
 -- a byte that is not given stays, and one that is given replaces the old one
 pub merged_by_masks : (given : List (Option ℕ)) (old : ℕ)
     → map (λ (p : ℕ × ℕ). bit_or p.0 p.1) (zip
-        (map (λ (p : ℕ × ℕ). bit_and p.0 p.1) (zip (low_bytes (length given) old) (keep_of given))) (operand_of given))
+    (map (λ (p : ℕ × ℕ). bit_and p.0 p.1) (zip (low_bytes (length given) old) (keep_of given))) (operand_of given))
     ≡ merged (low_bytes (length given) old) given
 merged_by_masks [] old = refl
 merged_by_masks (None ∷ given) old =
@@ -34,7 +34,7 @@ merged_by_masks (None ∷ given) old =
     rw (kept, merged_by_masks given (old / 256)) refl
 merged_by_masks (Some byte ∷ given) old =
     let replaced : bit_or (bit_and (old % 256) 0) byte ≡ byte =
-        ap (λ n. bit_or n byte) (and_zero_r (old % 256)) ∙ or_zero_l byte in
+    ap (λ n. bit_or n byte) (and_zero_r (old % 256)) ∙ or_zero_l byte in
     rw (replaced, merged_by_masks given (old / 256)) refl
 
 -- both puts put

@@ -115,32 +115,68 @@ shown_of_atomic op bytes (inr is) = rw is.1 refl
 pub FitsWords-from_aligned : (base address size : ℕ) → size ≤ 8 → base ≤ address → address % 2 ^ size ≡ 0
     → FitsWords (base % 8 + (address - base)) (2 ^ size)
 FitsWords-from_aligned base address zero small from aligned =
-    record { some = omega arith; cell = λ h. omega (arith, aligned, from); whole_start = λ h. absurd (omega (arith, h));
-    whole_width = λ h. absurd (omega (arith, h)) }
+    record {
+      some = omega arith;
+      cell = λ h. omega (arith, aligned, from);
+      whole_start = λ h. absurd (omega (arith, h));
+      whole_width = λ h. absurd (omega (arith, h));
+    }
 FitsWords-from_aligned base address (suc zero) small from aligned =
-    record { some = omega arith; cell = λ h. omega (arith, aligned, from); whole_start = λ h. absurd (omega (arith, h));
-    whole_width = λ h. absurd (omega (arith, h)) }
+    record {
+      some = omega arith;
+      cell = λ h. omega (arith, aligned, from);
+      whole_start = λ h. absurd (omega (arith, h));
+      whole_width = λ h. absurd (omega (arith, h));
+    }
 FitsWords-from_aligned base address (suc (suc zero)) small from aligned =
-    record { some = omega arith; cell = λ h. omega (arith, aligned, from); whole_start = λ h. absurd (omega (arith, h));
-    whole_width = λ h. absurd (omega (arith, h)) }
+    record {
+      some = omega arith;
+      cell = λ h. omega (arith, aligned, from);
+      whole_start = λ h. absurd (omega (arith, h));
+      whole_width = λ h. absurd (omega (arith, h));
+    }
 FitsWords-from_aligned base address (suc (suc (suc zero))) small from aligned =
-    record { some = omega arith; cell = λ h. absurd (omega (arith, h)); whole_start = λ h. omega (arith, aligned, from);
-    whole_width = λ h. omega arith }
+    record {
+      some = omega arith;
+      cell = λ h. absurd (omega (arith, h));
+      whole_start = λ h. omega (arith, aligned, from);
+      whole_width = λ h. omega arith;
+    }
 FitsWords-from_aligned base address (suc (suc (suc (suc zero)))) small from aligned =
-    record { some = omega arith; cell = λ h. absurd (omega (arith, h)); whole_start = λ h. omega (arith, aligned, from);
-    whole_width = λ h. omega arith }
+    record {
+      some = omega arith;
+      cell = λ h. absurd (omega (arith, h));
+      whole_start = λ h. omega (arith, aligned, from);
+      whole_width = λ h. omega arith;
+    }
 FitsWords-from_aligned base address (suc (suc (suc (suc (suc zero))))) small from aligned =
-    record { some = omega arith; cell = λ h. absurd (omega (arith, h)); whole_start = λ h. omega (arith, aligned, from);
-    whole_width = λ h. omega arith }
+    record {
+      some = omega arith;
+      cell = λ h. absurd (omega (arith, h));
+      whole_start = λ h. omega (arith, aligned, from);
+      whole_width = λ h. omega arith;
+    }
 FitsWords-from_aligned base address (suc (suc (suc (suc (suc (suc zero)))))) small from aligned =
-    record { some = omega arith; cell = λ h. absurd (omega (arith, h)); whole_start = λ h. omega (arith, aligned, from);
-    whole_width = λ h. omega arith }
+    record {
+      some = omega arith;
+      cell = λ h. absurd (omega (arith, h));
+      whole_start = λ h. omega (arith, aligned, from);
+      whole_width = λ h. omega arith;
+    }
 FitsWords-from_aligned base address (suc (suc (suc (suc (suc (suc (suc zero))))))) small from aligned =
-    record { some = omega arith; cell = λ h. absurd (omega (arith, h)); whole_start = λ h. omega (arith, aligned, from);
-    whole_width = λ h. omega arith }
+    record {
+      some = omega arith;
+      cell = λ h. absurd (omega (arith, h));
+      whole_start = λ h. omega (arith, aligned, from);
+      whole_width = λ h. omega arith;
+    }
 FitsWords-from_aligned base address (suc (suc (suc (suc (suc (suc (suc (suc zero)))))))) small from aligned =
-    record { some = omega arith; cell = λ h. absurd (omega (arith, h)); whole_start = λ h. omega (arith, aligned, from);
-    whole_width = λ h. omega arith }
+    record {
+      some = omega arith;
+      cell = λ h. absurd (omega (arith, h));
+      whole_start = λ h. omega (arith, aligned, from);
+      whole_width = λ h. omega arith;
+    }
 FitsWords-from_aligned base address (suc (suc (suc (suc (suc (suc (suc (suc (suc size))))))))) small from aligned =
     absurd (omega (arith, small))
 
@@ -150,19 +186,19 @@ pub bytes_in-lanes_with : (base : ℕ) (bytes : List ℕ) → bytes_in base (len
 bytes_in-lanes_with base bytes =
     let lead = base % 8 in
     middle (replicate lead 0) bytes (replicate (spare_after (lead + length bytes)) 0) lead (length bytes)
-        (length-replicate {A = ℕ} lead 0) refl
+    (length-replicate {A = ℕ} lead 0) refl
 
 -- the lanes around a window
 lanes_around_window : (base offset n : ℕ) (bytes : List ℕ)
     → lanes_with base bytes ≡ (replicate (base % 8) 0 ++ take offset bytes)
-        ++ (take n (drop offset bytes) ++ (drop (offset + n) bytes
-        ++ replicate (spare_after (base % 8 + length bytes)) 0))
+    ++ (take n (drop offset bytes) ++ (drop (offset + n) bytes
+    ++ replicate (spare_after (base % 8 + length bytes)) 0))
 lanes_around_window base offset n bytes =
     let spare = replicate {A = ℕ} (spare_after (base % 8 + length bytes)) 0 in
     let parts : bytes ≡ take offset bytes ++ (take n (drop offset bytes) ++ drop (offset + n) bytes) =
     sym (take-append-drop offset bytes) ∙ ap (λ rest. take offset bytes ++ rest)
-        (sym (take-append-drop n (drop offset bytes))
-        ∙ ap (λ rest. take n (drop offset bytes) ++ rest) (drop-drop n offset bytes)) in
+    (sym (take-append-drop n (drop offset bytes))
+    ∙ ap (λ rest. take n (drop offset bytes) ++ rest) (drop-drop n offset bytes)) in
     ap (λ bs. replicate (base % 8) 0 ++ (bs ++ spare)) parts ∙ simp append_assoc
 
 front_long : (base offset : ℕ) (bytes : List ℕ) → offset ≤ length bytes
@@ -176,10 +212,10 @@ pub window_in_lanes : (base offset n : ℕ) (bytes : List ℕ) → offset + n �
     → take n (drop (base % 8 + offset) (lanes_with base bytes)) ≡ take n (drop offset bytes)
 window_in_lanes base offset n bytes inside =
     let wide : length (take n (drop offset bytes)) ≡ n =
-        length-take-le n (drop offset bytes) (omega (arith, length-drop offset bytes)) in
+    length-take-le n (drop offset bytes) (omega (arith, length-drop offset bytes)) in
     ap (λ lanes. take n (drop (base % 8 + offset) lanes)) (lanes_around_window base offset n bytes)
     ∙ middle (replicate (base % 8) 0 ++ take offset bytes) (take n (drop offset bytes)) _ (base % 8 + offset) n
-        (front_long base offset bytes (omega arith)) wide
+    (front_long base offset bytes (omega arith)) wide
 
 regrouped : (zeros front new rest spare : List ℕ)
     → (zeros ++ front) ++ (new ++ (rest ++ spare)) ≡ zeros ++ ((front ++ new ++ rest) ++ spare)
@@ -191,16 +227,16 @@ pub window_put_in_lanes : (base offset : ℕ) (bytes new : List ℕ) → offset 
 window_put_in_lanes base offset bytes new inside =
     let old = take (length new) (drop offset bytes) in
     let wide : length new ≡ length old =
-        sym (length-take-le (length new) (drop offset bytes) (omega (arith, length-drop offset bytes))) in
+    sym (length-take-le (length new) (drop offset bytes) (omega (arith, length-drop offset bytes))) in
     let spare = replicate {A = ℕ} (spare_after (base % 8 + length bytes)) 0 in
     let same : length bytes ≡ length (with_window bytes offset new) =
-        sym (length-with_window bytes offset new inside) in
+    sym (length-with_window bytes offset new inside) in
     ap (λ lanes. with_window lanes (base % 8 + offset) new) (lanes_around_window base offset (length new) bytes)
     ∙ middle_replaced (replicate (base % 8) 0 ++ take offset bytes) old _ new (base % 8 + offset)
-        (front_long base offset bytes (omega arith)) wide
+    (front_long base offset bytes (omega arith)) wide
     ∙ regrouped (replicate (base % 8) 0) (take offset bytes) new (drop (offset + length new) bytes) spare
     ∙ ap (λ n. replicate {A = ℕ} (base % 8) 0
-        ++ (with_window bytes offset new ++ replicate (spare_after (base % 8 + n)) 0)) same
+    ++ (with_window bytes offset new ++ replicate (spare_after (base % 8 + n)) 0)) same
 
 -- ---- how long a window is after a request
 
@@ -248,7 +284,7 @@ pub served : (kind : Kind) (base count : ℕ) (lanes new_lanes : List ℕ) (ask 
     → legal (record { kind = kind; base = base; bytes = bytes_in base count lanes }) ask ≡ true
     → length ask.bytes ≡ 2 ^ ask.size
     → new_lanes ≡ with_window lanes (base % 8 + (ask.address - base))
-        (new_window kind ask.op (take (length ask.bytes) (drop (base % 8 + (ask.address - base)) lanes)) ask.bytes)
+    (new_window kind ask.op (take (length ask.bytes) (drop (base % 8 + (ask.address - base)) lanes)) ask.bytes)
     → Serves kind base count lanes new_lanes ask
 served kind base count lanes new_lanes ask kept is counted made =
     let bytes = bytes_in base count lanes in
@@ -258,29 +294,31 @@ served kind base count lanes new_lanes ask kept is counted made =
     let stands = StandsIn-from_legal store ask is in
     let old = take width (drop offset bytes) in
     let old_long : length old ≡ width =
-        length-take-le width (drop offset bytes) (omega (arith, length-drop offset bytes, stands.inside)) in
+    length-take-le width (drop offset bytes) (omega (arith, length-drop offset bytes, stands.inside)) in
     let old_is : take (length ask.bytes) (drop (base % 8 + offset) lanes) ≡ old =
     ap (λ n. take n (drop (base % 8 + offset) lanes)) counted
-        ∙ ap (λ ls. take width (drop (base % 8 + offset) ls)) kept.spare
-        ∙ window_in_lanes base offset width bytes stands.inside in
+    ∙ ap (λ ls. take width (drop (base % 8 + offset) ls)) kept.spare
+    ∙ window_in_lanes base offset width bytes stands.inside in
     let new = new_window kind ask.op old ask.bytes in
     let new_long : length new ≡ width =
-        length-new_window kind ask.op old ask.bytes (counted ∙ sym old_long) ∙ old_long in
+    length-new_window kind ask.op old ask.bytes (counted ∙ sym old_long) ∙ old_long in
     let inside : offset + length new ≤ length bytes = omega (arith, new_long, stands.inside) in
     let left = with_window bytes offset new in
     let lanes_are : new_lanes ≡ lanes_with base left =
     made ∙ ap (λ was. with_window lanes (base % 8 + offset) (new_window kind ask.op was ask.bytes)) old_is
-        ∙ ap (λ ls. with_window ls (base % 8 + offset) new) kept.spare
-        ∙ window_put_in_lanes base offset bytes new inside in
+    ∙ ap (λ ls. with_window ls (base % 8 + offset) new) kept.spare
+    ∙ window_put_in_lanes base offset bytes new inside in
     let left_long : length left ≡ count = length-with_window bytes offset new inside ∙ kept.counted in
     let left_is : bytes_in base count new_lanes ≡ left =
     ap (λ ls. bytes_in base count ls) lanes_are ∙ ap (λ n. bytes_in base n (lanes_with base left)) (sym left_long)
-        ∙ bytes_in-lanes_with base left in
+    ∙ bytes_in-lanes_with base left in
     let long : length (bytes_in base count new_lanes) ≡ count = ap length left_is ∙ left_long in
     record {
       kept = record {
-        lawful = record { in_limit = omega (arith, long, kept.counted, kept.lawful.in_limit);
-            ends = omega (arith, long, kept.counted, kept.lawful.ends) };
+        lawful = record {
+          in_limit = omega (arith, long, kept.counted, kept.lawful.in_limit);
+          ends = omega (arith, long, kept.counted, kept.lawful.ends);
+        };
         counted = long;
         spare = lanes_are ∙ ap (lanes_with base) (sym left_is);
       };
@@ -293,13 +331,18 @@ pub unchanged : (store : Store) (ask : Request) → legal store ask ≡ true
 unchanged store ask is same =
     let stands = StandsIn-from_legal store ask is in
     rw is (ap (λ bytes. record store { bytes = bytes })
-        (ap (λ new. with_window store.bytes (ask.address - store.base) new) same
-        ∙ with_window-same store.bytes (ask.address - store.base) (2 ^ ask.size) stands.inside))
+    (ap (λ new. with_window store.bytes (ask.address - store.base) new) same
+    ∙ with_window-same store.bytes (ask.address - store.base) (2 ^ ask.size) stands.inside))
 
 -- the reply to a legal request
 pub reply-legal : (store : Store) (ask : Request) → legal store ask ≡ true
-    → reply store ask ≡ record { op = reply_op_of ask.op; size = ask.size; source = ask.source; denied = false;
-        bytes = shown (reply_op_of ask.op) (window store ask) }
+    → reply store ask ≡ record {
+      op = reply_op_of ask.op;
+      size = ask.size;
+      source = ask.source;
+      denied = false;
+      bytes = shown (reply_op_of ask.op) (window store ask);
+    }
 reply-legal store ask is = rw is refl
 
 -- the window of a legal request, read among the lanes
@@ -307,16 +350,21 @@ pub window_read : (kind : Kind) (base count : ℕ) (lanes : List ℕ) (ask : Req
     → IsKept base count lanes
     → legal (record { kind = kind; base = base; bytes = bytes_in base count lanes }) ask ≡ true
     → take (2 ^ ask.size) (drop (base % 8 + (ask.address - base)) lanes) ≡ window
-        (record { kind = kind; base = base; bytes = bytes_in base count lanes }) ask
+    (record { kind = kind; base = base; bytes = bytes_in base count lanes }) ask
 window_read kind base count lanes ask kept is =
     let stands = StandsIn-from_legal (record { kind = kind; base = base; bytes = bytes_in base count lanes }) ask is in
     ap (λ ls. take (2 ^ ask.size) (drop (base % 8 + (ask.address - base)) ls)) kept.spare
-        ∙ window_in_lanes base (ask.address - base) (2 ^ ask.size) (bytes_in base count lanes) stands.inside
+    ∙ window_in_lanes base (ask.address - base) (2 ^ ask.size) (bytes_in base count lanes) stands.inside
 
 -- a reply that shows the window is the store's
 pub answered : (store : Store) (ask : Request) (response : Response) (bytes : List ℕ) → legal store ask ≡ true
     → response ≡ record { op = reply_op_of ask.op; size = ask.size; source = ask.source; denied = false; bytes = bytes }
     → bytes ≡ shown (reply_op_of ask.op) (window store ask) → response ≡ reply store ask
 answered store ask response bytes is made shows =
-    made ∙ ap (λ (bs : List ℕ). record { op = reply_op_of ask.op; size = ask.size; source = ask.source; denied = false;
-        bytes = bs }) shows ∙ sym (reply-legal store ask is)
+    made ∙ ap (λ (bs : List ℕ). record {
+      op = reply_op_of ask.op;
+      size = ask.size;
+      source = ask.source;
+      denied = false;
+      bytes = bs;
+    }) shows ∙ sym (reply-legal store ask is)

@@ -54,11 +54,11 @@ both : (low high : ℕ) → low < 2 ^ 32 → high < 2 ^ 32
     → low_bytes 8 (bit_or (high * 2 ^ 32 % 2 ^ 64) low) ≡ low_bytes 4 low ++ low_bytes 4 high
 both low high small fits =
     let joined : bit_or (high * 2 ^ 32 % 2 ^ 64) low ≡ high * 2 ^ 32 + low =
-        ap (λ x. bit_or x low) (shl_whole high 32 32 64 fits (omega arith)) ∙ or_shifted high 32 low small in
+    ap (λ x. bit_or x low) (shl_whole high 32 32 64 fits (omega arith)) ∙ or_shifted high 32 low small in
     let above : (high * 2 ^ 32 + low) / 2 ^ 32 ≡ high = shr_high high 32 low small in
     ap (low_bytes 8) joined ∙ low_bytes-add 4 4 (high * 2 ^ 32 + low)
     ∙ ap (λ bytes. bytes ++ low_bytes 4 ((high * 2 ^ 32 + low) / 2 ^ 32)) (low_bytes-above 4 low high small)
-        ∙ ap (λ x. low_bytes 4 low ++ low_bytes 4 x) above
+    ∙ ap (λ x. low_bytes 4 low ++ low_bytes 4 x) above
 
 -- what the mask of a half keeps of its four lanes
 abbrev four : ℕ → List ℕ
@@ -67,15 +67,15 @@ four mask = keep_bit (bit_at mask 0) ∷ keep_bit (bit_at mask 1) ∷ keep_bit (
 
 pub lanes : (mask low high : ℕ) → mask < 256 → low ≡ slice_index KEPT (mask % 16) → high ≡ slice_index KEPT (mask / 16)
     → (lane : ℕ) → lane < 8 → slice_index (low_bytes 8 (bit_or (high * 2 ^ 32 % 2 ^ 64) low)) lane ≡ keep_bit
-        (bit_at mask lane)
+    (bit_at mask lane)
 lanes mask low high within low_is high_is lane in_word =
     let front : low_bytes 4 low ≡ four (mask % 16) = ap (low_bytes 4) low_is ∙ half (mask % 16) (omega arith) in
     let back : low_bytes 4 high ≡ four (mask / 16) =
-        ap (low_bytes 4) high_is ∙ half (mask / 16) (omega (arith, within)) in
+    ap (low_bytes 4) high_is ∙ half (mask / 16) (omega (arith, within)) in
     let bytes = both low high (rw low_is (small (mask % 16) (omega arith)))
-        (rw high_is (small (mask / 16) (omega (arith, within)))) in
+    (rw high_is (small (mask / 16) (omega (arith, within)))) in
     ap (λ bs. slice_index bs lane) (bytes ∙ ap (λ bs. bs ++ low_bytes 4 high) front
-        ∙ ap (λ bs. four (mask % 16) ++ bs) back) ∙ at lane in_word
+    ∙ ap (λ bs. four (mask % 16) ++ bs) back) ∙ at lane in_word
   where
     at : (lane : ℕ) → lane < 8 → slice_index (four (mask % 16) ++ four (mask / 16)) lane ≡ keep_bit (bit_at mask lane)
     at zero h = ap keep_bit (omega arith)

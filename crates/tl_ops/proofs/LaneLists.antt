@@ -23,7 +23,7 @@ middle_replaced front old rest new start at wide =
     let wide_front : length (front ++ old) ≡ start + length new = length-append front old ∙ omega (arith, at, wide) in
     let head : take start (front ++ (old ++ rest)) ≡ front = take_at front (old ++ rest) start at in
     let tail : drop (start + length new) (front ++ (old ++ rest)) ≡ rest =
-        rw (← append_assoc) (drop_at (front ++ old) rest (start + length new) wide_front) in
+    rw (← append_assoc) (drop_at (front ++ old) rest (start + length new) wide_front) in
     rw (head, tail) (append_assoc front new rest)
 
 -- ---- words
@@ -76,7 +76,7 @@ word_bytes-cell word lane width fits =
     let high = word / 2 ^ (8 * lane) in
     let cell = ap (λ bs. bs ++ low_bytes (8 - lane - width) (above word lane width)) (sym (low_bytes-mod width high)) in
     ap (λ n. low_bytes n word) parts ∙ low_bytes-add lane (width + (8 - lane - width)) word
-        ∙ ap (λ bs. low_bytes lane word ++ bs) (low_bytes-add width (8 - lane - width) high ∙ cell)
+    ∙ ap (λ bs. low_bytes lane word ++ bs) (low_bytes-add width (8 - lane - width) high ∙ cell)
 
 pub word_bytes-with_cell : (word lane width cell : ℕ) → lane + width ≤ 8 → cell < 2 ^ (8 * width)
     → word_bytes (with_cell word lane width cell) ≡ low_bytes lane word
@@ -89,13 +89,13 @@ word_bytes-with_cell word lane width cell fits small =
     let new = with_cell word lane width cell in
     let low_fits : low < 2 ^ (8 * lane) = mod_below word (2 ^ (8 * lane)) (pow_pos (8 * lane)) in
     let front : low_bytes lane new ≡ low_bytes lane word =
-        low_bytes-above lane low high low_fits ∙ low_bytes-mod lane word in
+    low_bytes-above lane low high low_fits ∙ low_bytes-mod lane word in
     let rest : new / 2 ^ (8 * lane) ≡ high = shr_high high (8 * lane) low low_fits in
     let mid : low_bytes width high ≡ low_bytes width cell = low_bytes-above width cell (above word lane width) small in
     let end : high / 2 ^ (8 * width) ≡ above word lane width =
-        shr_high (above word lane width) (8 * width) cell small in
+    shr_high (above word lane width) (8 * width) cell small in
     ap (λ n. low_bytes n new) parts ∙ low_bytes-add lane (width + (8 - lane - width)) new
-        ∙ rw (front, rest, low_bytes-add width (8 - lane - width) high, mid, end) refl
+    ∙ rw (front, rest, low_bytes-add width (8 - lane - width) high, mid, end) refl
 
 -- ---- a cell among words
 
@@ -107,27 +107,31 @@ regroup before low cell high after = simp append_assoc
 lanes_around : (words : List ℕ) (i word lane width : ℕ) (cell : List ℕ) (was : ℕ) → i < length words
     → word_bytes word ≡ low_bytes lane was ++ (cell ++ low_bytes (8 - lane - width) (above was lane width))
     → lanes_of (set words i word) ≡ (lanes_of (take i words) ++ low_bytes lane was)
-        ++ (cell ++ (low_bytes (8 - lane - width) (above was lane width) ++ lanes_of (drop (suc i) words)))
+    ++ (cell ++ (low_bytes (8 - lane - width) (above was lane width) ++ lanes_of (drop (suc i) words)))
 lanes_around words i word lane width cell was within parts =
     lanes_set words i word within ∙ ap (λ bs. lanes_of (take i words) ++ (bs ++ lanes_of (drop (suc i) words))) parts
-        ∙ regroup (lanes_of (take i words)) (low_bytes lane was) cell
-        (low_bytes (8 - lane - width) (above was lane width)) (lanes_of (drop (suc i) words))
+    ∙ regroup (lanes_of (take i words)) (low_bytes lane was) cell
+    (low_bytes (8 - lane - width) (above was lane width)) (lanes_of (drop (suc i) words))
 
 -- what lies before a cell is as long as the cell's place says
 front_long : (words : List ℕ) (start was : ℕ) → start / 8 < length words
     → length (lanes_of (take (start / 8) words) ++ low_bytes (start % 8) was) ≡ start
 front_long words start was within =
     length-append (lanes_of (take (start / 8) words)) (low_bytes (start % 8) was)
-        ∙ omega (arith, length-lanes_of (take (start / 8) words), length-low_bytes (start % 8) was,
-        length-take-le (start / 8) words (omega (arith, within)))
+    ∙ omega (
+      arith,
+      length-lanes_of (take (start / 8) words),
+      length-low_bytes (start % 8) was,
+      length-take-le (start / 8) words (omega (arith, within)),
+    )
 
 pub cell_read : (words : List ℕ) (start width : ℕ) → start / 8 < length words → start % 8 + width ≤ 8
     → low_bytes width (cell_of (get_or words (start / 8) 0) (start % 8) width) ≡ take width
-        (drop start (lanes_of words))
+    (drop start (lanes_of words))
 cell_read words start width within fits =
     let word = get_or words (start / 8) 0 in
     let around = lanes_around words (start / 8) word (start % 8) width
-        (low_bytes width (cell_of word (start % 8) width)) word within (word_bytes-cell word (start % 8) width fits) in
+    (low_bytes width (cell_of word (start % 8) width)) word within (word_bytes-cell word (start % 8) width fits) in
     let same : set words (start / 8) word ≡ words = set-get_or words (start / 8) 0 in
     let lanes = sym (ap lanes_of same) ∙ around in
     rw lanes (sym (middle _ _ _ start width (front_long words start word within) (length-low_bytes width _)))
@@ -135,28 +139,32 @@ cell_read words start width within fits =
 pub cell_written : (words : List ℕ) (start width cell : ℕ) → start / 8 < length words → start % 8 + width ≤ 8
     → cell < 2 ^ (8 * width)
     → lanes_of (set words (start / 8) (with_cell (get_or words (start / 8) 0) (start % 8) width cell)) ≡ with_window
-        (lanes_of words) start (low_bytes width cell)
+    (lanes_of words) start (low_bytes width cell)
 cell_written words start width cell within fits small =
     let word = get_or words (start / 8) 0 in
     let old = low_bytes width (cell_of word (start % 8) width) in
     let around = lanes_around words (start / 8) word (start % 8) width old word within
-        (word_bytes-cell word (start % 8) width fits) in
+    (word_bytes-cell word (start % 8) width fits) in
     let same : set words (start / 8) word ≡ words = set-get_or words (start / 8) 0 in
     let lanes = sym (ap lanes_of same) ∙ around in
     let wide : length (low_bytes width cell) ≡ length old =
-        length-low_bytes width cell ∙ sym (length-low_bytes width _) in
+    length-low_bytes width cell ∙ sym (length-low_bytes width _) in
     let new = lanes_around words (start / 8) (with_cell word (start % 8) width cell) (start % 8) width
-        (low_bytes width cell) word within (word_bytes-with_cell word (start % 8) width cell fits small) in
+    (low_bytes width cell) word within (word_bytes-with_cell word (start % 8) width cell fits small) in
     rw lanes (new ∙ sym (middle_replaced _ old _ (low_bytes width cell) start
-        (front_long words start word within) wide))
+    (front_long words start word within) wide))
 
 -- how long bytes are when some of them are replaced
 pub length-with_window : (bytes : List ℕ) (start : ℕ) (new : List ℕ) → start + length new ≤ length bytes
     → length (with_window bytes start new) ≡ length bytes
 length-with_window bytes start new fits =
     length-append (take start bytes ++ new) (drop (start + length new) bytes)
-        ∙ omega (arith, length-append (take start bytes) new, length-take-le start bytes (omega (arith, fits)),
-        length-drop (start + length new) bytes)
+    ∙ omega (
+      arith,
+      length-append (take start bytes) new,
+      length-take-le start bytes (omega (arith, fits)),
+      length-drop (start + length new) bytes,
+    )
 
 -- ---- a whole word
 
@@ -170,7 +178,7 @@ unfolding word_bytes
 word_read words i within =
     let word = get_or words i 0 in
     rw (lanes_at words i 0 within) (sym (middle (lanes_of (take i words)) (word_bytes word)
-        (lanes_of (drop (suc i) words)) (8 * i) 8 (words_long words i within) (length-word_bytes word)))
+    (lanes_of (drop (suc i) words)) (8 * i) 8 (words_long words i within) (length-word_bytes word)))
 
 pub word_written : (words : List ℕ) (i word : ℕ) → i < length words
     → lanes_of (set words i word) ≡ with_window (lanes_of words) (8 * i) (low_bytes 8 word)
@@ -178,10 +186,10 @@ unfolding word_bytes
 word_written words i word within =
     let was = get_or words i 0 in
     let wide : length (word_bytes word) ≡ length (word_bytes was) =
-        length-word_bytes word ∙ sym (length-word_bytes was) in
+    length-word_bytes word ∙ sym (length-word_bytes was) in
     rw (lanes_at words i 0 within) (lanes_set words i word within
-        ∙ sym (middle_replaced (lanes_of (take i words)) (word_bytes was) (lanes_of (drop (suc i) words))
-        (word_bytes word) (8 * i) (words_long words i within) wide))
+    ∙ sym (middle_replaced (lanes_of (take i words)) (word_bytes was) (lanes_of (drop (suc i) words))
+    (word_bytes word) (8 * i) (words_long words i within) wide))
 
 -- words from one on
 lanes_before : (words : List ℕ) (n : ℕ) → n ≤ length words → take (8 * n) (lanes_of words) ≡ lanes_of (take n words)
@@ -191,9 +199,11 @@ lanes_before [] (suc n) within = absurd (omega (arith, within))
 lanes_before (w ∷ words) (suc n) within =
     let e : 8 * suc n ≡ 8 + 8 * n = omega arith in
     ap (λ k. take k (word_bytes w ++ lanes_of words)) e ∙ take-add 8 (8 * n) (word_bytes w ++ lanes_of words)
-    ∙ rw (take_at (word_bytes w) (lanes_of words) 8 (length-word_bytes w),
-        drop_at (word_bytes w) (lanes_of words) 8 (length-word_bytes w),
-        lanes_before words n (omega (arith, within))) refl
+    ∙ rw (
+      take_at (word_bytes w) (lanes_of words) 8 (length-word_bytes w),
+      drop_at (word_bytes w) (lanes_of words) 8 (length-word_bytes w),
+      lanes_before words n (omega (arith, within)),
+    ) refl
 
 lanes_after : (words : List ℕ) (n : ℕ) → n ≤ length words → drop (8 * n) (lanes_of words) ≡ lanes_of (drop n words)
 unfolding lanes_of
@@ -203,7 +213,7 @@ lanes_after (w ∷ words) (suc n) within =
     let e : 8 * suc n ≡ 8 + 8 * n = omega arith in
     ap (λ k. drop k (word_bytes w ++ lanes_of words)) e ∙ sym (drop-drop (8 * n) 8 (word_bytes w ++ lanes_of words))
     ∙ ap (drop (8 * n)) (drop_at (word_bytes w) (lanes_of words) 8 (length-word_bytes w))
-        ∙ lanes_after words n (omega (arith, within))
+    ∙ lanes_after words n (omega (arith, within))
 
 -- std's bytes of words
 bytes_of-words : (words : List ℕ) → bytes_of_words words ≡ lanes_of words
@@ -218,9 +228,9 @@ pub words_read : (words : List ℕ) (start first count : ℕ) → start ≡ 8 * 
 words_read words start first count at within =
     let rest = length-drop first words in
     bytes_of-words (take count (drop first words))
-        ∙ sym (lanes_before (drop first words) count (omega (arith, within, rest)))
+    ∙ sym (lanes_before (drop first words) count (omega (arith, within, rest)))
     ∙ ap (take (8 * count)) (sym (lanes_after words first (omega (arith, within))))
-        ∙ ap (λ n. take (8 * count) (drop n (lanes_of words))) (sym at)
+    ∙ ap (λ n. take (8 * count) (drop n (lanes_of words))) (sym at)
 
 -- the byte at a place, from a window of one
 pub byte_at_place : (bytes : List ℕ) (place byte : ℕ) → byte ∷ [] ≡ take 1 (drop place bytes)

@@ -10,7 +10,7 @@ mask_shifted : (j k : ℕ) → j + k ≤ 64 → ((2 ^ j - 1) * 2 ^ k) % 2 ^ 64 �
 mask_shifted j k fits =
     let whole = shl_whole (2 ^ j - 1) j k 64 (omega (arith, pow_pos j)) fits in
     whole ∙ mul_comm (2 ^ j - 1) (2 ^ k) ∙ mul-sub (2 ^ k) (2 ^ j) 1
-        ∙ omega (arith, mul_comm (2 ^ k) (2 ^ j), pow-add 2 j k)
+    ∙ omega (arith, mul_comm (2 ^ k) (2 ^ j), pow-add 2 j k)
 
 -- what is left where j bits from bit k on are cleared
 cleared : (word j k : ℕ) → word < 2 ^ 64 → j + k ≤ 64
@@ -23,13 +23,20 @@ cleared word j k within fits =
     let both = and-not 64 mask word mask_fits within in
     let taken : bit_and mask word ≡ (high % 2 ^ j) * 2 ^ k = and_comm mask word ∙ and_high word j k in
     let turned = and_comm word (2 ^ 64 - 1 - mask) in
-    omega (arith, both, taken, turned, shr_split word k, ap (λ n. n * 2 ^ k) (shr_split high j),
-        add-mul (high / 2 ^ j * 2 ^ j) (high % 2 ^ j) (2 ^ k))
+    omega (
+      arith,
+      both,
+      taken,
+      turned,
+      shr_split word k,
+      ap (λ n. n * 2 ^ k) (shr_split high j),
+      add-mul (high / 2 ^ j * 2 ^ j) (high % 2 ^ j) (2 ^ k),
+    )
 
 -- the word after the masks is the word with the cell replaced
 pub masked : (word j k cell : ℕ) → word < 2 ^ 64 → j + k ≤ 64 → cell < 2 ^ j
     → bit_or (bit_and word (2 ^ 64 - 1 - ((2 ^ j - 1) * 2 ^ k) % 2 ^ 64)) ((cell * 2 ^ k) % 2 ^ 64) ≡
-        (word / 2 ^ k / 2 ^ j * 2 ^ j + cell) * 2 ^ k + word % 2 ^ k
+    (word / 2 ^ k / 2 ^ j * 2 ^ j + cell) * 2 ^ k + word % 2 ^ k
 masked word j k cell within fits below =
     let high = word / 2 ^ k / 2 ^ j in
     let low = word % 2 ^ k in
@@ -39,4 +46,4 @@ masked word j k cell within fits below =
     let joined = or_shifted high j cell below in
     let alone : bit_or low 0 ≡ low = or_zero_r low in
     rw (mask_shifted j k fits, cleared word j k within fits, shifted)
-        (blocks ∙ ap (λ n. n * 2 ^ k + bit_or low 0) joined ∙ ap (λ n. (high * 2 ^ j + cell) * 2 ^ k + n) alone)
+    (blocks ∙ ap (λ n. n * 2 ^ k + bit_or low 0) joined ∙ ap (λ n. (high * 2 ^ j + cell) * 2 ^ k + n) alone)

@@ -30,9 +30,9 @@ four_parts : (bytes : List ℕ) (start m n : ℕ)
     ++ (take n (drop (start + m) bytes) ++ drop (start + m + n) bytes))
 four_parts bytes start m n =
     let third = sym (take-append-drop n (drop (start + m) bytes))
-        ∙ ap (λ rest. take n (drop (start + m) bytes) ++ rest) (drop-drop n (start + m) bytes) in
+    ∙ ap (λ rest. take n (drop (start + m) bytes) ++ rest) (drop-drop n (start + m) bytes) in
     let second = sym (take-append-drop m (drop start bytes))
-        ∙ ap (λ rest. take m (drop start bytes) ++ rest) (drop-drop m start bytes ∙ third) in
+    ∙ ap (λ rest. take m (drop start bytes) ++ rest) (drop-drop m start bytes ∙ third) in
     sym (take-append-drop start bytes) ∙ ap (λ rest. take start bytes ++ rest) second
 
 -- a put of the first m bytes, and then of the next n, is a put of both
@@ -51,29 +51,29 @@ window_grows bytes start m n given inside enough =
     let a_long : length a ≡ start = length-take-le start bytes (omega (arith, inside)) in
     let b_long : length b ≡ m = length-take-le m (drop start bytes) (omega (arith, inside, length-drop start bytes)) in
     let c_long : length c ≡ n =
-        length-take-le n (drop (start + m) bytes) (omega (arith, inside, length-drop (start + m) bytes)) in
+    length-take-le n (drop (start + m) bytes) (omega (arith, inside, length-drop (start + m) bytes)) in
     let first_given : length (take m given) ≡ length b =
-        omega (arith, b_long, length-take-le m given (omega (arith, enough))) in
+    omega (arith, b_long, length-take-le m given (omega (arith, enough))) in
     let next_given : length (take n (drop m given)) ≡ length c =
-        omega (arith, c_long, length-take-le n (drop m given) (omega (arith, enough, length-drop m given))) in
+    omega (arith, c_long, length-take-le n (drop m given) (omega (arith, enough, length-drop m given))) in
     let b_kept : length new_b ≡ length b = length-merged b (take m given) first_given in
     let c_kept : length new_c ≡ length c = length-merged c (take n (drop m given)) next_given in
     let front : length (a ++ new_b) ≡ start + m = length-append a new_b ∙ omega (arith, a_long, b_kept, b_long) in
     let parts = four_parts bytes start m n in
     let first = with_window bytes start new_b in
     let first_is : first ≡ (a ++ new_b) ++ (c ++ d) =
-        ap (λ bs. with_window bs start new_b) parts ∙ middle_replaced a b (c ++ d) new_b start a_long b_kept
-        ∙ sym (append_assoc a new_b (c ++ d)) in
+    ap (λ bs. with_window bs start new_b) parts ∙ middle_replaced a b (c ++ d) new_b start a_long b_kept
+    ∙ sym (append_assoc a new_b (c ++ d)) in
     let next_is : take n (drop (start + m) first) ≡ c =
-        ap (λ bs. take n (drop (start + m) bs)) first_is ∙ middle (a ++ new_b) c d (start + m) n front c_long in
+    ap (λ bs. take n (drop (start + m) bs)) first_is ∙ middle (a ++ new_b) c d (start + m) n front c_long in
     let whole : bytes ≡ a ++ ((b ++ c) ++ d) = parts ∙ ap (λ rest. a ++ rest) (sym (append_assoc b c d)) in
     let both : take (m + n) (drop start bytes) ≡ b ++ c =
-        take-add m n (drop start bytes) ∙ ap (λ rest. b ++ take n rest) (drop-drop m start bytes) in
+    take-add m n (drop start bytes) ∙ ap (λ rest. b ++ take n rest) (drop-drop m start bytes) in
     let new_both : merged (take (m + n) (drop start bytes)) (take (m + n) given) ≡ new_b ++ new_c =
-        ap (λ old. merged old (take (m + n) given)) both ∙ ap (λ gs. merged (b ++ c) gs) (take-add m n given)
-        ∙ merged-append b c (take m given) (take n (drop m given)) first_given in
+    ap (λ old. merged old (take (m + n) given)) both ∙ ap (λ gs. merged (b ++ c) gs) (take-add m n given)
+    ∙ merged-append b c (take m given) (take n (drop m given)) first_given in
     let long_both : length (new_b ++ new_c) ≡ length (b ++ c) =
-        omega (arith, length-append new_b new_c, length-append b c, b_kept, c_kept) in
+    omega (arith, length-append new_b new_c, length-append b c, b_kept, c_kept) in
     let regrouped : (a ++ new_b) ++ (new_c ++ d) ≡ a ++ ((new_b ++ new_c) ++ d) = simp append_assoc in
     ap (λ old. with_window first (start + m) (merged old (take n (drop m given)))) next_is
     ∙ ap (λ bs. with_window bs (start + m) new_c) first_is
@@ -88,9 +88,9 @@ pub byte_put : (front done rest : List ℕ) (was byte place : ℕ) → length (f
     → with_window (front ++ (done ++ (was ∷ rest))) place (byte ∷ []) ≡ front ++ ((done ++ byte ∷ []) ++ rest)
 byte_put front done rest was byte place at =
     let grouped : front ++ (done ++ (was ∷ rest)) ≡ (front ++ done) ++ ((was ∷ []) ++ rest) =
-        sym (append_assoc front done (was ∷ rest)) in
+    sym (append_assoc front done (was ∷ rest)) in
     let regrouped : (front ++ done) ++ ((byte ∷ []) ++ rest) ≡ front ++ ((done ++ byte ∷ []) ++ rest) =
-        simp append_assoc in
+    simp append_assoc in
     ap (λ bs. with_window bs place (byte ∷ [])) grouped
     ∙ middle_replaced (front ++ done) (was ∷ []) rest (byte ∷ []) place at refl
     ∙ regrouped

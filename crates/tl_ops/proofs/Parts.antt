@@ -59,9 +59,9 @@ spelled_word given plain word n m number plain_is n_is m_is spells =
     let part = take m (drop (8 * word) plain) in
     let part_is : part ≡ operand_of (word_of given word) =
     ap (λ k. take k (drop (8 * word) plain)) m_is ∙ ap (λ bs. take n (drop (8 * word) bs)) plain_is
-        ∙ plain_part given (8 * word) n ∙ ap operand_of (sym (word_of-taken given word n n_is)) in
+    ∙ plain_part given (8 * word) n ∙ ap operand_of (sym (word_of-taken given word n n_is)) in
     let long : length part ≡ length (word_of given word) =
-        ap length part_is ∙ length-map (word_of given word) (λ byte. unwrap_or byte 0) in
+    ap length part_is ∙ length-map (word_of given word) (λ byte. unwrap_or byte 0) in
     ap (λ k. low_bytes k number) (sym long) ∙ spells ∙ part_is
 
 pub length-plain_word : (given : List (Option ℕ)) (plain : List ℕ) (word n m : ℕ) → plain ≡ plain_of given
@@ -69,15 +69,15 @@ pub length-plain_word : (given : List (Option ℕ)) (plain : List ℕ) (word n m
     → length (take m (drop (8 * word) plain)) ≡ length (word_of given word)
 length-plain_word given plain word n m plain_is n_is m_is =
     ap (λ k. length (take k (drop (8 * word) plain))) m_is ∙ ap (λ bs. length (take n (drop (8 * word) bs))) plain_is
-        ∙ ap length (plain_part given (8 * word) n ∙ ap operand_of (sym (word_of-taken given word n n_is)))
-        ∙ length-map (word_of given word) (λ byte. unwrap_or byte 0)
+    ∙ ap length (plain_part given (8 * word) n ∙ ap operand_of (sym (word_of-taken given word n n_is)))
+    ∙ length-map (word_of given word) (λ byte. unwrap_or byte 0)
 
 -- a bit of a word's mask tells whether the byte is given, and so what its lane keeps
 pub bit_of_part : (given : List (Option ℕ)) (word count k mask : ℕ) → k < count → k < 8 → IsMaskOf given word mask
     → bit_at mask k ≡ mask_bit (get_or (take count (drop (8 * word) given)) k None)
 bit_of_part given word count k mask inside lane is =
     is k lane ∙ ap mask_bit (unwrap_or-slice_get given (8 * word + k) None ∙ sym (get_or-drop (8 * word) given k None)
-        ∙ sym (get_or-take count (drop (8 * word) given) k None inside))
+    ∙ sym (get_or-take count (drop (8 * word) given) k None inside))
 
 pub keep_bit-mask_bit : (byte : Option ℕ) → keep_bit (mask_bit byte) ≡ keep_byte byte
 keep_bit-mask_bit None = refl
@@ -89,7 +89,7 @@ pub kept_word : (given : List (Option ℕ)) (word mask keep : ℕ) → IsMaskOf 
     → low_bytes (length (word_of given word)) keep ≡ keep_of (word_of given word)
 kept_word given word mask keep is lanes =
     same_number_lists (low_bytes n keep) (keep_of part) (length-low_bytes n keep ∙ sym (length-map part keep_byte))
-        (λ k h. lane k (omega (arith, h, length-low_bytes n keep)))
+    (λ k h. lane k (omega (arith, h, length-low_bytes n keep)))
   where
     part : List (Option ℕ)
     part = word_of given word
@@ -103,8 +103,8 @@ kept_word given word mask keep is lanes =
         let parts : 8 ≡ n + (8 - n) = omega (arith, length-take 8 (drop (8 * word) given)) in
         let front : slice_index (low_bytes n keep) k ≡ slice_index (low_bytes 8 keep) k =
         sym (ap (λ m. slice_index (low_bytes m keep) k) parts
-            ∙ ap (λ bs. slice_index bs k) (low_bytes-add n (8 - n) keep)
-            ∙ get_or_append_left (low_bytes n keep) (low_bytes (8 - n) (keep / 2 ^ (8 * n))) 0 k
-            (omega (arith, within, length-low_bytes n keep))) in
+        ∙ ap (λ bs. slice_index bs k) (low_bytes-add n (8 - n) keep)
+        ∙ get_or_append_left (low_bytes n keep) (low_bytes (8 - n) (keep / 2 ^ (8 * n))) 0 k
+        (omega (arith, within, length-low_bytes n keep))) in
         front ∙ lanes k in_word ∙ ap keep_bit (bit_of_part given word 8 k mask in_word in_word is)
-            ∙ keep_bit-mask_bit (get_or part k None) ∙ sym (get_or-map keep_byte part k None 0 within)
+        ∙ keep_bit-mask_bit (get_or part k None) ∙ sym (get_or-map keep_byte part k None 0 within)

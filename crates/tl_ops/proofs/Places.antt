@@ -40,8 +40,8 @@ window_by_places bytes new start fits =
       inside = λ k from below. second k from ∙ slice_get-append_left new rest (k - start) (omega arith);
       outside = λ k where_. ⊎_elim
           (λ before. rw append_assoc (slice_get-append_left (take start bytes) (new ++ rest) k (omega arith)
-              ∙ slice_get-take start bytes k before))
+          ∙ slice_get-take start bytes k before))
           (λ past. second k (omega arith) ∙ in_second new rest (length new) (k - start) refl (omega arith)
-              ∙ slice_get-drop (start + length new) bytes (k - start - length new) ∙ ap (slice_get bytes) (omega arith))
+          ∙ slice_get-drop (start + length new) bytes (k - start - length new) ∙ ap (slice_get bytes) (omega arith))
           where_;
     }

@@ -45,8 +45,10 @@ with_window bytes start new = take start bytes ++ new ++ drop (start + length ne
 abbrev pub after : Store → Request → Store
 after store ask =
     if legal store ask then
-    record store { bytes = with_window store.bytes (ask.address - store.base)
-        (new_window store.kind ask.op (window store ask) ask.bytes) }
+    record store {
+      bytes = with_window store.bytes (ask.address - store.base)
+          (new_window store.kind ask.op (window store ask) ask.bytes);
+    }
     else store
 
 -- the bytes of a reply of this opcode that shows these bytes

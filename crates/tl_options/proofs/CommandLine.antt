@@ -49,7 +49,7 @@ same_rules old m p k a h j x high at same =
     subst (λ (w : Arg). SameRules w x) is
     (same_rules_by_id old m p k a h.within
     (λ i e lt s. h.unique i e lt (subst (λ (w : Arg). bytes_eq
-        (slice_index_or (args_of old) i e).id.now w.id.now ≡ true) is s))
+    (slice_index_or (args_of old) i e).id.now w.id.now ≡ true) is s))
     (λ auto. h.own (subst IsAuto is auto))
     j x high at (subst (λ (w : Arg). bytes_eq x.id.now w.id.now ≡ true) (sym is) same))
 
@@ -63,11 +63,11 @@ own_reading old m p k a h q parser r any =
 -- and have passed it
 own_passes : (old : Command) (m : ArgMatches) (p : IsParsedFrom old m) (k : ℕ) (a : Arg) → IsOwn old k a
     → (q : ValueParser) → a.value_parser ≡ Some q → (t : List ℕ) → PassesArg p.built a.id.now t
-        → Accepts a.ignore_case q t
+    → Accepts a.ignore_case q t
 own_passes old m p k a h q parser t any =
     let s = same_rules old m p k a h any.0 any.1 any.2 any.3 any.4.0 in
     let by_q = subst (λ (w : ValueParser). Accepts any.1.ignore_case w t)
-        (ap parser_of_value (s.parser q parser)) any.4.1 in
+    (ap parser_of_value (s.parser q parser)) any.4.1 in
     subst (λ (b : Bool). Accepts b q t) s.ignore_case by_q
 
 first_read : (P : Bor (List ℕ) → Type 0) (how : Reading) (vs : List (Bor (List ℕ))) (t : List ℕ) → All P vs
@@ -107,10 +107,10 @@ own_text old m p k a h none groups globals q parser t is = go (matched_of (found
         let read_x : option_map (λ s. read_as x.reading s.now) (slice_get x.vals.items 0) ≡ Some t = rw found at is in
         let read_e : option_map (λ s. read_as got.0.1.reading s.now) (slice_get got.0.1.vals.items 0) ≡ Some t =
         subst (λ (y : MatchedArg). option_map (λ s. read_as y.reading s.now) (slice_get y.vals.items 0) ≡ Some t)
-            (sym got.1) read_x in
+        (sym got.1) read_x in
         let read : option_map (λ s. read_as (reading_of q) s.now) (slice_get got.0.1.vals.items 0) ≡ Some t =
         subst (λ (r : Reading). option_map (λ s. read_as r s.now)
-            (slice_get got.0.1.vals.items 0) ≡ Some t) reading read_e in
+        (slice_get got.0.1.vals.items 0) ≡ Some t) reading read_e in
         let first = first_read (λ v. PassesArg p.built a.id.now v.now) (reading_of q) got.0.1.vals.items t all read in
         (first.0.now, first.1, own_passes old m p k a h q parser first.0.now first.2)
 
@@ -121,7 +121,7 @@ own_text old m p k a h none groups globals q parser t is = go (matched_of (found
         cc
     go (Some x) e =
         at_entry x e (entry_by_id (EntryPasses p.built) (found_of m).entries.items a.id.now x
-            (p.parsed (p.from.globals ∙ globals)).values e)
+        (p.parsed (p.from.globals ∙ globals)).values e)
 
 -- ---- an argument that has a default
 
@@ -164,13 +164,13 @@ own_filled old m p k a h none groups set delim least e key pass =
       | inr (inr (inl count)) ↦
           let any = count.1 in
           let s = same_rules old m p k a h any.0 any.1 any.2 any.3
-              (subst (λ (w : List ℕ). bytes_eq any.1.id.now w ≡ true) key any.4.0) in
+          (subst (λ (w : List ℕ). bytes_eq any.1.id.now w ≡ true) key any.4.0) in
           let is_set : any.1.action ≡ Some Set = s.action Set set in
           let bad : Set ≡ Count = rw is_set at any.4.1 in
           cc
       | inr (inr (inr any)) ↦
           let s = same_rules old m p k a h any.0 any.1 any.2 any.3
-              (subst (λ (w : List ℕ). bytes_eq any.1.id.now w ≡ true) key any.4.0) in
+          (subst (λ (w : List ℕ). bytes_eq any.1.id.now w ≡ true) key any.4.0) in
           elim any.4.1 [
             | inl empty ↦
                 let one = s.least set least in
@@ -192,12 +192,12 @@ own_value old m p k a h none groups globals set delim least wants =
     let found = entry_at (found_of m).entries.items a.id.now has in
     let at : matched_of (found_of m) a.id.now ≡ Some found.0.1 = ap (option_map (λ (e : Entry). e.1)) found.1 in
     let got = entry_by_id (EntryPasses p.built) (found_of m).entries.items a.id.now found.0.1
-        (p.parsed (p.from.globals ∙ globals)).values at in
+    (p.parsed (p.from.globals ∙ globals)).values at in
     let filled : 0 < length got.0.1.vals.items =
     own_filled old m p k a h none groups set delim least got.0
-        ((bytes_eq-Decides got.0.0.now a.id.now).0 got.2) got.3 in
+    ((bytes_eq-Decides got.0.0.now a.id.now).0 got.2) got.3 in
     let first = first_is found.0.1.reading found.0.1.vals.items
-        (subst (λ (y : MatchedArg). 0 < length y.vals.items) got.1 filled) in
+    (subst (λ (y : MatchedArg). 0 < length y.vals.items) got.1 filled) in
     (first.0, rw at first.1)
 
 -- ---- the program's command
@@ -242,9 +242,16 @@ three_of f (a ∷ b ∷ c ∷ x ∷ xs) p q r e = cc
 has_three : (old : Command) → app_of old ≡ command_line → HasThree old
 has_three old is =
     let three = three_of rule_of (args_of old) serial_rule history_rule workers_rule
-        (ap (λ (app : App). app.top.rules) is) in
-    record { serial = three.0; history = three.1; workers = three.2; are = three.3; serial_is = three.4;
-        history_is = three.5; workers_is = three.6 }
+    (ap (λ (app : App). app.top.rules) is) in
+    record {
+      serial = three.0;
+      history = three.1;
+      workers = three.2;
+      are = three.3;
+      serial_is = three.4;
+      history_is = three.5;
+      workers_is = three.6;
+    }
 
 no_groups_of : (old : Command) → app_of old ≡ command_line → groups_of old ≡ []
 no_groups_of old is = no_items (groups_of old) (both _ _ (ap (λ (app : App). app.top.is_plain) is)).0
@@ -270,7 +277,7 @@ names_none old three k d lt = go k lt
 -- of three arguments with ids apart, that with an id stands at its own place
 place_of : (xs : List Arg) (a b c x : Arg) (k : ℕ) → xs ≡ a ∷ b ∷ c ∷ []
     → (bytes_eq a.id.now x.id.now ≡ true → 0 ≡ k) → (bytes_eq b.id.now x.id.now ≡ true → 1 ≡ k)
-        → (bytes_eq c.id.now x.id.now ≡ true → 2 ≡ k)
+    → (bytes_eq c.id.now x.id.now ≡ true → 2 ≡ k)
     → (j : ℕ) (e : Arg) → j < length xs → bytes_eq (slice_index_or xs j e).id.now x.id.now ≡ true → j ≡ k
 place_of xs a b c x k are first second third zero e lt same = first (rw are at same)
 place_of xs a b c x k are first second third (suc zero) e lt same = second (rw are at same)
@@ -284,11 +291,11 @@ not_auto : (a : Arg) (t : List ℕ) → a.id.now ≡ t → bytes_eq t (codes "he
     → bytes_eq t (codes "version") ≡ false → IsAuto a → ⊥
 not_auto a t id help version (inl h) =
     let bad : bytes_eq t (codes "help") ≡ true =
-        subst (λ (u : List ℕ). bytes_eq u (codes "help") ≡ true) (sym h ∙ id) refl in
+    subst (λ (u : List ℕ). bytes_eq u (codes "help") ≡ true) (sym h ∙ id) refl in
     cc
 not_auto a t id help version (inr h) =
     let bad : bytes_eq t (codes "version") ≡ true =
-        subst (λ (u : List ℕ). bytes_eq u (codes "version") ≡ true) (sym h ∙ id) refl in
+    subst (λ (u : List ℕ). bytes_eq u (codes "version") ≡ true) (sym h ∙ id) refl in
     cc
 
 not_empty : (a : Arg) (n : ℕ) (t : List ℕ) → a.id.now ≡ n ∷ t → a.id.now ≡ [] → ⊥
@@ -373,7 +380,7 @@ serial_text : (old : Command) (m : ArgMatches) → app_of old ≡ command_line �
 serial_text old m is p =
     let three = has_three old is in
     flag_text old m is p 0 three.serial (serial_own old three) (ap (λ (r : Rule). r.parser) three.serial_is)
-        (codes "serial") (serial_id old three)
+    (codes "serial") (serial_id old three)
 
 history_text : (old : Command) (m : ArgMatches) → app_of old ≡ command_line → IsParsedFrom old m
     → (t : List ℕ) → one_text (found_of m) (codes "history") ≡ Some t
@@ -381,7 +388,7 @@ history_text : (old : Command) (m : ArgMatches) → app_of old ≡ command_line 
 history_text old m is p =
     let three = has_three old is in
     flag_text old m is p 1 three.history (history_own old three) (ap (λ (r : Rule). r.parser) three.history_is)
-        (codes "history") (history_id old three)
+    (codes "history") (history_id old three)
 
 -- the third option has a text, and it is a number of workers that there may be
 workers_text : (old : Command) (m : ArgMatches) → app_of old ≡ command_line → IsParsedFrom old m
@@ -396,18 +403,20 @@ workers_text old m is p =
     let range : a.num_vals ≡ None = ap (λ (r : Rule). r.range) three.workers_is in
     let one : 1 ≤ 1 = omega arith in
     let least : 1 ≤ least_values a =
-        subst (λ (r : Option ValueRange). 1 ≤ (unwrap_or_range r).start_inclusive) (sym range) one in
+    subst (λ (r : Option ValueRange). 1 ≤ (unwrap_or_range r).start_inclusive) (sym range) one in
     let defaults : texts (items_of a.default_vals) ≡ codes "1" ∷ [] = ap (λ (r : Rule). r.defaults) three.workers_is in
     let wants : WantsDefault a =
-        (no_items a.default_vals_ifs.items after.0, has_items (items_of a.default_vals) (codes "1") defaults) in
+    (no_items a.default_vals_ifs.items after.0, has_items (items_of a.default_vals) (codes "1") defaults) in
     let own = workers_own old three in
     let none = names_none old three in
     let value = own_value old m p 2 a own none (no_groups_of old is) (no_globals_of old is)
     (ap (λ (r : Rule). r.action) three.workers_is) delim least wants in
     let text = own_text old m p 2 a own none (no_groups_of old is) (no_globals_of old is)
-    (values.Unsigned 1 MAX_WORKERS) (ap (λ (r : Rule). r.parser) three.workers_is) value.0 value.1 in
-    (value.0, subst (λ (w : List ℕ). one_text (found_of m) w ≡ Some value.0) id value.1,
-        subst (IsUnsignedIn 1 MAX_WORKERS) text.1 text.2)
+    (values.Unsigned 1 MAX_WORKERS) (ap (λ (r : Rule). r.parser) three.workers_is) value.0 value.1 in (
+      value.0,
+      subst (λ (w : List ℕ). one_text (found_of m) w ≡ Some value.0) id value.1,
+      subst (IsUnsignedIn 1 MAX_WORKERS) text.1 text.2,
+    )
 
 -- the flag that was read is what its text says
 flag_is : (o : Option (List ℕ)) (r : Bool) → (o ≡ None → r ≡ false) → (o ≡ Some (codes "true") → r ≡ true)
@@ -421,7 +430,7 @@ flag_is (Some t) r none set unset says = go (bytes_eq t (codes "true")) refl
     go true is = set (ap Some ((bytes_eq-Decides t (codes "true")).0 is)) ∙ sym is
     go false is =
         let says_false : bytes_eq t (codes "false") ≡ true =
-            subst (λ (b : Bool). (b || bytes_eq t (codes "false")) ≡ true) is (says t refl) in
+        subst (λ (b : Bool). (b || bytes_eq t (codes "false")) ≡ true) is (says t refl) in
         unset (ap Some ((bytes_eq-Decides t (codes "false")).0 says_false)) ∙ sym is
 
 number_is : (E : Type 0) (G : List ℕ → Result ℕ E → Type 0) (t : List ℕ) (r : Option ℕ) → ReadsOne G t r
@@ -467,7 +476,7 @@ flag_asked : (old : Command) (m : ArgMatches) (words : List (List ℕ)) → app_
     → (one_text (found_of m) id ≡ Some (codes "true") → flag ≡ true)
     → (one_text (found_of m) id ≡ Some (codes "false") → flag ≡ false)
     → ((t : List ℕ) → one_text (found_of m) id ≡ Some t
-        → (bytes_eq t (codes "true") || bytes_eq t (codes "false")) ≡ true)
+    → (bytes_eq t (codes "true") || bytes_eq t (codes "false")) ≡ true)
     → flag ≡ bytes_eq (value_in words id) (codes "true")
 flag_asked old m words is has id flag none set unset says =
     flag_is (one_text (found_of m) id) flag none set unset says
@@ -501,9 +510,9 @@ pub asked_for : (old : Command) (m : ArgMatches) (words : List (List ℕ)) (seri
     → record { serial = serial; history = history; workers = workers } ≡ options_in words
 asked_for old m words serial history r workers is has flag other read is_number =
     let text : read.text ≡ value_in words (codes "workers") =
-        ap (λ (o : Option (List ℕ)). unwrap_or o []) (sym read.has ∙ value_read old m words is has (codes "workers")) in
+    ap (λ (o : Option (List ℕ)). unwrap_or o []) (sym read.has ∙ value_read old m words is has (codes "workers")) in
     let number : workers ≡ digits_value 10 (without_leading_plus read.text) =
-        ap (λ (o : Option ℕ). unwrap_or o 0) (sym is_number ∙ read.is) in
+    ap (λ (o : Option ℕ). unwrap_or o 0) (sym is_number ∙ read.is) in
     let asked : workers ≡ digits_value 10 (without_leading_plus (value_in words (codes "workers"))) =
-        number ∙ ap (λ (t : List ℕ). digits_value 10 (without_leading_plus t)) text in
+    number ∙ ap (λ (t : List ℕ). digits_value 10 (without_leading_plus t)) text in
     rw (flag, other, asked) refl

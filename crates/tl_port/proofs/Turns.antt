@@ -24,13 +24,13 @@ takes_on b c entries flights flights' f kept room is law same_flights =
     let pushed : c.flights ≡ b.flights ++ f ∷ [] = ap (λ (d : BookView). d.flights) is in
     let history : c.history ≡ b.history = ap (λ (d : BookView). d.history) is in
     let serving : c.flights ≡ c.seat.serving =
-        pushed ∙ (ap (λ (fs : List (ℕ × Request)). fs ++ f ∷ []) was.slots.1
-        ∙ sym (ap (λ (u : PortView). u.serving) seat)) in
+    pushed ∙ (ap (λ (fs : List (ℕ × Request)). fs ++ f ∷ []) was.slots.1
+    ∙ sym (ap (λ (u : PortView). u.serving) seat)) in
     let resets : reset c ≡ reset b = ap (λ (u : PortView). reset_of u.arena.about u.number) seat in
     let bank : c.store ≡ replay (reset c) (asks_of c.history) =
     ap (λ (d : BookView). d.store) is ∙ (was.bank
-        ∙ (ap (λ (s : Store). replay s (asks_of b.history)) (sym resets)
-        ∙ ap (λ (h : List (Request × Response)). replay (reset c) (asks_of h)) (sym history))) in
+    ∙ (ap (λ (s : Store). replay s (asks_of b.history)) (sym resets)
+    ∙ ap (λ (h : List (Request × Response)). replay (reset c) (asks_of h)) (sym history))) in
     let journal : c.journal ≡ b.journal = ap (λ (d : BookView). d.journal) is in
     let slots : c.seat.arena.about.slots ≡ b.seat.arena.about.slots = ap (λ (u : PortView). u.arena.about.slots) seat in
     let entries_same = ap length history in
@@ -51,7 +51,7 @@ drop_first f fs = rw (eq-eqb f.0 f.0 refl) refl
 same_book : (u v : PortView) (s t : Store) (h i : List (Request × Response)) (fs : List (ℕ × Request)) (m n : ℕ) → u ≡ v
     → s ≡ t → h ≡ i → m ≡ n
     → ◌≡◌ {A = BookView} (record { seat = u; store = s; history = h; flights = fs; journal = m })
-        (record { seat = v; store = t; history = i; flights = fs; journal = n })
+    (record { seat = v; store = t; history = i; flights = fs; journal = n })
 same_book u v s t h i fs m n seat store history journal = cc
 
 -- a book with these parts is the one with the oldest request served
@@ -64,7 +64,7 @@ served_is b c f seat store history journal =
 pub serves_on : (b c : BookView) (entries flights entries' flights' : ℕ) (f : ℕ × Request)
     → IsKeptBook b entries flights → b.flights ≡ f ∷ c.flights
     → c ≡ with_served b f c.flights → IsLawfulPort c.seat → entries' ≡ entries → flights' ≡ flights
-        → IsKeptBook c entries' flights'
+    → IsKeptBook c entries' flights'
 serves_on b c entries flights entries' flights' f kept oldest is law same_entries same_flights =
     let was = kept.lawful in
     let r = reply b.store f.1 in
@@ -72,18 +72,18 @@ serves_on b c entries flights entries' flights' f kept oldest is law same_entrie
     let history : c.history ≡ b.history ++ (f.1, r) ∷ [] = ap (λ (d : BookView). d.history) is in
     let resets : reset c ≡ reset b = ap (λ (u : PortView). reset_of u.arena.about u.number) seat in
     let serving : c.flights ≡ c.seat.serving =
-        sym (ap (λ (u : PortView). u.serving) seat
-        ∙ (ap (λ (fs : List (ℕ × Request)). drop_slot f.0 fs) (sym was.slots.1 ∙ oldest) ∙ drop_first f c.flights)) in
+    sym (ap (λ (u : PortView). u.serving) seat
+    ∙ (ap (λ (fs : List (ℕ × Request)). drop_slot f.0 fs) (sym was.slots.1 ∙ oldest) ∙ drop_first f c.flights)) in
     let asks : asks_of c.history ≡ asks_of b.history ++ f.1 ∷ [] =
-        ap (λ (h : List (Request × Response)). asks_of h) history ∙ asks_of-append b.history f.1 r in
+    ap (λ (h : List (Request × Response)). asks_of h) history ∙ asks_of-append b.history f.1 r in
     let bank : c.store ≡ replay (reset c) (asks_of c.history) =
     ap (λ (d : BookView). d.store) is ∙ (ap (λ (s : Store). after s f.1) was.bank
-        ∙ (sym (replay-append (reset b) (asks_of b.history) f.1)
+    ∙ (sym (replay-append (reset b) (asks_of b.history) f.1)
     ∙ (ap (λ (qs : List Request). replay (reset b) qs) (sym asks)
-        ∙ ap (λ (s : Store). replay s (asks_of c.history)) (sym resets)))) in
+    ∙ ap (λ (s : Store). replay s (asks_of c.history)) (sym resets)))) in
     let listed : c.seat.list ≡ c.history =
-        ap (λ (u : PortView). u.list) seat ∙ (ap (λ (h : List (Request × Response)). h ++ (f.1, r) ∷ []) was.list
-        ∙ sym history) in
+    ap (λ (u : PortView). u.list) seat ∙ (ap (λ (h : List (Request × Response)). h ++ (f.1, r) ∷ []) was.list
+    ∙ sym history) in
     let journal : c.journal ≡ b.journal = ap (λ (d : BookView). d.journal) is in
     let slots : c.seat.arena.about.slots ≡ b.seat.arena.about.slots = ap (λ (u : PortView). u.arena.about.slots) seat in
     let entry = ap length history in

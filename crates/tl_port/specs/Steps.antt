@@ -14,8 +14,13 @@ use Rattle.tl_port.specs.Book.{BookView}
 
 -- the slot with its request is the last in flight, and all else is as it was
 abbrev pub with_flight : BookView → ℕ × Request → BookView
-with_flight b f = record { seat = with_accepted b.seat f; store = b.store; history = b.history;
-    flights = b.flights ++ f ∷ []; journal = b.journal }
+with_flight b f = record {
+  seat = with_accepted b.seat f;
+  store = b.store;
+  history = b.history;
+  flights = b.flights ++ f ∷ [];
+  journal = b.journal;
+}
 
 -- one request of this source is accepted, and joins the end of what is in flight
 pub record AcceptsOne (u : PortView) (flights : List (ℕ × Request)) (source : ℕ) (v : PortView)

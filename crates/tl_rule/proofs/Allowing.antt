@@ -67,22 +67,25 @@ pub unmoved : (holds : State Berth View → Type 0) (s : State Berth View) (i id
     (carried : List (ℕ × Berth)) → holds s → get_elem? s.views id ≡ some m
     → holds (stepped s i (get_or s.words i 0) id carried m keeps)
 unmoved holds s i id m carried h at =
-    subst holds (λ k. record { words = sym (set-get_or s.words i 0) k; homes = s.homes;
-    views = sym (set_again s.views id m at) k }) h
+    subst holds (λ k. record {
+      words = sym (set-get_or s.words i 0) k;
+      homes = s.homes;
+      views = sym (set_again s.views id m at) k;
+    }) h
 
 -- a master's step
 pub master_step : (a : About) (c : Parts) (i id : ℕ) (v : Hands) (f : Phase) (h : maybe.Option Berth) (x : Held)
     (got : List Entry) (carried : List (ℕ × Berth)) (act : Act Berth) (event : Event)
     → (L : Lawful a c) → Known a c L id v → i < length c.phases → homes_after c.homes carried act ≡ set c.homes i h
-        → Lawful a (master_moves c i f h v.number x got)
+    → Lawful a (master_moves c i f h v.number x got)
     → IsAllowed (state_of a c) event → state_of a (master_moves c i f h v.number x got) ≡ state_after
-        (state_of a c) event
+    (state_of a c) event
     → IsOneEvent a event (table_of a c) (stepped (table_of a c) i (word f) id carried
-        (Master (with_hand v i x got)) act)
+    (Master (with_hand v i x got)) act)
 master_step a c i id v f h x got carried act event L K near homes M allowed leaves =
     let words = set_word c.phases _ i f near in
     let views = K.sets (with_hand v i x got)
-        ∙ ap (λ (y : Hands). views_of a (set c.masters v.number (with_hand y i x got)) c.ports) (sym K.is) in record {
+    ∙ ap (λ (y : Hands). views_of a (set c.masters v.number (with_hand y i x got)) c.ports) (sym K.is) in record {
       before = c;
       after = master_moves c i f h v.number x got;
       was = refl;
@@ -98,16 +101,16 @@ pub port_step : (a : About) (c : Parts) (i id : ℕ) (u : Desk) (f : Phase) (h :
     (now : List (ℕ × Request)) (list : List (Request × Response)) (carried : List (ℕ × Berth)) (act : Act Berth)
     (event : Event)
     → (L : Lawful a c) → KnownPort a c L id u → i < length c.phases → homes_after c.homes carried act ≡ set c.homes i h
-        → Lawful a (port_moves c i f h u.number now list)
+    → Lawful a (port_moves c i f h u.number now list)
     → IsAllowed (state_of a c) event → state_of a (port_moves c i f h u.number now list) ≡ state_after
-        (state_of a c) event
+    (state_of a c) event
     → IsOneEvent a event (table_of a c) (stepped (table_of a c) i (word f) id carried
-        (Port (with_serving u now list)) act)
+    (Port (with_serving u now list)) act)
 port_step a c i id u f h now list carried act event L K near homes M allowed leaves =
     let words = set_word c.phases _ i f near in
     let views = K.sets (with_serving u now list)
-        ∙ ap (λ (w : Desk). views_of a c.masters (set c.ports u.number (with_serving w now list))) (sym K.is) in
-        record {
+    ∙ ap (λ (w : Desk). views_of a c.masters (set c.ports u.number (with_serving w now list))) (sym K.is) in
+    record {
       before = c;
       after = port_moves c i f h u.number now list;
       was = refl;
@@ -130,26 +133,31 @@ module _ (a : About) (slots id : ℕ) (m : Seat) (i : ℕ) where
   -- a compare-exchange has to keep the rule where it finds the word that it looks for
   pub tries : (old new : ℕ) (said : maybe.Option Berth) (won : Won)
       → ((c : Parts) → Lawful a c → a.slots ≡ slots → get_elem? (table_of a c).views id ≡ some m.0
-          → get_or (table_of a c).words i 0 ≡ old → Goes a i id m (won (step slots i old new said) m)
-          (table_of a c) new)
+      → get_or (table_of a c).words i 0 ≡ old → Goes a i id m (won (step slots i old new said) m)
+      (table_of a c) new)
       → Allows (Fits a) slots id m i (λ n. either (eqb n old) new n) (Tried won (step slots i old new said) m)
   tries old new said won hit s h wide at _ =
       by_parts a (λ s. length s.homes ≡ slots → get_elem? s.views id ≡ some m.0
-          → Goes a i id m (Tried won (step slots i old new said) m (get_or s.words i 0)) s
-          (either (eqb (get_or s.words i 0) old) new (get_or s.words i 0)))
+      → Goes a i id m (Tried won (step slots i old new said) m (get_or s.words i 0)) s
+      (either (eqb (get_or s.words i 0) old) new (get_or s.words i 0)))
       (λ c L wide at. let t = table_of a c in
-          exchanged (get_or t.words i 0) old new (Goes a i id m
-          (Tried won (step slots i old new said) m (get_or t.words i 0)) t)
+      exchanged (get_or t.words i 0) old new (Goes a i id m
+      (Tried won (step slots i old new said) m (get_or t.words i 0)) t)
       (λ e. let g = hit c L (sym L.shape.homes ∙ wide) at e in
-          (g.0, g.1, g.2, g.3, ((λ _. g.4), λ miss. absurd (miss e))))
-      (λ miss. (m.0, keeps, tt, unmoved (Fits a) t i id m.0 m.1 (record { parts = c; is = refl; lawful = L }) at,
-          ((λ e. absurd (miss e)), λ _. refl))))
+      (g.0, g.1, g.2, g.3, ((λ _. g.4), λ miss. absurd (miss e))))
+      (λ miss. (
+        m.0,
+        keeps,
+        tt,
+        unmoved (Fits a) t i id m.0 m.1 (record { parts = c; is = refl; lawful = L }) at,
+        ((λ e. absurd (miss e)), λ _. refl),
+      )))
       s h wide at
 
   pub stores : (new : ℕ) (Told : Seat → Type 0)
       → ((c : Parts) → Lawful a c → a.slots ≡ slots → get_elem? (table_of a c).views id ≡ some m.0
-          → Goes a i id m Told (table_of a c) new)
+      → Goes a i id m Told (table_of a c) new)
       → Allows (Fits a) slots id m i (λ _. new) (λ _. Told)
   stores new Told keep s h wide at _ =
       by_parts a (λ s. length s.homes ≡ slots → get_elem? s.views id ≡ some m.0 → Goes a i id m Told s new)
-          (λ c L wide at. keep c L (sym L.shape.homes ∙ wide) at) s h wide at
+      (λ c L wide at. keep c L (sym L.shape.homes ∙ wide) at) s h wide at

@@ -38,7 +38,7 @@ module _ (a : About) (c : Parts) (i p o : ℕ) (letter : SlotRecord) (ask : Requ
     (now : List (ℕ × Request)) (L : Lawful a c)
     (S : PortStep a c i (Answered o p) (some (Some letter)) p now ((desk c.ports p).list ++ (ask, reply) ∷ []))
     (ph : phase c i ≡ Serving o p) (own : Owns a o ask.source)
-        (last : letter.index ≡ length (desk c.ports p).list) where
+    (last : letter.index ≡ length (desk c.ports p).list) where
   abbrev more : List (Request × Response)
   more = (desk c.ports p).list ++ (ask, reply) ∷ []
 
@@ -64,55 +64,71 @@ module _ (a : About) (c : Parts) (i p o : ℕ) (letter : SlotRecord) (ask : Requ
     place = ⊎_elim
         (λ (s : InSlot a c t.master n k). inl (dite (ℕ_discrete s.slot i)
         (λ at. absurd (let z : Serving o p ≡ Answered t.master n = sym ph
-            ∙ subst (λ (j : ℕ). phase c j ≡ Answered t.master n) at s.phased in cc))
-        (λ ne. record { slot = s.slot; letter = s.letter;
-            phased = port_phase_else a c i (Answered o p) (some (Some letter)) p now more L S s.slot ne ∙ s.phased;
-            at = get_or-set_other c.homes i s.slot (some (Some letter)) none ne ∙ s.at; index = s.index })))
-        (λ (g : InGot a c t.master n k). inr (record { place = g.place; entry = g.entry; at = g.at; port = g.port;
-            index = g.index })) t.place;
+        ∙ subst (λ (j : ℕ). phase c j ≡ Answered t.master n) at s.phased in cc))
+        (λ ne. record {
+          slot = s.slot;
+          letter = s.letter;
+          phased = port_phase_else a c i (Answered o p) (some (Some letter)) p now more L S s.slot ne ∙ s.phased;
+          at = get_or-set_other c.homes i s.slot (some (Some letter)) none ne ∙ s.at;
+          index = s.index;
+        })))
+        (λ (g : InGot a c t.master n k). inr (record {
+          place = g.place;
+          entry = g.entry;
+          at = g.at;
+          port = g.port;
+          index = g.index;
+        })) t.place;
   }
 
   new_place : (k : ℕ) (y : Request × Response) → k ≡ length (desk c.ports p).list → (ask, reply) ≡ y
       → Placed a e p k y.0
   new_place k y at is =
       subst (λ (z : Request × Response). Placed a e p k z.0) is
-      (record { master = o; owns = own;
-      place = inl (record { slot = i; letter = letter;
-      phased = port_phase_here a c i (Answered o p) (some (Some letter)) p now more L S; at = home_here;
-      index = last ∙ sym at }) })
+      (record {
+        master = o;
+        owns = own;
+        place = inl (record {
+          slot = i;
+          letter = letter;
+          phased = port_phase_here a c i (Answered o p) (some (Some letter)) p now more L S;
+          at = home_here;
+          index = last ∙ sym at;
+        });
+      })
 
   pub answer_places : Places a e
   answer_places = let P = L.places in record {
     placed = desk_elim c.ports p now more S.near
         (λ n u. (k : ℕ) (y : Request × Response) → slice_get u.list k ≡ Some y → Placed a e n k y.0)
         (λ k y at. ⊎_elim (λ (t : (k < length (desk c.ports p).list)
-            × (slice_get (desk c.ports p).list k ≡ Some y)). old_place p k y.0 (P.placed p k y t.1))
-            (λ (t : (k ≡ length (desk c.ports p).list) × ((ask, reply) ≡ y)). new_place k y t.0 t.1)
-            (at_end (desk c.ports p).list (ask, reply) y k at))
+        × (slice_get (desk c.ports p).list k ≡ Some y)). old_place p k y.0 (P.placed p k y t.1))
+        (λ (t : (k ≡ length (desk c.ports p).list) × ((ask, reply) ≡ y)). new_place k y t.0 t.1)
+        (at_end (desk c.ports p).list (ask, reply) y k at))
         (λ n _ k y at. old_place n k y.0 (P.placed n k y at));
     got = λ m j g at. let t = P.got m j g at in (lists_grow g.port g.index (g.ask, g.reply) t.0, t.1);
     got_once = P.got_once;
     apart = λ m n j k r g phased home at port. dite (ℕ_discrete j i)
         (λ same. let f : Answered o p ≡ Answered m n =
-            sym (port_phase_here a c i (Answered o p) (some (Some letter)) p now more L S)
-            ∙ subst (λ (z : ℕ). phase e z ≡ Answered m n) same phased in
+        sym (port_phase_here a c i (Answered o p) (some (Some letter)) p now more L S)
+        ∙ subst (λ (z : ℕ). phase e z ≡ Answered m n) same phased in
         let r_is : letter ≡ r =
-            (let z = subst (λ (z : ℕ). get_or e.homes z none ≡ some (Some r)) same home in let w = home_here in cc) in
+        (let z = subst (λ (z : ℕ). get_or e.homes z none ≡ some (Some r)) same home in let w = home_here in cc) in
         let to : p ≡ n = cc in
-            let stands = subst (λ (z : ℕ). slice_get (desk c.ports z).list g.index ≡ Some (g.ask, g.reply))
-            (port ∙ sym to) (P.got m k g at).0 in
+        let stands = subst (λ (z : ℕ). slice_get (desk c.ports z).list g.index ≡ Some (g.ask, g.reply))
+        (port ∙ sym to) (P.got m k g at).0 in
         let low = below_length (desk c.ports p).list g.index (g.ask, g.reply) stands in
-            let index = ap (λ (z : SlotRecord). z.index) r_is in λ clash. omega arith)
+        let index = ap (λ (z : SlotRecord). z.index) r_is in λ clash. omega arith)
         (λ ne. P.apart m n j k r g (sym (port_phase_else a c i (Answered o p) (some (Some letter)) p now more L S j ne)
-            ∙ phased) (sym (get_or-set_other c.homes i j (some (Some letter)) none ne) ∙ home) at port);
+        ∙ phased) (sym (get_or-set_other c.homes i j (some (Some letter)) none ne) ∙ home) at port);
   }
 
 module _ (a : About) (c : Parts) (L : Lawful a c) (id i o : ℕ) (u : Desk) (K : KnownPort a c L id u)
     (carried : List (ℕ × Berth))
     (letter : SlotRecord) (ask : Request) (reply : Response) (serves : ask_at u.serving i ≡ Some ask)
-        (own : Owns u.about o ask.source) (spells : Spells letter ask)
+    (own : Owns u.about o ask.source) (spells : Spells letter ask)
     (answer : SpellsAnswer letter ask.address reply) (last : letter.index ≡ length u.list)
-        (right : reply ≡ store.reply (replay (reset_of u.about u.number) (asks_of u.list)) ask) where
+    (right : reply ≡ store.reply (replay (reset_of u.about u.number) (asks_of u.list)) ask) where
   abbrev now : List (ℕ × Request)
   now = drop_slot i u.serving
 
@@ -121,9 +137,11 @@ module _ (a : About) (c : Parts) (L : Lawful a c) (id i o : ℕ) (u : Desk) (K :
   asked_by = let p = u.number in
       let t = asked_there a c L p i ask (ap (λ (w : Desk). ask_at w.serving i) K.is ∙ serves) in
       let one = one_owner a t.0 o ask.source ask.source (L.block t.0 i p t.1 ask t.3)
-          (subst (λ (z : About). Owns z o ask.source) K.about own) refl in
-      (t.1, subst (λ (n : ℕ). phase c i ≡ Serving n p) one t.2,
-          subst (λ (n : ℕ). held c.masters n i ≡ Sent ask p t.1) one t.3)
+      (subst (λ (z : About). Owns z o ask.source) K.about own) refl in (
+        t.1,
+        subst (λ (n : ℕ). phase c i ≡ Serving n p) one t.2,
+        subst (λ (n : ℕ). held c.masters n i ≡ Sent ask p t.1) one t.3,
+      )
 
   -- so the owner fits in a word
   pub answer_owner : o ≤ MAX_AGENT
@@ -139,18 +157,18 @@ module _ (a : About) (c : Parts) (L : Lawful a c) (id i o : ℕ) (u : Desk) (K :
       let list = (desk c.ports p).list in let list_is : list ≡ u.list = ap (λ (w : Desk). w.list) K.is in
       let last' : letter.index ≡ length list = last ∙ ap (λ (l : List (Request × Response)). length l) (sym list_is) in
       let low = λ (j : ℕ) (g : Entry) (at : slice_get (hands c.masters o).got j ≡ Some g)
-          (to : g.port ≡ p). below_length list g.index (g.ask, g.reply)
-          (subst (λ (z : ℕ). slice_get (desk c.ports z).list g.index ≡ Some (g.ask, g.reply)) to
-          (L.places.got o j g at).0) in
+      (to : g.port ≡ p). below_length list g.index (g.ask, g.reply)
+      (subst (λ (z : ℕ). slice_get (desk c.ports z).list g.index ≡ Some (g.ask, g.reply)) to
+      (L.places.got o j g at).0) in
       let more = list ++ (ask, reply) ∷ [] in
-          let none_left = drop_here u.serving i (subst (λ (w : Desk). HasDistinctSlots w.serving) K.is
-          (L.serves_once p)) in
+      let none_left = drop_here u.serving i (subst (λ (w : Desk). HasDistinctSlots w.serving) K.is
+      (L.serves_once p)) in
       let near : o < length c.masters = (let s = by.2 in some_master c.masters o i (λ e. absurd (cc))) in
       let true_reply : reply ≡ store.reply (replay (reset_of a p) (asks_of list)) ask =
-          right ∙ (λ z. store.reply (replay (reset_of (K.about z) p) (asks_of (sym list_is z))) ask) in
+      right ∙ (λ z. store.reply (replay (reset_of (K.about z) p) (asks_of (sym list_is z))) ask) in
       let grown : IsLawfulHistory (reset_of a p) more =
-          subst (λ (r : Response). IsLawfulHistory (reset_of a p) (list ++ (ask, r) ∷ [])) (sym true_reply)
-          (IsLawfulHistory-push (reset_of a p) (replay (reset_of a p) (asks_of list)) list ask (L.lawful p) refl) in
+      subst (λ (r : Response). IsLawfulHistory (reset_of a p) (list ++ (ask, r) ∷ [])) (sym true_reply)
+      (IsLawfulHistory-push (reset_of a p) (replay (reset_of a p) (asks_of list)) list ask (L.lawful p) refl) in
       let S : PortStep a c i (Answered o p) (some (Some letter)) p now more = record {
         near = K.near;
         inside = lt;
@@ -163,9 +181,11 @@ module _ (a : About) (c : Parts) (L : Lawful a c) (id i o : ℕ) (u : Desk) (K :
         lawful = grown;
         here = record {
           asked = h.asked;
-          home = record { letter = letter;
-              at = get_or-set_same c.homes i (some (Some letter)) none (let e = L.shape.homes in omega arith);
-              spells = subst (Spells letter) (sym ask_is) spells };
+          home = record {
+            letter = letter;
+            at = get_or-set_same c.homes i (some (Some letter)) none (let e = L.shape.homes in omega arith);
+            spells = subst (Spells letter) (sym ask_is) spells;
+          };
           answer = reply;
           spells = subst (λ (q : Request). SpellsAnswer letter q.address reply) (sym ask_is) answer;
           listed = subst (λ (l : List (Request × Response)). slice_get l letter.index ≡ Some (h.asked.ask, reply))
@@ -175,15 +195,15 @@ module _ (a : About) (c : Parts) (L : Lawful a c) (id i o : ℕ) (u : Desk) (K :
         };
       } in
       let M = port_moved a c i (Answered o p) (some (Some letter)) p now more L S
-          (answer_places a c i p o letter ask reply now L S ph
-          (subst (λ (z : About). Owns z o ask.source) K.about own) last') in (
+      (answer_places a c i p o letter ask reply now L S ph
+      (subst (λ (z : About). Owns z o ask.source) K.about own) last') in (
         subst (λ (l : List (Request × Response)). IsOneEvent a (Answer i o p) (table_of a c)
             (stepped (table_of a c) i (word (Answered o p)) id ((i, Some letter) ∷ carried)
             (Port (with_serving u now (l ++ (ask, reply) ∷ []))) gives)) list_is
             (port_step a c i id u (Answered o p) (some (Some letter)) now more ((i, Some letter) ∷ carried) gives
-                (Answer i o p) L K (let e = L.shape.phases in omega arith) refl M
+            (Answer i o p) L K (let e = L.shape.phases in omega arith) refl M
             (move_is_allowed (state_of a c) (Answer i o p) _ refl (found a c L i (Serving o p) lt ph)
-                (there a c L o near) (low_port a c L p K.near).0 tt) refl),
+            (there a c L o near) (low_port a c L p K.near).0 tt) refl),
         subst (λ (l : List (Request × Response)). IsLawfulDesk (with_serving u now (l ++ (ask, reply) ∷ []))) list_is
             (law_after a c L id i u K carried (Answered o p) (some (Some letter)) now more M),
       )
@@ -192,14 +212,14 @@ pub answers : (a : About) (slots id : ℕ) (u : Desk) (carried : List (ℕ × Be
     (ask : Request) (reply : Response) → ask_at u.serving i ≡ Some ask → new ≡ word (Answered o u.number)
     → Owns u.about o ask.source
     → Spells letter ask → SpellsAnswer letter ask.address reply → letter.index ≡ length u.list
-        → reply ≡ store.reply (replay (reset_of u.about u.number) (asks_of u.list)) ask
+    → reply ≡ store.reply (replay (reset_of u.about u.number) (asks_of u.list)) ask
     → Allows (Fits a) slots id (Port u, (i, Some letter) ∷ carried) i (λ _. new)
-        (λ _. Answers (step slots i new 0 none) (Port u, (i, Some letter) ∷ carried) new)
+    (λ _. Answers (step slots i new 0 none) (Port u, (i, Some letter) ∷ carried) new)
 answers a slots id u carried i new o letter ask reply serves is own spells answer last right = let v =
     with_serving u (drop_slot i u.serving) (u.list ++ (ask, reply) ∷ []) in
     stores a slots id (Port u, (i, Some letter) ∷ carried) i new
-        (Answers (step slots i new 0 none) (Port u, (i, Some letter) ∷ carried) new)
-        (λ c L wide at. let K = known_port a c L id u at in
+    (Answers (step slots i new 0 none) (Port u, (i, Some letter) ∷ carried) new)
+    (λ c L wide at. let K = known_port a c L id u at in
     let E = answer_event a c L id i o u K carried letter ask reply serves own spells answer last right in
     let small = answer_owner a c L id i o u K carried letter ask reply serves own spells answer last right in
     let low = (low_port a c L u.number K.near).1 in

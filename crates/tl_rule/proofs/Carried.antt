@@ -29,8 +29,11 @@ firsts_turned (c ∷ cs) x xs e =
 
 pub top_of : (m : Seat) (i : ℕ) (xs : List ℕ) → firsts m.1 ≡ i ∷ xs → IsTop m i
 top_of m i xs e = elim m.1 as (λ cs. firsts cs ≡ i ∷ xs → (x : Berth)
-    × (cs ≡ (i, x) ∷ rest cs)) [ [] ↦ λ e. absurd (cc) | c
-    ∷ cs ↦ λ e. (c.1, let p : c.0 ≡ i = cc in λ t. (p t, c.1) ∷ cs) ] e
+    × (cs ≡ (i, x) ∷ rest cs)) [
+      | [] ↦ λ e. absurd (cc)
+      | c
+          ∷ cs ↦ λ e. (c.1, let p : c.0 ≡ i = cc in λ t. (p t, c.1) ∷ cs)
+    ] e
 
 swap : (a b c : Bool) → (a || (b || c)) ≡ (b || (a || c))
 swap true true c = refl
@@ -46,10 +49,10 @@ place_more : (x : ℕ) (xs : List ℕ) (i : ℕ) → has xs i ≡ true → place
 place_more x [] i h = absurd (cc)
 place_more x (y ∷ ys) i h = dite (ℕ_discrete y i)
     (λ e. let b = eq-eqb y i e in
-        ap (λ c. cond c 0 (suc (place (ys ++ x ∷ []) i))) b ∙ ap (λ c. cond c 0 (suc (place ys i))) (sym b))
+    ap (λ c. cond c 0 (suc (place (ys ++ x ∷ []) i))) b ∙ ap (λ c. cond c 0 (suc (place ys i))) (sym b))
     (λ ne. let b = ne_eqb y i ne in let h' : has ys i ≡ true = subst (λ c. (c || has ys i) ≡ true) b h in
-        ap (λ c. cond c 0 (suc (place (ys ++ x ∷ []) i))) b ∙ ap suc (place_more x ys i h')
-        ∙ ap (λ c. cond c 0 (suc (place ys i))) (sym b))
+    ap (λ c. cond c 0 (suc (place (ys ++ x ∷ []) i))) b ∙ ap suc (place_more x ys i h')
+    ∙ ap (λ c. cond c 0 (suc (place ys i))) (sym b))
 
 pub still_there : (x : ℕ) (xs : List ℕ) (i : ℕ) → x ≢ i → has (x ∷ xs) i ≡ true → has xs i ≡ true
 still_there x xs i ne h = subst (λ c. (c || has xs i) ≡ true) (ne_eqb x i ne) h
@@ -153,10 +156,10 @@ dropped_length : (fs : List (ℕ × Request)) (i : ℕ) (ask : Request) → ask_
 dropped_length [] i ask is = absurd (cc)
 dropped_length (f ∷ fs) i ask is = dite (ℕ_discrete f.0 i)
     (λ e. let s : drop_slot i (f ∷ fs) ≡ fs = ap (λ b. cond b fs (f ∷ drop_slot i fs)) (eq-eqb f.0 i e) in
-        let l = ap (λ (x : List (ℕ × Request)). length x) s in omega arith)
+    let l = ap (λ (x : List (ℕ × Request)). length x) s in omega arith)
     (λ n. let s : drop_slot i (f ∷ fs) ≡ f ∷ drop_slot i fs =
-        ap (λ b. cond b fs (f ∷ drop_slot i fs)) (ne_eqb f.0 i n) in
-        let l = ap (λ (x : List (ℕ × Request)). length x) s in
+    ap (λ b. cond b fs (f ∷ drop_slot i fs)) (ne_eqb f.0 i n) in
+    let l = ap (λ (x : List (ℕ × Request)). length x) s in
     let r = dropped_length fs i ask (sym (first_not f fs i n) ∙ is) in omega arith)
 
 pub answers_one : (serving : List (ℕ × Request)) (order : List ℕ) (i : ℕ) (ask : Request) → HasDistinctSlots serving

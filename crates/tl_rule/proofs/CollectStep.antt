@@ -36,9 +36,9 @@ use Rattle.tl_rule.proofs.Allowing.{fits_after, event_told, found, there, presen
 module _ (a : About) (c : Parts) (i m p since : ℕ) (letter : SlotRecord) (ask : Request) (reply : Response)
     (L : Lawful a c)
     (S : MasterStep a c i (Taking m p) none m (Taken p)
-        ((hands c.masters m).got ++ entry p letter.index ask reply ∷ []))
+    ((hands c.masters m).got ++ entry p letter.index ask reply ∷ []))
     (ph : phase c i ≡ Answered m p) (at_home : IsHome c.homes i letter) (sent : held c.masters m i ≡ Sent ask p since)
-        (place : slice_get (desk c.ports p).list letter.index ≡ Some (ask, reply)) where
+    (place : slice_get (desk c.ports p).list letter.index ≡ Some (ask, reply)) where
   abbrev old : List Entry
   old = (hands c.masters m).got
 
@@ -68,10 +68,14 @@ module _ (a : About) (c : Parts) (i m p since : ℕ) (letter : SlotRecord) (ask 
       (λ at. before_end old e j (below_length old j g at) ∙ at) (λ n _ at. at) n
 
   gotten : InGot a d m p letter.index
-  gotten = record { place = length old; entry = e;
-      at = subst (λ l. slice_get l (length old) ≡ Some e)
-      (sym (got_here c.masters m i (Taken p) (old ++ e ∷ []) S.near in_hand)) (ended old e (length old) refl);
-      port = refl; index = refl }
+  gotten = record {
+    place = length old;
+    entry = e;
+    at = subst (λ l. slice_get l (length old) ≡ Some e)
+        (sym (got_here c.masters m i (Taken p) (old ++ e ∷ []) S.near in_hand)) (ended old e (length old) refl);
+    port = refl;
+    index = refl;
+  }
 
   new_placed : (n k : ℕ) (y : Request × Response) → Placed a c n k y.0 → Placed a d n k y.0
   new_placed n k y t = record {
@@ -80,18 +84,27 @@ module _ (a : About) (c : Parts) (i m p since : ℕ) (letter : SlotRecord) (ask 
     place = ⊎_elim
         (λ (s : InSlot a c t.master n k). dite (ℕ_discrete s.slot i)
         (λ same. let f : Answered m p ≡ Answered t.master n = sym ph
-            ∙ subst (λ (z : ℕ). phase c z ≡ Answered t.master n) same s.phased in
+        ∙ subst (λ (z : ℕ). phase c z ≡ Answered t.master n) same s.phased in
         let em : m ≡ t.master = cc in let en : p ≡ n = cc in
-            let one : letter ≡ s.letter =
-            (let z = subst (λ (z : ℕ). get_or c.homes z none ≡ some (Some s.letter)) same s.at in cc) in
+        let one : letter ≡ s.letter =
+        (let z = subst (λ (z : ℕ). get_or c.homes z none ≡ some (Some s.letter)) same s.at in cc) in
         let ek : letter.index ≡ k = ap (λ (z : SlotRecord). z.index) one ∙ s.index in
         inr (subst (λ (z : ℕ). InGot a d z n k) em
-            (subst (λ (z : ℕ). InGot a d m z k) en (subst (λ (z : ℕ). InGot a d m p z) ek gotten))))
-        (λ ne. inl (record { slot = s.slot; letter = s.letter;
-            phased = phase_else a c i (Taking m p) none m (Taken p) (old ++ e ∷ []) L S s.slot ne ∙ s.phased;
-            at = get_or-set_other c.homes i s.slot none none ne ∙ s.at; index = s.index })))
-        (λ (g : InGot a c t.master n k). inr (record { place = g.place; entry = g.entry;
-            at = grown t.master g.place g.entry g.at; port = g.port; index = g.index })) t.place;
+        (subst (λ (z : ℕ). InGot a d m z k) en (subst (λ (z : ℕ). InGot a d m p z) ek gotten))))
+        (λ ne. inl (record {
+          slot = s.slot;
+          letter = s.letter;
+          phased = phase_else a c i (Taking m p) none m (Taken p) (old ++ e ∷ []) L S s.slot ne ∙ s.phased;
+          at = get_or-set_other c.homes i s.slot none none ne ∙ s.at;
+          index = s.index;
+        })))
+        (λ (g : InGot a c t.master n k). inr (record {
+          place = g.place;
+          entry = g.entry;
+          at = grown t.master g.place g.entry g.at;
+          port = g.port;
+          index = g.index;
+        })) t.place;
   }
 
   -- another answered slot has another index
@@ -101,7 +114,7 @@ module _ (a : About) (c : Parts) (i m p since : ℕ) (letter : SlotRecord) (ask 
       ∙ place in
       let asks : A.asked.ask ≡ ask = first_of (A.asked.ask, A.answer) (ask, reply) pair in
       ne (L.sources m j i p p A.asked.known since A.asked.ask ask A.asked.sent sent
-          (ap (λ (z : Request). z.source) asks))
+      (ap (λ (z : Request). z.source) asks))
 
   same_index : (A B : SlotRecord) → A ≡ B → A.index ≡ B.index
   same_index A B e = ap (λ (z : SlotRecord). z.index) e
@@ -121,41 +134,41 @@ module _ (a : About) (c : Parts) (i m p since : ℕ) (letter : SlotRecord) (ask 
     got = λ n j g. elim_got (λ n l. slice_get l j ≡ Some g
         → (slice_get (desk c.ports g.port).list g.index ≡ Some (g.ask, g.reply)) × Owns a n g.ask.source)
         (λ at. ⊎_elim (λ (t : (j < length old) × (slice_get old j ≡ Some g)). P.got m j g t.1)
-            (λ (t : (j ≡ length old) × (e ≡ g)). subst
-            (λ (g : Entry). (slice_get (desk c.ports g.port).list g.index ≡ Some (g.ask, g.reply))
-            × Owns a m g.ask.source) t.1 (place, L.block m i p since ask sent)) (at_end old e g j at))
+        (λ (t : (j ≡ length old) × (e ≡ g)). subst
+        (λ (g : Entry). (slice_get (desk c.ports g.port).list g.index ≡ Some (g.ask, g.reply))
+        × Owns a m g.ask.source) t.1 (place, L.block m i p since ask sent)) (at_end old e g j at))
         (λ n _ at. P.got n j g at) n;
     got_once = λ n j k g f. elim_got (λ n l. slice_get l j ≡ Some g → slice_get l k ≡ Some f → g.port ≡ f.port
         → g.index ≡ f.index → j ≡ k)
         (λ at there port index. ⊎_elim
         (λ (t : (j < length old) × (slice_get old j ≡ Some g)). ⊎_elim
-            (λ (u : (k < length old) × (slice_get old k ≡ Some f)). P.got_once m j k g f t.1 u.1 port index)
+        (λ (u : (k < length old) × (slice_get old k ≡ Some f)). P.got_once m j k g f t.1 u.1 port index)
         (λ (u : (k ≡ length old) × (e ≡ f)). absurd
-            (P.apart m p i j letter g ph at_home t.1 (port ∙ ap (λ (z : Entry). z.port) (sym u.1))
-            (index ∙ ap (λ (z : Entry). z.index) (sym u.1)))) (at_end old e f k there))
+        (P.apart m p i j letter g ph at_home t.1 (port ∙ ap (λ (z : Entry). z.port) (sym u.1))
+        (index ∙ ap (λ (z : Entry). z.index) (sym u.1)))) (at_end old e f k there))
         (λ (t : (j ≡ length old) × (e ≡ g)). ⊎_elim
-            (λ (u : (k < length old) × (slice_get old k ≡ Some f)). absurd
-            (P.apart m p i k letter f ph at_home u.1 (sym port ∙ ap (λ (z : Entry). z.port) (sym t.1))
-            (sym index ∙ ap (λ (z : Entry). z.index) (sym t.1))))
+        (λ (u : (k < length old) × (slice_get old k ≡ Some f)). absurd
+        (P.apart m p i k letter f ph at_home u.1 (sym port ∙ ap (λ (z : Entry). z.port) (sym t.1))
+        (sym index ∙ ap (λ (z : Entry). z.index) (sym t.1))))
         (λ (u : (k ≡ length old) × (e ≡ f)). t.0 ∙ sym u.0) (at_end old e f k there)) (at_end old e g j at))
         (λ n _ at there. P.got_once n j k g f at there) n;
     apart = λ n r j k y g phased home at port. dite (ℕ_discrete j i)
         (λ same. absurd (not_here n r (subst (λ (z : ℕ). phase d z ≡ Answered n r) same phased)))
         (λ ne. let was = sym (phase_else a c i (Taking m p) none m (Taken p) (old ++ e ∷ []) L S j ne) ∙ phased in
-            let home' = sym (get_or-set_other c.homes i j none none ne) ∙ home in
+        let home' = sym (get_or-set_other c.homes i j none none ne) ∙ home in
         elim_got (λ n l. phase c j ≡ Answered n r → slice_get l k ≡ Some g → g.index ≢ y.index)
         (λ was at. ⊎_elim (λ (t : (k < length old)
-            × (slice_get old k ≡ Some g)). P.apart m r j k y g was home' t.1 port)
+        × (slice_get old k ≡ Some g)). P.apart m r j k y g was home' t.1 port)
         (λ (t : (k ≡ length old) × (e ≡ g)). let to : r ≡ p = sym port ∙ ap (λ (z : Entry). z.port) (sym t.1) in
         λ clash. other_slot j y ne (subst (λ (z : ℕ). phase c j ≡ Answered m z) to was) home'
-            (ap (λ (z : Entry). z.index) t.1 ∙ clash)) (at_end old e g k at))
+        (ap (λ (z : Entry). z.index) t.1 ∙ clash)) (at_end old e g k at))
         (λ n _ was at. P.apart n r j k y g was home' at port) n was at);
   }
 
 module _ (a : About) (c : Parts) (L : Lawful a c) (id i : ℕ) (v : Hands) (K : Known a c L id v)
     (carried : List (ℕ × Berth)) (ask : Request) (p since : ℕ)
     (lt : i < a.slots) (sent_is : get_or v.hand i Nothing ≡ Sent ask p since) (ph : phase c i ≡ Answered v.number p)
-        (A : IsAnswered a c i v.number p) where
+    (A : IsAnswered a c i v.number p) where
   abbrev letter : SlotRecord
   letter = A.home.letter
 
@@ -207,8 +220,10 @@ module _ (a : About) (c : Parts) (L : Lawful a c) (id i : ℕ) (v : Hands) (K : 
     distinct = λ q p k e. absurd (cc);
     longer = omega (arith, length-append held_before (last ∷ []));
     gots = λ k l. before_end held_before last k l;
-    here = record { taken = held_here c.masters v.number i (Taken p) (held_before ++ last ∷ []) K.near in_view;
-        port = in_range };
+    here = record {
+      taken = held_here c.masters v.number i (Taken p) (held_before ++ last ∷ []) K.near in_view;
+      port = in_range;
+    };
   }
 
   collect_lawful : Lawful a moved_parts
@@ -222,9 +237,9 @@ module _ (a : About) (c : Parts) (L : Lawful a c) (id i : ℕ) (v : Hands) (K : 
       (stepped (table_of a c) i (word (Taking v.number p)) id carried
       (Master (with_hand v i (Taken p) (l ++ last ∷ []))) (takes i (Some letter)))) got_is
       (master_step a c i id v (Taking v.number p) none (Taken p) (held_before ++ last ∷ []) carried
-          (takes i (Some letter)) (Collect i v.number p) L K (let e = L.shape.phases in omega arith) refl collect_lawful
+      (takes i (Some letter)) (Collect i v.number p) L K (let e = L.shape.phases in omega arith) refl collect_lawful
       (move_is_allowed (state_of a c) (Collect i v.number p) _ refl (found a c L i (Answered v.number p) lt ph)
-          (there a c L v.number K.near) in_range (present a c L v.number K.near staying)) refl)
+      (there a c L v.number K.near) in_range (present a c L v.number K.near staying)) refl)
 
   -- what the seat is told
   pub collect_told : (slots from new : ℕ) (said : maybe.Option Berth)
@@ -233,11 +248,11 @@ module _ (a : About) (c : Parts) (L : Lawful a c) (id i : ℕ) (v : Hands) (K : 
       (Master (with_hand v i (Taken p) (v.got ++ last ∷ [])), (i, Some letter) ∷ carried)
   collect_told slots from new said at = let m = v.number in let d = moved_parts in
       let hands_is : hands d.masters m ≡ with_hand v i (Taken p) (v.got ++ last ∷ []) =
-          get_or-set_same c.masters m (with_hand (hands c.masters m) i (Taken p)
-          (held_before ++ last ∷ [])) no_hands K.near ∙ (λ t. with_hand (K.is t) i (Taken p) (got_is t ++ last ∷ [])) in
+      get_or-set_same c.masters m (with_hand (hands c.masters m) i (Taken p)
+      (held_before ++ last ∷ [])) no_hands K.near ∙ (λ t. with_hand (K.is t) i (Taken p) (got_is t ++ last ∷ [])) in
       let views = collect_lawful.shape.master_views m
-          (let z = K.near in let y = length-set c.masters m
-          (with_hand (hands c.masters m) i (Taken p) (held_before ++ last ∷ [])) in omega arith) in
+      (let z = K.near in let y = length-set c.masters m
+      (with_hand (hands c.masters m) i (Taken p) (held_before ++ last ∷ [])) in omega arith) in
       let own = just_own a d collect_lawful m p views.1 views.0 in record {
         letter = letter;
         ask = ask;
@@ -259,9 +274,9 @@ module _ (a : About) (c : Parts) (L : Lawful a c) (id i : ℕ) (v : Hands) (K : 
         seen = subst (λ (q : Request). SeenFit (desk c.ports p).list letter.index q reply
             (at_port p (take since v.got))) ask_is
             (subst (λ (k : ℕ). SeenFit (desk c.ports p).list letter.index A.asked.ask reply
-                (at_port p (take k v.got))) known_is
+            (at_port p (take k v.got))) known_is
             (subst (λ (w : Hands). SeenFit (desk c.ports p).list letter.index A.asked.ask reply
-                (at_port p (take A.asked.known w.got))) K.is (seen_fit a c L m p i A)));
+            (at_port p (take A.asked.known w.got))) K.is (seen_fit a c L m p i A)));
         own = subst (λ (w : Hands). JustOwn (desk c.ports p).list (Owns w.about w.number) (at_port p w.got)
             (sent_at p w.hand)) hands_is own;
         event = event_told a v.about (Collect i m p) _ _ id _ _ K.about at refl collect_event;
@@ -271,14 +286,16 @@ pub collects : (a : About) (slots id : ℕ) (v : Hands) (carried : List (ℕ × 
     (said : maybe.Option Berth) (ask : Request) (p since : ℕ) → get_or v.hand i Nothing ≡ Sent ask p since
     → from ≡ word (Answered v.number p) → new ≡ word (Taking v.number p)
     → Allows (Fits a) slots id (Master v, carried) i (λ n. either (eqb n from) new n)
-        (Tried Collects (step slots i from new said) (Master v, carried))
+    (Tried Collects (step slots i from new said) (Master v, carried))
 collects a slots id v carried i from new said ask p since sent_is from_is is = let m = v.number in
     tries a slots id (Master v, carried) i from new said Collects (λ c L wide at hit. let K = known a c L id v at in
     let lt : i < a.slots = (let z = in_hand_of v.hand i (λ e. absurd (cc)) in let w = K.wide in omega arith) in
     let ph = shown a c L i (Answered m p) lt
-        (record { owner = (low_master a c L m K.near).1;
-        port = sent_port a c L m i ask p since lt (ap (λ (x : Hands). get_or x.hand i Nothing) K.is ∙ sent_is) })
-        (hit ∙ from_is) in
+    (record {
+      owner = (low_master a c L m K.near).1;
+      port = sent_port a c L m i ask p since lt (ap (λ (x : Hands). get_or x.hand i Nothing) K.is ∙ sent_is);
+    })
+    (hit ∙ from_is) in
     let A = subst (InPhase a c i) ph (L.slots i lt) in
     let E = collect_event a c L id i v K carried ask p since lt sent_is ph A in
     let view = Master (with_hand v i (Taken p) (v.got ++ entry p A.home.letter.index ask A.answer ∷ [])) in (

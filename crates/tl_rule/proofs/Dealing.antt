@@ -62,8 +62,13 @@ module _ (a : About) (c : Parts) (L : Lawful a c) (more : length c.masters < a.m
   new_master = new_hands a (length c.masters)
 
   abbrev with_master : Parts
-  with_master = record { phases = c.phases; left = c.left; homes = c.homes; masters = c.masters ++ new_master ∷ [];
-      ports = c.ports }
+  with_master = record {
+    phases = c.phases;
+    left = c.left;
+    homes = c.homes;
+    masters = c.masters ++ new_master ∷ [];
+    ports = c.ports;
+  }
 
   by_master : (P : ℕ → Hands → Type 0) → ((j : ℕ) → j < length c.masters → P j (hands c.masters j))
       → P (length c.masters) new_master → ((j : ℕ) → length c.masters < j → P j no_hands) → (j : ℕ)
@@ -102,32 +107,41 @@ module _ (a : About) (c : Parts) (L : Lawful a c) (more : length c.masters < a.m
         port_views = t.port_views;
       })
       (by_master (λ n y. get_or c.left n false ≡ y.left) (λ n _. L.leaving n)
-          (L.leaving (length c.masters) ∙ ap (λ (y : Hands). y.left) (no_master_yet (length c.masters) (omega arith)))
-          (λ n lt. L.leaving n ∙ ap (λ (y : Hands). y.left) (no_master_yet n (omega arith))))
+      (L.leaving (length c.masters) ∙ ap (λ (y : Hands). y.left) (no_master_yet (length c.masters) (omega arith)))
+      (λ n lt. L.leaving n ∙ ap (λ (y : Hands). y.left) (no_master_yet n (omega arith))))
       (λ n j. by_master (λ n y. y.left ≡ true → get_or y.hand j Nothing ≡ Nothing) (λ n _. L.gone n j)
-          (λ e. absurd (cc)) (λ n lt e. absurd (cc)) n)
+      (λ e. absurd (cc)) (λ n lt e. absurd (cc)) n)
 
 pub deals_master : (a : About) (id m p : ℕ) → m < a.masters
     → Splits (Fits a) id (Dealer a m p) (after_master (Dealer a m p)) (next_master (Dealer a m p))
 deals_master a id m p more s h =
     by_parts a (λ s. get_elem? s.views id ≡ some (Dealer a m p)
-        → Fits a (record { words = s.words; homes = s.homes;
-        views = set s.views id (Dealer a (m + 1) p) ++ Master (new_hands a m) ∷ [] }))
+    → Fits a (record {
+      words = s.words;
+      homes = s.homes;
+      views = set s.views id (Dealer a (m + 1) p) ++ Master (new_hands a m) ∷ [];
+    }))
     (λ c L. elim id as (λ id. get_elem? (views_of a c.masters c.ports) id ≡ some (Dealer a m p)
-        → Fits a (record { words = (table_of a c).words; homes = c.homes;
-        views = set (views_of a c.masters c.ports) id (Dealer a (m + 1) p) ++ Master (new_hands a m) ∷ [] })) [
+    → Fits a (record {
+      words = (table_of a c).words;
+      homes = c.homes;
+      views = set (views_of a c.masters c.ports) id (Dealer a (m + 1) p) ++ Master (new_hands a m) ∷ [];
+    })) [
       | zero ↦ λ at. let is = some-injective (Dealer a (length c.masters) (length c.ports)) (Dealer a m p) at in
           let ms_is : length c.masters ≡ m = cc in let ps_is : length c.ports ≡ p = cc in
           let lt : length c.masters < a.masters = omega arith in
           let none_yet : length c.ports ≡ 0 = L.shape.dealt lt in
-              let long = length-append c.masters (new_hands a (length c.masters) ∷ []) in
+          let long = length-append c.masters (new_hands a (length c.masters) ∷ []) in
           let counted : m + 1 ≡ length (c.masters ++ new_hands a (length c.masters) ∷ []) = omega arith in record {
             parts = with_master a c L lt;
-            is = λ z. record { words = (table_of a c).words; homes = c.homes;
-                views = (ap (λ (k : ℕ). Dealer a (m + 1) p
-                ∷ ((map Master c.masters ++ map Port c.ports) ++ Master (new_hands a k) ∷ [])) (sym ms_is)
-                ∙ (λ z. Dealer a (counted z) (sym ps_is z)
-                ∷ masters_only c.masters c.ports (new_hands a (length c.masters)) none_yet z)) z };
+            is = λ z. record {
+              words = (table_of a c).words;
+              homes = c.homes;
+              views = (ap (λ (k : ℕ). Dealer a (m + 1) p
+                  ∷ ((map Master c.masters ++ map Port c.ports) ++ Master (new_hands a k) ∷ [])) (sym ms_is)
+                  ∙ (λ z. Dealer a (counted z) (sym ps_is z)
+                  ∷ masters_only c.masters c.ports (new_hands a (length c.masters)) none_yet z)) z;
+            };
             lawful = master_lawful a c L lt;
           }
       | suc j ↦ λ at. absurd (no_dealer c.masters c.ports j a m p at)
@@ -142,8 +156,13 @@ module _ (a : About) (c : Parts) (L : Lawful a c) (all : length c.masters ≡ a.
   new_port = new_desk a (length c.ports)
 
   abbrev with_port : Parts
-  with_port = record { phases = c.phases; left = c.left; homes = c.homes; masters = c.masters;
-      ports = c.ports ++ new_port ∷ [] }
+  with_port = record {
+    phases = c.phases;
+    left = c.left;
+    homes = c.homes;
+    masters = c.masters;
+    ports = c.ports ++ new_port ∷ [];
+  }
 
   by_port : (P : ℕ → Desk → Type 0) → ((j : ℕ) → j < length c.ports → P j (desk c.ports j))
       → P (length c.ports) new_port → ((j : ℕ) → length c.ports < j → P j no_desk) → (j : ℕ)
@@ -186,22 +205,31 @@ pub deals_port : (a : About) (id m p : ℕ) → m ≡ a.masters → p < a.ports
     → Splits (Fits a) id (Dealer a m p) (after_port (Dealer a m p)) (next_port (Dealer a m p))
 deals_port a id m p all more s h =
     by_parts a (λ s. get_elem? s.views id ≡ some (Dealer a m p)
-        → Fits a (record { words = s.words; homes = s.homes;
-        views = set s.views id (Dealer a m (p + 1)) ++ Port (new_desk a p) ∷ [] }))
+    → Fits a (record {
+      words = s.words;
+      homes = s.homes;
+      views = set s.views id (Dealer a m (p + 1)) ++ Port (new_desk a p) ∷ [];
+    }))
     (λ c L. elim id as (λ id. get_elem? (views_of a c.masters c.ports) id ≡ some (Dealer a m p)
-        → Fits a (record { words = (table_of a c).words; homes = c.homes;
-        views = set (views_of a c.masters c.ports) id (Dealer a m (p + 1)) ++ Port (new_desk a p) ∷ [] })) [
+    → Fits a (record {
+      words = (table_of a c).words;
+      homes = c.homes;
+      views = set (views_of a c.masters c.ports) id (Dealer a m (p + 1)) ++ Port (new_desk a p) ∷ [];
+    })) [
       | zero ↦ λ at. let is = some-injective (Dealer a (length c.masters) (length c.ports)) (Dealer a m p) at in
           let ms_is : length c.masters ≡ m = cc in let ps_is : length c.ports ≡ p = cc in
           let lt : length c.ports < a.ports = omega arith in
           let long = length-append c.ports (new_desk a (length c.ports) ∷ []) in
           let counted : p + 1 ≡ length (c.ports ++ new_desk a (length c.ports) ∷ []) = omega arith in record {
             parts = with_port a c L (ms_is ∙ all) lt;
-            is = λ z. record { words = (table_of a c).words; homes = c.homes;
-                views = (ap (λ (k : ℕ). Dealer a m (p + 1)
-                ∷ ((map Master c.masters ++ map Port c.ports) ++ Port (new_desk a k) ∷ [])) (sym ps_is)
-                ∙ (λ z. Dealer a (sym ms_is z) (counted z)
-                ∷ ports_more c.masters c.ports (new_desk a (length c.ports)) z)) z };
+            is = λ z. record {
+              words = (table_of a c).words;
+              homes = c.homes;
+              views = (ap (λ (k : ℕ). Dealer a m (p + 1)
+                  ∷ ((map Master c.masters ++ map Port c.ports) ++ Port (new_desk a k) ∷ [])) (sym ps_is)
+                  ∙ (λ z. Dealer a (sym ms_is z) (counted z)
+                  ∷ ports_more c.masters c.ports (new_desk a (length c.ports)) z)) z;
+            };
             lawful = port_lawful a c L (ms_is ∙ all) lt;
           }
       | suc j ↦ λ at. absurd (no_dealer c.masters c.ports j a m p at)
@@ -240,36 +268,41 @@ pub opens : (a : About) (ws : List ℕ) (xs : List Berth) → ws ≡ replicate (
     → All (λ (berth : Berth). IsSome berth) xs → IsInLimits a.slots a.masters a.ports
     → Fits a (opening ws xs (opening_view a))
 opens a ws xs words long there limits = let c : Parts =
-    record { phases = replicate a.slots Free; left = replicate a.masters false; homes = map some xs; masters = [];
-    ports = [] } in record {
-  parts = c;
-  is = λ z. record { words = (words ∙ all_free a.slots a.masters) z; homes = map some xs; views = Dealer a 0 0 ∷ [] };
-  lawful = record {
-    shape = record {
-      limits = limits;
-      phases = length-replicate a.slots Free;
-      homes = long_map xs ∙ long;
-      left = length-replicate a.masters false;
-      masters = omega arith;
-      ports = omega arith;
-      dealt = λ _. refl;
-      master_views = λ m lt. absurd (omega arith);
-      port_views = λ m lt. absurd (omega arith);
-    };
-    leaving = λ m. at_replicate a.masters m false;
-    gone = λ m i e. absurd (cc);
-    slots = λ i lt. subst (InPhase a c i) (sym (at_replicate a.slots i Free)) (all_home xs i (omega arith) there);
-    hand = λ m i h. absurd (h refl);
-    service = λ p i q e. absurd (cc);
-    serves_once = λ p. tt;
-    sources = λ m i j p p' n n' q q' e f. absurd (cc);
-    block = λ m i p n q e. absurd (cc);
-    places = record {
-      placed = λ p k x e. absurd (cc);
-      got = λ m j e at. absurd (cc);
-      got_once = λ m j k e f at. absurd (cc);
-      apart = λ m p i j r e f home at. absurd (cc);
-    };
-    lawful = λ p k ask response at. absurd (cc);
-  };
-}
+    record {
+      phases = replicate a.slots Free;
+      left = replicate a.masters false;
+      homes = map some xs;
+      masters = [];
+      ports = [];
+    } in record {
+      parts = c;
+      is = λ z. record { words = (words ∙ all_free a.slots a.masters) z; homes = map some xs; views = Dealer a 0 0 ∷ [] };
+      lawful = record {
+        shape = record {
+          limits = limits;
+          phases = length-replicate a.slots Free;
+          homes = long_map xs ∙ long;
+          left = length-replicate a.masters false;
+          masters = omega arith;
+          ports = omega arith;
+          dealt = λ _. refl;
+          master_views = λ m lt. absurd (omega arith);
+          port_views = λ m lt. absurd (omega arith);
+        };
+        leaving = λ m. at_replicate a.masters m false;
+        gone = λ m i e. absurd (cc);
+        slots = λ i lt. subst (InPhase a c i) (sym (at_replicate a.slots i Free)) (all_home xs i (omega arith) there);
+        hand = λ m i h. absurd (h refl);
+        service = λ p i q e. absurd (cc);
+        serves_once = λ p. tt;
+        sources = λ m i j p p' n n' q q' e f. absurd (cc);
+        block = λ m i p n q e. absurd (cc);
+        places = record {
+          placed = λ p k x e. absurd (cc);
+          got = λ m j e at. absurd (cc);
+          got_once = λ m j k e f at. absurd (cc);
+          apart = λ m p i j r e f home at. absurd (cc);
+        };
+        lawful = λ p k ask response at. absurd (cc);
+      };
+    }

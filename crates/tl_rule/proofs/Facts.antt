@@ -97,11 +97,15 @@ module _ (a : About) (c : Parts) (L : Lawful a c) where
   fits_word i (Posted m p) h = let s = h.asked.sent in
       record { owner = (low_master m (some_master c.masters m i (λ e. absurd (cc)))).1; port = in_ports p h.port }
   fits_word i (Serving m p) h = let s = h.asked.sent in
-      record { owner = (low_master m (some_master c.masters m i (λ e. absurd (cc)))).1;
-      port = (low_port p (some_port c.ports p i h.asked.ask h.serves)).1 }
+      record {
+        owner = (low_master m (some_master c.masters m i (λ e. absurd (cc)))).1;
+        port = (low_port p (some_port c.ports p i h.asked.ask h.serves)).1;
+      }
   fits_word i (Answered m p) h = let s = h.asked.sent in
-      record { owner = (low_master m (some_master c.masters m i (λ e. absurd (cc)))).1;
-      port = (low_port p (some_list c.ports p _ _ h.listed)).1 }
+      record {
+        owner = (low_master m (some_master c.masters m i (λ e. absurd (cc)))).1;
+        port = (low_port p (some_list c.ports p _ _ h.listed)).1;
+      }
   fits_word i (Taking m p) h = let s = h.taken in
       record { owner = (low_master m (some_master c.masters m i (λ e. absurd (cc)))).1; port = in_ports p h.port }
 

@@ -62,20 +62,27 @@ quiet a c d q P = let list_at =
     λ (p k : ℕ) (x : Request × Response) (e : slice_get (desk d.ports p).list k ≡ Some x). subst
     (λ l. slice_get l k ≡ Some x) (q.same_lists p) e in
     let got_at = λ (n j : ℕ) (x : Entry) (e : slice_get (hands d.masters n).got j ≡ Some x). subst
-        (λ l. slice_get l j ≡ Some x) (q.same_gots n) e in record {
+    (λ l. slice_get l j ≡ Some x) (q.same_gots n) e in record {
       placed = λ p k x e. let t = P.placed p k x (list_at p k x e) in record {
         master = t.master;
         owns = t.owns;
         place = ⊎_elim
             (λ (s : InSlot a c t.master p k). inl (let f = q.forth s.slot t.master p s.phased in
-                record { slot = s.slot; letter = s.letter; phased = f.0; at = f.1 ∙ s.at; index = s.index }))
-            (λ (g : InGot a c t.master p k). inr (record { place = g.place; entry = g.entry;
-                at = subst (λ l. slice_get l g.place ≡ Some g.entry) (sym (q.same_gots t.master)) g.at; port = g.port;
-                index = g.index })) t.place;
+            record { slot = s.slot; letter = s.letter; phased = f.0; at = f.1 ∙ s.at; index = s.index }))
+            (λ (g : InGot a c t.master p k). inr (record {
+              place = g.place;
+              entry = g.entry;
+              at = subst (λ l. slice_get l g.place ≡ Some g.entry) (sym (q.same_gots t.master)) g.at;
+              port = g.port;
+              index = g.index;
+            })) t.place;
       };
       got = λ m j e at. let t =
-          P.got m j e (got_at m j e at) in (subst (λ l. slice_get l e.index ≡ Some (e.ask, e.reply))
-          (sym (q.same_lists e.port)) t.0, t.1);
+          P.got m j e (got_at m j e at) in (
+            subst (λ l. slice_get l e.index ≡ Some (e.ask, e.reply))
+                (sym (q.same_lists e.port)) t.0,
+            t.1,
+          );
       got_once = λ m j k e u at there. P.got_once m j k e u (got_at m j e at) (got_at m k u there);
       apart = λ m p i j r e f home at. let b = q.back i m p f in
           P.apart m p i j r e b.0 (sym b.1 ∙ home) (got_at m j e at);

@@ -73,9 +73,12 @@ module _ (a : About) (c d : Parts) (L : Lawful a c) (A : Alike c d) where
     sources = λ m i j p p' n n' q q' e f. L.sources m i j p p' n n' q q' (sym (A.held_same m i) ∙ e)
         (sym (A.held_same m j) ∙ f);
     block = λ m i p n q e. L.block m i p n q (sym (A.held_same m i) ∙ e);
-    places = quiet a c d (record { same_lists = A.list_same; same_gots = A.got_same;
-        forth = λ j m p e. (phase_same j ∙ e, home_same j);
-        back = λ j m p e. (sym (phase_same j) ∙ e, home_same j) }) L.places;
+    places = quiet a c d (record {
+      same_lists = A.list_same;
+      same_gots = A.got_same;
+      forth = λ j m p e. (phase_same j ∙ e, home_same j);
+      back = λ j m p e. (sym (phase_same j) ∙ e, home_same j);
+    }) L.places;
     lawful = λ p. subst (λ l. IsLawfulHistory (reset_of a p) l) (sym (A.list_same p)) (L.lawful p);
   }
 
@@ -88,8 +91,13 @@ module _ (a : About) (c : Parts) (L : Lawful a c) (id : ℕ) (v : Hands) (K : Kn
   w = gone_hands (hands c.masters v.number)
 
   abbrev left_parts : Parts
-  left_parts = record { phases = c.phases; left = set c.left v.number true; homes = c.homes;
-      masters = set c.masters v.number w; ports = c.ports }
+  left_parts = record {
+    phases = c.phases;
+    left = set c.left v.number true;
+    homes = c.homes;
+    masters = set c.masters v.number w;
+    ports = c.ports;
+  }
 
   by : (P : ℕ → Hands → Type 0) → P v.number w → ((n : ℕ) → n ≢ v.number → P n (hands c.masters n)) → (n : ℕ)
       → P n (hands left_parts.masters n)
@@ -125,8 +133,8 @@ module _ (a : About) (c : Parts) (L : Lawful a c) (id : ℕ) (v : Hands) (K : Kn
   left_lawful : Lawful a left_parts
   left_lawful = alike a c left_parts L left_alike left_shape
       (by (λ n y. get_or (set c.left v.number true) n false ≡ y.left)
-          (get_or-set_same c.left v.number true false (there a c L v.number K.near))
-          (λ n ne. get_or-set_other c.left v.number n true false ne ∙ L.leaving n))
+      (get_or-set_same c.left v.number true false (there a c L v.number K.near))
+      (λ n ne. get_or-set_other c.left v.number n true false ne ∙ L.leaving n))
       (λ n j. by (λ n y. y.left ≡ true → get_or y.hand j Nothing ≡ Nothing) (λ _. empty_here j) (λ n _. L.gone n j) n)
 
   -- the master owns no slot
@@ -139,9 +147,9 @@ module _ (a : About) (c : Parts) (L : Lawful a c) (id : ℕ) (v : Hands) (K : Kn
       (stepped (table_of a c) (a.slots + v.number) 1 id carried (Master (gone_hands v)) keeps)
   leave_event = let m = v.number in
       let words = set_leaf c.phases _ (a.slots + m) m 1 (let e = L.shape.phases in omega arith)
-          ∙ ap (λ (l : List ℕ). map word c.phases ++ l) (set_left c.left m) in
+      ∙ ap (λ (l : List ℕ). map word c.phases ++ l) (set_left c.left m) in
       let views = K.sets (gone_hands v) ∙ ap (λ (y : Hands). views_of a (set c.masters m (gone_hands y)) c.ports)
-          (sym K.is) in record {
+      (sym K.is) in record {
         before = c;
         after = left_parts;
         was = refl;
@@ -156,10 +164,10 @@ module _ (a : About) (c : Parts) (L : Lawful a c) (id : ℕ) (v : Hands) (K : Kn
 pub leaves : (a : About) (slots id : ℕ) (v : Hands) (carried : List (ℕ × Berth)) (i : ℕ) → v.left ≡ false
     → ((j : ℕ) → get_or v.hand j Nothing ≡ Nothing) → i ≡ slots + v.number
     → Allows (Fits a) slots id (Master v, carried) i (λ _. 1)
-        (λ _. Leaves (step slots i 1 0 none) (Master v, carried) 1)
+    (λ _. Leaves (step slots i 1 0 none) (Master v, carried) 1)
 leaves a slots id v carried i staying empty is =
     stores a slots id (Master v, carried) i 1 (Leaves (step slots i 1 0 none) (Master v, carried) 1)
-        (λ c L wide at. let K = known a c L id v at in let t = L.shape.master_views v.number K.near in
+    (λ c L wide at. let K = known a c L id v at in let t = L.shape.master_views v.number K.near in
     let E = leave_event a c L id v K carried staying empty in let there : a.slots + v.number ≡ i = omega arith in (
       Master (gone_hands v),
       keeps,

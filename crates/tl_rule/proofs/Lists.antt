@@ -47,7 +47,7 @@ module _ {A : Type 0} where
       → ((j : ℕ) → j ≢ i → P j (get_or l j d)) → (j : ℕ) → P j (get_or (set l i a) j d)
   set_elim l i a d near P here else j = dite (ℕ_discrete j i)
       (λ e. subst (λ (k : ℕ). P k (get_or (set l i a) k d)) (sym e)
-          (subst (P i) (sym (get_or-set_same l i a d near)) here))
+      (subst (P i) (sym (get_or-set_same l i a d near)) here))
       (λ ne. subst (P j) (sym (get_or-set_other l i j a d ne)) (else j ne))
 
   -- the same where one item more is at the end

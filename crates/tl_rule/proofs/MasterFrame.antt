@@ -20,8 +20,13 @@ use Rattle.tl_rule.proofs.Frames.{Same, stays, quiet}
 
 abbrev pub master_moves : Parts → ℕ → Phase → maybe.Option Berth → ℕ → Held → List Entry → Parts
 master_moves c i f h m x got =
-    record { phases = set c.phases i f; left = c.left; homes = set c.homes i h;
-    masters = set c.masters m (with_hand (hands c.masters m) i x got); ports = c.ports }
+    record {
+      phases = set c.phases i f;
+      left = c.left;
+      homes = set c.homes i h;
+      masters = set c.masters m (with_hand (hands c.masters m) i x got);
+      ports = c.ports;
+    }
 
 module _ (ms : List Hands) (m i : ℕ) (x : Held) (got : List Entry) (near : m < length ms)
     (inside : i < length (hands ms m).hand) where
@@ -36,7 +41,7 @@ module _ (ms : List Hands) (m i : ℕ) (x : Held) (got : List Entry) (near : m <
       → (n j : ℕ) → P n j (held after n j)
   held_elim P here else n j = hands_elim (λ n v. P n j (get_or v.hand j Nothing))
       (set_elim (hands ms m).hand i x Nothing inside (P m) here (λ k ne. else m k (λ _. ne)) j)
-          (λ n ne. else n j (λ e. absurd (ne e))) n
+      (λ n ne. else n j (λ e. absurd (ne e))) n
 
   pub held_case : (n j : ℕ) (h : Held) → held after n j ≡ h → ((n ≡ m) × (j ≡ i) × (x ≡ h))
       ⊎ ((n ≡ m → j ≢ i) × (held ms n j ≡ h))
@@ -114,7 +119,7 @@ module _ (a : About) (c : Parts) (i : ℕ) (f : Phase) (h : maybe.Option Berth) 
       (λ some-held. subst (λ g. Names g m) (sym phase_here) (S.names some-held))
       (λ n j far some-held. dite (ℕ_discrete j i)
       (λ e. let other : Names (phase c i) n = subst (λ (k : ℕ). Names (phase c k) n) e (L.hand n j some-held) in
-          absurd (far (S.mine n other) e))
+      absurd (far (S.mine n other) e))
       (λ ne. subst (λ g. Names g n) (sym (phase_else j ne)) (L.hand n j some-held)))
 
   service_kept : (p j : ℕ) (q : Request) → served c.ports p j ≡ Some q → (n : ℕ) × (phase d j ≡ Serving n p)
@@ -126,16 +131,16 @@ module _ (a : About) (c : Parts) (i : ℕ) (f : Phase) (h : maybe.Option Berth) 
       → held d.masters n k ≡ Sent q' p' l' → q.source ≡ q'.source → j ≡ k
   sources_kept n j k p p' l l' q q' u v e = let case = held_case c.masters m i x got S.near in_hand in
       ⊎_elim (λ (s : (n ≡ m) × (j ≡ i) × (x ≡ Sent q p l)). ⊎_elim
-          (λ (t : (n ≡ m) × (k ≡ i) × (x ≡ Sent q' p' l')). s.1 ∙ sym t.1)
+      (λ (t : (n ≡ m) × (k ≡ i) × (x ≡ Sent q' p' l')). s.1 ∙ sym t.1)
       (λ (t : (n ≡ m → k ≢ i) × (held c.masters n k ≡ Sent q' p' l')). absurd
-          (S.distinct q p l s.2 k q' p' l' (t.0 s.0) (subst (λ (z : ℕ). held c.masters z k ≡ Sent q' p' l') s.0 t.1) e))
-          (case n k (Sent q' p' l') v))
+      (S.distinct q p l s.2 k q' p' l' (t.0 s.0) (subst (λ (z : ℕ). held c.masters z k ≡ Sent q' p' l') s.0 t.1) e))
+      (case n k (Sent q' p' l') v))
       (λ (s : (n ≡ m → j ≢ i) × (held c.masters n j ≡ Sent q p l)). ⊎_elim
-          (λ (t : (n ≡ m) × (k ≡ i) × (x ≡ Sent q' p' l')). absurd
-          (S.distinct q' p' l' t.2 j q p l (s.0 t.0) (subst (λ (z : ℕ). held c.masters z j ≡ Sent q p l) t.0 s.1)
-          (sym e)))
+      (λ (t : (n ≡ m) × (k ≡ i) × (x ≡ Sent q' p' l')). absurd
+      (S.distinct q' p' l' t.2 j q p l (s.0 t.0) (subst (λ (z : ℕ). held c.masters z j ≡ Sent q p l) t.0 s.1)
+      (sym e)))
       (λ (t : (n ≡ m → k ≢ i) × (held c.masters n k ≡ Sent q' p' l')). L.sources n j k p p' l l' q q' s.1 t.1 e)
-          (case n k (Sent q' p' l') v)) (case n j (Sent q p l) u)
+      (case n k (Sent q' p' l') v)) (case n j (Sent q p l) u)
 
   shape_kept : HasShape a d
   shape_kept = let e = length-set c.masters m (with_hand (hands c.masters m) i x got) in let t = L.shape in record {
@@ -148,9 +153,9 @@ module _ (a : About) (c : Parts) (i : ℕ) (f : Phase) (h : maybe.Option Berth) 
     dealt = λ lt. t.dealt (omega arith);
     master_views = λ n lt.
         hands_elim c.masters m i x got S.near in_hand
-            (λ n v. n < length c.masters → (v.number ≡ n) × (v.about ≡ a) × (length v.hand ≡ a.slots))
+        (λ n v. n < length c.masters → (v.number ≡ n) × (v.about ≡ a) × (length v.hand ≡ a.slots))
         (λ lt. let u = t.master_views m lt in (u.0, u.1, length-set (hands c.masters m).hand i x ∙ u.2))
-            (λ n _. t.master_views n) n (omega arith);
+        (λ n _. t.master_views n) n (omega arith);
     port_views = t.port_views;
   }
 

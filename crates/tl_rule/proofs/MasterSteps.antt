@@ -39,8 +39,8 @@ module _ (a : About) (c : Parts) (L : Lawful a c) (id i : ℕ) (v : Hands) (K : 
 
   pub claim_event : (letter : SlotRecord) → i < a.slots → v.left ≡ false → phase c i ≡ Free
       → IsOneEvent a (Claim i v.number) (table_of a c)
-          (stepped (table_of a c) i (word (Filling v.number)) id carried (Master (with_hand v i Filled v.got))
-          (takes i (Some letter)))
+      (stepped (table_of a c) i (word (Filling v.number)) id carried (Master (with_hand v i Filled v.got))
+      (takes i (Some letter)))
   claim_event letter lt staying ph = let m = v.number in let here_left = ap (λ (x : Hands). x.left) K.is ∙ staying in
       let S : MasterStep a c i (Filling m) none m Filled v.got = record {
         near = K.near;
@@ -56,22 +56,22 @@ module _ (a : About) (c : Parts) (L : Lawful a c) (id i : ℕ) (v : Hands) (K : 
         here = held_here c.masters m i Filled v.got K.near (in_view lt);
       } in
       let M = moved a c i (Filling m) none m Filled v.got L S
-          (quiet_master a c i (Filling m) none m Filled v.got L S (ap (λ (x : Hands). x.got) (sym K.is))
-          (λ n p e. absurd (let z : Free ≡ Answered n p = sym ph ∙ e in cc)) (λ n p e. absurd (cc)) L.places) in
+      (quiet_master a c i (Filling m) none m Filled v.got L S (ap (λ (x : Hands). x.got) (sym K.is))
+      (λ n p e. absurd (let z : Free ≡ Answered n p = sym ph ∙ e in cc)) (λ n p e. absurd (cc)) L.places) in
       master_step a c i id v (Filling m) none Filled v.got carried (takes i (Some letter)) (Claim i m) L K
-          (in_phases lt) refl M
+      (in_phases lt) refl M
       (move_is_allowed (state_of a c) (Claim i m) _ refl (found a c L i Free lt ph) (there a c L m K.near) tt
-          (present a c L m K.near here_left)) refl
+      (present a c L m K.near here_left)) refl
 
   -- ---- post
 
   pub post_event : (letter : SlotRecord) (ask : Request) (p : ℕ) → i < a.slots → get_or v.hand i Nothing ≡ Filled
       → Spells letter ask → p < v.about.ports
       → Owns v.about v.number ask.source → ((j : ℕ) (other : Request) (r n : ℕ)
-          → get_or v.hand j Nothing ≡ Sent other r n → ask.source ≢ other.source)
+      → get_or v.hand j Nothing ≡ Sent other r n → ask.source ≢ other.source)
       → IsOneEvent a (Post i v.number p) (table_of a c)
-          (stepped (table_of a c) i (word (Posted v.number p)) id ((i, Some letter) ∷ carried)
-          (Master (with_hand v i (Sent ask p (length v.got)) v.got)) gives)
+      (stepped (table_of a c) i (word (Posted v.number p)) id ((i, Some letter) ∷ carried)
+      (Master (with_hand v i (Sent ask p (length v.got)) v.got)) gives)
   post_event letter ask p lt filled spells to own distinct = let m = v.number in let y = Sent ask p (length v.got) in
       let here : held c.masters m i ≡ Filled = ap (λ (x : Hands). get_or x.hand i Nothing) K.is ∙ filled in
       let ph = filled_phase a c L m i lt here in
@@ -91,28 +91,35 @@ module _ (a : About) (c : Parts) (L : Lawful a c) (id i : ℕ) (v : Hands) (K : 
         longer = let e = ap (λ (x : Hands). length x.got) K.is in omega arith;
         gots = λ k _. ap (λ (x : Hands). slice_get x.got k) (sym K.is);
         here = record {
-          asked = record { ask = ask; known = length v.got; sent = held_here c.masters m i y v.got K.near (in_view lt);
-              few = let e = ap (λ (l : List Entry). length l) (got_here c.masters m i y v.got K.near (in_view lt)) in
-              omega arith };
-          home = record { letter = letter; at = get_or-set_same c.homes i (some (Some letter)) none (in_homes lt);
-              spells = spells };
+          asked = record {
+            ask = ask;
+            known = length v.got;
+            sent = held_here c.masters m i y v.got K.near (in_view lt);
+            few = let e = ap (λ (l : List Entry). length l) (got_here c.masters m i y v.got K.near (in_view lt)) in
+                omega arith;
+          };
+          home = record {
+            letter = letter;
+            at = get_or-set_same c.homes i (some (Some letter)) none (in_homes lt);
+            spells = spells;
+          };
           port = subst (λ (z : About). p < z.ports) K.about to;
         };
       } in
       let M = moved a c i (Posted m p) (some (Some letter)) m y v.got L S
-          (quiet_master a c i (Posted m p) (some (Some letter)) m y v.got L S (ap (λ (x : Hands). x.got) (sym K.is))
-          (λ n p e. absurd (let z : Filling m ≡ Answered n p = sym ph ∙ e in cc)) (λ n p e. absurd (cc)) L.places) in
+      (quiet_master a c i (Posted m p) (some (Some letter)) m y v.got L S (ap (λ (x : Hands). x.got) (sym K.is))
+      (λ n p e. absurd (let z : Filling m ≡ Answered n p = sym ph ∙ e in cc)) (λ n p e. absurd (cc)) L.places) in
       master_step a c i id v (Posted m p) (some (Some letter)) y v.got ((i, Some letter) ∷ carried) gives
-          (Post i m p) L K (in_phases lt) refl M
+      (Post i m p) L K (in_phases lt) refl M
       (move_is_allowed (state_of a c) (Post i m p) _ refl (found a c L i (Filling m) lt ph) (there a c L m K.near)
-          (subst (λ (z : About). p < z.ports) K.about to) (present a c L m K.near staying)) refl
+      (subst (λ (z : About). p < z.ports) K.about to) (present a c L m K.near staying)) refl
 
   -- ---- release
 
   pub release_event : (letter : SlotRecord) (p : ℕ) → i < a.slots → get_or v.hand i Nothing ≡ Taken p
       → IsOneEvent a (Release i v.number p) (table_of a c)
-          (stepped (table_of a c) i (word Free) id ((i, Some letter) ∷ carried)
-          (Master (with_hand v i Nothing v.got)) gives)
+      (stepped (table_of a c) i (word Free) id ((i, Some letter) ∷ carried)
+      (Master (with_hand v i Nothing v.got)) gives)
   release_event letter p lt taken = let m = v.number in
       let here : held c.masters m i ≡ Taken p = ap (λ (x : Hands). get_or x.hand i Nothing) K.is ∙ taken in
       let ph = taken_phase a c L m i p lt here in
@@ -132,50 +139,53 @@ module _ (a : About) (c : Parts) (L : Lawful a c) (id i : ℕ) (v : Hands) (K : 
         here = (letter, get_or-set_same c.homes i (some (Some letter)) none (in_homes lt));
       } in
       let M = moved a c i Free (some (Some letter)) m Nothing v.got L S
-          (quiet_master a c i Free (some (Some letter)) m Nothing v.got L S (ap (λ (x : Hands). x.got) (sym K.is))
-          (λ n r e. absurd (let z : Taking m p ≡ Answered n r = sym ph ∙ e in cc)) (λ n p e. absurd (cc)) L.places) in
+      (quiet_master a c i Free (some (Some letter)) m Nothing v.got L S (ap (λ (x : Hands). x.got) (sym K.is))
+      (λ n r e. absurd (let z : Taking m p ≡ Answered n r = sym ph ∙ e in cc)) (λ n p e. absurd (cc)) L.places) in
       master_step a c i id v Free (some (Some letter)) Nothing v.got ((i, Some letter) ∷ carried) gives
-          (Release i m p) L K (in_phases lt) refl M
+      (Release i m p) L K (in_phases lt) refl M
       (move_is_allowed (state_of a c) (Release i m p) _ refl (found a c L i (Taking m p) lt ph)
-          (there a c L m K.near) to (present a c L m K.near staying)) refl
+      (there a c L m K.near) to (present a c L m K.near staying)) refl
 
 -- ---- what each step owes
 
 pub claims : (a : About) (slots id : ℕ) (v : Hands) (carried : List (ℕ × Berth)) (i new : ℕ) (said : maybe.Option Berth)
     → v.left ≡ false → i < slots → new ≡ word (Filling v.number)
     → Allows (Fits a) slots id (Master v, carried) i (λ n. either (eqb n 0) new n)
-        (Tried Claims (step slots i 0 new said) (Master v, carried))
+    (Tried Claims (step slots i 0 new said) (Master v, carried))
 claims a slots id v carried i new said staying inside is =
     tries a slots id (Master v, carried) i 0 new said Claims
-        (λ c L wide at hit. let K = known a c L id v at in let lt : i < a.slots = omega arith in
+    (λ c L wide at hit. let K = known a c L id v at in let lt : i < a.slots = omega arith in
     let ph = shown a c L i Free lt (record { owner = tt; port = tt }) hit in
-        let home = subst (InPhase a c i) ph (L.slots i lt) in
+    let home = subst (InPhase a c i) ph (L.slots i lt) in
     let E = claim_event a c L id i v K carried home.0 lt staying ph in
     let none_held = λ (ne : get_or v.hand i Nothing ≢ Nothing). free_names_none v.number
-        (subst (λ g. Names g v.number) ph (L.hand v.number i
-        (subst (λ (x : Hands). get_or x.hand i Nothing ≢ Nothing) (sym K.is) ne))) in (
+    (subst (λ g. Names g v.number) ph (L.hand v.number i
+    (subst (λ (x : Hands). get_or x.hand i Nothing ≢ Nothing) (sym K.is) ne))) in (
       Master (with_hand v i Filled v.got),
       takes i (Some home.0),
       of_get c.homes i (some (Some home.0)) none (in_homes a c L id i v K carried lt) home.1,
       subst (λ (n : ℕ). Fits a (stepped (table_of a c) i n id carried (Master (with_hand v i Filled v.got))
           (takes i (Some home.0)))) (sym is) (fits_after a (Claim i v.number) _ _ E),
-      record { letter = home.0; seat = refl;
-          free = ⊎_elim (λ e. e) (λ ne. absurd (none_held ne)) (nothing_or (get_or v.hand i Nothing));
-          inside = let w = K.wide in omega arith;
-          event = event_told a v.about (Claim i v.number) _ _ id _ _ K.about at refl E },
+      record {
+        letter = home.0;
+        seat = refl;
+        free = ⊎_elim (λ e. e) (λ ne. absurd (none_held ne)) (nothing_or (get_or v.hand i Nothing));
+        inside = let w = K.wide in omega arith;
+        event = event_told a v.about (Claim i v.number) _ _ id _ _ K.about at refl E;
+      },
     ))
 
 pub posts : (a : About) (slots id : ℕ) (v : Hands) (carried : List (ℕ × Berth)) (i new : ℕ) (letter : SlotRecord)
     (ask : Request) (p : ℕ) → get_or v.hand i Nothing ≡ Filled → new ≡ word (Posted v.number p) → Spells letter ask
     → p < v.about.ports
     → Owns v.about v.number ask.source → ((j : ℕ) (other : Request) (r n : ℕ) → get_or v.hand j Nothing ≡ Sent other r n
-        → ask.source ≢ other.source)
+    → ask.source ≢ other.source)
     → Allows (Fits a) slots id (Master v, (i, Some letter) ∷ carried) i (λ _. new)
-        (λ _. Sends (step slots i new 0 none) (Master v, (i, Some letter) ∷ carried) new)
+    (λ _. Sends (step slots i new 0 none) (Master v, (i, Some letter) ∷ carried) new)
 posts a slots id v carried i new letter ask p filled is spells to own distinct = let y = Sent ask p (length v.got) in
     stores a slots id (Master v, (i, Some letter) ∷ carried) i new
-        (Sends (step slots i new 0 none) (Master v, (i, Some letter) ∷ carried) new)
-        (λ c L wide at. let K = known a c L id v at in
+    (Sends (step slots i new 0 none) (Master v, (i, Some letter) ∷ carried) new)
+    (λ c L wide at. let K = known a c L id v at in
     let lt : i < a.slots = (let z = in_hand_of v.hand i (λ e. absurd (cc)) in let w = K.wide in omega arith) in
     let E = post_event a c L id i v K carried letter ask p lt filled spells to own distinct in
     let small = (low_master a c L v.number K.near).1 in let port : new / 2048 ≡ p = omega arith in (
@@ -196,17 +206,21 @@ posts a slots id v carried i new letter ask p filled is spells to own distinct =
 pub releases : (a : About) (slots id : ℕ) (v : Hands) (carried : List (ℕ × Berth)) (i : ℕ) (letter : SlotRecord) (p : ℕ)
     → get_or v.hand i Nothing ≡ Taken p
     → Allows (Fits a) slots id (Master v, (i, Some letter) ∷ carried) i (λ _. 0)
-        (λ _. Releases (step slots i 0 0 none) (Master v, (i, Some letter) ∷ carried) 0)
+    (λ _. Releases (step slots i 0 0 none) (Master v, (i, Some letter) ∷ carried) 0)
 releases a slots id v carried i letter p taken =
     stores a slots id (Master v, (i, Some letter) ∷ carried) i 0
-        (Releases (step slots i 0 0 none) (Master v, (i, Some letter) ∷ carried) 0)
-        (λ c L wide at. let K = known a c L id v at in
+    (Releases (step slots i 0 0 none) (Master v, (i, Some letter) ∷ carried) 0)
+    (λ c L wide at. let K = known a c L id v at in
     let lt : i < a.slots = (let z = in_hand_of v.hand i (λ e. absurd (cc)) in let w = K.wide in omega arith) in
     let E = release_event a c L id i v K carried letter p lt taken in (
       Master (with_hand v i Nothing v.got),
       gives,
       tt,
       fits_after a (Release i v.number p) _ _ E,
-      record { port = p; was = taken; seat = refl;
-          event = event_told a v.about (Release i v.number p) _ _ id _ _ K.about at refl E },
+      record {
+        port = p;
+        was = taken;
+        seat = refl;
+        event = event_told a v.about (Release i v.number p) _ _ id _ _ K.about at refl E;
+      },
     ))

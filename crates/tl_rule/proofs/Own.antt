@@ -47,7 +47,7 @@ got_forth p (x ∷ xs) zero e at is = let same : x ≡ e = cc in
     (subst (λ (l : List Entry). Contains l e) (sym (kept p e xs is)) (contains_first e (at_port p xs)))
 got_forth p (x ∷ xs) (suc k) e at is = dite (ℕ_discrete x.port p)
     (λ same. subst (λ (l : List Entry). Contains l e) (sym (kept p x xs same))
-        (contains_later x e (at_port p xs) (got_forth p xs k e at is)))
+    (contains_later x e (at_port p xs) (got_forth p xs k e at is)))
     (λ ne. subst (λ (l : List Entry). Contains l e) (sym (dropped p x xs ne)) (got_forth p xs k e at is))
 
 pub got_back : (p : ℕ) (es : List Entry) (e : Entry) → Contains (at_port p es) e → (k : ℕ) × (slice_get es k ≡ Some e)
@@ -55,10 +55,10 @@ pub got_back : (p : ℕ) (es : List Entry) (e : Entry) → Contains (at_port p e
 got_back p [] e h = let l = h.1 in absurd (omega arith)
 got_back p (x ∷ xs) e h = dite (ℕ_discrete x.port p)
     (λ same. ⊎_elim (λ (is : x ≡ e). (zero, ap Some is, ap (λ (y : Entry). y.port) (sym is) ∙ same))
-        (λ (later : Contains (at_port p xs) e). let t = got_back p xs e later in (suc t.0, t.1, t.2))
+    (λ (later : Contains (at_port p xs) e). let t = got_back p xs e later in (suc t.0, t.1, t.2))
     (contains_cases x e (at_port p xs) (subst (λ (l : List Entry). Contains l e) (kept p x xs same) h)))
     (λ ne. let t = got_back p xs e (subst (λ (l : List Entry). Contains l e) (dropped p x xs ne) h) in
-        (suc t.0, t.1, t.2))
+    (suc t.0, t.1, t.2))
 
 -- what was sent to the port from a slot
 pub sent_forth : (p : ℕ) (hs : List Held) (i known : ℕ) (ask : Request) → get_or hs i Nothing ≡ Sent ask p known
@@ -67,8 +67,8 @@ sent_forth p [] i known ask e = absurd (cc)
 sent_forth p (h ∷ hs) zero known ask e = let one : sent_to p (Sent ask p known) ≡ ask ∷ [] =
     ap (λ b. cond b (ask ∷ []) []) (eq-eqb p p refl) in
     Contains-append_left (sent_to p h) (sent_at p hs) ask
-        (subst (λ (x : Held). Contains (sent_to p x) ask) (sym e)
-        (subst (λ (l : List Request). Contains l ask) (sym one) (contains_first ask [])))
+    (subst (λ (x : Held). Contains (sent_to p x) ask) (sym e)
+    (subst (λ (l : List Request). Contains l ask) (sym one) (contains_first ask [])))
 sent_forth p (h ∷ hs) (suc i) known ask e =
     Contains-append_right (sent_to p h) (sent_at p hs) ask (sent_forth p hs i known ask e)
 
@@ -113,19 +113,27 @@ module _ (a : About) (c : Parts) (L : Lawful a c) (m p : ℕ) where
   found k x at own = let t = L.places.placed p k x at in
       let one = one_owner a t.master m x.0.source x.0.source t.owns own refl in ⊎_elim
       (λ (s : InSlot a c t.master p k). inl (let ph : phase c s.slot ≡ Answered m p =
-          subst (λ (n : ℕ). phase c s.slot ≡ Answered n p) one s.phased in
+      subst (λ (n : ℕ). phase c s.slot ≡ Answered n p) one s.phased in
       let g = subst (InPhase a c s.slot) ph (L.slots s.slot (answered_inside a c L s.slot m p ph)) in
       let same : g.home.letter ≡ s.letter = (let y = g.home.at in let z = s.at in cc) in
       let index : g.home.letter.index ≡ k = ap (λ (z : SlotRecord). z.index) same ∙ s.index in
       let pair : Some (g.asked.ask, g.answer) ≡ Some x =
-          sym (subst (λ (n : ℕ). slice_get h n ≡ Some (g.asked.ask, g.answer)) index g.listed) ∙ at in
+      sym (subst (λ (n : ℕ). slice_get h n ≡ Some (g.asked.ask, g.answer)) index g.listed) ∙ at in
       let ask : g.asked.ask ≡ x.0 = cc in
-      record { slot = s.slot; known = g.asked.known; letter = s.letter;
-          sent = g.asked.sent ∙ (λ z. Sent (ask z) p g.asked.known); at = s.at; index = s.index }))
-      (λ (g : InGot a c t.master p k). inr (record { entry = g.entry;
-          is = got_forth p v.got g.place g.entry (subst
-          (λ (n : ℕ). slice_get (hands c.masters n).got g.place ≡ Some g.entry) one g.at) g.port;
-          at = g.index })) t.place
+      record {
+        slot = s.slot;
+        known = g.asked.known;
+        letter = s.letter;
+        sent = g.asked.sent ∙ (λ z. Sent (ask z) p g.asked.known);
+        at = s.at;
+        index = s.index;
+      }))
+      (λ (g : InGot a c t.master p k). inr (record {
+        entry = g.entry;
+        is = got_forth p v.got g.place g.entry (subst
+            (λ (n : ℕ). slice_get (hands c.masters n).got g.place ≡ Some g.entry) one g.at) g.port;
+        at = g.index;
+      })) t.place
 
   stands_at : (k : ℕ) (e : Entry) → slice_get v.got k ≡ Some e → e.port ≡ p
       → slice_get h e.index ≡ Some (e.ask, e.reply)
@@ -139,8 +147,8 @@ module _ (a : About) (c : Parts) (L : Lawful a c) (m p : ℕ) where
   one_place : (k l : ℕ) (x y : Request × Response) → x.0.source ≡ y.0.source → At k x → At l y → k ≡ l
   one_place k l x y same t u = let one = L.sources m t.slot u.slot p p t.known u.known x.0 y.0 t.sent u.sent same in
       let letters : t.letter ≡ u.letter =
-          (let z = subst (λ (n : ℕ). IsHome c.homes n t.letter) one t.at in let w = u.at in cc) in
-          sym t.index ∙ ap (λ (z : SlotRecord). z.index) letters ∙ u.index
+      (let z = subst (λ (n : ℕ). IsHome c.homes n t.letter) one t.at in let w = u.at in cc) in
+      sym t.index ∙ ap (λ (z : SlotRecord). z.index) letters ∙ u.index
 
   -- each place is that of some master's slot or reply, whose source it is
   pub of_masters : IsOfMasters a h
@@ -153,7 +161,7 @@ module _ (a : About) (c : Parts) (L : Lawful a c) (m p : ℕ) where
         (found k x at own);
     once = λ k l x y at there own same ne.
         ⊎_elim (λ (t : At k x). ⊎_elim (λ (u : At l y). absurd (ne (one_place k l x y same t u))) inr
-            (found l y there (subst (λ (z : ℕ). Owns a m z) same own))) inl (found k x at own);
+        (found l y there (subst (λ (z : ℕ). Owns a m z) same own))) inl (found k x at own);
   }
 
   -- the same, by what the view says of itself
@@ -167,16 +175,16 @@ module _ (a : About) (c : Parts) (L : Lawful a c) (m p : ℕ) where
   all_own about number empty = let own_at =
       λ (s : ℕ) (o : Owns v.about v.number s). subst (λ (z : About). Owns z m s) about
       (subst (λ (n : ℕ). Owns v.about n s) number o) in let own = just_own about number in record {
-    history = h;
-    lawful = subst (λ (z : About). IsLawfulHistory (reset_of z p) h) (sym about) (L.lawful p);
-    masters = subst (λ (z : About). IsOfMasters z h) (sym about) of_masters;
-    own = record {
-      stand = own.stand;
-      others = λ k x at o. ⊎_elim (λ (t : At k x). let e : Nothing ≡ Sent x.0 p t.known = sym (empty t.slot) ∙ t.sent in
-          absurd (cc)) inl (found k x at (own_at x.0.source o));
-      once = own.once;
-    };
-  }
+        history = h;
+        lawful = subst (λ (z : About). IsLawfulHistory (reset_of z p) h) (sym about) (L.lawful p);
+        masters = subst (λ (z : About). IsOfMasters z h) (sym about) of_masters;
+        own = record {
+          stand = own.stand;
+          others = λ k x at o. ⊎_elim (λ (t : At k x). let e : Nothing ≡ Sent x.0 p t.known = sym (empty t.slot) ∙ t.sent in
+              absurd (cc)) inl (found k x at (own_at x.0.source o));
+          once = own.once;
+        };
+      }
 
   -- an answered slot: its request and reply stand at the index of its record, after all that its owner had seen there
   pub seen_fit : (i : ℕ) (A : IsAnswered a c i m p)

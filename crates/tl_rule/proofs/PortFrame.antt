@@ -23,8 +23,13 @@ use Rattle.tl_rule.proofs.Frames.{Same, stays, quiet}
 abbrev pub port_moves : Parts → ℕ → Phase → maybe.Option Berth → ℕ → List (ℕ × Request) → List (Request × Response)
     → Parts
 port_moves c i f h p now list =
-    record { phases = set c.phases i f; left = c.left; homes = set c.homes i h; masters = c.masters;
-    ports = set c.ports p (with_serving (desk c.ports p) now list) }
+    record {
+      phases = set c.phases i f;
+      left = c.left;
+      homes = set c.homes i h;
+      masters = c.masters;
+      ports = set c.ports p (with_serving (desk c.ports p) now list);
+    }
 
 module _ (ps : List Desk) (p : ℕ) (now : List (ℕ × Request)) (list : List (Request × Response))
     (near : p < length ps) where
@@ -88,15 +93,15 @@ module _ (a : About) (c : Parts) (i : ℕ) (f : Phase) (h : maybe.Option Berth) 
   port_slots_kept : (j : ℕ) → j < a.slots → InPhase a e j (phase e j)
   port_slots_kept j lt = dite (ℕ_discrete j i)
       (λ same. subst (λ (k : ℕ). InPhase a e k (phase e k)) (sym same)
-          (subst (InPhase a e i) (sym port_phase_here) S.here))
+      (subst (InPhase a e i) (sym port_phase_here) S.here))
       (λ ne. subst (InPhase a e j) (sym (port_phase_else j ne))
-          (stays a c e j (port_same j ne) (phase c j) (L.slots j lt)))
+      (stays a c e j (port_same j ne) (phase c j) (L.slots j lt)))
 
   port_hand_kept : (n j : ℕ) → held c.masters n j ≢ Nothing → Names (phase e j) n
   port_hand_kept n j some_held = let was = L.hand n j some_held in dite (ℕ_discrete j i)
       (λ same. subst (λ (k : ℕ). Names (phase e k) n) (sym same)
-          (subst (λ g. Names g n) (sym port_phase_here)
-          (S.same_master n (subst (λ (k : ℕ). Names (phase c k) n) same was))))
+      (subst (λ g. Names g n) (sym port_phase_here)
+      (S.same_master n (subst (λ (k : ℕ). Names (phase c k) n) same was))))
       (λ ne. subst (λ g. Names g n) (sym (port_phase_else j ne)) was)
 
   -- another slot is served as before
@@ -108,11 +113,11 @@ module _ (a : About) (c : Parts) (i : ℕ) (f : Phase) (h : maybe.Option Berth) 
       desk_elim c.ports p now list S.near (λ n u. ask_at u.serving j ≡ Some ask → (k : ℕ) × (phase e j ≡ Serving k n))
       (λ is. dite (ℕ_discrete j i)
       (λ same. let t = S.names ask (subst (λ (z : ℕ). ask_at now z ≡ Some ask) same is) in
-          (t.0, subst (λ (z : ℕ). phase e z ≡ Serving t.0 p) (sym same) (port_phase_here ∙ t.1)))
+      (t.0, subst (λ (z : ℕ). phase e z ≡ Serving t.0 p) (sym same) (port_phase_here ∙ t.1)))
       (λ ne. service_else p j ask ne (sym (S.others j ne) ∙ is)))
       (λ n far is. dite (ℕ_discrete j i)
       (λ same. let t = L.service n j ask is in
-          absurd (far (S.mine t.0 n (subst (λ (z : ℕ). phase c z ≡ Serving t.0 n) same t.1))))
+      absurd (far (S.mine t.0 n (subst (λ (z : ℕ). phase c z ≡ Serving t.0 n) same t.1))))
       (λ ne. service_else n j ask ne is)) n
 
   port_shape_kept : HasShape a e

@@ -41,14 +41,14 @@ pub asked_there : (a : About) (c : Parts) (L : Lawful a c) (p i : ℕ) (ask : Re
 asked_there a c L p i ask is = let t = L.service p i ask is in
     let h = subst (InPhase a c i) t.1 (L.slots i (serving_inside a c L i t.0 p t.1)) in
     let same : h.asked.ask ≡ ask =
-        (let z = h.serves in cc) in (t.0, h.asked.known, t.1, h.asked.sent ∙ (λ z. Sent (same z) p h.asked.known))
+    (let z = h.serves in cc) in (t.0, h.asked.known, t.1, h.asked.sent ∙ (λ z. Sent (same z) p h.asked.known))
 
 -- a port's view in itself
 pub desk_law : (a : About) (c : Parts) (L : Lawful a c) (p : ℕ) → p < length c.ports → IsLawfulDesk (desk c.ports p)
 desk_law a c L p lt = let v = L.shape.port_views p lt in
     let there = λ (i : ℕ) (ask : Request) (is : served c.ports p i ≡ Some ask).
-        (let t = asked_there a c L p i ask is in let l = serving_inside a c L i t.0 p t.2 in
-        subst (λ (z : About). i < z.slots) (sym v.1) l) in record {
+    (let t = asked_there a c L p i ask is in let l = serving_inside a c L i t.0 p t.2 in
+    subst (λ (z : About). i < z.slots) (sym v.1) l) in record {
       number = let l = (low_port a c L p lt).0 in let e = v.0 in let f = ap (λ (z : About). z.ports) v.1 in omega arith;
       slots = L.serves_once p;
       inside = there;
@@ -56,16 +56,19 @@ desk_law a c L p lt = let v = L.shape.port_views p lt in
       sources = λ i j ask other is at same. let t = asked_there a c L p i ask is in
           let s = asked_there a c L p j other at in
           let one = one_owner a s.0 t.0 other.source ask.source (L.block s.0 j p s.1 other s.3)
-              (L.block t.0 i p t.1 ask t.3) (sym same) in
+          (L.block t.0 i p t.1 ask t.3) (sym same) in
           L.sources t.0 i j p p t.1 s.1 ask other t.3
-              (subst (λ (n : ℕ). held c.masters n j ≡ Sent other p s.1) one s.3) same;
+          (subst (λ (n : ℕ). held c.masters n j ≡ Sent other p s.1) one s.3) same;
       lawful = subst (λ (z : About). IsLawfulHistory (reset_of z (desk c.ports p).number) (desk c.ports p).list)
           (sym v.1) (subst (λ (n : ℕ). IsLawfulHistory (reset_of a n) (desk c.ports p).list) (sym v.0) (L.lawful p));
       listed = subst (λ (z : About). IsOfMasters z (desk c.ports p).list) (sym v.1)
           (λ k x at. let t = L.places.placed p k x at in (t.master, t.owns));
       served = λ i ask is. let t =
-          asked_there a c L p i ask is in (t.0, subst (λ (z : About). Owns z t.0 ask.source) (sym v.1)
-          (L.block t.0 i p t.1 ask t.3));
+          asked_there a c L p i ask is in (
+            t.0,
+            subst (λ (z : About). Owns z t.0 ask.source) (sym v.1)
+                (L.block t.0 i p t.1 ask t.3),
+          );
     }
 
 module _ (a : About) (c : Parts) (L : Lawful a c) (id i : ℕ) (u : Desk) (K : KnownPort a c L id u)
@@ -81,11 +84,11 @@ module _ (a : About) (c : Parts) (L : Lawful a c) (id i : ℕ) (u : Desk) (K : K
       → Lawful a (port_moves c i f h u.number now list) → IsLawfulDesk (with_serving u now list)
   law_after f h now list M = let d = port_moves c i f h u.number now list in
       let is : desk d.ports u.number ≡ with_serving u now list =
-          get_or-set_same c.ports u.number (with_serving (desk c.ports u.number) now list) no_desk K.near
-          ∙ ap (λ (w : Desk). with_serving w now list) K.is in
+      get_or-set_same c.ports u.number (with_serving (desk c.ports u.number) now list) no_desk K.near
+      ∙ ap (λ (w : Desk). with_serving w now list) K.is in
       subst IsLawfulDesk is (desk_law a d M u.number
-          (let z = K.near in let y = length-set c.ports u.number (with_serving (desk c.ports u.number) now list) in
-          omega arith))
+      (let z = K.near in let y = length-set c.ports u.number (with_serving (desk c.ports u.number) now list) in
+      omega arith))
 
   -- ---- accept
 
@@ -98,8 +101,8 @@ module _ (a : About) (c : Parts) (L : Lawful a c) (id i : ℕ) (u : Desk) (K : K
   pub accept_event : (letter : SlotRecord) (o : ℕ) (lt : i < a.slots) (ph : phase c i ≡ Posted o u.number)
       (s : Asked c.masters o i u.number)
       → IsOneEvent a (Accept i o u.number) (table_of a c)
-          (stepped (table_of a c) i (word (Serving o u.number)) id carried
-          (Port (with_serving u (u.serving ++ (i, s.ask) ∷ []) u.list)) (takes i (Some letter)))
+      (stepped (table_of a c) i (word (Serving o u.number)) id carried
+      (Port (with_serving u (u.serving ++ (i, s.ask) ∷ []) u.list)) (takes i (Some letter)))
       × IsLawfulDesk (with_serving u (u.serving ++ (i, s.ask) ∷ []) u.list)
   accept_event letter o lt ph s = let p = u.number in let now = u.serving ++ (i, s.ask) ∷ [] in
       let none_there = unserved o ph in
@@ -115,16 +118,18 @@ module _ (a : About) (c : Parts) (L : Lawful a c) (id i : ℕ) (u : Desk) (K : K
             (L.serves_once p)) none_there;
         grows = λ j y at. subst (λ (w : Desk). slice_get w.list j ≡ Some y) K.is at;
         lawful = subst (λ (w : Desk). IsLawfulHistory (reset_of a p) w.list) K.is (L.lawful p);
-        here = record { asked = s;
-            serves = served_here c.ports p now u.list K.near i ∙ push_here u.serving i s.ask none_there };
+        here = record {
+          asked = s;
+          serves = served_here c.ports p now u.list K.near i ∙ push_here u.serving i s.ask none_there;
+        };
       } in
       let M = port_moved a c i (Serving o p) none p now u.list L S
-          (quiet_port a c i (Serving o p) none p now u.list L S (ap (λ (w : Desk). w.list) (sym K.is))
-          (λ n r e. absurd (let z : Posted o p ≡ Answered n r = sym ph ∙ e in cc)) (λ n r e. absurd (cc)) L.places) in (
+      (quiet_port a c i (Serving o p) none p now u.list L S (ap (λ (w : Desk). w.list) (sym K.is))
+      (λ n r e. absurd (let z : Posted o p ≡ Answered n r = sym ph ∙ e in cc)) (λ n r e. absurd (cc)) L.places) in (
         port_step a c i id u (Serving o p) none now u.list carried (takes i (Some letter)) (Accept i o p) L K
             (in_phases lt) refl M
             (move_is_allowed (state_of a c) (Accept i o p) _ refl (found a c L i (Posted o p) lt ph)
-                (there a c L o near) (low_port a c L p K.near).0 tt) refl,
+            (there a c L o near) (low_port a c L p K.near).0 tt) refl,
         law_after (Serving o p) none now u.list M,
       )
     where
@@ -135,23 +140,23 @@ pub accepts : (a : About) (slots id : ℕ) (u : Desk) (carried : List (ℕ × Be
     (said : maybe.Option Berth) → i < slots → o ≤ MAX_AGENT → old ≡ word (Posted o u.number)
     → new ≡ word (Serving o u.number)
     → Allows (Fits a) slots id (Port u, carried) i (λ n. either (eqb n old) new n)
-        (Tried Accepts (step slots i old new said) (Port u, carried))
+    (Tried Accepts (step slots i old new said) (Port u, carried))
 accepts a slots id u carried i old new o said inside small old_is is = let p = u.number in
     tries a slots id (Port u, carried) i old new said Accepts
-        (λ c L wide at hit. let K = known_port a c L id u at in let lt : i < a.slots = omega arith in
+    (λ c L wide at hit. let K = known_port a c L id u at in let lt : i < a.slots = omega arith in
     let low = (low_port a c L p K.near).1 in
     let ph = shown a c L i (Posted o p) lt (record { owner = small; port = low }) (hit ∙ old_is) in
-        let h = subst (InPhase a c i) ph (L.slots i lt) in
+    let h = subst (InPhase a c i) ph (L.slots i lt) in
     let ask = h.asked.ask in let letter = h.home.letter in let now = u.serving ++ (i, ask) ∷ [] in
     let E = accept_event a c L id i u K carried letter o lt ph h.asked in
     let none_there = unserved a c L id i u K carried o ph in
     let mine = L.block o i p h.asked.known ask h.asked.sent in
     let owner : o ≡ old / 8 % 256 = omega arith in
     let away = λ (j : ℕ) (other : Request) (is_there : ask_at u.serving j ≡ Some other)
-        (same : ask.source ≡ other.source).
+    (same : ask.source ≡ other.source).
     let ne : j ≢ i = (λ e. let z = subst (λ (k : ℕ). ask_at u.serving k ≡ Some other) e is_there in absurd (cc)) in
     ne (sym (E.1.sources i j ask other (push_here u.serving i ask none_there)
-        (push_else u.serving i j ask ne ∙ is_there) same)) in (
+    (push_else u.serving i j ask ne ∙ is_there) same)) in (
       Port (with_serving u now u.list),
       takes i (Some letter),
       of_get c.homes i (some (Some letter)) none (in_homes a c L id i u K carried lt) h.home.at,

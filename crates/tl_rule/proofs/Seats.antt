@@ -62,8 +62,8 @@ pub claims_at : (a : About) (slots id : ℕ) (m : Seat) (i new : ℕ) (said : ma
     → Allows (Fits a) slots id m i (λ n. either (eqb n 0) new n) (Tried Claims (step slots i 0 new said) m)
 claims_at a slots id m i new said is staying inside new_is =
     subst (λ (x : Seat). Allows (Fits a) slots id x i (λ n. either (eqb n 0) new n)
-        (Tried Claims (step slots i 0 new said) x)) (sym (seat_is m is))
-        (claims a slots id (as_master m.0) m.1 i new said staying inside new_is)
+    (Tried Claims (step slots i 0 new said) x)) (sym (seat_is m is))
+    (claims a slots id (as_master m.0) m.1 i new said staying inside new_is)
 
 pub accepts_at : (a : About) (slots id : ℕ) (m : Seat) (i old new owner : ℕ) (said : maybe.Option Berth)
     → is_port m.0 ≡ true → i < slots → owner ≤ MAX_AGENT → old ≡ word (Posted owner (as_port m.0).number)
@@ -71,8 +71,8 @@ pub accepts_at : (a : About) (slots id : ℕ) (m : Seat) (i old new owner : ℕ)
     → Allows (Fits a) slots id m i (λ n. either (eqb n old) new n) (Tried Accepts (step slots i old new said) m)
 accepts_at a slots id m i old new owner said is inside small old_is new_is =
     subst (λ (y : Seat). Allows (Fits a) slots id y i (λ n. either (eqb n old) new n)
-        (Tried Accepts (step slots i old new said) y)) (sym (port_seat_is m is))
-        (accepts a slots id (as_port m.0) m.1 i old new owner said inside small old_is new_is)
+    (Tried Accepts (step slots i old new said) y)) (sym (port_seat_is m is))
+    (accepts a slots id (as_port m.0) m.1 i old new owner said inside small old_is new_is)
 
 pub collects_at : (a : About) (slots id : ℕ) (m : Seat) (i from new : ℕ) (said : maybe.Option Berth) (ask : Request)
     (p since : ℕ) → is_master m.0 ≡ true → in_hand (as_master m.0) i ≡ Sent ask p since
@@ -80,8 +80,8 @@ pub collects_at : (a : About) (slots id : ℕ) (m : Seat) (i from new : ℕ) (sa
     → Allows (Fits a) slots id m i (λ n. either (eqb n from) new n) (Tried Collects (step slots i from new said) m)
 collects_at a slots id m i from new said ask p since is sent from_is new_is =
     subst (λ (y : Seat). Allows (Fits a) slots id y i (λ n. either (eqb n from) new n)
-        (Tried Collects (step slots i from new said) y)) (sym (seat_is m is))
-        (collects a slots id (as_master m.0) m.1 i from new said ask p since sent from_is new_is)
+    (Tried Collects (step slots i from new said) y)) (sym (seat_is m is))
+    (collects a slots id (as_master m.0) m.1 i from new said ask p since sent from_is new_is)
 
 -- ---- stores, once the record is written
 
@@ -89,13 +89,13 @@ pub posts_at : (a : About) (slots id : ℕ) (m₀ m : Seat) (i new : ℕ) (lette
     (ask : Request) (p : ℕ) → m ≡ (m₀.0, (i, Some letter) ∷ rs) → is_master m₀.0 ≡ true
     → in_hand (as_master m₀.0) i ≡ Filled
     → new ≡ word (Posted (as_master m₀.0).number p) → Spells letter ask → p < (as_master m₀.0).about.ports
-        → Owns (as_master m₀.0).about (as_master m₀.0).number ask.source → IsUnsent m₀ ask.source
+    → Owns (as_master m₀.0).about (as_master m₀.0).number ask.source → IsUnsent m₀ ask.source
     → Allows (Fits a) slots id m i (λ _. new) (λ _. Sends (step slots i new 0 none) m new)
 posts_at a slots id m₀ m i new letter rs ask p e is filled new_is spells to own fresh =
     subst (λ (y : Seat). Allows (Fits a) slots id y i (λ _. new) (λ _. Sends (step slots i new 0 none) y new))
-        (sym (master_first m₀ m i letter rs e is))
+    (sym (master_first m₀ m i letter rs e is))
     (posts a slots id (as_master m₀.0) rs i new letter ask p filled new_is spells to own
-        (λ j other q known at. fresh j q known other at))
+    (λ j other q known at. fresh j q known other at))
 
 pub told_sent : (slots : ℕ) (m₀ m n : Seat) (i new : ℕ) (letter : SlotRecord) (rs : List (ℕ × Berth)) (ask : Request)
     (p : ℕ) → m ≡ (m₀.0, (i, Some letter) ∷ rs) → Spells letter ask → new / 2048 ≡ p
@@ -109,35 +109,43 @@ pub answers_at : (a : About) (slots id : ℕ) (m₀ m : Seat) (i new owner : ℕ
     (rs : List (ℕ × Berth)) (ask : Request) (reply : Response) → m ≡ (m₀.0, (i, Some letter) ∷ rs) → is_port m₀.0 ≡ true
     → service_of m₀ i ≡ Some ask
     → new ≡ word (Answered owner (as_port m₀.0).number) → Owns (as_port m₀.0).about owner ask.source → Spells letter ask
-        → SpellsAnswer letter ask.address reply → letter.index ≡ length (as_port m₀.0).list
+    → SpellsAnswer letter ask.address reply → letter.index ≡ length (as_port m₀.0).list
     → reply ≡ store.reply (replay (reset_of (as_port m₀.0).about (as_port m₀.0).number)
-        (asks_of (as_port m₀.0).list)) ask
+    (asks_of (as_port m₀.0).list)) ask
     → Allows (Fits a) slots id m i (λ _. new) (λ _. Answers (step slots i new 0 none) m new)
 answers_at a slots id m₀ m i new owner letter rs ask reply e is serves new_is own spells answer last right =
     subst (λ (y : Seat). Allows (Fits a) slots id y i (λ _. new) (λ _. Answers (step slots i new 0 none) y new))
-        (sym (port_first m₀ m i letter rs e is))
+    (sym (port_first m₀ m i letter rs e is))
     (answers a slots id (as_port m₀.0) rs i new owner letter ask reply serves new_is own spells answer last right)
 
 pub told_answered : (slots : ℕ) (m₀ m n : Seat) (i new : ℕ) (letter : SlotRecord) (rs : List (ℕ × Berth))
     (ask : Request) (reply : Response) → m ≡ (m₀.0, (i, Some letter) ∷ rs) → service_of m₀ i ≡ Some ask
     → SpellsAnswer letter ask.address reply
     → Answers (step slots i new 0 none) m new n
-    → (n ≡ (Port (with_serving (as_port m₀.0) (drop_slot i (as_port m₀.0).serving)
-        ((as_port m₀.0).list ++ (ask, reply) ∷ [])), rs)) × IsLawfulDesk (as_port n.0)
+    → (n ≡ (
+      Port (with_serving (as_port m₀.0) (drop_slot i (as_port m₀.0).serving)
+          ((as_port m₀.0).list ++ (ask, reply) ∷ [])),
+      rs,
+    )) × IsLawfulDesk (as_port n.0)
 told_answered slots m₀ m n i new letter rs ask reply e serves answer told = let t =
     subst (λ (y : Seat). Answers (step slots i new 0 none) y new n) e told in
     let asks : t.ask ≡ ask = (let z = t.serves in cc) in
     let replies = answers_one letter ask.address t.reply reply
-        (subst (λ (q : Request). SpellsAnswer letter q.address t.reply) asks t.spells) answer in
-    (t.seat ∙ (λ z. (Port (with_serving (as_port m₀.0) (drop_slot i (as_port m₀.0).serving)
-        ((as_port m₀.0).list ++ (asks z, replies z) ∷ [])), rs)), t.law)
+    (subst (λ (q : Request). SpellsAnswer letter q.address t.reply) asks t.spells) answer in (
+      t.seat ∙ (λ z. (
+        Port (with_serving (as_port m₀.0) (drop_slot i (as_port m₀.0).serving)
+            ((as_port m₀.0).list ++ (asks z, replies z) ∷ [])),
+        rs,
+      )),
+      t.law,
+    )
 
 pub releases_at : (a : About) (slots id : ℕ) (m₀ m : Seat) (i : ℕ) (letter : SlotRecord) (rs : List (ℕ × Berth)) (p : ℕ)
     → m ≡ (m₀.0, (i, Some letter) ∷ rs) → is_master m₀.0 ≡ true → in_hand (as_master m₀.0) i ≡ Taken p
     → Allows (Fits a) slots id m i (λ _. 0) (λ _. Releases (step slots i 0 0 none) m 0)
 releases_at a slots id m₀ m i letter rs p e is taken =
     subst (λ (y : Seat). Allows (Fits a) slots id y i (λ _. 0) (λ _. Releases (step slots i 0 0 none) y 0))
-        (sym (master_first m₀ m i letter rs e is)) (releases a slots id (as_master m₀.0) rs i letter p taken)
+    (sym (master_first m₀ m i letter rs e is)) (releases a slots id (as_master m₀.0) rs i letter p taken)
 
 pub told_released : (slots : ℕ) (m₀ m n : Seat) (i : ℕ) (letter : SlotRecord) (rs : List (ℕ × Berth))
     → m ≡ (m₀.0, (i, Some letter) ∷ rs) → Releases (step slots i 0 0 none) m 0 n → n ≡ (handed m₀ i Nothing, rs)
@@ -149,4 +157,4 @@ pub leaves_at : (a : About) (slots id : ℕ) (m : Seat) (i : ℕ) → is_master 
     → Allows (Fits a) slots id m i (λ _. 1) (λ _. Leaves (step slots i 1 0 none) m 1)
 leaves_at a slots id m i is staying empty at =
     subst (λ (y : Seat). Allows (Fits a) slots id y i (λ _. 1) (λ _. Leaves (step slots i 1 0 none) y 1))
-        (sym (seat_is m is)) (leaves a slots id (as_master m.0) m.1 i staying empty at)
+    (sym (seat_is m is)) (leaves a slots id (as_master m.0) m.1 i staying empty at)

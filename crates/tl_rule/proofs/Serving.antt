@@ -48,7 +48,7 @@ drop_else [] i j ne = refl
 drop_else (f ∷ fs) i j ne = dite (ℕ_discrete f.0 i)
     (λ e. ap (λ l. ask_at l j) (dropped_is f fs i e) ∙ sym (first_not f fs j (λ z. ne (sym z ∙ e))))
     (λ n. ap (λ l. ask_at l j) (dropped_not f fs i n)
-        ∙ ap (λ rest. cond (eqb f.0 j) (Some f.1) rest) (drop_else fs i j ne))
+    ∙ ap (λ rest. cond (eqb f.0 j) (Some f.1) rest) (drop_else fs i j ne))
 
 pub drop_here : (fs : List (ℕ × Request)) (i : ℕ) → HasDistinctSlots fs → ask_at (drop_slot i fs) i ≡ None
 drop_here [] i once = refl
@@ -69,7 +69,7 @@ drop_length [] i = omega arith
 drop_length (f ∷ fs) i = dite (ℕ_discrete f.0 i)
     (λ e. let s = ap (λ (l : List (ℕ × Request)). length l) (dropped_is f fs i e) in omega arith)
     (λ n. let s = ap (λ (l : List (ℕ × Request)). length l) (dropped_not f fs i n) in let r = drop_length fs i in
-        omega arith)
+    omega arith)
 
 -- no more than there are slots
 pub serves_few : (n : ℕ) (fs : List (ℕ × Request)) → HasDistinctSlots fs
@@ -80,6 +80,6 @@ serves_few zero (f ∷ fs) once inside = let none : f.0 < 0 = inside f.0 f.1 (fi
 serves_few (suc n) fs once inside =
     let rest = serves_few n (drop_slot n fs) (drop_once fs n once) (λ i ask is.
     let ne : i ≢ n = (λ e. let z = subst (λ (k : ℕ). ask_at (drop_slot n fs) k ≡ Some ask) e is in
-        let w = drop_here fs n once in absurd (cc)) in
+    let w = drop_here fs n once in absurd (cc)) in
     let low = inside i ask (sym (drop_else fs n i ne) ∙ is) in omega arith) in
     let long = drop_length fs n in omega arith

@@ -39,20 +39,20 @@ held_inside a c L id i v K h = let z = in_hand_of v.hand i h in let w = K.wide i
 pub claim_law : ClaimIsOneEvent
 claim_law a s id i v carried letter can =
     by_parts a (λ s. HasView s id (Master v) → get_or s.words i 0 ≡ word Free
-        → IsOneEvent a (Claim i v.number) s (stepped s i (word (Filling v.number)) id carried
-        (Master (with_hand v i Filled v.got)) (takes i (Some letter))))
+    → IsOneEvent a (Claim i v.number) s (stepped s i (word (Filling v.number)) id carried
+    (Master (with_hand v i Filled v.got)) (takes i (Some letter))))
     (λ c L seat at. claim_event a c L id i v (known a c L id v seat) carried letter can.slot can.there
-        (shown a c L i Free can.slot (record { owner = tt; port = tt }) at)) s can.seat.fits can.seat.view can.free
+    (shown a c L i Free can.slot (record { owner = tt; port = tt }) at)) s can.seat.fits can.seat.view can.free
 
 pub post_law : PostIsOneEvent
 post_law a s id i v carried letter ask p can =
     by_parts a (λ s. HasView s id (Master v)
-        → IsOneEvent a (Post i v.number p) s (stepped s i (word (Posted v.number p)) id ((i, Some letter) ∷ carried)
-        (Master (with_hand v i (Sent ask p (length v.got)) v.got)) gives))
+    → IsOneEvent a (Post i v.number p) s (stepped s i (word (Posted v.number p)) id ((i, Some letter) ∷ carried)
+    (Master (with_hand v i (Sent ask p (length v.got)) v.got)) gives))
     (λ c L seat. let K = known a c L id v seat in let filled : get_or v.hand i Nothing ≡ Filled = can.filled in
     post_event a c L id i v K carried letter ask p
-        (held_inside a c L id i v K (λ e. absurd (cc))) filled can.spells can.port can.own
-        (λ j other q known at. can.unsent j q known other at)) s can.seat.fits can.seat.view
+    (held_inside a c L id i v K (λ e. absurd (cc))) filled can.spells can.port can.own
+    (λ j other q known at. can.unsent j q known other at)) s can.seat.fits can.seat.view
 
 pub look_law : LookIsOneEvent
 look_law a s id i w carried seated lt =
@@ -76,57 +76,59 @@ pub accept_law : AcceptIsOneEvent
 accept_law a s id i u carried letter ask owner can =
     by_parts a (λ s. HasView s id (Port u) → get_or s.words i 0 ≡ word (Posted owner u.number) → IsHome s.homes i letter
     → IsOneEvent a (Accept i owner u.number) s
-        (stepped s i (word (Serving owner u.number)) id carried
-        (Port (with_serving u (u.serving ++ (i, ask) ∷ []) u.list)) (takes i (Some letter))))
+    (stepped s i (word (Serving owner u.number)) id carried
+    (Port (with_serving u (u.serving ++ (i, ask) ∷ []) u.list)) (takes i (Some letter))))
     (λ c L seat at home. let K = known_port a c L id u seat in
     let ph = shown a c L i (Posted owner u.number) can.slot
-        (record { owner = can.small; port = (low_port a c L u.number K.near).1 }) at in
-        let h = subst (InPhase a c i) ph (L.slots i can.slot) in
+    (record { owner = can.small; port = (low_port a c L u.number K.near).1 }) at in
+    let h = subst (InPhase a c i) ph (L.slots i can.slot) in
     let same = one_letter c.homes i h.home.letter letter h.home.at home in
     let asks : h.asked.ask ≡ ask =
-        spells_one letter h.asked.ask ask (subst
-        (λ (r : SlotRecord). Spells r h.asked.ask) same h.home.spells) can.spells in
+    spells_one letter h.asked.ask ask (subst
+    (λ (r : SlotRecord). Spells r h.asked.ask) same h.home.spells) can.spells in
     subst (λ (q : Request). IsOneEvent a (Accept i owner u.number) (table_of a c)
-        (stepped (table_of a c) i (word (Serving owner u.number)) id carried
-        (Port (with_serving u (u.serving ++ (i, q) ∷ []) u.list)) (takes i (Some letter)))) asks
+    (stepped (table_of a c) i (word (Serving owner u.number)) id carried
+    (Port (with_serving u (u.serving ++ (i, q) ∷ []) u.list)) (takes i (Some letter)))) asks
     (accept_event a c L id i u K carried letter owner can.slot ph h.asked).0) s can.seat.fits can.seat.view can.posted can.home
 
 pub answer_law : AnswerIsOneEvent
 answer_law a s id i u carried letter ask reply owner can =
     by_parts a (λ s. HasView s id (Port u) → IsOneEvent a (Answer i owner u.number) s
-        (stepped s i (word (Answered owner u.number)) id ((i, Some letter) ∷ carried)
-        (Port (with_serving u (drop_slot i u.serving) (u.list ++ (ask, reply) ∷ []))) gives))
+    (stepped s i (word (Answered owner u.number)) id ((i, Some letter) ∷ carried)
+    (Port (with_serving u (drop_slot i u.serving) (u.list ++ (ask, reply) ∷ []))) gives))
     (λ c L seat. (answer_event a c L id i owner u
-        (known_port a c L id u seat) carried letter ask reply can.serves can.owns can.spells can.answers can.last can.right).0) s can.seat.fits can.seat.view
+    (known_port a c L id u seat) carried letter ask reply can.serves can.owns can.spells can.answers can.last can.right).0) s can.seat.fits can.seat.view
 
 pub collect_law : CollectIsOneEvent
 collect_law a s id i v carried letter ask reply p since can =
     by_parts a (λ s. HasView s id (Master v) → get_or s.words i 0 ≡ word (Answered v.number p) → IsHome s.homes i letter
     → IsOneEvent a (Collect i v.number p) s (stepped s i (word (Taking v.number p)) id carried
-        (Master (with_hand v i (Taken p) (v.got ++ entry p letter.index ask reply ∷ []))) (takes i (Some letter))))
+    (Master (with_hand v i (Taken p) (v.got ++ entry p letter.index ask reply ∷ []))) (takes i (Some letter))))
     (λ c L seat at home. let K = known a c L id v seat in
-        let sent : get_or v.hand i Nothing ≡ Sent ask p since = can.sent in
-        let lt = held_inside a c L id i v K (λ e. absurd (cc)) in
+    let sent : get_or v.hand i Nothing ≡ Sent ask p since = can.sent in
+    let lt = held_inside a c L id i v K (λ e. absurd (cc)) in
     let fits : FitsWord (Answered v.number p) =
-        record { owner = (low_master a c L v.number K.near).1;
-        port = sent_port a c L v.number i ask p since lt (ap (λ (x : Hands). get_or x.hand i Nothing) K.is ∙ sent) } in
+    record {
+      owner = (low_master a c L v.number K.near).1;
+      port = sent_port a c L v.number i ask p since lt (ap (λ (x : Hands). get_or x.hand i Nothing) K.is ∙ sent);
+    } in
     let ph = shown a c L i (Answered v.number p) lt fits at in let A = subst (InPhase a c i) ph (L.slots i lt) in
     let E = collect_event a c L id i v K carried ask p since lt sent ph A in
     let same = one_letter c.homes i A.home.letter letter A.home.at home in
     let asks : A.asked.ask ≡ ask =
-        one_ask c.masters v.number i p since A.asked.known A.asked.ask ask A.asked.sent
-        (ap (λ (x : Hands). get_or x.hand i Nothing) K.is ∙ sent) in
+    one_ask c.masters v.number i p since A.asked.known A.asked.ask ask A.asked.sent
+    (ap (λ (x : Hands). get_or x.hand i Nothing) K.is ∙ sent) in
     let replies : A.answer ≡ reply =
-        answers_one letter ask.address A.answer reply
-        (subst (λ (q : Request). SpellsAnswer letter q.address A.answer) asks
-        (subst (λ (r : SlotRecord). SpellsAnswer r A.asked.ask.address A.answer) same A.spells)) can.answers in
+    answers_one letter ask.address A.answer reply
+    (subst (λ (q : Request). SpellsAnswer letter q.address A.answer) asks
+    (subst (λ (r : SlotRecord). SpellsAnswer r A.asked.ask.address A.answer) same A.spells)) can.answers in
     subst (λ (r : Response). IsOneEvent a (Collect i v.number p) (table_of a c)
-        (stepped (table_of a c) i (word (Taking v.number p)) id carried
-        (Master (with_hand v i (Taken p) (v.got ++ entry p letter.index ask r ∷ []))) (takes i (Some letter)))) replies
+    (stepped (table_of a c) i (word (Taking v.number p)) id carried
+    (Master (with_hand v i (Taken p) (v.got ++ entry p letter.index ask r ∷ []))) (takes i (Some letter)))) replies
     (subst (λ (x : SlotRecord). IsOneEvent a (Collect i v.number p) (table_of a c)
-        (stepped (table_of a c) i (word (Taking v.number p)) id carried
-        (Master (with_hand v i (Taken p) (v.got ++ entry p x.index ask A.answer ∷ [])))
-        (takes i (Some x)))) same E)) s can.seat.fits can.seat.view can.answered can.home
+    (stepped (table_of a c) i (word (Taking v.number p)) id carried
+    (Master (with_hand v i (Taken p) (v.got ++ entry p x.index ask A.answer ∷ [])))
+    (takes i (Some x)))) same E)) s can.seat.fits can.seat.view can.answered can.home
   where
     one_ask : (ms : List Hands) (m i p known since : ℕ) (ask other : Request) → held ms m i ≡ Sent ask p since
         → held ms m i ≡ Sent other p known → ask ≡ other
@@ -135,18 +137,18 @@ collect_law a s id i v carried letter ask reply p since can =
 pub release_law : ReleaseIsOneEvent
 release_law a s id i v carried letter p seated taken =
     by_parts a (λ s. HasView s id (Master v)
-        → IsOneEvent a (Release i v.number p) s (stepped s i (word Free) id ((i, Some letter) ∷ carried)
-        (Master (with_hand v i Nothing v.got)) gives))
+    → IsOneEvent a (Release i v.number p) s (stepped s i (word Free) id ((i, Some letter) ∷ carried)
+    (Master (with_hand v i Nothing v.got)) gives))
     (λ c L seat. let K = known a c L id v seat in
-        release_event a c L id i v K carried letter p
-        (held_inside a c L id i v K (λ e. absurd (cc))) taken) s seated.fits seated.view
+    release_event a c L id i v K carried letter p
+    (held_inside a c L id i v K (λ e. absurd (cc))) taken) s seated.fits seated.view
 
 pub leave_law : LeaveIsOneEvent
 leave_law a s id v carried can =
     by_parts a (λ s. HasView s id (Master v)
-        → IsOneEvent a (Leave v.number) s (stepped s (a.slots + v.number) 1 id carried (Master (gone_hands v)) keeps))
+    → IsOneEvent a (Leave v.number) s (stepped s (a.slots + v.number) 1 id carried (Master (gone_hands v)) keeps))
     (λ c L seat. leave_event a c L id v
-        (known a c L id v seat) carried can.there can.empty) s can.seat.fits can.seat.view
+    (known a c L id v seat) carried can.there can.empty) s can.seat.fits can.seat.view
 
 pub opens_law : Opens
 opens_law a letters words are = opens a words letters are.zeros are.many are.there are.limits

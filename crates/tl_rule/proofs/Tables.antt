@@ -70,21 +70,27 @@ length_set (x ∷ xs) (suc i) a = ap suc (length_set xs i a)
 pub master_view : (a : About) (ms : List Hands) (ps : List Desk) (id : ℕ) (v : Hands)
     → get_elem? (views_of a ms ps) id ≡ some (Master v)
     → (j : ℕ) × (get_elem? ms j ≡ some v) × ((w : Hands)
-        → set (views_of a ms ps) id (Master w) ≡ views_of a (set ms j w) ps) × (id ≡ suc j)
+    → set (views_of a ms ps) id (Master w) ≡ views_of a (set ms j w) ps) × (id ≡ suc j)
 master_view a ms ps zero v e = absurd (cc)
-master_view a ms ps (suc j) v e = let at = master_at ms ps j v e in let near = (at_get ms j v v at).0 in
-    (j, at, λ w. ap (λ (l : List View). Dealer a (length ms) (length ps) ∷ l) (set_master ms ps j w near)
-        ∙ ap (λ (n : ℕ). Dealer a n (length ps) ∷ (map Master (set ms j w) ++ map Port ps)) (sym (length_set ms j w)),
-        refl)
+master_view a ms ps (suc j) v e = let at = master_at ms ps j v e in let near = (at_get ms j v v at).0 in (
+  j,
+  at,
+  λ w. ap (λ (l : List View). Dealer a (length ms) (length ps) ∷ l) (set_master ms ps j w near)
+      ∙ ap (λ (n : ℕ). Dealer a n (length ps) ∷ (map Master (set ms j w) ++ map Port ps)) (sym (length_set ms j w)),
+  refl,
+)
 
 pub port_view : (a : About) (ms : List Hands) (ps : List Desk) (id : ℕ) (v : Desk)
     → get_elem? (views_of a ms ps) id ≡ some (Port v)
     → (p : ℕ) × (get_elem? ps p ≡ some v) × ((w : Desk)
-        → set (views_of a ms ps) id (Port w) ≡ views_of a ms (set ps p w))
+    → set (views_of a ms ps) id (Port w) ≡ views_of a ms (set ps p w))
 port_view a ms ps zero v e = absurd (cc)
-port_view a ms ps (suc j) v e = let at = port_at ms ps j v e in let p = at.0 in
-    (p, at.2, λ w. ap (λ (l : List View). Dealer a (length ms) (length ps) ∷ l) (set_port ms ps j p w at.1)
-        ∙ ap (λ (n : ℕ). Dealer a (length ms) n ∷ (map Master ms ++ map Port (set ps p w))) (sym (length_set ps p w)))
+port_view a ms ps (suc j) v e = let at = port_at ms ps j v e in let p = at.0 in (
+  p,
+  at.2,
+  λ w. ap (λ (l : List View). Dealer a (length ms) (length ps) ∷ l) (set_port ms ps j p w at.1)
+      ∙ ap (λ (n : ℕ). Dealer a (length ms) n ∷ (map Master ms ++ map Port (set ps p w))) (sym (length_set ps p w)),
+)
 
 pub word_at : (fs : List Phase) (ls : List ℕ) (i : ℕ) → i < length fs
     → get_or (map word fs ++ ls) i 0 ≡ word (get_or fs i Free)

@@ -19,8 +19,8 @@ pub sends-push : (count : ℕ) (jobs : List Job) (job : Job) → All (λ (ask : 
     → All (λ (ask : Request). ask.source < count) (sends (jobs ++ job ∷ []))
 sends-push count jobs job before from =
     rw (filter_map-append sent_by jobs (job ∷ []))
-        (All-append (λ (ask : Request). ask.source < count) (sends jobs) (sends (job ∷ [])) before
-        (one_sent count job from))
+    (All-append (λ (ask : Request). ask.source < count) (sends jobs) (sends (job ∷ [])) before
+    (one_sent count job from))
 
 pub lawful_more : (counts : List ℕ) (lists : List (List Job)) (jobs : List Job) (m count : ℕ)
     → LawfulSoFar counts lists m → slice_get counts m ≡ Some count

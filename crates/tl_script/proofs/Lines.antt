@@ -25,5 +25,5 @@ pub lines_more : (master : ℕ) (entries : List Entry) (k : ℕ) (entry : Entry)
     → lines_of master (take (k + 1) entries) ≡ lines_of master (take k entries) ++ trace_line master entry
 lines_more master entries k entry at =
     ap (lines_of master) (take_at entries k entry at)
-        ∙ flat_map-append (trace_line master) (take k entries) (entry ∷ [])
+    ∙ flat_map-append (trace_line master) (take k entries) (entry ∷ [])
     ∙ ap (λ line. lines_of master (take k entries) ++ line) (append-nil (trace_line master entry))

@@ -51,10 +51,15 @@ takes_wait pools = record { grow = grow_none pools pools (refl, refl); stands = 
 pub takes_send : (op : AskOp) (size source address : ℕ) (bytes : List (Option ℕ)) (old new : PoolsView) (start : ℕ)
     → IsLawfulRequest op size bytes → IsKept (may_leave_unset op) bytes old new start
     → Takes old new (Send op size source start address)
-        (SendJob (record { op = op; size = size; source = source; address = address; bytes = bytes }))
+    (SendJob (record { op = op; size = size; source = source; address = address; bytes = bytes }))
 takes_send op size source address bytes old new start lawful kept =
-    let sent = sent_in (record { op = op; size = size; source = source; address = address;
-        bytes = bytes }) old new start lawful kept in
+    let sent = sent_in (record {
+      op = op;
+      size = size;
+      source = source;
+      address = address;
+      bytes = bytes;
+    }) old new start lawful kept in
     record { grow = grow_kept (may_leave_unset op) bytes old new start kept; stands = sent.0; is = rw sent.1 refl }
 
 pub pushed_jobs : (headers : List Header) (header : Header) (job : Job) (old new : PoolsView) → Takes old new header job
@@ -62,7 +67,7 @@ pub pushed_jobs : (headers : List Header) (header : Header) (job : Job) (old new
     → map (job_in new) (headers ++ header ∷ []) ≡ map (job_in old) headers ++ job ∷ []
 pushed_jobs headers header job old new takes was =
     map-append (job_in new) headers (header ∷ [])
-        ∙ ap (λ (jobs : List Job). jobs ++ job_in new header ∷ []) (jobs_in-grow headers old new takes.grow was)
+    ∙ ap (λ (jobs : List Job). jobs ++ job_in new header ∷ []) (jobs_in-grow headers old new takes.grow was)
     ∙ ap (λ (j : Job). map (job_in old) headers ++ j ∷ []) takes.is
 
 pub pushed_in : (headers : List Header) (header : Header) (job : Job) (old new : PoolsView) → Takes old new header job

@@ -10,7 +10,7 @@ use Rattle.tl_script.specs.declared.fault.ScriptFault.TheVariants.{OutOfRange}
 
 pairs_of-more : (front : List ℕ) (byte : ℕ) (more : Option (List ℕ))
     → option_map (λ bytes. (front ++ byte ∷ []) ++ bytes) more ≡ option_map (λ bytes. front ++ bytes)
-        (option_map (λ bytes. byte ∷ bytes) more)
+    (option_map (λ bytes. byte ∷ bytes) more)
 pairs_of-more front byte None = refl
 pairs_of-more front byte (Some bytes) = ap Some (append_assoc front (byte ∷ []) bytes)
 
@@ -18,7 +18,7 @@ pairs_of-more front byte (Some bytes) = ap Some (append_assoc front (byte ∷ []
 pub pairs_of-turn : (front : List ℕ) (rest : List ℕ) (byte : ℕ) → 2 ≤ length rest
     → pair_of (get_or rest 0 0) (get_or rest 1 0) ≡ Some byte
     → option_map (λ bytes. (front ++ byte ∷ []) ++ bytes) (pairs_of (drop 2 rest)) ≡ option_map
-        (λ bytes. front ++ bytes) (pairs_of rest)
+    (λ bytes. front ++ bytes) (pairs_of rest)
 pairs_of-turn front [] byte two read = absurd (omega arith)
 pairs_of-turn front (high ∷ []) byte two read = absurd (omega arith)
 pairs_of-turn front (high ∷ low ∷ rest) byte two read = rw read (pairs_of-more front byte (pairs_of rest))
@@ -56,7 +56,7 @@ pub filled-resized : (count len : ℕ) (text bytes new : List ℕ) → len ≡ l
 unfolding filled
 filled-resized count len text bytes new same short read is =
     let counted : length text ≡ 2 * length bytes =
-        pairs_of-length text bytes (ok_is (pairs_of text) (OutOfRange Reset) bytes read) in
+    pairs_of-length text bytes (ok_is (pairs_of text) (OutOfRange Reset) bytes read) in
     let within : length bytes ≤ count = omega arith in
     let whole : take count bytes ≡ bytes = take_all count bytes within in
     let not_long : nat_lt (2 * count) (length text) ≡ false = grind (arith, common_steps) in

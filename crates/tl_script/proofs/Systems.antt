@@ -36,7 +36,7 @@ jobs_refused parts TooLong ranges counts of_jobs read other = absurd of_jobs
 pub system_of-made : (parts : Parts) (counts : List ℕ) (ranges : List Range) (jobs : List (List Job)) (system : System)
     → counts ≡ counts_of parts → ranges ≡ ranges_of parts → jobs_from 0 parts.masters ≡ Ok jobs
     → system ≡ record { slots = parts.slots; stores = parts.stores; counts = counts; ranges = ranges; jobs = jobs }
-        → system_of parts ≡ Ok system
+    → system_of parts ≡ Ok system
 system_of-made parts counts ranges jobs system same_counts same_ranges read made =
     rw (read, made, same_counts, same_ranges) refl
 

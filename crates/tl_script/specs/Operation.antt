@@ -42,7 +42,7 @@ bytes_of op size [] = if carries_bytes op then None else Some []
 bytes_of op size (word ∷ []) =
     if carries_bytes op
     then counted_data_of (2 ^ size) word >>=
-        (λ bytes. if may_leave_unset op || list_all is_some bytes then Some bytes else None)
+    (λ bytes. if may_leave_unset op || list_all is_some bytes then Some bytes else None)
     else None
 bytes_of op size (word ∷ more ∷ words) = None
 

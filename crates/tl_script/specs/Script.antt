@@ -99,5 +99,8 @@ IsFirstScriptFault bytes fault =
 
 -- what contracts see of the parts that were read
 abbrev pub parts_view : code_parts.Parts → Parts
-parts_view parts = record { slots = parts.slots; stores = map store_of parts.devices.items;
-    masters = map master_view parts.masters.items }
+parts_view parts = record {
+  slots = parts.slots;
+  stores = map store_of parts.devices.items;
+  masters = map master_view parts.masters.items;
+}

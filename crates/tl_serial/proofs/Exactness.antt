@@ -19,9 +19,9 @@ same_entry : (a b : Entry) → a.ask ≡ b.ask → a.reply ≡ b.reply → a.por
 same_entry a b ask reply port index =
     let first : a ≡ record a { ask = b.ask } = ap (λ (q : Request). let e : Entry = record a { ask = q } in e) ask in
     let second : record a { ask = b.ask } ≡ record a { ask = b.ask; reply = b.reply } =
-        ap (λ (r : Response). let e : Entry = record a { ask = b.ask; reply = r } in e) reply in
+    ap (λ (r : Response). let e : Entry = record a { ask = b.ask; reply = r } in e) reply in
     let third : record a { ask = b.ask; reply = b.reply } ≡ record b { index = a.index } =
-        ap (λ (p : ℕ). let e : Entry = record a { ask = b.ask; reply = b.reply; port = p } in e) port in
+    ap (λ (p : ℕ). let e : Entry = record a { ask = b.ask; reply = b.reply; port = p } in e) port in
     let last : record b { index = a.index } ≡ b = ap (λ (i : ℕ). let e : Entry = record b { index = i } in e) index in
     first ∙ second ∙ third ∙ last
 
@@ -38,10 +38,10 @@ module _ (s : System) (lawful : IsLawfulMap s.ranges) where
       let port : a.port ≡ b.port = one_port s.ranges lawful b.ask a.port b.port routed second.port in
       let index : a.index ≡ b.index = first.index ∙ ap (λ (p : ℕ). length (at_port p log)) port ∙ sym second.index in
       let answered : IsSomeAnd (slice_get (resets s) b.port)
-          (λ reset. a.reply ≡ reply (replay reset (requests_at b.port log)) b.ask) = rw (port, ask) at first.reply in
+      (λ reset. a.reply ≡ reply (replay reset (requests_at b.port log)) b.ask) = rw (port, ask) at first.reply in
       same_entry a b ask (one_reply (slice_get (resets s) b.port)
-          (λ reset. reply (replay reset
-          (requests_at b.port log)) b.ask) a.reply b.reply answered second.reply) port index
+      (λ reset. reply (replay reset
+      (requests_at b.port log)) b.ask) a.reply b.reply answered second.reply) port index
 
 -- ---- the entries of a run follow from the requests
 
@@ -77,11 +77,11 @@ module _ (s : System) (lawful : IsLawfulMap s.ranges) where
       let master : x.0 ≡ y.0 = ap (λ (k : ℕ × Request). k.0) keys in
       let ask : x.1.ask ≡ y.1.ask = ap (λ (k : ℕ × Request). k.1) keys in
       let entry : x.1 ≡ y.1 =
-          one_entry s lawful before x.1 y.1 ask (served_next before x one first) (served_next before y other second) in
+      one_entry s lawful before x.1 y.1 ask (served_next before x one first) (served_next before y other second) in
       let same : x ≡ y = same_pair x y master entry in
       let others : AreServedInTurn s (before ++ x ∷ other) = rw same second in
       let tail : one ≡ other =
-          one_rest (before ++ x ∷ []) one other rest (rw append_assoc first) (rw append_assoc others) in
+      one_rest (before ++ x ∷ []) one other rest (rw append_assoc first) (rw append_assoc others) in
       ap (λ (e : ℕ × Entry). e ∷ one) same ∙ ap (λ (es : List (ℕ × Entry)). y ∷ es) tail
 
   one_log : (one other : List (ℕ × Entry)) → asked_in one ≡ asked_in other → AreServedInTurn s one
@@ -103,7 +103,7 @@ asked_numbered m (x ∷ one) (y ∷ other) asked =
     let first : x.ask ≡ y.ask = cc in
     let rest : asks_in one ≡ asks_in other = cc in
     ap (λ (q : Request). (m, q) ∷ asked_in (numbered m one)) first
-        ∙ ap (λ (ks : List (ℕ × Request)). (m, y.ask) ∷ ks) (asked_numbered m one other rest)
+    ∙ ap (λ (ks : List (ℕ × Request)). (m, y.ask) ∷ ks) (asked_numbered m one other rest)
 
 asked_log : (m : ℕ) (one other : List (List Entry)) → map asks_in one ≡ map asks_in other
     → asked_in (log_from m one) ≡ asked_in (log_from m other)
@@ -143,7 +143,7 @@ one_traces m (x ∷ one) (y ∷ other) asked same =
     let rest : map asks_in one ≡ map asks_in other = cc in
     let (entries, behind) = apart m x y (log_from (m + 1) one) (log_from (m + 1) other) first same in
     ap (λ (es : List Entry). es ∷ one) entries
-        ∙ ap (λ (ts : List (List Entry)). y ∷ ts) (one_traces (m + 1) one other rest behind)
+    ∙ ap (λ (ts : List (List Entry)). y ∷ ts) (one_traces (m + 1) one other rest behind)
 
 -- ---- histories
 
@@ -151,11 +151,11 @@ one_pair : (counts : List ℕ) (e : ℕ × Entry) (a b : Request × Response) �
     → a ≡ b
 one_pair counts e a b first second =
     let wide : first.wide ≡ second.wide =
-        one_wide counts e.0 e.1.ask.source first.wide second.wide first.is second.is in
+    one_wide counts e.0 e.1.ask.source first.wide second.wide first.is second.is in
     let asks : a.0 ≡ b.0 =
-        first.ask ∙ ap (λ (w : ℕ). let q : Request = record e.1.ask { source = w } in q) wide ∙ sym second.ask in
+    first.ask ∙ ap (λ (w : ℕ). let q : Request = record e.1.ask { source = w } in q) wide ∙ sym second.ask in
     let replies : a.1 ≡ b.1 =
-        first.reply ∙ ap (λ (w : ℕ). let r : Response = record e.1.reply { source = w } in r) wide ∙ sym second.reply in
+    first.reply ∙ ap (λ (w : ℕ). let r : Response = record e.1.reply { source = w } in r) wide ∙ sym second.reply in
     same_pair a b asks replies
 
 one_history : (counts : List ℕ) (entries : List (ℕ × Entry)) (a b : List (Request × Response))
@@ -178,7 +178,7 @@ same_at_each (x ∷ one) [] long each = absurd (omega arith)
 same_at_each {A} (x ∷ one) (y ∷ other) long each =
     ap (λ (a : A). a ∷ one) (each 0 x y refl refl)
     ∙ ap (λ (rest : List A). y ∷ rest) (same_at_each one other (omega arith)
-        (λ k a b first second. each (suc k) a b first second))
+    (λ k a b first second. each (suc k) a b first second))
 
 -- ---- the run
 
@@ -197,4 +197,4 @@ module _ (s : System) (lawful : IsLawfulMap s.ranges) (one other : SerialRunOf s
   histories_same =
       same_at_each one.histories other.histories (one.is.ports ∙ sym other.is.ports)
       (λ p a b first second. one_history s.counts (at_port p (log_of other.traces)) a b
-          (rw same_log at (one.is.recorded p a first)) (other.is.recorded p b second))
+      (rw same_log at (one.is.recorded p a first)) (other.is.recorded p b second))

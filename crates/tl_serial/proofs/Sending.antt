@@ -17,7 +17,7 @@ pub take_next : {A : Type 0} (xs : List A) (i : ℕ) (x : A) → slice_get xs i 
     → take (i + 1) xs ≡ take i xs ++ x ∷ []
 take_next {A} xs i x at =
     take_more xs i x (slice_get_within xs i x at)
-        ∙ ap (λ (y : A). take i xs ++ y ∷ []) (get_or_from_slice_get xs i x x at)
+    ∙ ap (λ (y : A). take i xs ++ y ∷ []) (get_or_from_slice_get xs i x x at)
 
 pub sends-send : (jobs : List Job) (i : ℕ) (ask : Request) → slice_get jobs i ≡ Some (Send ask)
     → sends (take (i + 1) jobs) ≡ sends (take i jobs) ++ ask ∷ []
@@ -50,7 +50,7 @@ pub numbered-push : (log : List (ℕ × Entry)) (master : ℕ) (entries : List E
     → log ++ numbered master (entries ++ e ∷ []) ≡ (log ++ numbered master entries) ++ (master, e) ∷ []
 numbered-push log master entries e =
     ap (λ (es : List (ℕ × Entry)). log ++ es) (map-append (λ (x : Entry). (master, x)) entries (e ∷ []))
-        ∙ sym (append_assoc log (numbered master entries) ((master, e) ∷ []))
+    ∙ sym (append_assoc log (numbered master entries) ((master, e) ∷ []))
 
 -- what one operation sends is from a source that the master has
 pub some_sent : (count : Option ℕ) (jobs : List Job) (i : ℕ) (ask : Request) → slice_get jobs i ≡ Some (Send ask)
@@ -64,7 +64,7 @@ pub sources_are : (s : System) (m : ℕ) (jobs : List Job) → IsLawfulSystem s 
     → IsSomeAnd (slice_get s.counts m) (λ count. All (λ (ask : Request). ask.source < count) (sends jobs))
 sources_are s m jobs lawful within at =
     let count : slice_get s.counts m ≡ Some (get_or s.counts m 0) =
-        slice_get-get_or s.counts m 0 (omega (arith, within, lawful.lists)) in
+    slice_get-get_or s.counts m 0 (omega (arith, within, lawful.lists)) in
     rw count (lawful.jobs m (get_or s.counts m 0) jobs count at).sources
 
 -- a master's trace more
@@ -75,7 +75,7 @@ log_from-push master [] entries =
 log_from-push master (first ∷ traces) entries =
     ap (λ (log : List (ℕ × Entry)). numbered master first ++ log) (log_from-push (master + 1) traces entries)
     ∙ sym (append_assoc (numbered master first) (log_from (master + 1) traces)
-        (numbered ((master + 1) + length traces) entries))
+    (numbered ((master + 1) + length traces) entries))
     ∙ ap (λ (m : ℕ). (numbered master first ++ log_from (master + 1) traces) ++ numbered m entries) (omega arith)
 
 pub log_of-push : (traces : List (List Entry)) (entries : List Entry)
@@ -87,7 +87,7 @@ log_of-push traces entries =
 pub asked_more : (traces : List (List Entry)) (entries : List Entry) (lists : List (List Job)) (m : ℕ) (jobs : List Job)
     → slice_get lists m ≡ Some jobs
     → map asks_in traces ≡ map sends (take m lists) → asks_in entries ≡ sends jobs
-        → map asks_in (traces ++ entries ∷ []) ≡ map sends (take (m + 1) lists)
+    → map asks_in (traces ++ entries ∷ []) ≡ map sends (take (m + 1) lists)
 asked_more traces entries lists m jobs at before last =
     map-append asks_in traces (entries ∷ []) ∙ ap (λ (asks : List (List Request)). asks ++ asks_in entries ∷ []) before
     ∙ ap (λ (asks : List Request). map sends (take m lists) ++ asks ∷ []) last
@@ -98,7 +98,7 @@ pub lines_of-push : (master : ℕ) (entries : List Entry) (e : Entry) (before : 
     → before ++ lines_of master (entries ++ e ∷ []) ≡ (before ++ lines_of master entries) ++ trace_line master e
 lines_of-push master entries e before =
     ap (λ (text : List ℕ). before ++ text) (flat_map-append (trace_line master) entries (e ∷ [])
-        ∙ ap (λ (text : List ℕ). lines_of master entries ++ text) (append-nil (trace_line master e)))
+    ∙ ap (λ (text : List ℕ). lines_of master entries ++ text) (append-nil (trace_line master e)))
     ∙ sym (append_assoc before (lines_of master entries) (trace_line master e))
 
 -- a master's lines more
@@ -110,7 +110,7 @@ traces_from-push master [] entries =
 traces_from-push master (first ∷ traces) entries =
     ap (λ (text : List ℕ). lines_of master first ++ text) (traces_from-push (master + 1) traces entries)
     ∙ sym (append_assoc (lines_of master first) (traces_from (master + 1) traces)
-        (lines_of ((master + 1) + length traces) entries))
+    (lines_of ((master + 1) + length traces) entries))
     ∙ ap (λ (m : ℕ). (lines_of master first ++ traces_from (master + 1) traces) ++ lines_of m entries) (omega arith)
 
 pub trace_text-push : (traces : List (List Entry)) (entries : List Entry)

@@ -44,7 +44,7 @@ routed_in_range ranges ask port (inr none) = omega (arith, none.0)
 history_more : (counts : List ℕ) (entries : List (ℕ × Entry)) (history : List (Request × Response)) (e : ℕ × Entry)
     (pair : Request × Response)
     → IsHistoryOf counts entries history → IsWidened counts e pair
-        → IsHistoryOf counts (entries ++ e ∷ []) (history ++ pair ∷ [])
+    → IsHistoryOf counts (entries ++ e ∷ []) (history ++ pair ∷ [])
 history_more counts [] [] e pair h more = (more, tt)
 history_more counts [] (p ∷ history) e pair h more = absurd h
 history_more counts (x ∷ entries) [] e pair h more = absurd h
@@ -55,7 +55,7 @@ history_more counts (x ∷ entries) (p ∷ history) e pair h more =
 kept_more : (kept : Option (List (Request × Response))) (counts : List ℕ) (entries : List (ℕ × Entry)) (e : ℕ × Entry)
     (pair : Request × Response)
     → IsSomeAnd kept (IsHistoryOf counts entries) → IsWidened counts e pair
-        → IsSomeAnd (option_map (λ h. h ++ pair ∷ []) kept) (IsHistoryOf counts (entries ++ e ∷ []))
+    → IsSomeAnd (option_map (λ h. h ++ pair ∷ []) kept) (IsHistoryOf counts (entries ++ e ∷ []))
 kept_more None counts entries e pair h more = h
 kept_more (Some history) counts entries e pair h more = history_more counts entries history e pair h more
 
@@ -82,7 +82,7 @@ requests_at-same : (log : List (ℕ × Entry)) (m : ℕ) (e : Entry)
     → requests_at e.port (log ++ (m, e) ∷ []) ≡ requests_at e.port log ++ e.ask ∷ []
 requests_at-same log m e =
     ap (map (λ (x : ℕ × Entry). x.1.ask)) (at_port-same log m e)
-        ∙ map-append (λ (x : ℕ × Entry). x.1.ask) (at_port e.port log) ((m, e) ∷ [])
+    ∙ map-append (λ (x : ℕ × Entry). x.1.ask) (at_port e.port log) ((m, e) ∷ [])
 
 -- ---- entries in turn
 
@@ -104,11 +104,11 @@ in_turn_more s log m e before last k x at = ⊎_elim earlier here (slice_get-pus
 module _ (s : System) (keeps : Bool) (log : List (ℕ × Entry)) (slaves : List Slave) (old new : Slave) (m wide : ℕ)
     (e : Entry)
     (stand : Stand s keeps log slaves) (was : slice_get slaves e.port ≡ Some old)
-        (routed : Routes s.ranges e.ask e.port) (index : e.index ≡ count_of old)
+    (routed : Routes s.ranges e.ask e.port) (index : e.index ≡ count_of old)
     (counted : count_of new ≡ count_of old + 1) (answered : e.reply ≡ reply (bank_of old) e.ask)
-        (bank : bank_of new ≡ after (bank_of old) e.ask)
+    (bank : bank_of new ≡ after (bank_of old) e.ask)
     (history : kept_by new ≡ option_map (λ h. h
-        ++ (record e.ask { source = wide }, record e.reply { source = wide }) ∷ []) (kept_by old))
+    ++ (record e.ask { source = wide }, record e.reply { source = wide }) ∷ []) (kept_by old))
     (widened : IsWide s.counts m e.ask.source wide) where
   served : HasServed s keeps log e.port old
   served = stand.each e.port old was
@@ -125,14 +125,14 @@ module _ (s : System) (keeps : Bool) (log : List (ℕ × Entry)) (slaves : List 
   same_port = record {
     bank = some_and (slice_get (resets s) e.port)
         (λ reset is. bank ∙ ap (λ (b : Store). after b e.ask) is
-            ∙ sym (replay-append reset (requests_at e.port log) e.ask)
-            ∙ ap (replay reset) (sym (requests_at-same log m e)))
+        ∙ sym (replay-append reset (requests_at e.port log) e.ask)
+        ∙ ap (replay reset) (sym (requests_at-same log m e)))
         served.bank;
     served = counted ∙ ap (λ (n : ℕ). n + 1) served.served
         ∙ sym (ap length (at_port-same log m e) ∙ length-append (at_port e.port log) ((m, e) ∷ []));
     history = λ kept. rw (history, at_port-same log m e)
         (kept_more (kept_by old) s.counts (at_port e.port log) (m, e)
-            (record e.ask { source = wide }, record e.reply { source = wide }) (served.history kept)
+        (record e.ask { source = wide }, record e.reply { source = wide }) (served.history kept)
         (record { wide = wide; is = widened; ask = refl; reply = refl }));
   }
 
@@ -154,11 +154,11 @@ module _ (s : System) (keeps : Bool) (log : List (ℕ × Entry)) (slaves : List 
     each = λ port slave at. ⊎_elim
         (λ same.
         let there : slice_get (set slaves e.port new) e.port ≡ Some slave =
-            ap (λ (k : ℕ). slice_get (set slaves e.port new) k) same.1 ∙ at in
+        ap (λ (k : ℕ). slice_get (set slaves e.port new) k) same.1 ∙ at in
         let is : new ≡ slave = cc (slice_get-set_same slaves e.port new (slice_get_within slaves e.port old was)) in
         rw (← is, ← same.1) same_port)
         (λ other. other_port port slave other.0 (stand.each port slave
-            (sym (slice_get-set_other slaves e.port port new other.1) ∙ at)))
+        (sym (slice_get-set_other slaves e.port port new other.1) ∙ at)))
         (eqb_tells e.port port);
   }
 
@@ -170,7 +170,7 @@ module _ (s : System) (keeps : Bool) (slaves : List Slave) (lawful : IsLawfulSys
       → slice_get (resets s) port ≡ Some (bank_of slave)
   fresh_bank port slave at =
       ap (λ (stores : List Store). slice_get stores port) (sym banks) ∙ slice_get-map bank_of slaves port
-          ∙ ap (option_map bank_of) at
+      ∙ ap (option_map bank_of) at
 
   is_fresh : (port : ℕ) (slave : Slave) → slice_get slaves port ≡ Some slave → IsFresh keeps slave
   is_fresh port slave at =
@@ -191,7 +191,7 @@ module _ (s : System) (keeps : Bool) (slaves : List Slave) (lawful : IsLawfulSys
   stand_fresh = record {
     ports =
         let all : length slaves ≡ length s.stores + 1 =
-            sym (length-map slaves bank_of) ∙ ap length banks ∙ length-append s.stores (error_store ∷ []) in
+        sym (length-map slaves bank_of) ∙ ap length banks ∙ length-append s.stores (error_store ∷ []) in
         let ranges : length s.stores ≡ length s.ranges = sym (length-map s.stores range_of) ∙ ap length lawful.ranges in
         omega (arith, all, ranges);
     served = λ k e at. absurd (cc);
@@ -205,10 +205,10 @@ module _ (s : System) (keeps : Bool) (slaves : List Slave) (lawful : IsLawfulSys
 pub histories_are : (s : System) (log : List (ℕ × Entry)) (slaves : List Slave)
     (histories : List (List (Request × Response))) → Stand s true log slaves → histories ≡ map history_of slaves
     → (p : ℕ) (history : List (Request × Response)) → slice_get histories p ≡ Some history
-        → IsHistoryOf s.counts (at_port p log) history
+    → IsHistoryOf s.counts (at_port p log) history
 histories_are s log slaves histories stand are p history at =
     by_slave (slice_get slaves p) refl (sym (slice_get-map history_of slaves p)
-        ∙ ap (λ (hs : List (List (Request × Response))). slice_get hs p) (sym are) ∙ at) where
+    ∙ ap (λ (hs : List (List (Request × Response))). slice_get hs p) (sym are) ∙ at) where
       kept_is : (kept : Option (List (Request × Response))) → IsSomeAnd kept (IsHistoryOf s.counts (at_port p log))
           → unwrap_or kept [] ≡ history → IsHistoryOf s.counts (at_port p log) history
       kept_is None h same = absurd h
@@ -227,10 +227,12 @@ histories_are s log slaves histories stand are p history at =
 history_with : (counts : List ℕ) (e : ℕ × Entry) (here : Bool) (entries : List (ℕ × Entry))
     → ((wide : ℕ) × IsWide counts e.0 e.1.ask.source wide)
     → ((history : List (Request × Response)) × IsHistoryOf counts entries history)
-        → (history : List (Request × Response)) × IsHistoryOf counts (cond here (e ∷ entries) entries) history
-history_with counts e true entries (wide, is) (history, of) =
-    ((record e.1.ask { source = wide }, record e.1.reply { source = wide })
-        ∷ history, (record { wide = wide; is = is; ask = refl; reply = refl }, of))
+    → (history : List (Request × Response)) × IsHistoryOf counts (cond here (e ∷ entries) entries) history
+history_with counts e true entries (wide, is) (history, of) = (
+  (record e.1.ask { source = wide }, record e.1.reply { source = wide })
+      ∷ history,
+  (record { wide = wide; is = is; ask = refl; reply = refl }, of),
+)
 history_with counts e false entries has rest = rest
 
 -- entries with wide sources have a history at each port

@@ -17,7 +17,7 @@ list_all-digits radix (c ∷ cs) all = grind (arith, nat_tests, list_all-digits 
 -- a front of the digits that is too large
 pub number_of-too_large : (radix most i : ℕ) (word : List ℕ) → 1 ≤ radix → i < length word
     → 2 ^ 64 ≤ digits_value radix (take i word) * radix + digit_value (get_or word i 0)
-        → number_of radix most word ≡ None
+    → number_of radix most word ≡ None
 number_of-too_large radix most i word low inside over =
     let more = digits_value_more radix word i inside in
     let front = digits_value-take-le radix word (i + 1) low in
@@ -55,7 +55,7 @@ pub hex_more : (k n : ℕ) (behind : List ℕ) → 16 ≤ n
 hex_more k n behind large =
     let more : (n / 16 == 0) ≡ false = grind (arith, nat_tests) in
     ap (λ (last : Bool). cond last (digit_glyph false (n % 16) ∷ behind)
-        (digits_onto k 16 false (n / 16) (digit_glyph false (n % 16) ∷ behind))) more
+    (digits_onto k 16 false (n / 16) (digit_glyph false (n % 16) ∷ behind))) more
 
 pub hex_last : (k n : ℕ) (behind : List ℕ) → n < 16
     → digits_onto (suc k) 16 false n behind ≡ digit_glyph false n ∷ behind
@@ -63,5 +63,5 @@ hex_last k n behind small =
     let last : (n / 16 == 0) ≡ true = grind (arith, nat_tests) in
     let whole : n % 16 ≡ n = omega arith in
     ap (λ (t : Bool). cond t (digit_glyph false (n % 16) ∷ behind)
-        (digits_onto k 16 false (n / 16) (digit_glyph false (n % 16) ∷ behind))) last
+    (digits_onto k 16 false (n / 16) (digit_glyph false (n % 16) ∷ behind))) last
     ∙ ap (λ (d : ℕ). digit_glyph false d ∷ behind) whole

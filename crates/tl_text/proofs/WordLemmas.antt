@@ -54,4 +54,4 @@ pub first_is_followed : (front : List ℕ) (b : ℕ) (more : List ℕ) → is_bl
     → filter has_bytes (before_first front (slice_split is_blank (b ∷ more))) ≡ front ∷ words_of (b ∷ more)
 first_is_followed front b more blank some =
     rw blank (ap (λ (part : List ℕ). filter has_bytes (part ∷ slice_split is_blank more)) (append-nil front)
-        ∙ some_first front (slice_split is_blank more) some)
+    ∙ some_first front (slice_split is_blank more) some)

@@ -13,4 +13,4 @@ are_digits radix most word =
 abbrev pub number_of : ℕ → ℕ → List ℕ → Option ℕ
 number_of radix most word =
     if are_digits radix most word && nat_lt (digits_value radix word) (2 ^ 64) then Some
-        (digits_value radix word) else None
+    (digits_value radix word) else None

@@ -67,10 +67,10 @@ adds_one ranges ask port n old at goes = record {
       (λ (here : port ≡ p).
       let same : n ≡ m = one_some (slice_get old port) n m at (ap (λ (k : ℕ). slice_get old k) here ∙ is) in
       let one : occurrences_of (port ∷ []) p ≡ 1 =
-          subst (λ (k : ℕ). occurrences_of (port ∷ []) k ≡ 1) here (times_here port) in
+      subst (λ (k : ℕ). occurrences_of (port ∷ []) k ≡ 1) here (times_here port) in
       let sum : n + 1 ≡ m + occurrences_of (port ∷ []) p = omega (arith, same, one) in
       ap (λ (k : ℕ). slice_get (set old port (n + 1)) k) (sym here)
-          ∙ slice_get-set_same old port (n + 1) (slice_get_within old port n at) ∙ ap (λ (k : ℕ). Some k) sum)
+      ∙ slice_get-set_same old port (n + 1) (slice_get_within old port n at) ∙ ap (λ (k : ℕ). Some k) sum)
       (λ (other : port ≡ p → ⊥).
       let none : occurrences_of (port ∷ []) p ≡ 0 = times_elsewhere port p other in
       let sum : m ≡ m + occurrences_of (port ∷ []) p = omega (arith, none) in
@@ -85,7 +85,7 @@ adds_then ranges xs ys a b c p q = record {
   many = q.many ∙ p.many;
   each = λ port n is.
       let sum : (n + occurrences_of p.ports port) + occurrences_of q.ports port ≡ n + occurrences_of
-          (p.ports ++ q.ports) port = omega (arith, times_then p.ports q.ports port) in
+      (p.ports ++ q.ports) port = omega (arith, times_then p.ports q.ports port) in
       q.each port (n + occurrences_of p.ports port) (p.each port n is) ∙ ap (λ (k : ℕ). Some k) sum;
 }
 
@@ -95,16 +95,26 @@ grown_by : (ranges : List Range) (asks : List Request) (old new : List ℕ) (p m
     × (m ≡ n + occurrences_of adds.ports p)
 grown_by ranges asks old new p m adds at =
     let within : p < length old = subst (λ (k : ℕ). p < k) adds.many (slice_get_within new p m at) in
-    let was : slice_get old p ≡ Some (get_or old p 0) = slice_get-get_or old p 0 within in
-    (get_or old p 0, was, one_some (slice_get new p) m (get_or old p 0 + occurrences_of adds.ports p) at
-        (adds.each p (get_or old p 0) was))
+    let was : slice_get old p ≡ Some (get_or old p 0) = slice_get-get_or old p 0 within in (
+      get_or old p 0,
+      was,
+      one_some (slice_get new p) m (get_or old p 0 + occurrences_of adds.ports p) at
+          (adds.each p (get_or old p 0) was),
+    )
 
 pub grown : (ranges : List Range) (asks : List Request) (old new : List ℕ) (p m : ℕ) → AddsArrivals ranges asks old new
     → slice_get new p ≡ Some m → (n : ℕ) × (slice_get old p ≡ Some n) × (m ≤ n + length asks)
 grown ranges asks old new p m adds at =
-    let was = grown_by ranges asks old new p m adds at in
-    (was.0, was.1, omega (arith, was.2, count_by-le-length (λ (q : ℕ). eqb q p) adds.ports,
-        ports_many ranges asks adds.ports adds.are))
+    let was = grown_by ranges asks old new p m adds at in (
+      was.0,
+      was.1,
+      omega (
+        arith,
+        was.2,
+        count_by-le-length (λ (q : ℕ). eqb q p) adds.ports,
+        ports_many ranges asks adds.ports adds.are,
+      ),
+    )
 
 -- ---- one master's operations
 
@@ -132,10 +142,10 @@ module _ (ranges : List Range) (jobs : List Job) (k : ℕ) (d : Job) (within : k
       → AddsArrivals ranges (sends (take (k + 1) jobs)) old next
   send_adds ask port n next is at goes set_is =
       let one = subst (λ (l : List ℕ). AddsArrivals ranges (ask ∷ []) new l) (sym set_is)
-          (adds_one ranges ask port n new at goes) in
+      (adds_one ranges ask port n new at goes) in
       subst (λ (asks : List Request). AddsArrivals ranges asks old next)
-          (sym (next_sends jobs k d (Send ask) within is))
-          (adds_then ranges (sends (take k jobs)) (ask ∷ []) old new next was one)
+      (sym (next_sends jobs k d (Send ask) within is))
+      (adds_then ranges (sends (take k jobs)) (ask ∷ []) old new next was one)
 
 -- ---- all masters' operations
 
@@ -152,7 +162,7 @@ next_list : (lists : List (List Job)) (k : ℕ) (jobs : List Job) → slice_get 
     → all_sends (take (k + 1) lists) ≡ all_sends (take k lists) ++ sends jobs
 next_list lists k jobs at =
     ap all_sends (take_more lists k jobs (slice_get_within lists k jobs at)
-        ∙ ap (λ (js : List Job). take k lists ++ js ∷ []) (get_or_from_slice_get lists k jobs jobs at))
+    ∙ ap (λ (js : List Job). take k lists ++ js ∷ []) (get_or_from_slice_get lists k jobs jobs at))
     ∙ sym (flat_map_more sends [] (take k lists) jobs)
 
 -- the requests of some masters are not too many for a number
@@ -161,7 +171,7 @@ pub few_more : (lists : List (List Job)) (k most : ℕ) (jobs : List Job) → sl
     → length (all_sends (take (k + 1) lists)) ≤ (k + 1) * most
 few_more lists k most jobs at short few =
     let sum = ap (λ (asks : List Request). length asks) (next_list lists k jobs at)
-        ∙ length-append (all_sends (take k lists)) (sends jobs) in
+    ∙ length-append (all_sends (take k lists)) (sends jobs) in
     let own = few_sends jobs in
     grind (arith, sum, own, few, short)
 
@@ -170,7 +180,7 @@ pub list_adds : (ranges : List Range) (lists : List (List Job)) (k : ℕ) (jobs 
     → AddsArrivals ranges (sends jobs) old new → AddsArrivals ranges (all_sends (take (k + 1) lists)) zeros new
 list_adds ranges lists k jobs zeros old new at was more =
     subst (λ (asks : List Request). AddsArrivals ranges asks zeros new) (sym (next_list lists k jobs at))
-        (adds_then ranges (all_sends (take k lists)) (sends jobs) zeros old new was more)
+    (adds_then ranges (all_sends (take k lists)) (sends jobs) zeros old new was more)
 
 -- a count from zero on is no more than there are requests
 pub from_zero : (ranges : List Range) (asks : List Request) (many : ℕ) (new : List ℕ) (p m : ℕ)
@@ -185,7 +195,7 @@ pub listed_at : (s : System) (lists : List (List Job)) (k : ℕ) (own : List Job
     → own ≡ get_or lists k own → slice_get s.jobs k ≡ Some own
 listed_at s lists k own are within is =
     ap (λ (l : List (List Job)). slice_get l k) (sym are) ∙ slice_get-get_or lists k own within
-        ∙ ap (λ (jobs : List Job). Some jobs) (sym is)
+    ∙ ap (λ (jobs : List Job). Some jobs) (sym is)
 
 -- and no others are there
 pub listed_here : (s : System) (lists : List (List Job)) (k : ℕ) (own jobs : List Job) → lists ≡ s.jobs
@@ -212,13 +222,16 @@ pub journals_are : (s : System) (new : List ℕ) (k : ℕ) → length s.jobs ≤
     → AddsArrivals s.ranges (all_sends (take k s.jobs)) (replicate (length s.ranges + 1) 0) new → AreJournals s new
 journals_are s new k end adds =
     let all = subst (λ (lists : List (List Job)). AddsArrivals s.ranges (all_sends lists)
-        (replicate (length s.ranges + 1) 0) new) (take_all k s.jobs end) adds in
+    (replicate (length s.ranges + 1) 0) new) (take_all k s.jobs end) adds in
     record {
       many = all.many ∙ length-replicate (length s.ranges + 1) 0;
       each = λ p n at.
           let was = grown_by s.ranges (all_sends s.jobs) (replicate (length s.ranges + 1) 0) new p n all at in
-          record { ports = all.ports; are = all.are;
-              count_is = omega (arith, zero_at (length s.ranges + 1) p was.0 was.1, was.2) };
+          record {
+            ports = all.ports;
+            are = all.are;
+            count_is = omega (arith, zero_at (length s.ranges + 1) p was.0 was.1, was.2);
+          };
     }
 
 -- a book with a port's journal is new, and has room for all that goes to the port
@@ -228,7 +241,7 @@ pub book_is_new : (a : ArenaId) (s : System) (journals : List ℕ) (n journal : 
 book_is_new a s journals n journal book are within read is =
     let own : book.journal ≡ journal = ap (λ (b : BookView). b.journal) is in
     let at : slice_get journals n ≡ Some journal =
-        slice_get-get_or journals n 0 within ∙ ap (λ (m : ℕ). Some m) (sym read) in
+    slice_get-get_or journals n 0 within ∙ ap (λ (m : ℕ). Some m) (sym read) in
     record {
       is = subst (λ (m : ℕ). book ≡ new_book (new_port a n) (reset_of a.about n) m) (sym own) is;
       room = subst (λ (m : ℕ). GoTo s.ranges (all_sends s.jobs) n m) (sym own) (are.each n journal at);

@@ -37,8 +37,10 @@ longer_self es = record { more = []; is = sym (append-nil es) }
 
 longer_then : (es fs gs : List Entry) → IsLonger es fs → IsLonger fs gs → IsLonger es gs
 longer_then es fs gs p q =
-    record { more = p.more ++ q.more;
-    is = q.is ∙ ap (λ (l : List Entry). l ++ q.more) p.is ∙ append_assoc es p.more q.more }
+    record {
+      more = p.more ++ q.more;
+      is = q.is ∙ ap (λ (l : List Entry). l ++ q.more) p.is ∙ append_assoc es p.more q.more;
+    }
 
 routed_more : (ranges : List Range) (es : List Entry) (e : Entry) → AreRouted ranges es → Routes ranges e.ask e.port
     → AreRouted ranges (es ++ e ∷ [])
@@ -51,22 +53,22 @@ sends_routed : (ranges : List Range) (m : MasterState) (q : Request) (issued : I
     → IssuesOne ranges m q issued n → IsRouted ranges m → IsRouted ranges n
 sends_routed ranges m q issued n s r =
     subst (λ (x : MasterState). IsRouted ranges x) (sym s.master) (record { trace = r.trace; out = still }) where
-  t : TicketView
-  t = s.ticket
+      t : TicketView
+      t = s.ticket
 
-  new : Routes ranges t.ask t.port
-  new = subst (λ (x : Request). Routes ranges x t.port) (sym s.posted.ask) s.posted.routed
+      new : Routes ranges t.ask t.port
+      new = subst (λ (x : Request). Routes ranges x t.port) (sym s.posted.ask) s.posted.routed
 
-  out : List (Option TicketView)
-  out = set m.out q.source (Some t)
+      out : List (Option TicketView)
+      out = set m.out q.source (Some t)
 
-  still : (z : ℕ) (u : TicketView) → ticket_at out z ≡ Some u → Routes ranges u.ask u.port
-  still z u at = dite (ℕ_discrete z q.source)
-      (λ e.
-      let here : ticket_at out q.source ≡ Some t = get_or-set_same m.out q.source (Some t) None s.known in
-      let same : t ≡ u = one_some (ticket_at out q.source) t u here (ap (λ (k : ℕ). ticket_at out k) (sym e) ∙ at) in
-      subst (λ (w : TicketView). Routes ranges w.ask w.port) same new)
-      (λ ne. r.out z u (sym (get_or-set_other m.out q.source z (Some t) None ne) ∙ at))
+      still : (z : ℕ) (u : TicketView) → ticket_at out z ≡ Some u → Routes ranges u.ask u.port
+      still z u at = dite (ℕ_discrete z q.source)
+          (λ e.
+          let here : ticket_at out q.source ≡ Some t = get_or-set_same m.out q.source (Some t) None s.known in
+          let same : t ≡ u = one_some (ticket_at out q.source) t u here (ap (λ (k : ℕ). ticket_at out k) (sym e) ∙ at) in
+          subst (λ (w : TicketView). Routes ranges w.ask w.port) same new)
+          (λ ne. r.out z u (sym (get_or-set_other m.out q.source z (Some t) None ne) ∙ at))
 
 -- the entry of what was out goes where that went
 collects_routed : (ranges : List Range) (m : MasterState) (source place : ℕ) (n : MasterState)
@@ -74,33 +76,39 @@ collects_routed : (ranges : List Range) (m : MasterState) (source place : ℕ) (
 collects_routed ranges m source place n c r =
     subst (λ (x : MasterState). IsRouted ranges x) (sym c.master)
     (record { trace = routed_more ranges m.trace c.entry r.trace entry; out = still }) where
-  got : IsCollected m.seat c.ticket c.reply.served c.reply.taken
-  got = c.reply.collected
+      got : IsCollected m.seat c.ticket c.reply.served c.reply.taken
+      got = c.reply.collected
 
-  served : Routes ranges c.reply.served.ask c.reply.served.port
-  served = subst (λ (p : ℕ). Routes ranges c.reply.served.ask p) (sym got.port)
-      (subst (λ (x : Request). Routes ranges x c.ticket.port) (sym got.ask) (r.out source c.ticket c.was))
+      served : Routes ranges c.reply.served.ask c.reply.served.port
+      served = subst (λ (p : ℕ). Routes ranges c.reply.served.ask p) (sym got.port)
+          (subst (λ (x : Request). Routes ranges x c.ticket.port) (sym got.ask) (r.out source c.ticket c.was))
 
-  entry : Routes ranges c.entry.ask c.entry.port
-  entry = subst (λ (x : Entry). Routes ranges x.ask x.port) (sym c.reply.entry) served
+      entry : Routes ranges c.entry.ask c.entry.port
+      entry = subst (λ (x : Entry). Routes ranges x.ask x.port) (sym c.reply.entry) served
 
-  out : List (Option TicketView)
-  out = set m.out source None
+      out : List (Option TicketView)
+      out = set m.out source None
 
-  still : (z : ℕ) (u : TicketView) → ticket_at out z ≡ Some u → Routes ranges u.ask u.port
-  still z u at = dite (ℕ_discrete z source)
-      (λ e.
-      let none : ticket_at out source ≡ None =
+      still : (z : ℕ) (u : TicketView) → ticket_at out z ≡ Some u → Routes ranges u.ask u.port
+      still z u at = dite (ℕ_discrete z source)
+          (λ e.
+          let none : ticket_at out source ≡ None =
           get_or-set_same m.out source None None (source_known m.out source c.ticket c.was) in
-      let clash : None ≡ Some u = sym none ∙ ap (λ (k : ℕ). ticket_at out k) (sym e) ∙ at in
-      absurd cc)
-      (λ ne. r.out z u (sym (get_or-set_other m.out source z None None ne) ∙ at))
+          let clash : None ≡ Some u = sym none ∙ ap (λ (k : ℕ). ticket_at out k) (sym e) ∙ at in
+          absurd cc)
+          (λ ne. r.out z u (sym (get_or-set_other m.out source z None None ne) ∙ at))
 
 -- ---- from call to call
 
 pub same_self : (m : MasterState) → IsSame m m
-same_self m = record { arena = refl; number = refl; asked_is = λ s. refl; longer = longer_self m.trace;
-    cuts = λ asks had c. c; routed = λ ranges r. r }
+same_self m = record {
+  arena = refl;
+  number = refl;
+  asked_is = λ s. refl;
+  longer = longer_self m.trace;
+  cuts = λ asks had c. c;
+  routed = λ ranges r. r;
+}
 
 pub same_then : (m n o : MasterState) → IsSame m n → IsSame n o → IsSame m o
 same_then m n o p q = record {
@@ -167,7 +175,7 @@ none_out out none s = by (slice_get out s) refl where
   by (Some (Some t)) is =
       let lt = slice_get_within out s (Some t) is in
       let sum : count_by is_some (set out s None) + bit (get_or out s None) ≡ count_by is_some out + bit None =
-          sum_by-set bit out s None None lt in
+      sum_by-set bit out s None None lt in
       let one : bit (get_or out s None) ≡ 1 = ap bit (get_or_from_slice_get out s (Some t) None is) in
       absurd (omega arith)
 
@@ -195,16 +203,21 @@ turns_more js k d j m n within here was longer cuts last i job lt is =
     (λ (late : k ≤ i).
     let e : k ≡ i = omega arith in
     let same : j ≡ job = one_some (slice_get js k) j job
-        (slice_get-get_or js k d within ∙ ap (λ (x : Job). Some x) here) (ap (λ (x : ℕ). slice_get js x) e ∙ is) in
+    (slice_get-get_or js k d within ∙ ap (λ (x : Job). Some x) here) (ap (λ (x : ℕ). slice_get js x) e ∙ is) in
     subst (λ (x : ℕ). WasDone (sends (take x js)) job n) e
-        (subst (λ (x : Job). WasDone (sends (take k js)) x n) same last))
+    (subst (λ (x : Job). WasDone (sends (take k js)) x n) same last))
     (cases_lt i k)
 
 module _ (a : ArenaId) (ranges : List Range) (number : ℕ) (js : List Job) where
   -- nothing was done yet
   pub idle_driven : (m : MasterState) → IsIdle a number m → IsDriven a ranges number js 0 m
-  idle_driven m idle = record { arena_is = idle.arena_is; number_is = idle.number_is; asked_is = idle.none;
-      turns = λ k job lt is. absurd (omega arith); routed = idle.routed ranges }
+  idle_driven m idle = record {
+    arena_is = idle.arena_is;
+    number_is = idle.number_is;
+    asked_is = idle.none;
+    turns = λ k job lt is. absurd (omega arith);
+    routed = idle.routed ranges;
+  }
 
   driven_job : (k : ℕ) (d : Job) (m n : MasterState) (j : Job) → k < length js → get_or js k d ≡ j
       → IsDriven a ranges number js k m → HasDone ranges m j n → IsDriven a ranges number js (k + 1) n
@@ -217,7 +230,7 @@ module _ (a : ArenaId) (ranges : List Range) (number : ℕ) (js : List Job) wher
             ∙ ap (of_source s) (sym (next_sends js k d Wait lt is ∙ append-nil (sends (take k js))));
         turns = turns_more js k d Wait m n lt is p.turns same.longer same.cuts
             (waits_turn n (sends (take k js)) (λ s. same.asked_is s ∙ p.asked_is s)
-                (λ s. sym (all_asked n q.1 s) ∙ same.asked_is s ∙ p.asked_is s));
+            (λ s. sym (all_asked n q.1 s) ∙ same.asked_is s ∙ p.asked_is s));
         routed = same.routed ranges p.routed;
       }
   driven_job k d m n (Send q) lt is p r = record {
@@ -238,7 +251,7 @@ module _ (a : ArenaId) (ranges : List Range) (number : ℕ) (js : List Job) wher
   pub traced : (k : ℕ) (m n : MasterState) (es : List Entry) → length js ≤ k → IsDriven a ranges number js k m
       → IsSame m n → out_of n.out ≡ 0 → es ≡ n.trace → IsInOrder es
       → AreWidened n.seat.arena.about.counts n.seat.number es n.seat.got → OwnsHistories n.seat
-          → IsTrace a ranges number js es
+      → IsTrace a ranges number js es
   traced k m n es end d p none is order widened own = record {
     each = λ s. ap (λ (l : List Entry). of_source s (requests_of l)) is ∙ sym (all_asked n none s) ∙ p.asked_is s
         ∙ d.asked_is s ∙ ap (λ (l : List Job). of_source s (sends l)) (take_all k js end);
@@ -258,18 +271,18 @@ module _ (a : ArenaId) (ranges : List Range) (number : ℕ) (js : List Job) wher
       turns i job at =
           let within = slice_get_within js i job at in
           done_after (sends (take i js)) job n es (done_still (sends (take i js)) job m n
-              (d.turns i job (omega arith) at) p.longer (p.cuts (sends (take i js)))) is
+          (d.turns i job (omega arith) at) p.longer (p.cuts (sends (take i js)))) is
 
 -- what a promise that was kept says
 pub kept_promise : (a : ArenaId) (ranges : List Range) (jobs : List (List Job)) (k : ℕ) (h : Handle) (t : TraceView)
     → IsPromised a ranges jobs k h
     → IsTrace h.promise.arena.value h.promise.map.value h.promise.number h.promise.jobs.value t.items
-        → IsTraceOf a ranges jobs k t
+    → IsTraceOf a ranges jobs k t
 kept_promise a ranges jobs k h t is kept =
     let numbered = subst (λ
-        (n : ℕ). IsTrace h.promise.arena.value h.promise.map.value n h.promise.jobs.value t.items) is.number_is kept in
+    (n : ℕ). IsTrace h.promise.arena.value h.promise.map.value n h.promise.jobs.value t.items) is.number_is kept in
     let mapped = subst (λ
-        (rs : List Range). IsTrace h.promise.arena.value rs k h.promise.jobs.value t.items) is.map_is numbered in
+    (rs : List Range). IsTrace h.promise.arena.value rs k h.promise.jobs.value t.items) is.map_is numbered in
     record {
       its_jobs = h.promise.jobs.value;
       at = is.jobs_are;

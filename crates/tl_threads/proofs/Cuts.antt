@@ -53,7 +53,7 @@ many_before k es e at =
     let s = e.ask.source in
     let within = slice_get_within es k e at in
     let more : take (k + 1) es ≡ take k es ++ e ∷ [] =
-        take_more es k e within ∙ ap (λ (x : Entry). take k es ++ x ∷ []) (get_or_from_slice_get es k e e at) in
+    take_more es k e within ∙ ap (λ (x : Entry). take k es ++ x ∷ []) (get_or_from_slice_get es k e e at) in
     let counted = ap (λ (l : List Entry). many_of s (requests_of l)) more in
     let parts = many_more s (take k es) (e ∷ []) in
     let own = one_own s e refl in
@@ -92,20 +92,20 @@ pub issues_cut : (ranges : List Range) (m : MasterState) (q : Request) (issued :
 issues_cut ranges m q issued n s asks had c =
     subst (λ (x : MasterState). IsCut asks had x) (sym s.master)
     (record { within = c.within; out = out; served = c.served }) where
-  out : (z : ℕ) (u : TicketView) → ticket_at (set m.out q.source (Some s.ticket)) z ≡ Some u
-      → many_of z asks ≤ many_of z (requests_of m.trace) → had ≤ u.known
-  out z u at few = dite (ℕ_discrete z q.source)
-      (λ e.
-      let here : ticket_at (set m.out q.source (Some s.ticket)) q.source ≡ Some s.ticket =
+      out : (z : ℕ) (u : TicketView) → ticket_at (set m.out q.source (Some s.ticket)) z ≡ Some u
+          → many_of z asks ≤ many_of z (requests_of m.trace) → had ≤ u.known
+      out z u at few = dite (ℕ_discrete z q.source)
+          (λ e.
+          let here : ticket_at (set m.out q.source (Some s.ticket)) q.source ≡ Some s.ticket =
           get_or-set_same m.out q.source (Some s.ticket) None s.known in
-      let same : s.ticket ≡ u =
+          let same : s.ticket ≡ u =
           one_some (ticket_at (set m.out q.source (Some s.ticket)) q.source) s.ticket u here
           (ap (λ (k : ℕ). ticket_at (set m.out q.source (Some s.ticket)) k) (sym e) ∙ at) in
-      let known = ap (λ (t : TicketView). t.known) same in
-      let since = s.since in
-      let within = c.within in
-      omega arith)
-      (λ ne. c.out z u (sym (get_or-set_other m.out q.source z (Some s.ticket) None ne) ∙ at) few)
+          let known = ap (λ (t : TicketView). t.known) same in
+          let since = s.since in
+          let within = c.within in
+          omega arith)
+          (λ ne. c.out z u (sym (get_or-set_other m.out q.source z (Some s.ticket) None ne) ∙ at) few)
 
 -- what was out is an entry now, whose index is above what had been collected when it was issued
 module _ (m : MasterState) (source place : ℕ) (n : MasterState) (c : CollectsOne m source place n) (asks : List Request)
@@ -129,7 +129,7 @@ module _ (m : MasterState) (source place : ℕ) (n : MasterState) (c : CollectsO
   still_out z u at few = dite (ℕ_discrete z source)
       (λ e.
       let none : ticket_at tickets source ≡ None =
-          get_or-set_same m.out source None None (source_known m.out source c.ticket c.was) in
+      get_or-set_same m.out source None None (source_known m.out source c.ticket c.was) in
       let clash : None ≡ Some u = sym none ∙ ap (λ (k : ℕ). ticket_at tickets k) (sym e) ∙ at in
       absurd cc)
       (λ ne.
@@ -143,7 +143,7 @@ module _ (m : MasterState) (source place : ℕ) (n : MasterState) (c : CollectsO
       → d.index < c.entry.index
   last_served j d before at after port =
       let known = cut.out source c.ticket c.was
-          (subst (λ (s : ℕ). many_of s asks ≤ many_of s (requests_of m.trace)) own after) in
+      (subst (λ (s : ℕ). many_of s asks ≤ many_of s (requests_of m.trace)) own after) in
       c.above j d (omega arith) at port
 
   still_served : AreServedBefore asks had es
@@ -155,17 +155,17 @@ module _ (m : MasterState) (source place : ℕ) (n : MasterState) (c : CollectsO
       let inside = slice_get_within m.trace k e old in
       let same : take k es ≡ take k m.trace = take-append-le k m.trace (c.entry ∷ []) (omega arith) in
       cut.served j k d e before early old (subst
-          (λ (l : List Entry). many_of e.ask.source asks ≤ many_of e.ask.source (requests_of l)) same after) port)
+      (λ (l : List Entry). many_of e.ask.source asks ≤ many_of e.ask.source (requests_of l)) same after) port)
       (λ (last : (k ≡ length m.trace) × (c.entry ≡ e)).
       let all : take k es ≡ m.trace =
-          ap (λ (i : ℕ). take i es) last.0 ∙ take-append-le (length m.trace) m.trace (c.entry ∷ []) (omega arith)
-          ∙ take_all (length m.trace) m.trace (omega arith) in
+      ap (λ (i : ℕ). take i es) last.0 ∙ take-append-le (length m.trace) m.trace (c.entry ∷ []) (omega arith)
+      ∙ take_all (length m.trace) m.trace (omega arith) in
       let mine = subst (λ (l : List Entry). many_of e.ask.source asks ≤ many_of e.ask.source
-          (requests_of l)) all after in
+      (requests_of l)) all after in
       let its = subst (λ (x : Entry). many_of x.ask.source asks ≤ many_of x.ask.source (requests_of m.trace))
-          (sym last.1) mine in
+      (sym last.1) mine in
       subst (λ (x : Entry). d.index < x.index) last.1
-          (last_served j d before early its (port ∙ ap (λ (x : Entry). x.port) (sym last.1))))
+      (last_served j d before early its (port ∙ ap (λ (x : Entry). x.port) (sym last.1))))
       (slice_get-push m.trace c.entry e k second)
 
   pub collects_cut : IsCut asks had n
@@ -186,8 +186,8 @@ issues_turn ranges m q issued n s asks all = record {
   waited = λ source is. subst (λ (z : ℕ). of_source z
       (requests_of (take (length m.trace) n.trace)) ≡ of_source z asks) is (
       ap (λ (l : List Entry). of_source q.source (requests_of l))
-          (ap (λ (x : MasterState). take (length m.trace) x.trace) s.master
-          ∙ take_all (length m.trace) m.trace (omega arith))
+      (ap (λ (x : MasterState). take (length m.trace) x.trace) s.master
+      ∙ take_all (length m.trace) m.trace (omega arith))
       ∙ sym (append-nil (of_source q.source (requests_of m.trace)))
       ∙ ap (λ (o : Option TicketView). of_source q.source (requests_of m.trace) ++ out_ask q.source o) (sym s.idle)
       ∙ all q.source);
@@ -237,5 +237,5 @@ first_of_wait jobs es d = record {
       let fewer = many_front s d.had (take (d.had + k) es) in
       let sent = ap (λ (l : List Request). length l) (d.waited s tt) in
       d.served j (d.had + k) a b before (sym (slice_get-take d.had es j before) ∙ first)
-          (sym (slice_get-drop d.had es k) ∙ second) (omega arith) port;
+      (sym (slice_get-drop d.had es k) ∙ second) (omega arith) port;
 }

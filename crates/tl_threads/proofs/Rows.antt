@@ -23,7 +23,7 @@ module _ {X : Type 0} (P : ℕ → X → Type 0) where
   pub row_more : (xs ys : List X) (x : X) → ys ≡ xs ++ x ∷ [] → AreFrom P 0 xs → P (length xs) x → AreFrom P 0 ys
   row_more xs ys x pushed all last k y is = ⊎_elim (λ (old : slice_get xs k ≡ Some y). all k y old)
       (λ (new : (k ≡ length xs) × (x ≡ y)). let e : length xs ≡ 0 + k = omega (arith, new.0) in
-          subst (λ (n : ℕ). P n y) e (subst (λ (z : X). P (length xs) z) new.1 last))
+      subst (λ (n : ℕ). P n y) e (subst (λ (z : X). P (length xs) z) new.1 last))
       (slice_get-push xs x y k (subst (λ (l : List X). slice_get l k ≡ Some y) pushed is))
 
   pub row_none : (from : ℕ) → AreFrom P from []

@@ -20,21 +20,21 @@ use Rattle.tl_threads.proofs.Rows.{one_some}
 pub resets_length : (s : System) → IsLawfulSystem s → length (resets s) ≡ length s.ranges + 1
 resets_length s lawful =
     let each : length s.stores ≡ length s.ranges =
-        sym (length-map s.stores range_of) ∙ ap (λ (l : List Range). length l) lawful.ranges in
+    sym (length-map s.stores range_of) ∙ ap (λ (l : List Range). length l) lawful.ranges in
     length-append s.stores (error_store ∷ []) ∙ ap (λ (n : ℕ). n + 1) each
 
 -- whose trace a list is
 traced_at : (a : ArenaId) (ranges : List Range) (jobs : List (List Job)) (m : ℕ) (its_jobs : List Job)
     (entries : List Entry) (o : Option TraceView) → slice_get jobs m ≡ Some its_jobs
     → option_map (λ (t : TraceView). t.items) o ≡ Some entries
-        → ((t : TraceView) → o ≡ Some t → IsTraceOf a ranges jobs m t) → IsTrace a ranges m its_jobs entries
+    → ((t : TraceView) → o ≡ Some t → IsTraceOf a ranges jobs m t) → IsTrace a ranges m its_jobs entries
 traced_at a ranges jobs m its_jobs entries None at is of = absurd cc
 traced_at a ranges jobs m its_jobs entries (Some t) at is of =
     let own = of t refl in
     let items : t.items ≡ entries = cc in
     subst (λ (es : List Entry). IsTrace a ranges m its_jobs es) items
-        (subst (λ (js : List Job). IsTrace a ranges m js t.items)
-        (one_some (slice_get jobs m) own.its_jobs its_jobs own.at at) own.trace)
+    (subst (λ (js : List Job). IsTrace a ranges m js t.items)
+    (one_some (slice_get jobs m) own.its_jobs its_jobs own.at at) own.trace)
 
 pub traces_of : (a : ArenaId) (ranges : List Range) (jobs : List (List Job)) (ts : List TraceView)
     → length ts ≡ length jobs → AreFrom (IsTraceOf a ranges jobs) 0 ts → AreTraces a ranges jobs (entries_in ts)
@@ -48,13 +48,15 @@ traces_of a ranges jobs ts many all = record {
 pub books_are : (a : ArenaId) (ports : ℕ) (bs : List BookView) → length bs ≡ ports → AreFrom (IsBookOf a) 0 bs
     → AreBooks a ports bs
 books_are a ports bs many all =
-    record { many = many;
-    each = λ p b is. let e : 0 + p ≡ p = omega arith in subst (λ (n : ℕ). IsBookOf a n b) e (all p b is) }
+    record {
+      many = many;
+      each = λ p b is. let e : 0 + p ≡ p = omega arith in subst (λ (n : ℕ). IsBookOf a n b) e (all p b is);
+    }
 
 pub threaded : (s : System) (a : ArenaId) (ts : List TraceView) (bs : List BookView) (free : List ℕ)
     (held : List HeldSlot) (left : List ℕ) → a.about ≡ about_of s.slots s.counts (resets s)
     → length ts ≡ length s.jobs → AreFrom (IsTraceOf a s.ranges s.jobs) 0 ts → length bs ≡ length s.ranges + 1
-        → AreFrom (IsBookOf a) 0 bs → IsClosing a.about free held left
+    → AreFrom (IsBookOf a) 0 bs → IsClosing a.about free held left
     → IsThreadedRun s (entries_in ts) bs free held left
 threaded s a ts bs free held left about many traces ports books account = record {
   arena = a;

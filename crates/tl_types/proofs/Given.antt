@@ -38,9 +38,9 @@ given_in-append bits [] back = given_in-same bits (λ k. bits (0 + k)) back (λ 
 given_in-append bits (byte ∷ front) back =
     let more = given_in-append (λ k. bits (suc k)) front back in
     let shifted = given_in-same (λ k. bits (suc (length front + k))) (λ k. bits (suc (length front) + k)) back
-        (λ k h. ap bits (omega arith)) in
+    (λ k h. ap bits (omega arith)) in
     ap (λ rest. given_byte (bits 0) byte ∷ rest)
-        (more ∙ ap (λ rest. given_in (λ k. bits (suc k)) front ++ rest) shifted)
+    (more ∙ ap (λ rest. given_in (λ k. bits (suc k)) front ++ rest) shifted)
 
 pub given_in-all : (bits : ℕ → ℕ) (bytes : List ℕ) → ((k : ℕ) → k < length bytes → bits k ≡ 1)
     → given_in bits bytes ≡ map (λ byte. Some byte) bytes
@@ -116,8 +116,8 @@ bit_in-with_bit masks n within place ne = go (cases_lt (place / 8) (n / 8)) (cas
         let same : place / 8 ≡ n / 8 = omega (arith, not_lower, not_higher) in
         let lanes_differ : place % 8 ≡ n % 8 → ⊥ = λ e. ne (omega (arith, same, e)) in
         bit_in-set_here masks (n / 8) _ place within same
-            ∙ bit_at_set_other w8 (slice_index masks (n / 8)) (n % 8) (omega arith) (place % 8) lanes_differ
-            ∙ same_word same
+        ∙ bit_at_set_other w8 (slice_index masks (n / 8)) (n % 8) (omega arith) (place % 8) lanes_differ
+        ∙ same_word same
       where
         same_word : place / 8 ≡ n / 8 → bit_at (slice_index masks (n / 8)) (place % 8) ≡ bit_in masks place
         same_word same = let e : 8 * (n / 8) + place % 8 ≡ place = omega (arith, same) in
@@ -169,7 +169,7 @@ appends plain masks bytes new_masks kept counted small below unset past = record
     clean place clear (inr back) =
         let e : length plain + (place - length plain) ≡ place = omega (arith, back) in
         ap (slice_index (plain ++ bytes)) (sym e) ∙ slice_index-back plain bytes (place - length plain)
-            ∙ unset (place - length plain) (ap (bit_in new_masks) e ∙ clear)
+        ∙ unset (place - length plain) (ap (bit_in new_masks) e ∙ clear)
 
 byte_unset : (n byte : ℕ) (new : List ℕ) → bit_in new n ≡ 1 → (k : ℕ) → bit_in new (n + k) ≡ 0
     → slice_index (byte ∷ []) k ≡ 0
@@ -198,7 +198,7 @@ word_bit : (masks : List ℕ) (n count : ℕ) → n / 8 < length masks → n % 8
     → bit_in (set masks (n / 8) (255 / 2 ^ (8 - count))) (n + k) ≡ 1
 word_bit masks n count within aligned fits k h =
     new_bit masks n (255 / 2 ^ (8 - count)) k within aligned (omega (arith, h, fits))
-        ∙ ap (λ m. bit_at m k) (ones_are count fits) ∙ bit_at_ones count k h
+    ∙ ap (λ m. bit_at m k) (ones_are count fits) ∙ bit_at_ones count k h
 
 word_unset : (masks : List ℕ) (n : ℕ) (bytes : List ℕ) → n / 8 < length masks → n % 8 ≡ 0 → length bytes ≤ 8 → (k : ℕ)
     → bit_in (set masks (n / 8) (255 / 2 ^ (8 - length bytes))) (n + k) ≡ 0 → (k < length bytes) ⊎ (length bytes ≤ k)
@@ -211,7 +211,7 @@ word_past : (masks : List ℕ) (n count : ℕ) → n / 8 < length masks → n % 
     → bit_in masks (n + k) ≡ 0 → (k < 8) ⊎ (8 ≤ k) → bit_in (set masks (n / 8) (255 / 2 ^ (8 - count))) (n + k) ≡ 0
 word_past masks n count within aligned fits k h before (inl in_word) =
     new_bit masks n (255 / 2 ^ (8 - count)) k within aligned in_word ∙ ap (λ m. bit_at m k) (ones_are count fits)
-        ∙ bit_at_ones_above count k h
+    ∙ bit_at_ones_above count k h
 word_past masks n count within aligned fits k h before (inr beyond) =
     bit_in-set_there masks (n / 8) _ (n + k) (λ e. omega (arith, e, beyond, aligned)) ∙ before
 
@@ -229,7 +229,7 @@ seen_bit plain masks place kept (inl within) =
     ∙ mask_bit-given_byte (bit_in masks place) (slice_index plain place) (bit_in-lt masks place))
 seen_bit plain masks place kept (inr past) =
     kept.past place past ∙ sym (ap (λ o. mask_bit (unwrap_or o None))
-        (slice_get_past (given_in (bit_in masks) plain) place (rw (length-given_in (bit_in masks) plain) past)))
+    (slice_get_past (given_in (bit_in masks) plain) place (rw (length-given_in (bit_in masks) plain) past)))
 
 -- a mask that is replaced
 pub small_set : (masks : List ℕ) (word mask : ℕ) → ((w : ℕ) → slice_index masks w < 256) → mask < 256 → (w : ℕ)
@@ -264,14 +264,14 @@ appends_given plain masks byte kept within =
     let with_bit = bit_or old (1 * 2 ^ (n % 8) % 256) in
     let new = set masks (n / 8) with_bit in
     let here : bit_in new n ≡ 1 =
-        bit_in-set_here masks (n / 8) with_bit n within refl ∙ bit_at_set_same w8 old (n % 8) (omega arith) in
+    bit_in-set_here masks (n / 8) with_bit n within refl ∙ bit_at_set_same w8 old (n % 8) (omega arith) in
     let other : (place : ℕ) → (place ≡ n → ⊥) → bit_in new place ≡ bit_in masks place =
-        λ place ne. bit_in-with_bit masks n within place ne in
+    λ place ne. bit_in-with_bit masks n within place ne in
     appends plain masks (byte ∷ []) new kept (length-set masks (n / 8) with_bit ∙ kept.counted)
-        (small_set masks (n / 8) with_bit kept.small
-        (or_of_8 old (1 * 2 ^ (n % 8) % 256) (kept.small (n / 8)) (omega arith)))
-        (λ place h. other place (omega (arith, h))) (byte_unset n byte new here)
-        (λ k h. other (n + k) (omega (arith, h)) ∙ kept.past (n + k) (omega arith))
+    (small_set masks (n / 8) with_bit kept.small
+    (or_of_8 old (1 * 2 ^ (n % 8) % 256) (kept.small (n / 8)) (omega arith)))
+    (λ place h. other place (omega (arith, h))) (byte_unset n byte new here)
+    (λ k h. other (n + k) (omega (arith, h)) ∙ kept.past (n + k) (omega arith))
 
 -- a word, or the front of one, all of whose bytes are given
 pub appends_word : (plain masks bytes : List ℕ) → AreKept plain masks → length plain / 8 < length masks
@@ -283,13 +283,13 @@ appends_word plain masks bytes kept within aligned fits =
     let ones = 255 / 2 ^ (8 - count) in
     let new = set masks (n / 8) ones in
     let below : (place : ℕ) → place < n → bit_in new place ≡ bit_in masks place =
-        λ place h. bit_in-set_there masks (n / 8) ones place (λ e. omega (arith, h, e, aligned)) in
+    λ place h. bit_in-set_there masks (n / 8) ones place (λ e. omega (arith, h, e, aligned)) in
     let unset : (k : ℕ) → bit_in new (n + k) ≡ 0 → slice_index bytes k ≡ 0 =
-        λ k clear. word_unset masks n bytes within aligned fits k clear (cases_lt k count) in
+    λ k clear. word_unset masks n bytes within aligned fits k clear (cases_lt k count) in
     let past : (k : ℕ) → count ≤ k → bit_in new (n + k) ≡ 0 =
-        λ k h. word_past masks n count within aligned fits k h (kept.past (n + k) (omega arith)) (cases_lt k 8) in
+    λ k h. word_past masks n count within aligned fits k h (kept.past (n + k) (omega arith)) (cases_lt k 8) in
     appends plain masks bytes new kept (length-set masks (n / 8) ones ∙ kept.counted)
-        (small_set masks (n / 8) ones kept.small (small_ones count fits)) below unset past
+    (small_set masks (n / 8) ones kept.small (small_ones count fits)) below unset past
 
 -- what is seen of each
 pub seen_unset : (plain masks : List ℕ) → AreKept plain masks
@@ -310,10 +310,10 @@ seen_given plain masks byte kept within =
     let new = set masks (n / 8) with_bit in
     let e : n + 0 ≡ n = omega arith in
     let here : bit_in new (n + 0) ≡ 1 =
-        ap (bit_in new) e ∙ bit_in-set_here masks (n / 8) with_bit n within refl
-        ∙ bit_at_set_same w8 old (n % 8) (omega arith) in
+    ap (bit_in new) e ∙ bit_in-set_here masks (n / 8) with_bit n within refl
+    ∙ bit_at_set_same w8 old (n % 8) (omega arith) in
     (appends_given plain masks byte kept within).seen
-        ∙ ap (λ b. given_in (bit_in masks) plain ++ given_byte b byte ∷ []) here
+    ∙ ap (λ b. given_in (bit_in masks) plain ++ given_byte b byte ∷ []) here
 
 pub seen_word : (plain masks bytes : List ℕ) → AreKept plain masks → length plain / 8 < length masks
     → length plain % 8 ≡ 0 → length bytes ≤ 8
@@ -321,13 +321,17 @@ pub seen_word : (plain masks bytes : List ℕ) → AreKept plain masks → lengt
     (bit_in masks) plain ++ map (λ byte. Some byte) bytes
 seen_word plain masks bytes kept within aligned fits =
     (appends_word plain masks bytes kept within aligned fits).seen
-        ∙ ap (λ back. given_in (bit_in masks) plain ++ back)
-        (given_in-all _ bytes (λ k h. word_bit masks (length plain) (length bytes) within aligned fits k h))
+    ∙ ap (λ back. given_in (bit_in masks) plain ++ back)
+    (given_in-all _ bytes (λ k h. word_bit masks (length plain) (length bytes) within aligned fits k h))
 
 -- nothing is kept in blank masks
 pub kept_none : AreKept [] (replicate MAX_WORDS 0)
-kept_none = record { counted = refl; small = λ word. rw (zeros_at MAX_WORDS word) (omega arith);
-    unset = λ place h. refl; past = λ place h. bit_in-blank place }
+kept_none = record {
+  counted = refl;
+  small = λ word. rw (zeros_at MAX_WORDS word) (omega arith);
+  unset = λ place h. refl;
+  past = λ place h. bit_in-blank place;
+}
 
 -- the mask of a word
 pub mask_of_kept : (plain masks : List ℕ) (word : ℕ) → AreKept plain masks
@@ -360,10 +364,10 @@ next_given bits plain place byte within is =
     let next : place + 1 ≡ suc place = omega arith in
     let given = given_in bits plain in
     let there : slice_get given place ≡ Some byte =
-        slice_get-given_in bits plain place ∙ ap (option_map (given_byte (bits place)))
-        (slice_get-get_or plain place 0 within) ∙ ap (λ b. Some b) is in
+    slice_get-given_in bits plain place ∙ ap (option_map (given_byte (bits place)))
+    (slice_get-get_or plain place 0 within) ∙ ap (λ b. Some b) is in
     ap (λ n. take n given) next ∙ take-suc given place byte (slice_get_within given place byte there)
-        ∙ ap (λ b. take place given ++ b ∷ []) (get_or_from_slice_get given place byte byte there)
+    ∙ ap (λ b. take place given ++ b ∷ []) (get_or_from_slice_get given place byte byte there)
 
 -- the test of a bit
 pub tested_bit : (masks : List ℕ) (place : ℕ) → bit_and (slice_index masks (place / 8) / 2 ^ (place % 8)) 1 ≡ 1
@@ -387,13 +391,13 @@ pub same_plain : (plain masks plain' masks' : List ℕ) → AreKept plain masks 
     → given_in (bit_in masks) plain ≡ given_in (bit_in masks') plain' → plain ≡ plain'
 same_plain plain masks plain' masks' kept kept' same =
     sym (plain_of-given_in (bit_in masks) plain kept.unset) ∙ ap plain_of same
-        ∙ plain_of-given_in (bit_in masks') plain' kept'.unset
+    ∙ plain_of-given_in (bit_in masks') plain' kept'.unset
 
 pub same_masks : (plain masks plain' masks' : List ℕ) → AreKept plain masks → AreKept plain' masks'
     → given_in (bit_in masks) plain ≡ given_in (bit_in masks') plain' → masks ≡ masks'
 same_masks plain masks plain' masks' kept kept' same =
     same_number_lists masks masks' (kept.counted ∙ sym kept'.counted)
-        (λ word h. same_from_bits_below 8 (slice_index masks word) (slice_index masks' word) (kept.small word)
-        (kept'.small word) (λ k in_word. mask_of_kept plain masks word kept k in_word
-        ∙ ap (λ given. mask_bit (unwrap_or (slice_get given (8 * word + k)) None)) same
-        ∙ sym (mask_of_kept plain' masks' word kept' k in_word)))
+    (λ word h. same_from_bits_below 8 (slice_index masks word) (slice_index masks' word) (kept.small word)
+    (kept'.small word) (λ k in_word. mask_of_kept plain masks word kept k in_word
+    ∙ ap (λ given. mask_bit (unwrap_or (slice_get given (8 * word + k)) None)) same
+    ∙ sym (mask_of_kept plain' masks' word kept' k in_word)))

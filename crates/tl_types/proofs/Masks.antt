@@ -39,15 +39,15 @@ first_grow masks word count within fits first =
         bit_in-set_there masks word mask place (λ e. omega (arith, e, below)) ∙ first.0 place below
     ones place h (inr here) =
         bit_in-set_here masks word mask place within (omega (arith, h, here, fits))
-            ∙ ap (λ m. bit_at m (place % 8)) (ones_are count fits)
-            ∙ bit_at_ones count (place % 8) (omega (arith, h, here, fits))
+        ∙ ap (λ m. bit_at m (place % 8)) (ones_are count fits)
+        ∙ bit_at_ones count (place % 8) (omega (arith, h, here, fits))
 
     zeros : (place : ℕ) → 8 * word + count ≤ place → (place < 8 * word + 8) ⊎ (8 * word + 8 ≤ place)
         → bit_in (set masks word mask) place ≡ 0
     zeros place h (inl here) =
         bit_in-set_here masks word mask place within (omega (arith, h, here))
-            ∙ ap (λ m. bit_at m (place % 8)) (ones_are count fits)
-            ∙ bit_at_ones_above count (place % 8) (omega (arith, h, here))
+        ∙ ap (λ m. bit_at m (place % 8)) (ones_are count fits)
+        ∙ bit_at_ones_above count (place % 8) (omega (arith, h, here))
     zeros place h (inr above) =
         bit_in-set_there masks word mask place (λ e. omega (arith, e, above)) ∙ first.1 place (omega (arith, h))
 
@@ -56,8 +56,12 @@ pub kept_first : (plain masks : List ℕ) → length masks ≡ MAX_WORDS → ((w
     → ((place : ℕ) → place < length plain → bit_in masks place ≡ 1)
     → ((place : ℕ) → length plain ≤ place → bit_in masks place ≡ 0) → AreKept plain masks
 kept_first plain masks counted small ones past =
-    record { counted = counted; small = small; unset = λ place clear. unset place clear (cases_lt place (length plain));
-    past = past }
+    record {
+      counted = counted;
+      small = small;
+      unset = λ place clear. unset place clear (cases_lt place (length plain));
+      past = past;
+    }
   where
     unset : (place : ℕ) → bit_in masks place ≡ 0 → (place < length plain) ⊎ (length plain ≤ place)
         → slice_index plain place ≡ 0
@@ -111,15 +115,16 @@ flag_of_part flags from count k counted in_word = go (cases_lt k count)
     go (inr past) =
         let short = length-take count (drop from flags) in
         slice_index-past (take count (drop from flags)) k (omega (arith, short, past))
-            ∙ sym (slice_index-past flags (from + k) (omega (arith, past, counted, in_word)))
+        ∙ sym (slice_index-past flags (from + k) (omega (arith, past, counted, in_word)))
 
 pub flagged_more : (masks flags : List ℕ) (word mask count : ℕ) → word < length masks
     → count ≡ min (length flags) (8 * word + 8) - 8 * word
     → ((k : ℕ) → bit_at mask k ≡ flag_bit (slice_index (take count (drop (8 * word) flags)) k))
-        → AreFlagged masks flags (8 * word) → AreFlagged (set masks word mask) flags (8 * (word + 1))
-flagged_more masks flags word mask count within counted bits flagged =
-    (λ place h. seen place h (cases_lt place (8 * word)),
-    λ place h. bit_in-set_there masks word mask place (λ e. omega (arith, e, h)) ∙ flagged.1 place (omega (arith, h)))
+    → AreFlagged masks flags (8 * word) → AreFlagged (set masks word mask) flags (8 * (word + 1))
+flagged_more masks flags word mask count within counted bits flagged = (
+  λ place h. seen place h (cases_lt place (8 * word)),
+  λ place h. bit_in-set_there masks word mask place (λ e. omega (arith, e, h)) ∙ flagged.1 place (omega (arith, h)),
+)
   where
     seen : (place : ℕ) → place < 8 * (word + 1) → (place < 8 * word) ⊎ (8 * word ≤ place)
         → bit_in (set masks word mask) place ≡ flag_bit (slice_index flags place)
@@ -128,8 +133,8 @@ flagged_more masks flags word mask count within counted bits flagged =
     seen place h (inr here) =
         let e : 8 * word + place % 8 ≡ place = omega (arith, h, here) in
         bit_in-set_here masks word mask place within (omega (arith, h, here)) ∙ bits (place % 8)
-            ∙ ap flag_bit (flag_of_part flags (8 * word) count (place % 8) counted (omega arith)
-            ∙ ap (slice_index flags) e)
+        ∙ ap flag_bit (flag_of_part flags (8 * word) count (place % 8) counted (omega arith)
+        ∙ ap (slice_index flags) e)
 
 -- past the flags there is no bit
 pub all_flagged : (masks flags : List ℕ) (n : ℕ) → length flags ≤ n → AreFlagged masks flags n → (place : ℕ)
@@ -147,10 +152,10 @@ pub flagged_one : (flags : List ℕ) (mask : ℕ) → length flags ≤ 8
 flagged_one flags mask short bits =
     let whole : take (length flags) flags ≡ flags = take_all (length flags) flags (omega arith) in
     let same : (k : ℕ) → bit_at mask k ≡ flag_bit (slice_index (take (length flags) flags) k) =
-        λ k. bits k ∙ ap (λ fs. flag_bit (slice_index fs k)) (sym whole) in
+    λ k. bits k ∙ ap (λ fs. flag_bit (slice_index fs k)) (sym whole) in
     all_flagged (set (replicate MAX_WORDS 0) 0 mask) flags 8 short
-        (flagged_more (replicate MAX_WORDS 0) flags 0 mask (length flags) (omega arith) (omega (arith, short)) same
-        (none_flagged flags))
+    (flagged_more (replicate MAX_WORDS 0) flags 0 mask (length flags) (omega arith) (omega (arith, short)) same
+    (none_flagged flags))
 
 -- the bit of a flag among the lanes that are not zero
 pub bit_of_flags : (flags : List ℕ) (k : ℕ)
@@ -169,7 +174,7 @@ pub flag_below : (flags : List ℕ) (k mask bit : ℕ) → 0 < k → k ≤ lengt
     → bit ≡ flag_bit (slice_index flags (k - 1)) → ((i : ℕ) → bit_at mask i ≡ flag_bit (slice_index flags (k + i)))
     → mask < 2 ^ (length flags - k)
     → ((i : ℕ) → bit_at (bit_or (mask * 2 % 256) bit) i ≡ flag_bit (slice_index flags (k - 1 + i)))
-        × (bit_or (mask * 2 % 256) bit < 2 ^ (length flags - (k - 1)))
+    × (bit_or (mask * 2 % 256) bit < 2 ^ (length flags - (k - 1)))
 flag_below flags k mask bit some within short is bits small =
     (λ i. rw joined (seen i), rw (joined, more) (omega (arith, small, one)))
   where
@@ -218,7 +223,7 @@ pub replaced_at : (xs ys : List ℕ) (k : ℕ) → length xs ≡ length ys → k
 replaced_at xs ys k long within =
     let front = length-take-le k xs (omega (arith, long, within)) in
     get_or-append_right (take k xs) (drop k ys) k k 0 front (omega arith)
-        ∙ ap (λ n. get_or (drop k ys) n 0) (omega arith) ∙ get_or-drop k ys 0 0 ∙ ap (slice_index ys) (omega arith)
+    ∙ ap (λ n. get_or (drop k ys) n 0) (omega arith) ∙ get_or-drop k ys 0 0 ∙ ap (slice_index ys) (omega arith)
 
 -- the byte at a place is cleared, or left
 pub cleared_to : (flags : ℕ → ℕ) (old bytes : List ℕ) (k byte : ℕ)
@@ -229,9 +234,9 @@ cleared_to flags old bytes k byte so_far within is =
     let new = plain_of (given_in flags old) in
     let long = length-cleared flags old in
     let there : slice_index bytes k ≡ slice_index old k =
-        ap (λ xs. slice_index xs k) so_far ∙ replaced_at new old k long within in
+    ap (λ xs. slice_index xs k) so_far ∙ replaced_at new old k long within in
     let made : byte ≡ slice_index new k =
-        is ∙ ap (λ b. unwrap_or (given_byte (flags k) b) 0) there ∙ sym (cleared_at flags old k within) in
+    is ∙ ap (λ b. unwrap_or (given_byte (flags k) b) 0) there ∙ sym (cleared_at flags old k within) in
     rw (made, so_far) (replaced_more new old k long within)
 
 -- the lanes of bytes, zero where that of a flag is
@@ -252,18 +257,18 @@ lanes_cleared (flag ∷ flags) (byte ∷ plain) same =
 -- a word is cleared by its lanes
 pub word_cleared : (flags plain : List ℕ) → length plain ≡ 8 → 8 ≤ length flags
     → put_chunk 0 plain (sel_l (zip2 (λ x y. x == y) (take 8 flags) (replicate 8 0)) (replicate 8 0)
-        (take 8 plain)) ≡ plain_of (given_in (slice_index flags) plain)
+    (take 8 plain)) ≡ plain_of (given_in (slice_index flags) plain)
 word_cleared flags plain word enough =
     let new = plain_of (given_in (slice_index flags) plain) in
     let lanes = lanes_cleared (take 8 flags) plain (omega (arith, length-take 8 flags, word, enough)) in
     let of_word : sel_l (zip2 (λ x y. x == y) (take 8 flags) (replicate 8 0)) (replicate 8 0) plain ≡ plain_of
-        (given_in (slice_index (take 8 flags)) plain) =
+    (given_in (slice_index (take 8 flags)) plain) =
     subst (λ n. sel_l (zip2 (λ x y. x == y) (take 8 flags) (replicate n 0)) (replicate n 0) plain ≡ plain_of
-        (given_in (slice_index (take 8 flags)) plain)) word lanes in
+    (given_in (slice_index (take 8 flags)) plain)) word lanes in
     let seen = given_in-same (slice_index (take 8 flags)) (slice_index flags) plain
-        (λ k h. get_or-take 8 flags k 0 (omega (arith, h, word))) in
+    (λ k h. get_or-take 8 flags k 0 (omega (arith, h, word))) in
     ap (λ xs. put_chunk 0 plain (sel_l (zip2 (λ x y. x == y) (take 8 flags) (replicate 8 0)) (replicate 8 0) xs))
-        (take_all 8 plain (omega (arith, word)))
+    (take_all 8 plain (omega (arith, word)))
     ∙ ap (put_chunk 0 plain) (of_word ∙ ap plain_of seen)
     ∙ put_chunk_whole plain new (sym (length-cleared (slice_index flags) plain))
 
@@ -280,7 +285,7 @@ seen_flagged bits flags [] is = refl
 seen_flagged bits flags (byte ∷ plain) is =
     let first : given_byte (bits 0) (unwrap_or (given_byte (flags 0) byte) 0) ≡ given_byte (flags 0) byte =
     ap (λ b. given_byte b (unwrap_or (given_byte (flags 0) byte) 0)) (is 0 (omega arith))
-        ∙ cleared_byte (flags 0) byte in
+    ∙ cleared_byte (flags 0) byte in
     let rest = seen_flagged (λ k. bits (suc k)) (λ k. flags (suc k)) plain (λ k h. is (suc k) (omega (arith, h))) in
     rw (first, rest) refl
 
@@ -291,7 +296,7 @@ clear_byte (suc flag) byte none = absurd (omega (arith, none))
 pub kept_flagged : (plain masks flags : List ℕ) → length masks ≡ MAX_WORDS → ((word : ℕ) → slice_index masks word < 256)
     → length plain ≤ length flags
     → ((place : ℕ) → bit_in masks place ≡ flag_bit (slice_index (take (length plain) flags) place))
-        → AreKept (plain_of (given_in (slice_index flags) plain)) masks
+    → AreKept (plain_of (given_in (slice_index flags) plain)) masks
 kept_flagged plain masks flags counted small enough bits = record {
   counted = counted;
   small = small;
@@ -307,9 +312,9 @@ kept_flagged plain masks flags counted small enough bits = record {
         → slice_index (plain_of (given_in (slice_index flags) plain)) place ≡ 0
     unset place clear (inl within) =
         let flag : flag_bit (slice_index flags place) ≡ 0 =
-            ap flag_bit (sym (get_or-take (length plain) flags place 0 within)) ∙ sym (bits place) ∙ clear in
+        ap flag_bit (sym (get_or-take (length plain) flags place 0 within)) ∙ sym (bits place) ∙ clear in
         cleared_at (slice_index flags) plain place within
-            ∙ clear_byte (slice_index flags place) (slice_index plain place) flag
+        ∙ clear_byte (slice_index flags place) (slice_index plain place) flag
     unset place clear (inr beyond) =
         slice_index-past (plain_of (given_in (slice_index flags) plain)) place (omega (arith, long, beyond))
 

@@ -11,14 +11,14 @@ use Rattle.tlcheck.specs.declared.terms.Terms.{Terms}
 pub checked_by : (terms : Terms) (read_old read_new capture old new : Option (List ℕ)) (result : Result Bool CheckFault)
     (fault : CheckFault)
     → IsErrAnd result (λ e. e ≡ fault) → IsFaulty terms read_old read_new capture old new fault
-        → IsChecked terms read_old read_new capture old new result
+    → IsChecked terms read_old read_new capture old new result
 checked_by terms read_old read_new capture old new (Ok lawful) fault is faulty = absurd is
 checked_by terms read_old read_new capture old new (Err e) fault is faulty =
     record { ok = tt; fault = subst (IsFaulty terms read_old read_new capture old new) (sym is) faulty }
 
 pub of_stopped : (terms : Terms) (read_old read_new capture old new : Option (List ℕ)) (fault : CaptureFault)
     → IsStopped terms read_old read_new capture old new fault
-        → IsFaulty terms read_old read_new capture old new (of_capture fault)
+    → IsFaulty terms read_old read_new capture old new (of_capture fault)
 of_stopped terms read_old read_new capture old new (stop.Header line) stopped = stopped
 of_stopped terms read_old read_new capture old new (stop.TooLong line) stopped = stopped
 of_stopped terms read_old read_new capture old new (stop.Row line why) stopped = stopped

@@ -31,21 +31,21 @@ by_the_traced_plan : (terms : Terms) (system : System) (judge : Judge) (sizes : 
     (capture old new : Option (List ℕ)) (answer : Result Verdict CaptureFault)
     → IsJudgeOf terms system judge sizes
     → ((plan : Plan) → Judges plan [] judge → IfSome capture
-        (λ text. IsWritten (is_traced judge) plan sizes (start_of text) old new answer))
+    (λ text. IsWritten (is_traced judge) plan sizes (start_of text) old new answer))
     → ByThePlan terms system (λ plan. IfSome capture
-        (λ text. IsWritten terms.trace plan (sizes_of system) (start_of text) old new answer))
+    (λ text. IsWritten terms.trace plan (sizes_of system) (start_of text) old new answer))
 by_the_traced_plan terms system judge sizes capture old new answer of_it tells =
     subst (λ t. ByThePlan terms system (λ plan. IfSome capture
-        (λ text. IsWritten t plan (sizes_of system) (start_of text) old new answer))) of_it.trace
+    (λ text. IsWritten t plan (sizes_of system) (start_of text) old new answer))) of_it.trace
     (by_the_plan terms system judge sizes (λ s plan. IfSome capture
-        (λ text. IsWritten (is_traced judge) plan s (start_of text) old new answer)) of_it tells)
+    (λ text. IsWritten (is_traced judge) plan s (start_of text) old new answer)) of_it tells)
 
 pub has_verdict : (terms : Terms) (system : System) (judge : Judge) (sizes : Sizes)
     (read_old read_new capture old told : Option (List ℕ)) (verdict : Verdict)
     → IsJudgeOf terms system judge sizes → GivesSystem read_old read_new system
     → ((plan : Plan) → Judges plan [] judge → IfSome capture (λ text. IsVerdict plan sizes (start_of text) verdict))
     → ((plan : Plan) → Judges plan [] judge → IfSome capture
-        (λ text. IsWritten (is_traced judge) plan sizes (start_of text) old told (Ok verdict)))
+    (λ text. IsWritten (is_traced judge) plan sizes (start_of text) old told (Ok verdict)))
     → HasVerdict terms read_old read_new capture old told system verdict
 has_verdict terms system judge sizes read_old read_new capture old told verdict of_it given found tells = record {
   given = given;
@@ -59,7 +59,7 @@ pub is_stopped : (terms : Terms) (system : System) (judge : Judge) (sizes : Size
     → IsJudgeOf terms system judge sizes → GivesSystem read_old read_new system
     → ((plan : Plan) → Judges plan [] judge → IfSome capture (λ text. IsFault plan sizes (start_of text) fault))
     → ((plan : Plan) → Judges plan [] judge → IfSome capture
-        (λ text. IsWritten (is_traced judge) plan sizes (start_of text) old new (Err fault)))
+    (λ text. IsWritten (is_traced judge) plan sizes (start_of text) old new (Err fault)))
     → IsStopped terms read_old read_new capture old new fault
 is_stopped terms system judge sizes read_old read_new capture old new fault of_it given found tells = record {
   system = system;

@@ -32,8 +32,12 @@ sizes_of system = record { masters = length system.counts; ports = length system
 -- the plan is one of the system, by these terms
 pub record IsPlanOf (terms : Terms) (system : System) (plan : Plan) : Type 0 where
   pub is : IsPlan plan
-  pub layout : plan.layout ≡ record { links = terms.links; order = terms.order; counts = system.counts;
-      ranges = system.ranges }
+  pub layout : plan.layout ≡ record {
+    links = terms.links;
+    order = terms.order;
+    counts = system.counts;
+    ranges = system.ranges;
+  }
   pub resets : plan.resets ≡ resets system
 
 -- something holds by each plan of the system; and there is one

@@ -2,11 +2,11 @@
 ghost use Rattle.std.specs.Prelude.{◌≡◌, IfOk};
 ghost use Rattle.tlcheck.specs.Engine.{IsChecked, is_lawful, line_of};
 
-use check_judge::{push_lawful, push_unlawful};
-use check_verdict::{Verdict, judge_capture};
 use crate::fault::CheckFault;
 use crate::judge::{judge_of, sizes_of};
 use crate::terms::Terms;
+use check_judge::{push_lawful, push_unlawful};
+use check_verdict::{Verdict, judge_capture};
 use std::alloc::Global;
 use std::io::{Read, Write};
 use tl_streams::{LimitedReader, LimitedWriter, read_whole_system, write_all};

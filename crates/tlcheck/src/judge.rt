@@ -3,10 +3,10 @@ ghost use Rattle.std.specs.Prelude.{◌≡◌, [], ◌≤◌, IfOk};
 ghost use Rattle.check_judge.specs.View.{Judges, is_traced};
 ghost use Rattle.tlcheck.specs.Engine.{ByThePlan, sizes_of};
 
+use crate::terms::Terms;
 use check_judge::Judge;
 use check_verdict::Sizes;
 use check_watch::Watch;
-use crate::terms::Terms;
 use std::alloc::Global;
 use tl_script::{System, banks_of};
 use tl_types::{MAX_MASTERS, MAX_PORTS, Memory};

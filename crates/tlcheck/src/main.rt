@@ -27,11 +27,11 @@ ghost use Rattle.check_options.specs.Options.{status_of_kind};
 ghost use Rattle.tlcheck.specs.Engine.{IsChecked, terms_of};
 ghost use Rattle.tlcheck.specs.Fault.{status_of, status_of_verdict};
 
-use check_options::{Options, options_status, read_options};
 use crate::engine::check;
 use crate::fault::CheckFault;
 use crate::file::NamedFile;
 use crate::terms::Terms;
+use check_options::{Options, options_status, read_options};
 use std::alloc::Global;
 use std::io::{ErrorKind, Read, Write};
 use std::process::ExitCode;

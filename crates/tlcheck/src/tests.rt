@@ -2,12 +2,12 @@
 //! system is judged before the capture is read.
 ghost use Rattle.std.specs.Prelude.{Some, ◌<◌};
 
-use check_capture::RowFault;
-use check_verdict::CaptureFault;
-use check_watch::{Links, Order};
 use crate::engine::check;
 use crate::fault::CheckFault;
 use crate::terms::Terms;
+use check_capture::RowFault;
+use check_verdict::CaptureFault;
+use check_watch::{Links, Order};
 use std::alloc::Global;
 use std::io;
 use std::io::{ErrorKind, Read, Write};

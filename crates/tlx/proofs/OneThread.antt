@@ -69,7 +69,7 @@ module _ (history : Bool) (s : System) (text : List ℕ) (lawful : IsLawfulSyste
       let jobs : List Job = get_or s.jobs m [] in
       let trace_is = t.run.traces_are.each m jobs found.trace (slice_get-get_or s.jobs m [] within) found.at in
       let same : reset it.book ≡ reset_of t.run.arena.about e.port =
-          reset_is it.book t.run.arena e.port its.arena_is its.number_is in
+      reset_is it.book t.run.arena e.port its.arena_is its.number_is in
       record {
         routed = trace_is.routed k e found.there;
         reset = reset it.book;

@@ -28,7 +28,7 @@ rises from (x ∷ xs) pairs low = (
   low x (0, omega arith, refl),
   rises (x + 1) xs (λ i j d before inside. pairs (suc i) (suc j) d (omega arith) (omega arith))
       (λ i c. let inside = c.1 in let same = c.2 in let less = pairs 0 (suc c.0) i (omega arith) (omega arith) in
-          omega arith),
+      omega arith),
 )
 
 low_at : (from : ℕ) (xs : List ℕ) → RisesFrom from xs → (i k : ℕ) → k < length xs → get_or xs k i ≡ i → from ≤ i
@@ -74,12 +74,12 @@ none_left from (x ∷ xs) r inside = let low = r.0 in let high = inside x (0, om
 one_out : (from n : ℕ) (xs ys : List ℕ) → RisesFrom from xs → RisesFrom from ys → AreParts from (suc n) xs ys
     → Contains xs from
     → ((us vs : List ℕ) → RisesFrom (from + 1) us → RisesFrom (from + 1) vs → AreParts (from + 1) n us vs
-        → length us + length vs ≡ n) → length xs + length ys ≡ suc n
+    → length us + length vs ≡ n) → length xs + length ys ≡ suc n
 one_out from n [] ys r s p has rest = let inside = has.1 in absurd (omega arith)
 one_out from n (x ∷ xs) ys r s p has rest =
     let here = first_is from x xs r has.0 has.1 has.2 in
     let fewer = rest xs ys (subst (λ (k : ℕ). RisesFrom (k + 1) xs) here r.1) (raised from ys s (p.apart from has))
-        (record {
+    (record {
       each = λ i low high. ⊎_elim (λ (c : Contains (x ∷ xs) i). inl
           (in_tail x xs i c.0 c.1 c.2 (λ e. absurd (omega arith)))) (λ (c : Contains ys i). inr c)
           (p.each i (omega arith) (omega arith));
@@ -96,7 +96,7 @@ many_parts zero from xs ys r s p = let a = none_left from xs r p.inside_first in
 many_parts (suc n) from xs ys r s p =
     ⊎_elim (λ (c : Contains xs from). one_out from n xs ys r s p c (λ us vs. many_parts n (from + 1) us vs))
     (λ (c : Contains ys from). let other = one_out from n ys xs s r (swapped from (suc n) xs ys p) c
-        (λ us vs. many_parts n (from + 1) us vs) in omega arith)
+    (λ us vs. many_parts n (from + 1) us vs) in omega arith)
     (p.each from (omega arith) (omega arith))
 
 -- ---- the slots of an account
@@ -114,7 +114,7 @@ slot_of_held : (held : List HeldSlot) (i : ℕ) → Contains (slots_in held) i �
 slot_of_held held i c =
     let nobody : HeldSlot = record { slot = i; master = 0 } in
     let within : c.0 < length held = let inside = c.1 in let long = length-map held (λ (h : HeldSlot). h.slot) in
-        omega arith in
+    omega arith in
     let one = get_or held c.0 nobody in
     record {
       one = one;
@@ -151,7 +151,7 @@ all_slots about free held left c =
     (record {
       each = λ i low high. ⊎_elim (λ (is : Contains free i). inl is)
           (λ (is : (m : ℕ) × Contains held (record { slot = i; master = m })). inr
-              (held_slot held (record { slot = i; master = is.0 }) is.1))
+          (held_slot held (record { slot = i; master = is.0 }) is.1))
           (c.each i (omega arith));
       inside_first = λ i is.
           let within = slice_get_within c.slots i _ ((c.account.free_just i).0 is) in

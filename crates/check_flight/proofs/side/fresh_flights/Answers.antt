@@ -8,7 +8,7 @@ pub loop-wide-preserved : goal.loop-wide-preserved
 loop-wide-preserved c =
     let before = c.loop-wide.flights.items in
     let items : c.push.new.self.items ≡ before ++ idle ∷ [] =
-        c.in_ok-push.ensures.items ∙ ap (λ (f : Flight). before ++ f ∷ []) c.idle.ensures in (
+    c.in_ok-push.ensures.items ∙ ap (λ (f : Flight). before ++ f ∷ []) c.idle.ensures in (
       omega (arith, c.in_ok-push.ensures.len, c.loop-wide.invariant.0),
       λ wide. subst (λ (l : List Flight). flight_at l wide ≡ idle) (sym items)
           (fresh_more idle before c.loop-wide.invariant.1 wide),

@@ -14,5 +14,5 @@ unfolding wrong_text
 returns-clause-ok c =
     IfOk-equal c.push_words_and_reply-2.result c.push_words_and_reply-2.new.text.items _ _ c.push_words_and_reply-2.ensures.ok
     (joined c.args.text.now.items (codes "wrong reply: expected ") (reply_text c.args.expected.now)
-        (codes ", captured ") (reply_text c.args.captured.now) c.push_words_and_reply.new.text.items
+    (codes ", captured ") (reply_text c.args.captured.now) c.push_words_and_reply.new.text.items
     c.in_ok-push_words_and_reply.ensures.ok)

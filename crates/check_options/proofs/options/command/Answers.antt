@@ -12,7 +12,7 @@ returns c =
     let two = c.in_ok-arg-2.ensures.shape c.order_option.ensures.local ∙ ap₂ with_rule one orders.is in
     let three = c.in_ok-arg-3.ensures.shape c.trace_flag.ensures.local ∙ ap₂ with_rule two c.trace_flag.ensures.rule in
     let four = c.in_ok-arg-4.ensures.shape c.system_word.ensures.local
-        ∙ ap₂ with_rule three c.system_word.ensures.rule in
+    ∙ ap₂ with_rule three c.system_word.ensures.rule in
     IfOk-weaker c.arg-5.result _ _ (λ r added. record {
       links = links.names;
       orders = orders.names;

@@ -27,7 +27,7 @@ returns-then-fed-clause-ok g c =
     let ok = rw (c.if-fed.true, c.text.ensures) at c.in_ok-fed.ensures.ok in
     rw c.feed.ensures.line
     (gives-advance read from old new (partial c.loop.draft) c.loop.draft.line fed.taken fed.feeds ok.0
-        (fields_of c.feed.new.self.columns)
+    (fields_of c.feed.new.self.columns)
     inv.within is ok.1 ok.2)
 
 pub returns-then-not-branch-clause-ok : goal.returns-then-not-branch-clause-ok
@@ -57,7 +57,7 @@ returns-then-not-branch-clause-ok g c =
     (record { none = none; text = c.in_ok-refill.ensures.text; line_is = c.refill.ensures.line }) in
     let end = c.in_ok-refill.ensures.end c.if-not-branch.true in
     answers-at-end read from new q line
-        (row_of c.finish.new.self) c.finish.result last end.0 end.1 ok.2.short c.finish.ensures.ends
+    (row_of c.finish.new.self) c.finish.result last end.0 end.1 ok.2.short c.finish.ensures.ends
     c.finish.ensures.fields (c.finish.ensures.line ∙ c.feed.ensures.line)
 
 pub loop-preserved : goal.loop-preserved

@@ -22,11 +22,11 @@ returns g c =
     let left = c.judge_rows-answer.new.text.items in
     let F : List ℕ → Type 0 = λ t. Finishes mid new t c.judge_rows-answer.result result in
     let says : (plan : Plan) → Judges plan [] c.args.judge
-        → IfSome known (λ text. Says trace plan sizes old new result (start_of text)) = λ plan start.
+    → IfSome known (λ text. Says trace plan sizes old new result (start_of text)) = λ plan start.
     told known a (Says trace plan sizes old new result) c.in_ok-records.ensures.text c.in_ok-records.ensures.line
     (says_judged plan sizes a b old mid new left c.judge_rows-answer.result result c.args.judge start
     c.in_ok-read_header.ensures.ok c.judge_rows-answer.ensures.judged
-        (subst F c.deref.ensures.value c.finish.ensures.finishes)) in
+    (subst F c.deref.ensures.value c.finish.ensures.finishes)) in
     record {
       verdict = λ plan start. says_verdict trace plan sizes old new known result (says plan start);
       fault = λ plan start. says_fault trace plan sizes old new known result (says plan start);

@@ -7,10 +7,12 @@ pub returns-in-Ok-clause-judged : goal.returns-in-Ok-clause-judged
 returns-in-Ok-clause-judged g c =
     let contents = g.W.Write.contents in
     ends_lawful c.args.sizes c.args.judge c.take_rows.new.judge (contents c.args.writer.now.writer.now)
-        (contents c.take_rows.new.writer.writer.now)
+    (contents c.take_rows.new.writer.writer.now)
     c.take_rows.new.text.items c.end.new.text.items c.args.records.now.left c.take_rows.new.records.left c.in_default.ensures.ok c.in-Ok.counts
-    (λ plan rows judges. ((c.in-Ok.ensures.lawful plan rows judges (λ is. absurd (cc))).0 refl,
-        c.in-Ok.ensures.counts plan rows judges))
+    (λ plan rows judges. (
+      (c.in-Ok.ensures.lawful plan rows judges (λ is. absurd (cc))).0 refl,
+      c.in-Ok.ensures.counts plan rows judges,
+    ))
     (λ plan rows so_far has. c.in-Ok.ensures.told plan rows so_far has)
 
 pub returns-in-Err-end-clause-judged : goal.returns-in-Err-end-clause-judged
@@ -18,7 +20,7 @@ returns-in-Err-end-clause-judged g c =
     let contents = g.W.Write.contents in
     rw c.refused.ensures
     (ends_refused c.args.sizes c.args.judge c.take_rows.new.judge (contents c.args.writer.now.writer.now)
-        (contents c.take_rows.new.writer.writer.now)
+    (contents c.take_rows.new.writer.writer.now)
     c.take_rows.new.text.items c.end.new.text.items c.args.records.now.left c.take_rows.new.records.left c.in_default.ensures.ok c.in-Err-end.refusal
     (λ plan rows judges. c.in-Err-end.ensures.fault plan rows judges)
-        (λ plan rows so_far has. c.in-Err-end.ensures.fault_told plan rows so_far has))
+    (λ plan rows so_far has. c.in-Err-end.ensures.fault_told plan rows so_far has))

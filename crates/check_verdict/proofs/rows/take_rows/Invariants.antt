@@ -10,5 +10,5 @@ invariant-loop g l = record {
   same : l.writer.writer.ghost_name ≡ l.fn.writer.writer.ghost_name;
   taken : Between l.fn.records.left l.records.left
       (TookRows l.sizes l.fn.judge l.judge (g.W.Write.contents l.fn.writer.writer.now)
-          (g.W.Write.contents l.writer.writer.now) l.text.items);
+      (g.W.Write.contents l.writer.writer.now) l.text.items);
 }

@@ -17,7 +17,7 @@ returns-then-not-begins_free-clause-fault c plan suits =
     let fits : FitsAsk (under_in view link).asking beat = rw (← c.link.ensures) c.in_default.ensures.fits in
     let free = free_here plan view link beat wide c.begins_free.result suits at c.begins_free.ensures in
     first_ask view.layout link (scene_in plan view link (A beat)) beat c.args.known SourceBusy
-        (λ yes. let no = free.1 yes in absurd (cc)) (record {
+    (λ yes. let no = free.1 yes in absurd (cc)) (record {
       fits = fits;
       lanes = c.in_default.ensures.known;
       source = (wide, at);
@@ -36,7 +36,7 @@ returns-then-not-begins_placed-clause-fault c plan suits =
     let fits : FitsAsk (under_in view link).asking beat = rw (← c.link.ensures) c.in_default.ensures.fits in
     let free = free_here plan view link beat wide c.begins_free.result suits at c.begins_free.ensures in
     first_ask view.layout link (scene_in plan view link (A beat)) beat c.args.known WrongPort
-        (λ yes. let no = c.begins_placed.ensures.1 yes in absurd (cc)) (record {
+    (λ yes. let no = c.begins_placed.ensures.1 yes in absurd (cc)) (record {
       fits = fits;
       lanes = c.in_default.ensures.known;
       source = (wide, at);
@@ -56,7 +56,7 @@ returns-then-not-ends_sent-clause-fault c plan suits =
     let free = free_here plan view link beat wide c.begins_free.result suits at c.begins_free.ensures in
     let sent = sent_here plan view link beat wide c.ends_sent.result suits at c.ends_sent.ensures in
     first_ask view.layout link (scene_in plan view link (A beat)) beat c.args.known NotSent
-        (λ yes. let no = sent.1 yes in absurd (cc)) (record {
+    (λ yes. let no = sent.1 yes in absurd (cc)) (record {
       fits = fits;
       lanes = c.in_default.ensures.known;
       source = (wide, at);

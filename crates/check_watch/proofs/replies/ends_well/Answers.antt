@@ -19,16 +19,16 @@ returns-clause-well c plan at ask is port_here well =
     let port = c.args.port in
     let own = c.in-Some.ask.now in
     let asks : asked (flight_in view link wide).turn ≡ Some own =
-        sym (ap (λ (f : Flight). asked f.turn) c.flight.ensures) ∙ sym c.asked.ensures
-        ∙ ap (λ o. option_map (λ a. a.now) o) c.in-Some.is in
+    sym (ap (λ (f : Flight). asked f.turn) c.flight.ensures) ∙ sym c.asked.ensures
+    ∙ ap (λ o. option_map (λ a. a.now) o) c.in-Some.is in
     let told : Some own ≡ Some ask = sym asks ∙ ap asked is in
     let same : own ≡ ask = cc in
     let spells : SpellsReply c.reply_into.new.reply own.address ((under_in view link).replying ++ beat ∷ []) =
-        rw (← c.link-under.ensures, ← c.address.ensures) c.reply_into.ensures.spells in
+    rw (← c.link-under.ensures, ← c.address.ensures) c.reply_into.ensures.spells in
     let Q : Request → Type 0 = λ a. IsEndWell plan view link wide beat a in
     subst Q same (whole_right plan view link wide beat own port port_here
-        (must_in view link wide port beat.source) c.reply_into.new.reply refl c.reply_into.ensures.lawful spells
-        (c.is_answered.ensures.0 well))
+    (must_in view link wide port beat.source) c.reply_into.new.reply refl c.reply_into.ensures.lawful spells
+    (c.is_answered.ensures.0 well))
 
 pub returns-clause-wrong : goal.returns-clause-wrong
 returns-clause-wrong c plan at ask is port_here wrong =
@@ -39,15 +39,15 @@ returns-clause-wrong c plan at ask is port_here wrong =
     let port = c.args.port in
     let own = c.in-Some.ask.now in
     let asks : asked (flight_in view link wide).turn ≡ Some own =
-        sym (ap (λ (f : Flight). asked f.turn) c.flight.ensures) ∙ sym c.asked.ensures
-        ∙ ap (λ o. option_map (λ a. a.now) o) c.in-Some.is in
+    sym (ap (λ (f : Flight). asked f.turn) c.flight.ensures) ∙ sym c.asked.ensures
+    ∙ ap (λ o. option_map (λ a. a.now) o) c.in-Some.is in
     let told : Some own ≡ Some ask = sym asks ∙ ap asked is in
     let same : own ≡ ask = cc in
     let spells : SpellsReply c.reply_into.new.reply own.address ((under_in view link).replying ++ beat ∷ []) =
-        rw (← c.link-under.ensures, ← c.address.ensures) c.reply_into.ensures.spells in
+    rw (← c.link-under.ensures, ← c.address.ensures) c.reply_into.ensures.spells in
     let ends : IsTrue (ends_reply (under_in view link).replying beat) =
-        rw (← c.link-under.ensures, ← c.ends_reply.ensures) c.if-not-ends_reply.false in
+    rw (← c.link-under.ensures, ← c.ends_reply.ensures) c.if-not-ends_reply.false in
     let Q : Request → Type 0 = λ a. (fault : Fault) × IsEndFault plan view link wide beat a fault in
     subst Q same (whole_wrong plan view link wide beat own port port_here (is_given view.layout link port)
-        (must_in view link wide port beat.source) c.reply_into.new.reply refl refl ends c.reply_into.ensures.lawful spells
+    (must_in view link wide port beat.source) c.reply_into.new.reply refl refl ends c.reply_into.ensures.lawful spells
     (λ yes. let no = c.is_answered.ensures.1 yes in absurd (cc)))

@@ -15,6 +15,6 @@ returns-in-Some-answer_fault-clause-fault c plan suits =
     let found : IsWideAt view.layout link beat.source wide = (c.wide.ensures.wide wide).0 c.in-Some-wide.is in
     let fits : FitsReply (under_in view link).replying beat = rw (← c.link.ensures) c.in_default.ensures.fits in
     let first : IsFirstOf (HasAnswerFault (number_of link) (flight_in view link wide).turn beat c.args.known) fault_rank
-        (fault_of c.in-Some-answer_fault.reason) =
-        rw (← c.flight.ensures, ← c.number_of.ensures) c.in-Some-answer_fault.ensures.fault in
+    (fault_of c.in-Some-answer_fault.reason) =
+    rw (← c.flight.ensures, ← c.number_of.ensures) c.in-Some-answer_fault.ensures.fault in
     answer_first plan view link beat c.args.known wide suits found fits (fault_of c.in-Some-answer_fault.reason) first

@@ -15,8 +15,8 @@ returns-in-Some-must_come c plan port_here =
     let link = c.args.link in
     let own = c.in-Some.ask.now in
     let is : asked (flight_in view link c.args.wide).turn ≡ Some own =
-        sym (ap (λ (f : Flight). asked f.turn) c.flight.ensures) ∙ sym c.asked.ensures
-        ∙ ap (λ o. option_map (λ a. a.now) o) c.in-Some.is in
+    sym (ap (λ (f : Flight). asked f.turn) c.flight.ensures) ∙ sym c.asked.ensures
+    ∙ ap (λ o. option_map (λ a. a.now) o) c.in-Some.is in
     let turn = asked_is (flight_in view link c.args.wide).turn own is in
     let due = due_here plan view link c.args.wide c.args.beat.now own c.args.port port_here c.must_come.result c.must_come.ensures in
     ap WholeReply c.entry_of.ensures ∙ ap (λ o. seen_reply (Asked turn.0 own) o) (sym c.in-Some-must_come.is ∙ due)
@@ -28,8 +28,8 @@ returns-in-None c plan port_here =
     let link = c.args.link in
     let own = c.in-Some.ask.now in
     let is : asked (flight_in view link c.args.wide).turn ≡ Some own =
-        sym (ap (λ (f : Flight). asked f.turn) c.flight.ensures) ∙ sym c.asked.ensures
-        ∙ ap (λ o. option_map (λ a. a.now) o) c.in-Some.is in
+    sym (ap (λ (f : Flight). asked f.turn) c.flight.ensures) ∙ sym c.asked.ensures
+    ∙ ap (λ o. option_map (λ a. a.now) o) c.in-Some.is in
     let turn = asked_is (flight_in view link c.args.wide).turn own is in
     let due = due_here plan view link c.args.wide c.args.beat.now own c.args.port port_here c.must_come.result c.must_come.ensures in
     ap (λ o. seen_reply (Asked turn.0 own) o) (sym c.in-None.is ∙ due)

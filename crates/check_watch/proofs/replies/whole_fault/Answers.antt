@@ -18,17 +18,17 @@ returns-clause-fault c plan at ask is port_here =
     let port = c.args.port in
     let own = c.in-Some.ask.now in
     let asks : asked (flight_in view link wide).turn ≡ Some own =
-        sym (ap (λ (f : Flight). asked f.turn) c.flight.ensures) ∙ sym c.asked.ensures
-        ∙ ap (λ o. option_map (λ a. a.now) o) c.in-Some.is in
+    sym (ap (λ (f : Flight). asked f.turn) c.flight.ensures) ∙ sym c.asked.ensures
+    ∙ ap (λ o. option_map (λ a. a.now) o) c.in-Some.is in
     let told : Some own ≡ Some ask = sym asks ∙ ap asked is in
     let same : own ≡ ask = cc in
     let ends : IsTrue (ends_reply (under_in view link).replying beat) =
-        rw (← c.link-under.ensures, ← c.ends_reply.ensures) c.if-not-ends_reply.false in
+    rw (← c.link-under.ensures, ← c.ends_reply.ensures) c.if-not-ends_reply.false in
     let spells : SpellsReply c.reply_into.new.reply own.address ((under_in view link).replying ++ beat ∷ []) =
-        rw (← c.link-under.ensures, ← c.address.ensures) c.reply_into.ensures.spells in
+    rw (← c.link-under.ensures, ← c.address.ensures) c.reply_into.ensures.spells in
     let Q : Request → Type 0 = λ a. IfSome c.end_fault.result (IsEndFault plan view link wide beat a) in
     subst Q same (whole_has plan view link wide beat own port port_here (is_given view.layout link port)
-        (must_in view link wide port beat.source) c.reply_into.new.reply c.end_fault.result refl refl ends c.reply_into.ensures.lawful spells c.end_fault.ensures.fault)
+    (must_in view link wide port beat.source) c.reply_into.new.reply c.end_fault.result refl refl ends c.reply_into.ensures.lawful spells c.end_fault.ensures.fault)
 
 pub returns-clause-none : goal.returns-clause-none
 returns-clause-none c plan at ask is port_here =
@@ -39,12 +39,12 @@ returns-clause-none c plan at ask is port_here =
     let port = c.args.port in
     let own = c.in-Some.ask.now in
     let asks : asked (flight_in view link wide).turn ≡ Some own =
-        sym (ap (λ (f : Flight). asked f.turn) c.flight.ensures) ∙ sym c.asked.ensures
-        ∙ ap (λ o. option_map (λ a. a.now) o) c.in-Some.is in
+    sym (ap (λ (f : Flight). asked f.turn) c.flight.ensures) ∙ sym c.asked.ensures
+    ∙ ap (λ o. option_map (λ a. a.now) o) c.in-Some.is in
     let told : Some own ≡ Some ask = sym asks ∙ ap asked is in
     let same : own ≡ ask = cc in
     let spells : SpellsReply c.reply_into.new.reply own.address ((under_in view link).replying ++ beat ∷ []) =
-        rw (← c.link-under.ensures, ← c.address.ensures) c.reply_into.ensures.spells in
+    rw (← c.link-under.ensures, ← c.address.ensures) c.reply_into.ensures.spells in
     let Q : Request → Type 0 = λ a. IfNone c.end_fault.result (IsEndWell plan view link wide beat a) in
     subst Q same (whole_well plan view link wide beat own port port_here
-        (must_in view link wide port beat.source) c.reply_into.new.reply c.end_fault.result refl c.reply_into.ensures.lawful spells c.end_fault.ensures.none)
+    (must_in view link wide port beat.source) c.reply_into.new.reply c.end_fault.result refl c.reply_into.ensures.lawful spells c.end_fault.ensures.none)

@@ -10,9 +10,9 @@ loop-first-smaller c =
     let items : c.loop-first.order.items ≡ x ∷ xs = c.in-Some.ensures.items in
     let there = subst (λ l. has l c.args.slot ≡ true) items c.loop-first.invariant.there in
     subst (λ l. place l c.args.slot < place c.loop-first.order.items c.args.slot)
-        (sym {A = List ℕ} c.push_back_reserved.ensures.items)
+    (sym {A = List ℕ} c.push_back_reserved.ensures.items)
     (subst (λ l. place (xs ++ x ∷ []) c.args.slot < place l c.args.slot) (sym items)
-        (nearer x xs c.args.slot c.if-first-slot.false there))
+    (nearer x xs c.args.slot c.if-first-slot.false there))
 
 pub loop-first-preserved : goal.loop-first-preserved
 loop-first-preserved c =
@@ -40,7 +40,7 @@ returns-then-first-slot-clause-brought c =
     let xs = c.pop_front.new.self.items in
     let items : c.loop-first.order.items ≡ c.in-Some.first ∷ xs = c.in-Some.ensures.items in
     let now : c.push_front_reserved.new.self.items ≡ c.loop-first.order.items =
-        c.push_front_reserved.ensures.items ∙ sym items in record {
+    c.push_front_reserved.ensures.items ∙ sym items in record {
       view = inv.view;
       mirror = inv.mirror ∙ sym now;
       top = top_of c.loop-first.seat.me c.args.slot xs

@@ -11,12 +11,12 @@ use Rattle.tl_audit.proofs.lists.check_order.Goals as goal
 pub first_disordered-requires : goal.first_disordered-requires
 first_disordered-requires c k e at =
     let here : slice_get c.args.traces.now c.loop-master.master ≡ Some c.index-traces-master.result =
-        search (rules, slice_get_read) in
+    search (rules, slice_get_read) in
     let row = trace_at c.args.traces.now c.loop-master.master c.index-traces-master.result here in
     let has : HasEntry (entries_in c.args.traces.now) c.loop-master.master k e = rw row at in
     let recorded = c.requires c.loop-master.master k e has in
     let lengths : length (journals_in c.args.histories.now) ≡ length c.args.histories.now =
-        search (rules, length-map) in
+    search (rules, length-map) in
     let within = cell_within (journals_in c.args.histories.now) e.port e.index _ recorded.at in (
       rw lengths at within,
       recorded.is.counted,
@@ -25,7 +25,7 @@ first_disordered-requires c k e at =
 pub returns-in-Some-clause-fault : goal.returns-in-Some-clause-fault
 returns-in-Some-clause-fault c =
     let here : slice_get c.args.traces.now c.loop-master.master ≡ Some c.index-traces-master.result =
-        search (rules, slice_get_read) in
+    search (rules, slice_get_read) in
     let row = trace_at c.args.traces.now c.loop-master.master c.index-traces-master.result here in
     rw row (rw c.in-Some.is at c.in_ok-first.ensures.found)
 
@@ -35,7 +35,7 @@ loop-master-preserved c m trace below there = ⊎_elim
     (λ (later : c.loop-master.master ≤ m).
     let last : m ≡ c.loop-master.master = omega arith in
     let here : slice_get c.args.traces.now c.loop-master.master ≡ Some c.index-traces-master.result =
-        search (rules, slice_get_read) in
+    search (rules, slice_get_read) in
     let row = trace_at c.args.traces.now c.loop-master.master c.index-traces-master.result here in
     let same : c.index-traces-master.result.items ≡ trace = let there_last = rw last at there in cc in
     rw (← same) (rw c.in_default.is at c.in_ok-first.ensures.none))

@@ -13,11 +13,11 @@ loop-master-preserved c m k e below has = ⊎_elim
     (λ (later : c.loop-master.master ≤ m).
     let last : m ≡ c.loop-master.master = omega arith in
     let here : slice_get c.args.traces.now c.loop-master.master ≡ Some c.index-traces-master.result =
-        search (rules, slice_get_read) in
+    search (rules, slice_get_read) in
     let at = entry_in (entries_in c.args.traces.now) c.loop-master.master k c.index-traces-master.result.items e
     (trace_at c.args.traces.now c.loop-master.master c.index-traces-master.result here) (rw last at has) in
     rw last (of_all (IsRecorded c.args.sources.now
-        (journals_in c.args.histories.now) c.loop-master.master) c.index-traces-master.result.items k e at
+    (journals_in c.args.histories.now) c.loop-master.master) c.index-traces-master.result.items k e at
     c.in_default.ensures.none))
     (cases_lt m c.loop-master.master)
 

@@ -10,6 +10,9 @@ pub first_out_of_order-requires-clause-cells : goal.first_out_of_order-requires-
 first_out_of_order-requires-clause-cells c k e at =
     let places = c.requires k e at in
     let within : e.ask.source < c.unwrap_or-count.result =
-        rw (c.unwrap_or-count.ensures, c.count.ensures.value) (below_it _ e.ask.source places.1) in
-    rw (c.deref_mut.ensures.value, c.in_ok-lasts.ensures,
-        square_cell {A = Option ℕ} None c.args.ports c.unwrap_or-count.result e.port e.ask.source places.0 within) refl
+    rw (c.unwrap_or-count.ensures, c.count.ensures.value) (below_it _ e.ask.source places.1) in
+    rw (
+      c.deref_mut.ensures.value,
+      c.in_ok-lasts.ensures,
+      square_cell {A = Option ℕ} None c.args.ports c.unwrap_or-count.result e.port e.ask.source places.0 within,
+    ) refl

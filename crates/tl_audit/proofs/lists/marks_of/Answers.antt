@@ -11,8 +11,12 @@ pub mark_traces-requires : goal.mark_traces-requires
 mark_traces-requires c m trace there k e at =
     let has : HasEntry (entries_in c.args.traces.now) m k e = rw there at in
     let recorded = c.requires.1 m k e has in
-    rw (c.deref_mut.ensures.value, c.in_ok-rows.ensures,
-        blank_cell Unnamed (journals_in c.args.histories.now) e.port e.index, recorded.at) refl
+    rw (
+      c.deref_mut.ensures.value,
+      c.in_ok-rows.ensures,
+      blank_cell Unnamed (journals_in c.args.histories.now) e.port e.index,
+      recorded.at,
+    ) refl
 
 pub returns : goal.returns
 returns c p i =

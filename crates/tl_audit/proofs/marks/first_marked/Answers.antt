@@ -12,7 +12,7 @@ loop-port-preserved c port index below is = ⊎_elim
     (λ (last : c.loop-port.port ≤ port).
     let same : port ≡ c.loop-port.port = omega arith in
     let here : slice_get c.args.rows.now c.loop-port.port ≡ Some c.index-rows-port.result =
-        search (rules, slice_get_read) in
+    search (rules, slice_get_read) in
     let row = row_at c.args.rows.now c.loop-port.port c.index-rows-port.result here in
     c.in_default.ensures.none index (rw c.deref.ensures.value (rw (same, row) at is)))
     (cases_lt port c.loop-port.port)

@@ -8,7 +8,7 @@ use Rattle.tl_audit.proofs.order.first_out_of_order.Goals as goal
 pub returns-then-is_at_least-clause-found : goal.returns-then-is_at_least-clause-found
 returns-then-is_at_least-clause-found c =
     out_of_order c.args.trace.now.items c.loop-place.place c.read.new.entry c.last.result
-        (rows_in c.loop-place.lasts) c.read.ensures c.loop-place.invariant.0
+    (rows_in c.loop-place.lasts) c.read.ensures c.loop-place.invariant.0
     (rw c.source-source.ensures at c.last.ensures) (c.if-is_at_least.ensures.0 refl)
 
 pub loop-place-preserved : goal.loop-place-preserved
@@ -17,7 +17,7 @@ loop-place-preserved c =
       ordered_more c.args.trace.now.items c.loop-place.place c.read.new.entry (rows_in c.loop-place.lasts)
           (rows_in c.keep.new.lasts) c.last.result c.read.ensures
           c.loop-place.invariant.0 (rw c.source-source.ensures at c.last.ensures)
-              (λ large. false≢true (c.if-is_at_least.ensures.1 large)) put,
+          (λ large. false≢true (c.if-is_at_least.ensures.1 large)) put,
       cells_more c.args.trace.now.items c.read.new.entry.port c.read.new.entry.ask.source (Some c.read.new.entry.index)
           (rows_in c.loop-place.lasts) (rows_in c.keep.new.lasts) put c.loop-place.invariant.1,
     )

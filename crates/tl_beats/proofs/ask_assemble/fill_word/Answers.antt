@@ -9,7 +9,7 @@ refill_given-requires c =
     let eight : length first.lanes ≡ 8 = search rules in
     let bytes = word_bytes c.args.beats.now first c.args.op c.requires.begun.head c.requires.word c.requires.set eight in
     read_lawful c.args.beats.now first c.args.op c.requires.begun _
-        (read_from c.args.beats.now first c.args.op _ c.requires.faultless bytes)
+    (read_from c.args.beats.now first c.args.op _ c.requires.faultless bytes)
 
 pub returns-clause-lawful : goal.returns-clause-lawful
 returns-clause-lawful c =
@@ -17,7 +17,7 @@ returns-clause-lawful c =
     let eight : length first.lanes ≡ 8 = search rules in
     let bytes = word_bytes c.args.beats.now first c.args.op c.requires.begun.head c.requires.word c.requires.set eight in
     rw c.refill_given.ensures (read_lawful c.args.beats.now first c.args.op c.requires.begun _
-        (read_from c.args.beats.now first c.args.op _ c.requires.faultless bytes))
+    (read_from c.args.beats.now first c.args.op _ c.requires.faultless bytes))
 
 pub returns-clause-spells : goal.returns-clause-spells
 returns-clause-spells c =
@@ -25,4 +25,4 @@ returns-clause-spells c =
     let eight : length first.lanes ≡ 8 = search rules in
     let bytes = word_bytes c.args.beats.now first c.args.op c.requires.begun.head c.requires.word c.requires.set eight in
     rw c.refill_given.ensures (read_spells c.args.beats.now first c.args.op c.requires.begun _
-        (read_from c.args.beats.now first c.args.op _ c.requires.faultless bytes))
+    (read_from c.args.beats.now first c.args.op _ c.requires.faultless bytes))

@@ -10,9 +10,9 @@ refill-requires c =
     let first = c.args.first.now in
     let count : c.byte_count.result ≡ reply_byte_count c.args.op first.size = search rules in
     let bytes = denied_bytes beats first c.args.op c.args.address 256 c.requires.denied
-        (omega (arith, count, c.byte_count.ensures.in_limit)) in
+    (omega (arith, count, c.byte_count.ensures.in_limit)) in
     let read = reply_read_from beats first c.args.op c.args.address
-        (take (reply_byte_count c.args.op first.size) (replicate 256 0)) c.requires.faultless bytes in
+    (take (reply_byte_count c.args.op first.size) (replicate 256 0)) c.requires.faultless bytes in
     rw count (reply_read_lawful beats first c.args.op c.args.address c.requires.begun _ read)
 
 pub returns-clause-lawful : goal.returns-clause-lawful
@@ -21,9 +21,9 @@ returns-clause-lawful c =
     let first = c.args.first.now in
     let count : c.byte_count.result ≡ reply_byte_count c.args.op first.size = search rules in
     let bytes = denied_bytes beats first c.args.op c.args.address 256 c.requires.denied
-        (omega (arith, count, c.byte_count.ensures.in_limit)) in
+    (omega (arith, count, c.byte_count.ensures.in_limit)) in
     let read = reply_read_from beats first c.args.op c.args.address
-        (take (reply_byte_count c.args.op first.size) (replicate 256 0)) c.requires.faultless bytes in
+    (take (reply_byte_count c.args.op first.size) (replicate 256 0)) c.requires.faultless bytes in
     rw (c.refill.ensures, count) (reply_read_lawful beats first c.args.op c.args.address c.requires.begun _ read)
 
 pub returns-clause-spells : goal.returns-clause-spells
@@ -32,7 +32,7 @@ returns-clause-spells c =
     let first = c.args.first.now in
     let count : c.byte_count.result ≡ reply_byte_count c.args.op first.size = search rules in
     let bytes = denied_bytes beats first c.args.op c.args.address 256 c.requires.denied
-        (omega (arith, count, c.byte_count.ensures.in_limit)) in
+    (omega (arith, count, c.byte_count.ensures.in_limit)) in
     let read = reply_read_from beats first c.args.op c.args.address
-        (take (reply_byte_count c.args.op first.size) (replicate 256 0)) c.requires.faultless bytes in
+    (take (reply_byte_count c.args.op first.size) (replicate 256 0)) c.requires.faultless bytes in
     rw (c.refill.ensures, count) (reply_read_spells beats first c.args.op c.args.address c.requires.begun _ read)

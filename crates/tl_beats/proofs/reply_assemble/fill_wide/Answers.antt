@@ -12,7 +12,7 @@ returns-clause-spells c =
     let count : c.byte_count.result ≡ reply_byte_count c.args.op first.size = search rules in
     let long : length lanes ≡ 256 = search rules in
     let bytes = wide_bytes beats first c.args.op c.args.address lanes c.requires.given c.requires.wide
-        (omega (arith, count, long, c.byte_count.ensures.in_limit)) c.put_lanes.ensures in
+    (omega (arith, count, long, c.byte_count.ensures.in_limit)) c.put_lanes.ensures in
     let read = reply_read_from beats first c.args.op c.args.address
-        (take (reply_byte_count c.args.op first.size) lanes) c.requires.faultless bytes in
+    (take (reply_byte_count c.args.op first.size) lanes) c.requires.faultless bytes in
     rw (c.refill.ensures, count) (reply_read_spells beats first c.args.op c.args.address c.requires.begun _ read)

@@ -12,8 +12,15 @@ placed-requires c =
     let lawful = c.bytes.ensures.lawful in
     let first : c.first_lane-first.result ≡ low c.args.address reply.size % 8 = search rules in
     let long = ap length c.bytes.ensures.value in
-    omega (arith, long, lawful.counted, c.requires.narrow, first, first_fits c.args.address reply.size,
-        bytes_of_size (reply_carries_bytes reply.op) reply.size)
+    omega (
+      arith,
+      long,
+      lawful.counted,
+      c.requires.narrow,
+      first,
+      first_fits c.args.address reply.size,
+      bytes_of_size (reply_carries_bytes reply.op) reply.size,
+    )
 
 pub returns-clause-spells : goal.returns-clause-spells
 returns-clause-spells c =
@@ -24,14 +31,14 @@ returns-clause-spells c =
     let seen = c.bytes.ensures.value in
     let first : c.first_lane-first.result ≡ low address reply.size % 8 = search rules in
     let beat : 0 < beat_count (reply_carries_bytes reply.op) reply.size =
-        rw (← one_beat (reply_carries_bytes reply.op) reply.size (rw (← lawful.counted) c.requires.narrow))
-        (omega arith) in
+    rw (← one_beat (reply_carries_bytes reply.op) reply.size (rw (← lawful.counted) c.requires.narrow))
+    (omega arith) in
     let filled : (k : ℕ) → k < 8 → slice_index c.placed.result k ≡ plain_at_place reply.bytes
-        (low address reply.size % 8) (8 * 0 + k) = λ k h.
+    (low address reply.size % 8) (8 * 0 + k) = λ k h.
     let place : k ≡ 8 * 0 + k = omega arith in
     c.placed.ensures k h ∙ ap (λ f. plain_at_place bytes f k) first
-        ∙ ap (λ xs. plain_at_place xs (low address reply.size % 8) k) seen
-        ∙ ap (λ p. plain_at_place reply.bytes (low address reply.size % 8) p) place in
+    ∙ ap (λ xs. plain_at_place xs (low address reply.size % 8) k) seen
+    ∙ ap (λ p. plain_at_place reply.bytes (low address reply.size % 8) p) place in
     let blank = c.requires.blank.fields in
     record {
       fields = record { opcode = blank.opcode; size = blank.size; source = blank.source; denied = blank.denied };
@@ -48,14 +55,14 @@ returns-clause-clean c =
     let seen = c.bytes.ensures.value in
     let first : c.first_lane-first.result ≡ low address reply.size % 8 = search rules in
     let beat : 0 < beat_count (reply_carries_bytes reply.op) reply.size =
-        rw (← one_beat (reply_carries_bytes reply.op) reply.size (rw (← lawful.counted) c.requires.narrow))
-        (omega arith) in
+    rw (← one_beat (reply_carries_bytes reply.op) reply.size (rw (← lawful.counted) c.requires.narrow))
+    (omega arith) in
     let filled : (k : ℕ) → k < 8 → slice_index c.placed.result k ≡ plain_at_place reply.bytes
-        (low address reply.size % 8) (8 * 0 + k) = λ k h.
+    (low address reply.size % 8) (8 * 0 + k) = λ k h.
     let place : k ≡ 8 * 0 + k = omega arith in
     c.placed.ensures k h ∙ ap (λ f. plain_at_place bytes f k) first
-        ∙ ap (λ xs. plain_at_place xs (low address reply.size % 8) k) seen
-        ∙ ap (λ p. plain_at_place reply.bytes (low address reply.size % 8) p) place in
+    ∙ ap (λ xs. plain_at_place xs (low address reply.size % 8) k) seen
+    ∙ ap (λ p. plain_at_place reply.bytes (low address reply.size % 8) p) place in
     record {
       without_bytes = reply_empty reply address 0 c.placed.result lawful.counted beat filled;
       denied = λ is k h. filled k h ∙ plain_at_place-zero reply.bytes (low address reply.size % 8) (8 * 0 + k)

@@ -13,7 +13,7 @@ loop-b-preserved c =
       count = search rules;
       each = λ address.
           let last : IsReplyBeatOf reply address (length beats) c.whole_beat.result =
-              rw so_far.count (c.whole_beat.ensures.spells address) in
+          rw so_far.count (c.whole_beat.ensures.spells address) in
           each_push (IsReplyBeatOf reply address) beats c.whole_beat.result (so_far.each address) last;
       clean = λ address. All-push (λ beat. IsCleanReply reply address beat) beats c.whole_beat.result
           (so_far.clean address) (c.whole_beat.ensures.clean address);

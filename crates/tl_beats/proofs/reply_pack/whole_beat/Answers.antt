@@ -11,8 +11,13 @@ word_from-beat-requires c =
     let reply = c.args.reply.now in
     let counted = c.bytes.ensures.lawful.counted in
     let long = ap length c.bytes.ensures.value in
-    omega (arith, long, counted, wide_beat (reply_carries_bytes reply.op) reply.size c.args.b c.requires.beat
-        (rw (← counted) c.requires.wide))
+    omega (
+      arith,
+      long,
+      counted,
+      wide_beat (reply_carries_bytes reply.op) reply.size c.args.b c.requires.beat
+          (rw (← counted) c.requires.wide),
+    )
 
 pub returns-clause-spells : goal.returns-clause-spells
 returns-clause-spells c address =
@@ -22,13 +27,13 @@ returns-clause-spells c address =
     let carries = reply_carries_bytes reply.op in
     let wide : 8 ≤ reply_byte_count reply.op reply.size = rw (← lawful.counted) c.requires.wide in
     let within : 8 * b + 8 ≤ length reply.bytes =
-        rw lawful.counted (wide_beat carries reply.size b c.requires.beat wide) in
+    rw lawful.counted (wide_beat carries reply.size b c.requires.beat wide) in
     let word : c.word_from-beat.result ≡ take 8 (drop (8 * b) reply.bytes) =
-        c.word_from-beat.ensures ∙ ap (λ xs. take 8 (drop (8 * b) xs)) c.bytes.ensures.value in
+    c.word_from-beat.ensures ∙ ap (λ xs. take 8 (drop (8 * b) xs)) c.bytes.ensures.value in
     let filled : (k : ℕ) → k < 8 → slice_index c.word_from-beat.result k ≡ plain_at_place reply.bytes
-        (low address reply.size % 8) (8 * b + k) =
-        rw word (filled_wide reply.bytes (low address reply.size % 8) b
-        (wide_first carries address reply.size wide) within) in
+    (low address reply.size % 8) (8 * b + k) =
+    rw word (filled_wide reply.bytes (low address reply.size % 8) b
+    (wide_first carries address reply.size wide) within) in
     let blank = c.requires.blank.fields in
     record {
       fields = record { opcode = blank.opcode; size = blank.size; source = blank.source; denied = blank.denied };
@@ -44,13 +49,13 @@ returns-clause-clean c address =
     let carries = reply_carries_bytes reply.op in
     let wide : 8 ≤ reply_byte_count reply.op reply.size = rw (← lawful.counted) c.requires.wide in
     let within : 8 * b + 8 ≤ length reply.bytes =
-        rw lawful.counted (wide_beat carries reply.size b c.requires.beat wide) in
+    rw lawful.counted (wide_beat carries reply.size b c.requires.beat wide) in
     let word : c.word_from-beat.result ≡ take 8 (drop (8 * b) reply.bytes) =
-        c.word_from-beat.ensures ∙ ap (λ xs. take 8 (drop (8 * b) xs)) c.bytes.ensures.value in
+    c.word_from-beat.ensures ∙ ap (λ xs. take 8 (drop (8 * b) xs)) c.bytes.ensures.value in
     let filled : (k : ℕ) → k < 8 → slice_index c.word_from-beat.result k ≡ plain_at_place reply.bytes
-        (low address reply.size % 8) (8 * b + k) =
-        rw word (filled_wide reply.bytes (low address reply.size % 8) b
-        (wide_first carries address reply.size wide) within) in
+    (low address reply.size % 8) (8 * b + k) =
+    rw word (filled_wide reply.bytes (low address reply.size % 8) b
+    (wide_first carries address reply.size wide) within) in
     record {
       without_bytes = reply_empty reply address b c.word_from-beat.result lawful.counted c.requires.beat filled;
       denied = λ is k h. filled k h ∙ plain_at_place-zero reply.bytes (low address reply.size % 8) (8 * b + k)

@@ -25,11 +25,11 @@ pub returns-then-may_leave_unset : goal.returns-then-may_leave_unset
 returns-then-may_leave_unset c =
     let within : c.byte_count.result ≤ length c.args.wire.now.bytes = search rules in
     rw (c.refill_flagged.ensures)
-        (is_flagged c.args.wire.now c.args.op c.byte_count.result c.requires.code c.byte_count.ensures.value within
-        (cc))
+    (is_flagged c.args.wire.now c.args.op c.byte_count.result c.requires.code c.byte_count.ensures.value within
+    (cc))
 
 pub returns-else-may_leave_unset : goal.returns-else-may_leave_unset
 returns-else-may_leave_unset c =
     let within : c.byte_count.result ≤ length c.args.wire.now.bytes = search rules in
     rw (c.refill_given.ensures)
-        (is_plain c.args.wire.now c.args.op c.byte_count.result c.requires.code c.byte_count.ensures.value within (cc))
+    (is_plain c.args.wire.now c.args.op c.byte_count.result c.requires.code c.byte_count.ensures.value within (cc))

@@ -7,4 +7,4 @@ pub returns-clause-lawful : goal.returns-clause-lawful
 returns-clause-lawful c =
     let few : length c.args.ranges.now ≤ MAX_RANGES = grind (arith, c.if-are_too_many.false, c.are_too_many.ensures) in
     lawful_map c.args.ranges.now few
-        (all_tried c.args.ranges.now c.loop-place.place c.loop-place-test.false few c.loop-place.invariant)
+    (all_tried c.args.ranges.now c.loop-place.place c.loop-place-test.false few c.loop-place.invariant)

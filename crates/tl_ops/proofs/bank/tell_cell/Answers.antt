@@ -11,8 +11,13 @@ returns c =
     let ask = c.args.ask.now in
     let width = 2 ^ ask.size in
     let shows : List ℕ → Response =
-        λ bytes. record { op = reply_op_of ask.op; size = ask.size; source = ask.source; denied = false;
-        bytes = bytes } in
+    λ bytes. record {
+      op = reply_op_of ask.op;
+      size = ask.size;
+      source = ask.source;
+      denied = false;
+      bytes = bytes;
+    } in
     let told : c.done.new.answer ≡ shows (take c.width.result (to_le_bytes w64 c.args.cell)) = search rules in
     let small : c.args.cell ≡ c.args.cell % 2 ^ 64 = omega (arith, c.ranges.cell.fits) in
     let low : take width (to_le_bytes w64 c.args.cell) ≡ low_bytes width c.args.cell =

@@ -19,4 +19,4 @@ returns-clause-bytes c =
     let fits : bytes < 2 ^ (8 * width) = rw whole at c.given_word-bytes.ensures.fits in
     let ones_are : low_bytes width bytes ≡ operand_of given = rw whole at c.given_word-bytes.ensures.bytes in
     low_bytes-cleared width c.args.old bytes c.requires.in_word fits
-        ∙ ap (λ ones. cleared (low_bytes width c.args.old) ones) ones_are
+    ∙ ap (λ ones. cleared (low_bytes width c.args.old) ones) ones_are

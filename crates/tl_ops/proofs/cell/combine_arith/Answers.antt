@@ -9,20 +9,36 @@ returns-in-Add-clause-bytes c =
     let sum = c.args.old + c.args.operand in
     let old = number-low_bytes c.args.width c.args.old c.requires.old in
     let operand = number-low_bytes c.args.width c.args.operand c.requires.operand in
-    rw (c.in-Add.is, c.cell_mask.ensures, and_mask (sum % 2 ^ 64) (8 * c.args.width), old, operand,
-        length-low_bytes c.args.width c.args.old)
-        (low_bytes-mod c.args.width (sum % 2 ^ 64) ∙ low_bytes-mod_word c.args.width sum c.requires.in_word)
+    rw (
+      c.in-Add.is,
+      c.cell_mask.ensures,
+      and_mask (sum % 2 ^ 64) (8 * c.args.width),
+      old,
+      operand,
+      length-low_bytes c.args.width c.args.old,
+    )
+    (low_bytes-mod c.args.width (sum % 2 ^ 64) ∙ low_bytes-mod_word c.args.width sum c.requires.in_word)
 
 pub returns-then-first-clause-bytes : goal.returns-then-first-clause-bytes
 returns-then-first-clause-bytes c =
     let old = number-low_bytes c.args.width c.args.old c.requires.old in
     let operand = number-low_bytes c.args.width c.args.operand c.requires.operand in
-    elim c.match-op.branch [ in-Min w ↦ search rules | in-Max w ↦ search rules | in-MinU w ↦ search
-        (rules, old, operand) | in-MaxU w ↦ search (rules, old, operand) ]
+    elim c.match-op.branch [
+      | in-Min w ↦ search rules
+      | in-Max w ↦ search rules
+      | in-MinU w ↦ search
+          (rules, old, operand)
+      | in-MaxU w ↦ search (rules, old, operand)
+    ]
 
 pub returns-else-first-clause-bytes : goal.returns-else-first-clause-bytes
 returns-else-first-clause-bytes c =
     let old = number-low_bytes c.args.width c.args.old c.requires.old in
     let operand = number-low_bytes c.args.width c.args.operand c.requires.operand in
-    elim c.match-op.branch [ in-Min w ↦ search rules | in-Max w ↦ search rules | in-MinU w ↦ search
-        (rules, old, operand) | in-MaxU w ↦ search (rules, old, operand) ]
+    elim c.match-op.branch [
+      | in-Min w ↦ search rules
+      | in-Max w ↦ search rules
+      | in-MinU w ↦ search
+          (rules, old, operand)
+      | in-MaxU w ↦ search (rules, old, operand)
+    ]

@@ -19,7 +19,7 @@ returns-in-PutFull-clause-fits c =
     let given = c.given_word-operand.result in
     let width = length (word_of c.args.bytes.now c.args.word) in
     let kept : bit_and c.args.old given.keep < 2 ^ (8 * width) =
-        omega (arith, and_le_l c.args.old given.keep, c.requires.old) in
+    omega (arith, and_le_l c.args.old given.keep, c.requires.old) in
     or_lt (8 * width) (bit_and c.args.old given.keep) given.bytes kept c.given_word-operand.ensures.fits
 
 pub returns-in-PutFull-clause-bytes : goal.returns-in-PutFull-clause-bytes
@@ -27,9 +27,13 @@ returns-in-PutFull-clause-bytes c =
     let part = word_of c.args.bytes.now c.args.word in
     let width = length part in
     let given = c.given_word-operand.result in
-    rw (new_window-put Ram c.args.op (low_bytes width c.args.old) part c.in-PutFull.is,
-        low_bytes-or width (bit_and c.args.old given.keep) given.bytes, low_bytes-and width c.args.old given.keep,
-        c.given_word-operand.ensures.bytes, c.given_word-operand.ensures.keep) (merged_by_masks part c.args.old)
+    rw (
+      new_window-put Ram c.args.op (low_bytes width c.args.old) part c.in-PutFull.is,
+      low_bytes-or width (bit_and c.args.old given.keep) given.bytes,
+      low_bytes-and width c.args.old given.keep,
+      c.given_word-operand.ensures.bytes,
+      c.given_word-operand.ensures.keep,
+    ) (merged_by_masks part c.args.old)
 
 pub combine_arith-requires-clause-old : goal.combine_arith-requires-clause-old
 combine_arith-requires-clause-old c =
@@ -45,7 +49,7 @@ returns-in-Arithmetic-clause-bytes c =
     let width = same_width c.args.bytes.now c.args.word c.len-len.result c.min-width.result c.len-len.ensures.value c.min-width.ensures in
     let operand = ap (λ n. low_bytes n c.given_word-operand.result.bytes) width ∙ c.given_word-operand.ensures.bytes in
     rw (← width, c.in-Arithmetic.is) (c.combine_arith.ensures.bytes
-        ∙ ap (combine_arith c.in-Arithmetic.op (low_bytes c.min-width.result c.args.old)) operand)
+    ∙ ap (combine_arith c.in-Arithmetic.op (low_bytes c.min-width.result c.args.old)) operand)
 
 pub combine_logic-requires-clause-old : goal.combine_logic-requires-clause-old
 combine_logic-requires-clause-old c =
@@ -61,4 +65,4 @@ returns-in-Logical-clause-bytes c =
     let width = same_width c.args.bytes.now c.args.word c.len-len.result c.min-width.result c.len-len.ensures.value c.min-width.ensures in
     let operand = ap (λ n. low_bytes n c.given_word-operand.result.bytes) width ∙ c.given_word-operand.ensures.bytes in
     rw (← width, c.in-Logical.is) (c.combine_logic.ensures.bytes
-        ∙ ap (combine_logic c.in-Logical.op (low_bytes c.min-width.result c.args.old)) operand)
+    ∙ ap (combine_logic c.in-Logical.op (low_bytes c.min-width.result c.args.old)) operand)

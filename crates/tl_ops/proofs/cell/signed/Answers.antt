@@ -20,5 +20,9 @@ returns-else-unsigned-span c =
     let high : 2 ^ (8 * c.args.width) ≤ 2 * c.args.cell = search rules in
     let eight : 8 * c.args.width ≤ 64 = omega arith in
     let fits : 2 ^ (8 * c.args.width) ≤ 2 ^ 64 = pow-le-pow_right (lit≤ tt) eight in
-    rw (span, unsigned, number-low_bytes c.args.width c.args.cell c.requires.fits,
-        length-low_bytes c.args.width c.args.cell) (wide_difference _ _ small fits ∙ sym (signed_high _ _ high))
+    rw (
+      span,
+      unsigned,
+      number-low_bytes c.args.width c.args.cell c.requires.fits,
+      length-low_bytes c.args.width c.args.cell,
+    ) (wide_difference _ _ small fits ∙ sym (signed_high _ _ high))

@@ -12,5 +12,5 @@ loop-k-preserved c =
     let back : k - 1 + 1 ≡ k = omega arith in
     let byte : c.from.result ≡ get_or bytes (k - 1) 0 = search rules in
     let more = byte_below c.loop-k.cell c.from.result (length bytes - k) (omega arith) c.loop-k.invariant.1
-        (omega arith) in
+    (omega arith) in
     (rw (left, drop_more bytes (k - 1) 0 at, back, ← byte, ← c.loop-k.invariant.0) more.0, rw left more.1)

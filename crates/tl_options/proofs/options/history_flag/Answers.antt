@@ -6,5 +6,5 @@ pub returns : goal.returns
 returns c =
     let flag = c.value_parser-2.ensures.given in
     let bool : c.value_parser-2.result.value_parser ≡ Some values.Bool =
-        flag.1 ∙ ap Some (flag.2 ∙ c.value_parser.ensures) in
+    flag.1 ∙ ap Some (flag.2 ∙ c.value_parser.ensures) in
     record { rule = search (rules, bool); local = search rules }

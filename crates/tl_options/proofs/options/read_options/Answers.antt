@@ -8,7 +8,7 @@ use Rattle.tl_options.proofs.options.read_options.Goals as goal
 pub unwrap-requires : goal.unwrap-requires
 unwrap-requires c =
     let read = reads_number _ (λ t r. ParsesUnsigned 64 10 t r × ExplainsUnsignedError 10 t r
-        × HasUnsignedDigitsIfOk t r)
+    × HasUnsignedDigitsIfOk t r)
     c.in_ok-command.field-0 c.in_ok-matches.matches c.get_one.result c.in_ok-command.ensures c.in_ok-matches.ensures.parsed
     c.get_one.ensures.value (λ t x gives. gives.0) in
     rw read.is refl
@@ -20,7 +20,7 @@ returns c =
     let is = c.in_ok-command.ensures in
     let words = map (λ word. word.now) c.args.words.now in
     let read = reads_number _ (λ t r. ParsesUnsigned 64 10 t r × ExplainsUnsignedError 10 t r
-        × HasUnsignedDigitsIfOk t r)
+    × HasUnsignedDigitsIfOk t r)
     command matches c.get_one.result is c.in_ok-matches.ensures.parsed c.get_one.ensures.value (λ t x gives. gives.0) in
     let number = ap (λ o. unwrap_or o 0) (sym c.unwrap.ensures ∙ read.is) in
     record {

@@ -12,11 +12,11 @@ narrowed : (all some : ValueParser) (low high : ℤ) → all ≡ values.Unsigned
     → some ≡ values.Unsigned 1 MAX_WORKERS
 narrowed all some low high is from to narrows =
     let of_usize = subst (λ (p : ValueParser). NarrowsTo p (start_of (Included low))
-        (end_of (Included high)) some) is narrows in
+    (end_of (Included high)) some) is narrows in
     let from_one = subst (λ (n : ℤ). NarrowsTo (values.Unsigned 0 18446744073709551615) (start_of (Included n))
-        (end_of (Included high)) some) from of_usize in
+    (end_of (Included high)) some) from of_usize in
     subst (λ (n : ℤ). NarrowsTo (values.Unsigned 0 18446744073709551615) (start_of (Included (pos 1)))
-        (end_of (Included n)) some) to from_one
+    (end_of (Included n)) some) to from_one
 
 pub returns : goal.returns
 returns c =
@@ -25,5 +25,5 @@ returns c =
     narrowed c.value_parser.result c.range.result c.new-2.result.start c.new-2.result.end c.value_parser.ensures
     c.new-2.ensures.start c.new-2.ensures.end c.range.ensures in
     let number : c.value_parser-2.result.value_parser ≡ Some (values.Unsigned 1 MAX_WORKERS) =
-        count.1 ∙ ap Some (count.2 ∙ ranged) in
+    count.1 ∙ ap Some (count.2 ∙ ranged) in
     record { rule = search (rules, number); local = search rules }

@@ -14,9 +14,9 @@ loop-index-preserved c =
     let line = history_line c.args.port place (c.read.new.ask, c.read.new.reply) in
     let rest = history_from c.args.port (place + 1) (drop (place + 1) history) in
     let one_more : BeginsWith c.loop-index.text.items c.push_line.new.text.items =
-        begins_appended _ _ _ c.in_ok-push_line.ensures.ok in (
+    begins_appended _ _ _ c.in_ok-push_line.ensures.ok in (
       ap (λ text. text ++ rest) c.in_ok-push_line.ensures.ok ∙ append_assoc c.loop-index.text.items line rest
           ∙ ap (λ left. c.loop-index.text.items ++ history_from c.args.port place left) (sym first)
-              ∙ c.loop-index.invariant.0,
+          ∙ c.loop-index.invariant.0,
       begins_before _ _ _ one_more c.loop-index.invariant.1,
     )

@@ -9,7 +9,7 @@ abbrev pub invariant-loop-table : goal.invariant-loop-table
 invariant-loop-table l = record {
   read :
       with_front (map master_view l.masters.items)
-          (each master_of (map (λ table. table_view table.now) (drop l.table-index l.tables)))
+      (each master_of (map (λ table. table_view table.now) (drop l.table-index l.tables)))
       ≡ each master_of (map (λ table. table_view table.now) l.tables);
   counted : length l.masters.items ≡ l.table-index;
 }

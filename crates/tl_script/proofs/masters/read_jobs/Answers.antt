@@ -17,7 +17,7 @@ loop-m-preserved c =
     slice_get-map (λ (each : Master). each.sources) (map master_view masters) m
     ∙ ap (option_map (λ (each : Master). each.sources)) (slice_get-map master_view masters m
     ∙ ap (option_map master_view) (slice_get-get_or masters m master c.loop-m-test.true
-        ∙ ap (λ (each : code_master.Master). Some each) (sym c.index-masters-m.is))) in
+    ∙ ap (λ (each : code_master.Master). Some each) (sym c.index-masters-m.is))) in
     record {
       read = grind (arith, common_steps);
       lawful = rw c.in_ok-push.ensures.items (lawful_more

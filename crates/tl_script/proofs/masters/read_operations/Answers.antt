@@ -13,13 +13,19 @@ loop-n-preserved c =
       counted = grind (arith, common_steps);
       sources = rw c.in_ok-push-in-Some.ensures.ok
           (sends-push c.args.master.now.sources c.loop-n.jobs
-              (job_of c.in-Some.spelled c.spell.new.bytes) c.loop-n.invariant.sources source);
+          (job_of c.in-Some.spelled c.spell.new.bytes) c.loop-n.invariant.sources source);
     }
 
 pub returns-clause-lawful : goal.returns-clause-lawful
 returns-clause-lawful c =
     rw c.shrink_to_fit.ensures record {
-      in_limit = omega (arith, c.loop-n.invariant.counted, c.loop-n.auto.n-end, c.deref-line-items.ensures.value,
-          c.deref-line-items.ensures.len, c.args.master.now.in_limit);
+      in_limit = omega (
+        arith,
+        c.loop-n.invariant.counted,
+        c.loop-n.auto.n-end,
+        c.deref-line-items.ensures.value,
+        c.deref-line-items.ensures.len,
+        c.args.master.now.in_limit,
+      );
       sources = c.loop-n.invariant.sources;
     }

@@ -9,7 +9,7 @@ abbrev pub invariant-loop-n : goal.invariant-loop-n
 invariant-loop-n l = record {
   read :
       with_front l.jobs (operations_from l.fn.master.sources l.fn.m l.n
-          (map (λ line. line.now) (drop l.n l.fn.master.lines.items)))
+      (map (λ line. line.now) (drop l.n l.fn.master.lines.items)))
       ≡ operations_from l.fn.master.sources l.fn.m 0 (map (λ line. line.now) l.fn.master.lines.items);
   counted : length l.jobs ≡ l.n;
   sources : All (λ ask. ask.source < l.fn.master.sources) (sends l.jobs);

@@ -11,8 +11,8 @@ loop-place-preserved c =
     let place = c.loop-place.place in
     let within : place < length bytes = omega (arith, c.loop-place-test.true, c.len-place-end.ensures.value) in
     let byte : get_or bytes place None ≡ c.get.result =
-        get_or_from_slice_get bytes place c.get.result None c.get.ensures in
+    get_or_from_slice_get bytes place c.get.result None c.get.ensures in
     let passes : c.is_some-all.result ≡ is_some (get_or bytes place None) =
-        c.is_some-all.ensures ∙ ap is_some (sym byte) in
+    c.is_some-all.ensures ∙ ap is_some (sym byte) in
     ap (λ b. b && c.is_some-all.result) c.loop-place.invariant
-        ∙ rw passes (sym (list_all_more is_some bytes place None within))
+    ∙ rw passes (sym (list_all_more is_some bytes place None within))

@@ -10,4 +10,4 @@ unfolding operation_of
 returns-clause-value c =
     let sources = c.args.sources in
     c.spell_words.ensures.value ∙ rw (c.as_slice.ensures.value, c.split_words.ensures)
-        (operation_in-six sources (words_of c.args.line.now))
+    (operation_in-six sources (words_of c.args.line.now))

@@ -6,5 +6,5 @@ use Rattle.tl_script.proofs.ports.fill.Goals as goal
 pub returns-clause-value : goal.returns-clause-value
 returns-clause-value c =
     filled-resized c.args.count c.in_ok-bytes.bytes.len c.args.text.now c.in_ok-bytes.bytes.items c.resize.new.self.items
-        (search rules) (omega arith) c.in_ok-bytes.ensures
+    (search rules) (omega arith) c.in_ok-bytes.ensures
     c.in_ok-resize.ensures.items

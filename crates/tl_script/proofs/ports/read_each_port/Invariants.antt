@@ -11,7 +11,7 @@ abbrev pub invariant-loop-table : goal.invariant-loop-table
 invariant-loop-table l = record {
   read :
       with_front (map store_of l.devices.items)
-          (each port_of (map (λ table. table_view table.now) (drop l.table-index l.tables)))
+      (each port_of (map (λ table. table_view table.now) (drop l.table-index l.tables)))
       ≡ each port_of (map (λ table. table_view table.now) l.tables);
   in_limit : All (λ store. length store.bytes ≤ MAX_LENGTH) (map store_of l.devices.items);
 }

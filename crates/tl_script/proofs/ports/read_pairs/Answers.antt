@@ -9,4 +9,4 @@ loop-rest-preserved c =
     let rest = c.loop-rest.rest.now in
     rw (c.in_ok-push.ensures.items, take_rest rest 2)
     (pairs_of-turn c.loop-rest.bytes.items rest c.in-Some.byte (omega arith) (sym c.read_pair.ensures ∙ c.in-Some.is)
-        ∙ c.loop-rest.invariant)
+    ∙ c.loop-rest.invariant)

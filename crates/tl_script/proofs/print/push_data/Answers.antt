@@ -10,5 +10,5 @@ loop-place-preserved c =
     let place = c.loop-place.place in
     let within : place < length bytes = omega (arith, c.loop-place-test.true, c.len-place-end.ensures.value) in
     let byte : get_or bytes place None ≡ c.get.result =
-        get_or_from_slice_get bytes place c.get.result None c.get.ensures in
+    get_or_from_slice_get bytes place c.get.result None c.get.ensures in
     grind (arith, common_steps, byte, within)

@@ -13,10 +13,10 @@ loop-place-preserved c =
     let before = lines_of c.args.master (take c.loop-place.place entries) in
     let front = c.loop-place.invariant.1 in
     let one_more : BeginsWith c.loop-place.text.items c.push_entry.new.text.items =
-        begins_appended _ _ _ c.in_ok-push_entry.ensures.ok in (
+    begins_appended _ _ _ c.in_ok-push_entry.ensures.ok in (
       c.in_ok-push_entry.ensures.ok ∙ ap (λ text. text ++ line) c.loop-place.invariant.0
           ∙ append_assoc c.args.text.now.items before line
           ∙ ap (λ lines. c.args.text.now.items ++ lines)
-              (sym (lines_more c.args.master entries c.loop-place.place c.read.new.entry c.read.ensures)),
+          (sym (lines_more c.args.master entries c.loop-place.place c.read.new.entry c.read.ensures)),
       begins_before _ _ _ one_more front,
     )

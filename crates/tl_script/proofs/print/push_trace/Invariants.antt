@@ -7,4 +7,4 @@ use Rattle.tl_script.proofs.print.push_trace.Given as goal
 abbrev pub invariant-loop-place : goal.invariant-loop-place
 invariant-loop-place l =
     (l.text.items ≡ l.initial.text.items ++ lines_of l.master (take l.place l.trace.items))
-        × BeginsWith l.initial.text.items l.text.items
+    × BeginsWith l.initial.text.items l.text.items

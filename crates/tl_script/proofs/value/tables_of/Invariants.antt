@@ -8,5 +8,5 @@ use Rattle.tl_script.proofs.value.tables_of.Given as goal
 abbrev pub invariant-loop-value : goal.invariant-loop-value
 invariant-loop-value l =
     with_front (map (λ table. table_view table.now) l.tables.items)
-        (each (table_of l.key) (map view (drop l.value-index l.values)))
+    (each (table_of l.key) (map view (drop l.value-index l.values)))
     ≡ each (table_of l.key) (map view l.values)

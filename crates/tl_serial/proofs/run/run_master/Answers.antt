@@ -16,8 +16,13 @@ send-requires-clause-source c =
 
 pub push_reserved-requires : goal.push_reserved-requires
 push_reserved-requires c =
-    omega (arith, c.loop-number.invariant.few, c.loop-number.invariant.room, c.loop-number-test.true,
-    c.len-number-end.ensures)
+    omega (
+      arith,
+      c.loop-number.invariant.few,
+      c.loop-number.invariant.room,
+      c.loop-number-test.true,
+      c.len-number-end.ensures,
+    )
 
 pub loop-number-preserved : goal.loop-number-preserved
 loop-number-preserved c =
@@ -36,10 +41,10 @@ loop-number-preserved c =
       | then-fill+in_ok-place w ↦
           let entry = entry_of ask w.send.new.answer w.in_ok-place.place in
           let at : slice_get jobs i ≡ Some (Send ask) =
-              here ∙ ap (λ (sends : Bool). Some (job_at sends ask)) w.if-fill.true in
+          here ∙ ap (λ (sends : Bool). Some (job_at sends ask)) w.if-fill.true in
           let pushed : c.if-fill.trace.items ≡ c.loop-number.trace.items ++ entry ∷ [] =
-              rw (w.trace-is, ← w.in_ok-place.ensures.source)
-              (rw (w.source.ensures, ← w.in_ok-place.ensures.source) at w.push_reserved.ensures.items) in
+          rw (w.trace-is, ← w.in_ok-place.ensures.source)
+          (rw (w.source.ensures, ← w.in_ok-place.ensures.source) at w.push_reserved.ensures.items) in
           let before = c.loop-number.trace.items in
           record {
             room = rw w.trace-is (w.push_reserved.ensures.room ∙ c.loop-number.invariant.room);
@@ -49,6 +54,6 @@ loop-number-preserved c =
                 ∙ sym (sends-send jobs i ask at);
             stands = λ keeps log stand. rw (pushed, w.slaves-is, numbered-push log c.args.master before entry)
                 (w.in_ok-place.ensures.stands keeps (log ++ numbered c.args.master before)
-                    (c.loop-number.invariant.stands keeps log stand));
+                (c.loop-number.invariant.stands keeps log stand));
           }
     ]

@@ -14,10 +14,10 @@ run_master-requires-clause-source c =
     let jobs = c.index-jobs-master.result in
     let at : slice_get c.args.system.now.jobs m ≡ Some jobs =
     ap (λ (js : List (List Job)). slice_get js m) (sym c.jobs-jobs.ensures.value)
-        ∙ slice_get-get_or c.jobs-jobs.result.now m jobs c.loop-master-test.true
+    ∙ slice_get-get_or c.jobs-jobs.result.now m jobs c.loop-master-test.true
     ∙ ap (λ (j : List Job). Some j) (sym c.index-jobs-master.is) in
     sources_are c.args.system.now m jobs c.jobs-jobs.ensures.lawful
-        (rw (← c.jobs-jobs.ensures.value) c.loop-master-test.true) at
+    (rw (← c.jobs-jobs.ensures.value) c.loop-master-test.true) at
 
 pub loop-master-preserved : goal.loop-master-preserved
 loop-master-preserved c =
@@ -30,11 +30,11 @@ loop-master-preserved c =
     ap entries_in pushed ∙ map-append (λ (t : TraceView). t.items) traces (trace ∷ []) in
     let at : slice_get c.args.system.now.jobs m ≡ Some jobs =
     ap (λ (js : List (List Job)). slice_get js m) (sym c.jobs-jobs.ensures.value)
-        ∙ slice_get-get_or c.jobs-jobs.result.now m jobs c.loop-master-test.true
+    ∙ slice_get-get_or c.jobs-jobs.result.now m jobs c.loop-master-test.true
     ∙ ap (λ (j : List Job). Some j) (sym c.index-jobs-master.is) in
     let last : asks_in trace.items ≡ sends jobs = c.in_ok-trace.ensures.asked in
     let counted : length (entries_in traces) ≡ m =
-        length-map traces (λ (t : TraceView). t.items) ∙ c.loop-master.invariant.counted in
+    length-map traces (λ (t : TraceView). t.items) ∙ c.loop-master.invariant.counted in
     record {
       asked = ap (map asks_in) lists ∙ asked_more
           (entries_in traces) trace.items c.args.system.now.jobs m jobs at c.loop-master.invariant.asked last;

@@ -14,18 +14,18 @@ returns c =
     let system = c.args.system.now in
     let fresh = c.in_ok-slaves.slaves.items in
     let banks : map bank_of fresh ≡ resets system =
-        c.in_ok-slaves.ensures.banks
-        ∙ ap (λ (stores : List Store). stores ++ error_store ∷ []) c.devices.ensures.value in
+    c.in_ok-slaves.ensures.banks
+    ∙ ap (λ (stores : List Store). stores ++ error_store ∷ []) c.devices.ensures.value in
     let start : Stand system true [] c.deref_mut.result.now =
-        rw c.deref_mut.ensures.value
-        (stand_fresh system true fresh c.devices.ensures.lawful banks c.in_ok-slaves.ensures.fresh) in
+    rw c.deref_mut.ensures.value
+    (stand_fresh system true fresh c.devices.ensures.lawful banks c.in_ok-slaves.ensures.fresh) in
     let stand = c.in_ok-traces.ensures.stands true start in
     let whole : take c.in_ok-slaves.slaves.len
-        (c.run_masters.new.slaves ++ drop (length c.run_masters.new.slaves) fresh) ≡ c.run_masters.new.slaves =
+    (c.run_masters.new.slaves ++ drop (length c.run_masters.new.slaves) fresh) ≡ c.run_masters.new.slaves =
     let long : length c.run_masters.new.slaves ≡ c.in_ok-slaves.slaves.len = search rules in
     take_at c.run_masters.new.slaves (drop (length c.run_masters.new.slaves) fresh) c.in_ok-slaves.slaves.len long in
     let are : pairs_in c.in_ok-histories.histories.items ≡ map history_of c.run_masters.new.slaves =
-        rw (← whole) c.in_ok-histories.ensures in
+    rw (← whole) c.in_ok-histories.ensures in
     record {
       asked = c.in_ok-traces.ensures.asked;
       served = stand.served;

@@ -9,7 +9,7 @@ use Rattle.tl_serial.proofs.run.send.Goals as goal
 pub bounds-slaves-port : goal.bounds-slaves-port
 bounds-slaves-port c =
     let routed : Routes c.args.system.now.ranges c.args.ask.now c.route-port.result =
-        rw c.map.ensures at ((c.route-port.ensures.port c.route-port.result).0 refl) in
+    rw c.map.ensures at ((c.route-port.ensures.port c.route-port.result).0 refl) in
     let below = routed_in_range c.args.system.now.ranges c.args.ask.now c.route-port.result routed in
     omega (arith, below, c.requires.ready)
 
@@ -21,12 +21,12 @@ offset_bounds-slaves-port c =
 pub returns-clause-stands : goal.returns-clause-stands
 returns-clause-stands c = λ keeps log stand.
     let routed : Routes c.args.system.now.ranges c.args.ask.now c.route-port.result =
-        rw c.map.ensures at ((c.route-port.ensures.port c.route-port.result).0 refl) in
+    rw c.map.ensures at ((c.route-port.ensures.port c.route-port.result).0 refl) in
     let below = routed_in_range c.args.system.now.ranges c.args.ask.now c.route-port.result routed in
     let within : c.route-port.result < length c.args.slaves.now = omega (arith, below, c.requires.ready) in
     let slave : slice_get c.args.slaves.now c.route-port.result ≡ Some c.index-slaves-port.result =
     slice_get-get_or c.args.slaves.now c.route-port.result c.index-slaves-port.result within
-        ∙ ap (λ (s : Slave). Some s) (sym c.index-slaves-port.is) in
+    ∙ ap (λ (s : Slave). Some s) (sym c.index-slaves-port.is) in
     let wide : IsWide c.args.system.now.counts c.args.master c.args.ask.now.source c.unwrap-wide.result =
     rw (c.sources.ensures, c.source.ensures) at ((c.widen.ensures.wide c.unwrap-wide.result).0 c.unwrap-wide.ensures) in
     stand_more c.args.system.now keeps log c.args.slaves.now c.index-slaves-port.result c.serve.new.self c.args.master c.unwrap-wide.result _ stand

@@ -11,9 +11,9 @@ returns c =
     let system = c.args.system.now in
     let fresh = c.in_ok-slaves.slaves.items in
     let banks : map bank_of fresh ≡ resets system =
-        c.in_ok-slaves.ensures.banks
-        ∙ ap (λ (stores : List Store). stores ++ error_store ∷ []) c.devices.ensures.value in
+    c.in_ok-slaves.ensures.banks
+    ∙ ap (λ (stores : List Store). stores ++ error_store ∷ []) c.devices.ensures.value in
     let start : Stand system false [] c.deref_mut.result.now =
-        rw c.deref_mut.ensures.value
-        (stand_fresh system false fresh c.devices.ensures.lawful banks c.in_ok-slaves.ensures.fresh) in
+    rw c.deref_mut.ensures.value
+    (stand_fresh system false fresh c.devices.ensures.lawful banks c.in_ok-slaves.ensures.fresh) in
     serial_text_is system false c.deref_mut.result.now c.write_masters.new.slaves c.in_ok-text.text.items start c.in_ok-text.ensures

@@ -34,7 +34,7 @@ loop-number-preserved c =
       | then-fill+in_ok-place+in_ok-push_entry w ↦
           let entry = entry_of ask w.send.new.answer w.in_ok-place.place in
           let at : slice_get jobs i ≡ Some (Send ask) =
-              here ∙ ap (λ (sends : Bool). Some (job_at sends ask)) w.if-fill.true in
+          here ∙ ap (λ (sends : Bool). Some (job_at sends ask)) w.if-fill.true in
           let master = c.args.master in
           record {
             entries = before.entries ++ entry ∷ [];
@@ -42,7 +42,7 @@ loop-number-preserved c =
                 ∙ sym (sends-send jobs i ask at);
             stands = λ keeps log stand. rw (w.slaves-is, numbered-push log master before.entries entry)
                 (w.in_ok-place.ensures.stands keeps (log ++ numbered master before.entries)
-                    (before.stands keeps log stand));
+                (before.stands keeps log stand));
             is = rw w.text-is (w.in_ok-push_entry.ensures.ok
                 ∙ ap (λ (text : List ℕ). text ++ trace_line master entry) before.is
                 ∙ sym (lines_of-push master before.entries entry c.args.text.now.items));

@@ -14,10 +14,10 @@ write_master-requires-clause-source c =
     let jobs = c.index-jobs-master.result in
     let at : slice_get c.args.system.now.jobs m ≡ Some jobs =
     ap (λ (js : List (List Job)). slice_get js m) (sym c.jobs-jobs.ensures.value)
-        ∙ slice_get-get_or c.jobs-jobs.result.now m jobs c.loop-master-test.true
+    ∙ slice_get-get_or c.jobs-jobs.result.now m jobs c.loop-master-test.true
     ∙ ap (λ (j : List Job). Some j) (sym c.index-jobs-master.is) in
     sources_are c.args.system.now m jobs c.jobs-jobs.ensures.lawful
-        (rw (← c.jobs-jobs.ensures.value) c.loop-master-test.true) at
+    (rw (← c.jobs-jobs.ensures.value) c.loop-master-test.true) at
 
 pub loop-master-preserved : goal.loop-master-preserved
 loop-master-preserved c =
@@ -27,7 +27,7 @@ loop-master-preserved c =
     let jobs = c.index-jobs-master.result in
     let at : slice_get c.args.system.now.jobs m ≡ Some jobs =
     ap (λ (js : List (List Job)). slice_get js m) (sym c.jobs-jobs.ensures.value)
-        ∙ slice_get-get_or c.jobs-jobs.result.now m jobs c.loop-master-test.true
+    ∙ slice_get-get_or c.jobs-jobs.result.now m jobs c.loop-master-test.true
     ∙ ap (λ (j : List Job). Some j) (sym c.index-jobs-master.is) in
     let last : asks_in mine.entries ≡ sends jobs = mine.asked in
     record {
@@ -39,5 +39,5 @@ loop-master-preserved c =
       is =
           mine.is ∙ ap (λ (text : List ℕ). text ++ lines_of m mine.entries) before.is
           ∙ sym (trace_text-push before.traces mine.entries
-              ∙ ap (λ (n : ℕ). trace_text before.traces ++ lines_of n mine.entries) before.counted);
+          ∙ ap (λ (n : ℕ). trace_text before.traces ++ lines_of n mine.entries) before.counted);
     }

@@ -11,5 +11,11 @@ loop-rest-preserved-in-Ok g c =
     let n = c.in-Ok.n in
     let moved : c.args.bytes.now ≡ (done ++ take n rest) ++ drop n rest =
     split ∙ ap (λ l. done ++ l) (sym (take-append-drop n rest)) ∙ sym (append_assoc done (take n rest) (drop n rest)) in
-    record { appended = (done ++ take n rest, rw take_rest moved,
-        Appends-trans _ _ _ _ _ appended c.in-Ok.ensures.bytes); same = search rules }
+    record {
+      appended = (
+        done ++ take n rest,
+        rw take_rest moved,
+        Appends-trans _ _ _ _ _ appended c.in-Ok.ensures.bytes,
+      );
+      same = search rules;
+    }

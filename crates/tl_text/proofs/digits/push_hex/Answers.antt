@@ -6,8 +6,12 @@ use Rattle.tl_text.proofs.NumberLemmas.{hex_last, hex_more, hex_none, one_more, 
 use Rattle.tl_text.proofs.digits.push_hex.Goals as goal
 
 pub loop-left-init : goal.loop-left-init
-loop-left-init c = record { first = omega arith; fits = c.ranges.number.fits; long = search rules;
-    digits = hex_none c.args.number }
+loop-left-init c = record {
+  first = omega arith;
+  fits = c.ranges.number.fits;
+  long = search rules;
+  digits = hex_none c.args.number;
+}
 
 pub loop-left-preserved : goal.loop-left-preserved
 loop-left-preserved c =
@@ -25,9 +29,9 @@ loop-left-preserved c =
           let room : l.first - 1 + 49 ≡ l.first + 48 = omega (arith, some) in
           let last : l.first + 49 ≡ suc (l.first + 48) = omega arith in
           let set_there : drop l.first (set l.digits l.first digit) ≡ digit ∷ behind =
-              drop-set l.digits l.first digit (omega (arith, l.invariant.first, l.invariant.long)) in
+          drop-set l.digits l.first digit (omega (arith, l.invariant.first, l.invariant.long)) in
           rw (place, room, set_there, c.hex_digit.ensures)
-              (sym (hex_more (l.first + 48) l.left behind large) ∙ rw last at l.invariant.digits);
+          (sym (hex_more (l.first + 48) l.left behind large) ∙ rw last at l.invariant.digits);
     }
 
 pub returns : goal.returns
@@ -37,11 +41,11 @@ returns c =
     let digit = c.hex_digit-2.result in
     let last : l.first + 49 ≡ suc (l.first + 48) = omega arith in
     let set_there : drop l.first (set l.digits l.first digit) ≡ digit ∷ behind =
-        drop-set l.digits l.first digit (omega (arith, l.invariant.first, l.invariant.long)) in
+    drop-set l.digits l.first digit (omega (arith, l.invariant.first, l.invariant.long)) in
     let all : drop l.first (set l.digits l.first digit) ≡ digits 16 false c.args.number =
     set_there ∙ rw c.hex_digit-2.ensures (sym (hex_last (l.first + 48) l.left behind c.loop-left-test.false)
-        ∙ rw last at l.invariant.digits) in
+    ∙ rw last at l.invariant.digits) in
     let written = set l.digits l.first digit in
     let long : length (drop l.first written) ≤ 16 - l.first =
-        omega (arith, length-drop l.first written, length-set l.digits l.first digit, l.invariant.long) in
+    omega (arith, length-drop l.first written, length-set l.digits l.first digit, l.invariant.long) in
     rw (← all, ← take_all (16 - l.first) (drop l.first written) long) (search rules)

@@ -9,5 +9,5 @@ use Rattle.tl_text.proofs.name.find_name.Goals as goal
 pub returns : goal.returns
 returns c =
     c.copied.ensures ∙ find_from_yields_List
-        (λ name. bytes_eq (word_of name) c.args.name.now) _ _ c.find.result c.find.ensures.ran
+    (λ name. bytes_eq (word_of name) c.args.name.now) _ _ c.find.result c.find.ensures.ran
     (YieldsList-from_slice c.args.operations.now cc) (λ x b q k. search (rules, tests))

@@ -31,4 +31,4 @@ returns c =
     let digits = rw whole at c.loop-byte.invariant.digits in
     let value = rw whole at c.loop-byte.invariant.value in
     ap Some value ∙ sym (number_of-digits c.args.radix c.args.most word digits (grind (arith, common_steps))
-        (omega arith) (omega (arith, value)))
+    (omega arith) (omega (arith, value)))

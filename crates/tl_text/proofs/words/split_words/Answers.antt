@@ -11,5 +11,5 @@ returns c =
     let words : List (List ℕ) = map (λ (word : Bor (List ℕ)). word.now) c.loop-rest.words.items in
     let full : length c.loop-rest.words.items ≡ MAX_WORDS = search rules in
     sym (take_at words (words_of c.loop-rest.rest.now) MAX_WORDS
-        (length-map c.loop-rest.words.items (λ (word : Bor (List ℕ)). word.now) ∙ full))
+    (length-map c.loop-rest.words.items (λ (word : Bor (List ℕ)). word.now) ∙ full))
     ∙ ap (take MAX_WORDS) c.loop-rest.invariant.words

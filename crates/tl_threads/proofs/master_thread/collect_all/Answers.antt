@@ -6,5 +6,8 @@ returns-then-out-eq0-clause-same g c =
     same_then c.args.master.now c.loop.master c.look_at_all.new.master c.loop.invariant.2 c.look_at_all.ensures
 
 pub loop-preserved : goal.loop-preserved
-loop-preserved g c = (c.loop.invariant.0, c.loop.invariant.1,
-    same_then c.args.master.now c.loop.master c.look_at_all.new.master c.loop.invariant.2 c.look_at_all.ensures)
+loop-preserved g c = (
+  c.loop.invariant.0,
+  c.loop.invariant.1,
+  same_then c.args.master.now c.loop.master c.look_at_all.new.master c.loop.invariant.2 c.look_at_all.ensures,
+)

@@ -22,6 +22,8 @@ returns-in-Ok-clause-port g c =
 pub loop-preserved : goal.loop-preserved
 loop-preserved g c =
     let refused = subst (λ (x : MasterState). IsSame c.args.master.now x)
-        (sym c.in_default.ensures.issues.0) c.loop.invariant.2 in
-    (c.loop.invariant.0, c.loop.invariant.1,
-        same_then c.args.master.now c.issue.new.self c.look_at_all.new.master refused c.look_at_all.ensures)
+    (sym c.in_default.ensures.issues.0) c.loop.invariant.2 in (
+      c.loop.invariant.0,
+      c.loop.invariant.1,
+      same_then c.args.master.now c.issue.new.self c.look_at_all.new.master refused c.look_at_all.ensures,
+    )

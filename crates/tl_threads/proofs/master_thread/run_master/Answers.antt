@@ -12,8 +12,10 @@ use Rattle.tl_threads.proofs.master_thread.run_master.Goals.{else-fill, then-fil
 pub loop-operation-init : goal.loop-operation-init
 loop-operation-init g c =
     let shared = c.args.shared.now in
-    record { done = idle_driven shared.arena.now shared.system.now.ranges c.args.number c.args.jobs.now c.args.master c.requires.new;
-        bells = c.requires.bells }
+    record {
+      done = idle_driven shared.arena.now shared.system.now.ranges c.args.number c.args.jobs.now c.args.master c.requires.new;
+      bells = c.requires.bells;
+    }
 
 pub loop-operation-preserved : goal.loop-operation-preserved
 loop-operation-preserved g c =
@@ -25,14 +27,14 @@ loop-operation-preserved g c =
     let m = c.loop-operation.master in
     let ask = c.fill.new.ask in
     let next : (job : Job) (n : MasterState) → slice_get jobs k ≡ Some job → HasDone ranges m job n
-        → IsDriven shared.arena.now ranges c.args.number jobs (k + 1) n =
+    → IsDriven shared.arena.now ranges c.args.number jobs (k + 1) n =
     λ job n at done. one_more shared.arena.now ranges c.args.number jobs k job m n
-        (slice_get_within jobs k job at) was.done
+    (slice_get_within jobs k job at) was.done
     (subst (λ (j : Job). HasDone ranges m j n) (sym (get_or_from_slice_get jobs k job job at)) done) in
     elim c.if-fill.branch [
       | else-fill w ↦
           let at : slice_get jobs k ≡ Some Wait =
-              c.fill.ensures.job ∙ ap (λ (sends : Bool). Some (job_at sends ask)) w.if-fill.false in
+          c.fill.ensures.job ∙ ap (λ (sends : Bool). Some (job_at sends ask)) w.if-fill.false in
           record {
             done = rw w.master-is (next Wait w.collect_all.new.master at
                 (w.collect_all.ensures.same, w.collect_all.ensures.none));
@@ -40,7 +42,7 @@ loop-operation-preserved g c =
           }
       | then-fill w ↦
           let at : slice_get jobs k ≡ Some (Send ask) =
-              c.fill.ensures.job ∙ ap (λ (sends : Bool). Some (job_at sends ask)) w.if-fill.true in
+          c.fill.ensures.job ∙ ap (λ (sends : Bool). Some (job_at sends ask)) w.if-fill.true in
           record {
             done = rw w.master-is (next (Send ask) w.send.new.master at w.send.ensures.asked);
             bells = rw w.bells-is (w.send.ensures.bells ∙ was.bells);

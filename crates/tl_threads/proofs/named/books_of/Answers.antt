@@ -15,6 +15,9 @@ loop-port-preserved g c =
       count = omega (arith, step.1, push.len, c.loop-port.invariant.count);
       room = rw push.capacity c.loop-port.invariant.room;
       books = row_more (IsBookOf a) c.loop-port.books.items c.push_reserved.new.self.items book push.items c.loop-port.invariant.books
-          (record { arena_is = c.into_book-book.ensures.named; number_is = num;
-          lawful = c.into_book-book.ensures.lawful });
+          (record {
+            arena_is = c.into_book-book.ensures.named;
+            number_is = num;
+            lawful = c.into_book-book.ensures.lawful;
+          });
     }

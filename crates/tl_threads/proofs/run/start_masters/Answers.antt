@@ -28,7 +28,7 @@ start_master-requires-clause-new g c κs within =
     let num : c.len-number.result ≡ length c.loop-thread.handles.items = grind (arith, common_steps) in
     let step = c.in-Some.ensures.steps in
     (subst (λ (n : ℕ). new n c.in-Some.thread) (sym num)
-        (row_head new (length c.loop-thread.handles.items) c.in-Some.thread _ _ step.0 c.loop-thread.invariant.masters)).idle
+    (row_head new (length c.loop-thread.handles.items) c.in-Some.thread _ _ step.0 c.loop-thread.invariant.masters)).idle
 
 pub start_master-requires-clause-room : goal.start_master-requires-clause-room
 start_master-requires-clause-room g c κs within =
@@ -38,9 +38,9 @@ start_master-requires-clause-room g c κs within =
     let lt : c.len-number.result < length c.jobs.result.now = grind (arith, common_steps) in
     let step = c.in-Some.ensures.steps in
     let is = subst (λ (n : ℕ). new n c.in-Some.thread) (sym num)
-        (row_head new (length c.loop-thread.handles.items) c.in-Some.thread _ _ step.0 c.loop-thread.invariant.masters) in
+    (row_head new (length c.loop-thread.handles.items) c.in-Some.thread _ _ step.0 c.loop-thread.invariant.masters) in
     is.room c.index-jobs-number.result
-        (listed_at s c.jobs.result.now c.len-number.result c.index-jobs-number.result c.jobs.ensures.value lt c.index-jobs-number.is)
+    (listed_at s c.jobs.result.now c.len-number.result c.index-jobs-number.result c.jobs.ensures.value lt c.index-jobs-number.is)
 
 pub start_master-requires-clause-bells : goal.start_master-requires-clause-bells
 start_master-requires-clause-bells g c κs within =
@@ -61,7 +61,7 @@ loop-thread-preserved g c =
     let lt : c.len-number.result < length c.jobs.result.now = grind (arith, common_steps) in
     let at : slice_get s.jobs c.len-number.result ≡ Some h.promise.jobs.value =
     listed_at s c.jobs.result.now c.len-number.result c.index-jobs-number.result c.jobs.ensures.value lt c.index-jobs-number.is
-        ∙ ap (λ (own : List Job). Some own) (sym made.3) in
+    ∙ ap (λ (own : List Job). Some own) (sym made.3) in
     record {
       count = omega (arith, step.1, push.len, was.count);
       room = rw push.capacity was.room;
@@ -70,9 +70,9 @@ loop-thread-preserved g c =
           (length_more done c.push_reserved.new.self.items h push.items) was.masters;
       promised = row_more (IsPromised a s.ranges s.jobs) done c.push_reserved.new.self.items h push.items was.promised
           (record {
-        number_is = made.0 ∙ num;
-        arena_is = made.1;
-        map_is = made.2;
-        jobs_are = subst (λ (n : ℕ). slice_get s.jobs n ≡ Some h.promise.jobs.value) num at;
-      });
+            number_is = made.0 ∙ num;
+            arena_is = made.1;
+            map_is = made.2;
+            jobs_are = subst (λ (n : ℕ). slice_get s.jobs n ≡ Some h.promise.jobs.value) num at;
+          });
     }

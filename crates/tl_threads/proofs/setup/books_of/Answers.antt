@@ -11,15 +11,15 @@ pub book_of-requires-clause-seat : goal.book_of-requires-clause-seat
 book_of-requires-clause-seat c =
     let num : length c.loop-seat.books.items ≡ c.len-number.result = grind (arith, common_steps) in
     subst (λ (n : ℕ). IsNewPort c.args.arena.now n c.in-Some.seat) num
-        (row_head (IsNewPort c.args.arena.now)
-        (length c.loop-seat.books.items) c.in-Some.seat _ _ c.in-Some.ensures.steps.0 c.loop-seat.invariant.seats)
+    (row_head (IsNewPort c.args.arena.now)
+    (length c.loop-seat.books.items) c.in-Some.seat _ _ c.in-Some.ensures.steps.0 c.loop-seat.invariant.seats)
 
 pub book_of-requires-clause-bank : goal.book_of-requires-clause-bank
 book_of-requires-clause-bank c =
     let num : length c.loop-seat.books.items ≡ c.len-number.result = grind (arith, common_steps) in
     let is = subst (λ (n : ℕ). IsResetBank c.args.arena.now n c.in-Some-next.bank) num
-        (row_head (IsResetBank c.args.arena.now)
-        (length c.loop-seat.books.items) c.in-Some-next.bank _ _ c.in-Some-next.ensures.cases.0 c.loop-seat.invariant.banks) in
+    (row_head (IsResetBank c.args.arena.now)
+    (length c.loop-seat.books.items) c.in-Some-next.bank _ _ c.in-Some-next.ensures.cases.0 c.loop-seat.invariant.banks) in
     sym (get_or_from_slice_get c.args.arena.now.about.resets c.len-number.result c.in-Some-next.bank no_store is)
 
 pub loop-seat-preserved : goal.loop-seat-preserved

@@ -12,12 +12,17 @@ overflow_add-counts c =
     let was = c.loop-number.invariant in
     let port = c.route.result in
     let within : port < length c.loop-number.counts =
-        omega (arith, c.route.ensures.in_ports, was.many, c.requires.ports) in
+    omega (arith, c.route.ensures.in_ports, was.many, c.requires.ports) in
     let from = grown c.args.map.now
-        (sends (take c.loop-number.number c.args.jobs.now)) c.args.counts.now c.loop-number.counts port
-        (get_or c.loop-number.counts port 0) was (slice_get-get_or c.loop-number.counts port 0 within) in
-    omega (arith, from.2, few_before c.args.jobs.now c.loop-number.number, c.requires.room port from.0 from.1,
-        c.loop-number-test.true)
+    (sends (take c.loop-number.number c.args.jobs.now)) c.args.counts.now c.loop-number.counts port
+    (get_or c.loop-number.counts port 0) was (slice_get-get_or c.loop-number.counts port 0 within) in
+    omega (
+      arith,
+      from.2,
+      few_before c.args.jobs.now c.loop-number.number,
+      c.requires.room port from.0 from.1,
+      c.loop-number-test.true,
+    )
 
 pub loop-number-preserved : goal.loop-number-preserved
 loop-number-preserved c =
@@ -34,11 +39,11 @@ loop-number-preserved c =
       | else-fill w ↦ subst (λ (l : List ℕ). AddsArrivals ranges (sends (take (k + 1) jobs)) c.args.counts.now l)
           (sym w.counts-is)
           (wait_adds ranges jobs k job within c.args.counts.now counts was
-              (here ∙ ap (λ (sends : Bool). job_at sends ask) w.if-fill.false))
+          (here ∙ ap (λ (sends : Bool). job_at sends ask) w.if-fill.false))
       | then-fill w ↦
           let port = w.route.result in
           let inside : port < length counts = omega (arith, w.route.ensures.in_ports, was.many, c.requires.ports) in
           send_adds ranges jobs k job within c.args.counts.now counts was ask port
-              (get_or counts port 0) c.if-fill.counts (here ∙ ap (λ (sends : Bool). job_at sends ask) w.if-fill.true)
+          (get_or counts port 0) c.if-fill.counts (here ∙ ap (λ (sends : Bool). job_at sends ask) w.if-fill.true)
           (slice_get-get_or counts port 0 inside) ((w.route.ensures.port port).0 refl) w.counts-is
     ]

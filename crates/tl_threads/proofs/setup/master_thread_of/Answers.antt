@@ -11,11 +11,11 @@ returns c =
     let s = c.args.system.now in
     let lists = c.jobs.result.now in
     let within : c.args.number < length lists =
-        subst (λ n. c.args.number < n) (sym (listed_many s lists c.jobs.ensures.value)) c.requires.jobs in
+    subst (λ n. c.args.number < n) (sym (listed_many s lists c.jobs.ensures.value)) c.requires.jobs in
     let heard : HasRoom c.requests-limit.result c.in-Some.own =
     All-head (HasRoom c.requests-limit.result) c.in-Some.own _
-        (All-same (HasRoom c.requests-limit.result) _ _ (sym c.in-Some.ensures.items)
-        (All-same (HasRoom c.requests-limit.result) _ _ c.into_iter.ensures.rest c.in_ok-ringer.ensures.room)) in
+    (All-same (HasRoom c.requests-limit.result) _ _ (sym c.in-Some.ensures.items)
+    (All-same (HasRoom c.requests-limit.result) _ _ c.into_iter.ensures.rest c.in_ok-ringer.ensures.room)) in
     record {
       idle = c.in_ok-master.ensures.idle;
       room = λ its_jobs at.

@@ -8,8 +8,8 @@ pub master_thread_of-requires-clause-seat : goal.master_thread_of-requires-claus
 master_thread_of-requires-clause-seat c =
     let num : length c.loop-seat.threads.items ≡ c.len-in-loop-seat.result = grind (arith, common_steps) in
     subst (λ (n : ℕ). IsNewMaster c.args.arena.now n c.in-Some.seat) num
-        (row_head (IsNewMaster c.args.arena.now)
-        (length c.loop-seat.threads.items) c.in-Some.seat _ _ c.in-Some.ensures.steps.0 c.loop-seat.invariant.seats)
+    (row_head (IsNewMaster c.args.arena.now)
+    (length c.loop-seat.threads.items) c.in-Some.seat _ _ c.in-Some.ensures.steps.0 c.loop-seat.invariant.seats)
 
 pub loop-seat-preserved : goal.loop-seat-preserved
 loop-seat-preserved c =

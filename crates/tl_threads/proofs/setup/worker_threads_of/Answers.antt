@@ -12,11 +12,11 @@ loop-listeners-preserved c =
     let step = c.in-Some.ensures.steps in
     let here = All-head heard c.in-Some.listeners _ (All-same heard _ _ (sym step.0) was.heard) in
     let bells : length c.loop-listeners.master_bells ≡ length c.args.master_bells.now =
-        c.loop-listeners.auto.master_bells in
+    c.loop-listeners.auto.master_bells in
     record {
       heard = All-rest heard c.in-Some.listeners _ _ step.0 was.heard;
       threads = subst (λ (n : ℕ). All (IsNewWorkerThread (length journals) n) c.push_workers.new.threads.items) bells
           (c.in_ok-push_workers.ensures (length journals) here.within
-              (subst (λ (n : ℕ). All (IsNewWorkerThread (length journals) n) c.loop-listeners.threads.items)
-              (sym bells) was.threads));
+          (subst (λ (n : ℕ). All (IsNewWorkerThread (length journals) n) c.loop-listeners.threads.items)
+          (sym bells) was.threads));
     }

@@ -30,12 +30,12 @@ spawn_with-requires-send-F g c κs within =
     let name = types.name-36 g.row.N g.row.R g.row.G g.N.laws g.R.laws g.G.laws g.N.ArenaName g.N.ArenaName-dict g.R.Wait g.R.Wait-dict g.G.Gate g.G.Gate-dict in
     let captured = types.of-4 g.row.N g.row.R g.row.G g.N.laws g.R.laws g.G.laws g.N.ArenaName g.N.ArenaName-dict g.R.Wait g.R.Wait-dict g.G.Gate g.G.Gate-dict
     (record { mir = named 6; lft = κs.1.1.1.1.1.1.0 }) (record { mir = named 7; lft = κs.1.1.1.1.1.1.1.0 })
-        (record { mir = named 8; lft = κs.1.1.1.1.1.1.1.1.0 })
+    (record { mir = named 8; lft = κs.1.1.1.1.1.1.1.1.0 })
     (record { mir = named 9; lft = κs.1.1.1.1.1.1.1.1.1.0 }) (record { mir = named 10; lft = κs.1.1.1.1.1.1.1.1.1.1.0 })
-        (record { mir = named 11; lft = κs.1.1.1.1.1.1.1.1.1.1.1.0 }) in
+    (record { mir = named 11; lft = κs.1.1.1.1.1.1.1.1.1.1.1.0 }) in
     let ports : IsSync (Vec.the_row (Port.the_row (param 0 g.row.N) g.N.ArenaName) Global.the_row ghosts) =
     vec.the_sync (Port.the_row (param 0 g.row.N) g.N.ArenaName) Global.the_row ghosts
-        (port.the_sync (param 0 g.row.N) g.N.ArenaName) global.the_sync in
+    (port.the_sync (param 0 g.row.N) g.N.ArenaName) global.the_sync in
     let all : AllSend (shape (type_at name captured)).fields = (
       shr_send _ _ System.the_row system.the_sync,
       (

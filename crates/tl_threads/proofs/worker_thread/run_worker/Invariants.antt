@@ -7,4 +7,4 @@ abbrev pub invariant-loop : goal.invariant-loop
 invariant-loop g l =
     (goal.iterator-loop g).can_next l.iterator' × (goal.iterator-loop g).is_finite l.iterator'
     × (vec_len l.bells.others ≡ length l.fn.shared.system.now.jobs)
-        × All (λ master. master < vec_len l.bells.others) l.owed.items
+    × All (λ master. master < vec_len l.bells.others) l.owed.items

@@ -29,5 +29,5 @@ returns c =
     let k = c.loop-place.place in
     let past = c.loop-place-test.false in
     c.loop-place.invariant ∙ ap (λ xs. xs ++ drop k old)
-        (take_all k new (omega (arith, past, length-cleared flags old))) ∙ ap (λ xs. new ++ xs) (drop_all k old past)
-        ∙ append-nil new
+    (take_all k new (omega (arith, past, length-cleared flags old))) ∙ ap (λ xs. new ++ xs) (drop_all k old past)
+    ∙ append-nil new

@@ -9,5 +9,5 @@ returns c =
     let flags = c.args.flags.now in
     let plain = c.args.bytes.now in
     ap (λ ms. put_chunk 0 plain (sel_l ms (replicate 8 0) (take 8 plain)))
-        (tops_compared w8 (λ x y. x == y) (take 8 flags) (replicate 8 0))
-        ∙ word_cleared flags plain c.requires.word c.requires.flags
+    (tops_compared w8 (λ x y. x == y) (take 8 flags) (replicate 8 0))
+    ∙ word_cleared flags plain c.requires.word c.requires.flags

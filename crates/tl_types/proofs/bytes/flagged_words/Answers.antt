@@ -14,7 +14,7 @@ loop-word-preserved c =
     let mask = c.flag_mask.result in
     let so_far = c.loop-word.invariant in
     let within : word < length masks =
-        omega (arith, so_far.counted, c.loop-word-test.true, c.div_ceil-word-end.ensures) in
+    omega (arith, so_far.counted, c.loop-word-test.true, c.div_ceil-word-end.ensures) in
     record {
       flagged = flagged_more masks c.args.flags.now word mask (c.min.result - 8 * word) within
           (omega (arith, c.min.ensures)) c.flag_mask.ensures so_far.flagged;

@@ -31,10 +31,10 @@ pub returns-then-count-gt0-clause-given : goal.returns-then-count-gt0-clause-giv
 returns-then-count-gt0-clause-given c =
     let words : c.loop-word.word ≡ c.args.count / 8 = omega arith in
     (first_end c.loop-word.masks c.args.count (omega (arith, c.loop-word.invariant.counted, c.if-count-gt0.true))
-        (rw (← words) c.loop-word.invariant.first)).0
+    (rw (← words) c.loop-word.invariant.first)).0
 
 pub returns-then-count-gt0-clause-past : goal.returns-then-count-gt0-clause-past
 returns-then-count-gt0-clause-past c =
     let words : c.loop-word.word ≡ c.args.count / 8 = omega arith in
     (first_end c.loop-word.masks c.args.count (omega (arith, c.loop-word.invariant.counted, c.if-count-gt0.true))
-        (rw (← words) c.loop-word.invariant.first)).1
+    (rw (← words) c.loop-word.invariant.first)).1

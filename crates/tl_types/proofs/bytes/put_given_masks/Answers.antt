@@ -8,7 +8,7 @@ pub returns-clause-small : goal.returns-clause-small
 returns-clause-small c =
     let mask = c.from.result / 2 ^ (8 - c.args.count) in
     let fits : mask < 256 =
-        rw c.from.ensures (small_ones c.args.count (omega (arith, c.if-count-gt-WORD_BYTES.false))) in
+    rw c.from.ensures (small_ones c.args.count (omega (arith, c.if-count-gt-WORD_BYTES.false))) in
     small_set (replicate MAX_WORDS 0) 0 mask kept_none.small fits
 
 pub returns-clause-given : goal.returns-clause-given

@@ -12,19 +12,25 @@ returns-in_err-verdict-clause-checked g c =
     let system = c.in_ok-system.system in
     let fault = c.in_err-verdict.field-0.0 in
     let of_it : IsJudgeOf c.args.terms system c.in_ok-judge.judge c.sizes_of-sizes.result =
-    record { judges = c.in_ok-judge.ensures.judges; trace = c.in_ok-judge.ensures.trace;
-        sized = c.sizes_of-sizes.ensures.value } in
+    record {
+      judges = c.in_ok-judge.ensures.judges;
+      trace = c.in_ok-judge.ensures.trace;
+      sized = c.sizes_of-sizes.ensures.value;
+    } in
     let stopped = is_stopped _ system _ _ _ _ _ _ _ fault of_it c.in_ok-system.ensures.ok c.in_err-verdict.ensures.fault c.in_err-verdict.ensures.told in
     checked_by _ _ _ _ _ _ _ (of_capture fault) c.from_residual-in_err-verdict.ensures.1
-        (of_stopped _ _ _ _ _ _ fault stopped)
+    (of_stopped _ _ _ _ _ _ fault stopped)
 
 pub returns-in_err-line-clause-checked : goal.returns-in_err-line-clause-checked
 returns-in_err-line-clause-checked g c =
     let system = c.in_ok-system.system in
     let verdict = c.in_ok-verdict.verdict in
     let of_it : IsJudgeOf c.args.terms system c.in_ok-judge.judge c.sizes_of-sizes.result =
-    record { judges = c.in_ok-judge.ensures.judges; trace = c.in_ok-judge.ensures.trace;
-        sized = c.sizes_of-sizes.ensures.value } in
+    record {
+      judges = c.in_ok-judge.ensures.judges;
+      trace = c.in_ok-judge.ensures.trace;
+      sized = c.sizes_of-sizes.ensures.value;
+    } in
     let has = has_verdict _ system _ _ _ _ _ _ _ verdict of_it c.in_ok-system.ensures.ok c.in_ok-verdict.ensures.verdict c.in_ok-verdict.ensures.told in
     checked_by _ _ _ _ _ _ _ check.Memory c.from_residual-in_err-line.ensures.1
     (inr (inr (record { system = system; verdict = verdict; told = _; has = has; line = Keeps-refl _ })))
@@ -35,12 +41,20 @@ returns-in_err-write_all-clause-checked g c =
     let verdict = c.in_ok-verdict.verdict in
     let front = c.in_err-write_all.ensures.front in
     let of_it : IsJudgeOf c.args.terms system c.in_ok-judge.judge c.sizes_of-sizes.result =
-    record { judges = c.in_ok-judge.ensures.judges; trace = c.in_ok-judge.ensures.trace;
-        sized = c.sizes_of-sizes.ensures.value } in
+    record {
+      judges = c.in_ok-judge.ensures.judges;
+      trace = c.in_ok-judge.ensures.trace;
+      sized = c.sizes_of-sizes.ensures.value;
+    } in
     let has = has_verdict _ system _ _ _ _ _ _ _ verdict of_it c.in_ok-system.ensures.ok c.in_ok-verdict.ensures.verdict c.in_ok-verdict.ensures.told in
     checked_by _ _ _ _ _ _ _ check.Write c.from_residual-in_err-write_all.ensures.1
-    (inr (record { system = system; verdict = verdict; told = _; has = has;
-        line = rw (c.deref.ensures.value ∙ c.in_ok-line.ensures) at front }))
+    (inr (record {
+      system = system;
+      verdict = verdict;
+      told = _;
+      has = has;
+      line = rw (c.deref.ensures.value ∙ c.in_ok-line.ensures) at front;
+    }))
 
 pub returns-clause-checked : goal.returns-clause-checked
 returns-clause-checked g c =
@@ -48,8 +62,11 @@ returns-clause-checked g c =
     let verdict = c.in_ok-verdict.verdict in
     let bytes = c.in_ok-write_all.ensures.bytes in
     let of_it : IsJudgeOf c.args.terms system c.in_ok-judge.judge c.sizes_of-sizes.result =
-    record { judges = c.in_ok-judge.ensures.judges; trace = c.in_ok-judge.ensures.trace;
-        sized = c.sizes_of-sizes.ensures.value } in
+    record {
+      judges = c.in_ok-judge.ensures.judges;
+      trace = c.in_ok-judge.ensures.trace;
+      sized = c.sizes_of-sizes.ensures.value;
+    } in
     let has = has_verdict _ system _ _ _ _ _ _ _ verdict of_it c.in_ok-system.ensures.ok c.in_ok-verdict.ensures.verdict c.in_ok-verdict.ensures.told in
     record {
       ok = record {

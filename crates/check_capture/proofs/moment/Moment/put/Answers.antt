@@ -15,15 +15,20 @@ belongs c = record {
 
 pub insert-requires : goal.insert-requires
 insert-requires c =
-    let fits = belongs c in
-    (omega arith, (fits.gap.inside, moment-room
-        (record { time = c.self.inside.time; rows = c.self.inside.rows.items }) c.in-Some.count c.args.row fits))
+    let fits = belongs c in (
+      omega arith,
+      (
+        fits.gap.inside,
+        moment-room
+            (record { time = c.self.inside.time; rows = c.self.inside.rows.items }) c.in-Some.count c.args.row fits,
+      ),
+    )
 
 pub invariant_of-self : goal.invariant_of-self
 invariant_of-self c =
     rw c.insert.ensures.items
     (moment-insert (record { time = c.self.inside.time; rows = c.self.inside.rows.items }) c.in-Some.count c.args.row
-        (belongs c.before))
+    (belongs c.before))
 
 pub returns-clause-ok : goal.returns-clause-ok
 returns-clause-ok c =

@@ -10,7 +10,7 @@ returns-clause-slave c =
     let flights = c.self.inside.flights.items in
     let within : c.args.wide < length flights = search rules in
     let found : c.index_mut.result.now ≡ flight_at flights c.args.wide =
-        flight_found flights c.args.wide c.index_mut.result.now within c.index_mut.ensures.value in
+    flight_found flights c.args.wide c.index_mut.result.now within c.index_mut.ensures.value in
     rw (← c.self.view_is, ← found) c.serve.ensures.slave
 
 pub returns-clause-due : goal.returns-clause-due
@@ -18,8 +18,8 @@ returns-clause-due c =
     let flights = c.self.inside.flights.items in
     let within : c.args.wide < length flights = search rules in
     let found : c.index_mut.result.now ≡ flight_at flights c.args.wide =
-        flight_found flights c.args.wide c.index_mut.result.now within c.index_mut.ensures.value in
+    flight_found flights c.args.wide c.index_mut.result.now within c.index_mut.ensures.value in
     let ask = asked (flight_at flights c.args.wide).turn in
     let is : c.serve.new.self ≡ flight_due (flight_at flights c.args.wide)
-        (answer_by c.args.port c.args.slave.now ask) = rw (← found) c.serve.ensures.due in
+    (answer_by c.args.port c.args.slave.now ask) = rw (← found) c.serve.ensures.due in
     rw (← c.self.view_is, is, flights_served flights c.args.wide (answer_by c.args.port c.args.slave.now ask)) refl

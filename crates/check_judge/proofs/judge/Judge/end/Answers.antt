@@ -18,14 +18,16 @@ pub returns-in-Err-clause-lawful : goal.returns-in-Err-clause-lawful
 returns-in-Err-clause-lawful c plan file judges other =
     let first : OfUnlawful (IsFirstUnlawful plan file) c.in-Err.refusal = of_unlawful _ _ c.in-Err.refusal
     (λ found stops. (first_unlawful plan file c.args.self found judges (rw c.rows.ensures.rows at stops.stops)).0)
-    (c.in-Err.ensures.fault plan judges.before judges.kept) in
-    ((λ is. absurd (cc)), λ lawful. absurd (refused_is_not_lawful plan file c.in-Err.refusal first
-        (λ is. other (ap Err is)) lawful))
+    (c.in-Err.ensures.fault plan judges.before judges.kept) in (
+      (λ is. absurd (cc)),
+      λ lawful. absurd (refused_is_not_lawful plan file c.in-Err.refusal first
+          (λ is. other (ap Err is)) lawful),
+    )
 
 pub returns-in-Err-clause-fault_told : goal.returns-in-Err-clause-fault_told
 returns-in-Err-clause-fault_told c plan file so_far has = of_unlawful _ _ c.in-Err.refusal
     (λ found stops. told_before plan file c.args.self found so_far c.args.text.now.items c.judge_rows.new.text.items has
-        (rw c.rows.ensures.rows at stops))
+    (rw c.rows.ensures.rows at stops))
     (c.in-Err.ensures.fault plan has.judges.before has.judges.kept)
 
 pub returns-clause-told : goal.returns-clause-told
@@ -35,8 +37,8 @@ returns-clause-told c plan file so_far has =
     let new = c.judge_rows.new.text.items in
     let R : List Row → Type 0 = λ rows. Kept plan (reverse rows ++ before) c.judge_rows.new.self in
     let T : List Row → Type 0 =
-        λ rows. AppendsTold (is_traced c.args.self) plan (seen plan.layout before)
-        (seen plan.layout (reverse rows ++ before)) old new in
+    λ rows. AppendsTold (is_traced c.args.self) plan (seen plan.layout before)
+    (seen plan.layout (reverse rows ++ before)) old new in
     told_file plan file c.args.self c.judge_rows.new.self so_far old new has
     (subst R c.rows.ensures.rows (c.in_default.ensures.keeps plan before has.judges.kept))
     (subst T c.rows.ensures.rows (c.in_default.ensures.told plan before has.judges.kept))

@@ -13,8 +13,8 @@ returns-then-take_row-clause-told c plan before kept =
     let P : Layout → Type 0 = λ l. HasLink l row.sighting.link × IsWatched l.links row.sighting.link in
     let watched : is_watched plan.layout row.sighting.link ≡ true =
     (watched_is plan.layout row.sighting.link).1
-        (subst P kept.keeps.suits.layout (c.watches.ensures.0 c.if-not-watches.false)) in
+    (subst P kept.keeps.suits.layout (c.watches.ensures.0 c.if-not-watches.false)) in
     let quiet : c.args.self.now.trace ≡ false = c.if-self.false in
     subst (λ t. AppendsTold t plan (seen plan.layout before)
-        (seen plan.layout (row ∷ before)) c.args.text.now.items c.args.text.now.items) (sym quiet)
+    (seen plan.layout (row ∷ before)) c.args.text.now.items c.args.text.now.items) (sym quiet)
     (tells_quietly plan before row c.args.text.now.items watched)

@@ -14,5 +14,5 @@ invariant-loop-row l = record {
       → Kept plan (reverse (take l.row-index l.rows) ++ before) l.self;
   told : (plan : Plan) (before : List Row) → Kept plan before l.initial.self
       → AppendsTold l.initial.self.trace plan (seen plan.layout before)
-          (seen plan.layout (reverse (take l.row-index l.rows) ++ before)) l.initial.text.items l.text.items;
+      (seen plan.layout (reverse (take l.row-index l.rows) ++ before)) l.initial.text.items l.text.items;
 }

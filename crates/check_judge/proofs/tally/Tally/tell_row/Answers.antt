@@ -14,8 +14,8 @@ returns-in-Ok-tell-clause-told c plan before kept =
     let P : Layout → Type 0 = λ l. HasLink l row.sighting.link × IsWatched l.links row.sighting.link in
     let watched : is_watched plan.layout row.sighting.link ≡ true =
     (watched_is plan.layout row.sighting.link).1
-        (subst P kept.keeps.suits.layout (c.requires.known, c.requires.watched)) in
+    (subst P kept.keeps.suits.layout (c.requires.known, c.requires.watched)) in
     tells_row c.args.self.now.trace plan before row c.args.text.now.items c.tell.new.text.items watched
     (tells_step c.args.self.now.trace c.count.new.self.trace plan past row.sighting c.count.new.self.watch.layout c.in-Ok.seen c.args.text.now.items c.tell.new.text.items
     c.count.ensures.trace (rw c.count.ensures.watch keeps.suits.layout)
-        (c.in-Ok.ensures.seen plan past kept.keeps) keeps.lawful.1 c.in-Ok-tell.ensures.told)
+    (c.in-Ok.ensures.seen plan past kept.keeps) keeps.lawful.1 c.in-Ok-tell.ensures.told)

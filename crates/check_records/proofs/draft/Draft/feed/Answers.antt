@@ -13,9 +13,11 @@ returns-in_err-take_byte-clause-long c = λ line is.
     let inv = c.loop-i.invariant in
     let p = err_from_is_err_and c.from_residual.result c.from_residual.ensures.1 in
     let told : c.take_byte.result ≡ Err (TooLong line) = cc (p.1, p.2, is, c.in_err-take_byte.was) in
-    let long = c.take_byte.ensures.long line told in
-    (long.0 ∙ inv.line, feed-long (partial c.args.self.now)
-        (partial c.loop-i.self) c.args.text.now c.loop-i.i c.loop-i-test.true inv.so_far long.1 long.2)
+    let long = c.take_byte.ensures.long line told in (
+      long.0 ∙ inv.line,
+      feed-long (partial c.args.self.now)
+          (partial c.loop-i.self) c.args.text.now c.loop-i.i c.loop-i-test.true inv.so_far long.1 long.2,
+    )
 
 pub returns-then-branch-clause-ok : goal.returns-then-branch-clause-ok
 returns-then-branch-clause-ok c =

@@ -8,4 +8,4 @@ returns-clause-text g c =
     let s = c.args.self.now in
     let inside = c.requires in
     part-rest s.chunk.items s.next s.filled c.args.count
-        (omega (arith, inside, length-take (s.filled - s.next) (drop s.next s.chunk.items)))
+    (omega (arith, inside, length-take (s.filled - s.next) (drop s.next s.chunk.items)))

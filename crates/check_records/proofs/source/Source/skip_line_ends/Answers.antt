@@ -22,7 +22,7 @@ returns-then-not-is_empty-clause-skips g c =
       same = does.reader;
     } in
     between-trans (left read c.args.self.now) (left read old)
-        (left read new) HasSameNext HasSameNext HasSameNext same-trans c.loop.invariant
+    (left read new) HasSameNext HasSameNext HasSameNext same-trans c.loop.invariant
     (skipped read old new ends.result.count ends.result.feeds is (rw c.text.ensures at ends.ensures.all))
 
 pub returns-then-not-branch-clause-skips : goal.returns-then-not-branch-clause-skips
@@ -41,7 +41,7 @@ returns-then-not-branch-clause-skips g c =
     } in
     let so_far : Between (left read c.args.self.now) (left read mid) HasSameNext =
     between-trans (left read c.args.self.now) (left read old)
-        (left read mid) HasSameNext HasSameNext HasSameNext same-trans c.loop.invariant
+    (left read mid) HasSameNext HasSameNext HasSameNext same-trans c.loop.invariant
     (skipped read old mid ends.result.count ends.result.feeds is (rw c.text.ensures at ends.ensures.all)) in
     between-refill read (left read c.args.self.now) mid new HasSameNext so_far
     (record {
@@ -67,7 +67,7 @@ loop-preserved g c =
     } in
     let so_far : Between (left read c.args.self.now) (left read mid) HasSameNext =
     between-trans (left read c.args.self.now) (left read old)
-        (left read mid) HasSameNext HasSameNext HasSameNext same-trans c.loop.invariant
+    (left read mid) HasSameNext HasSameNext HasSameNext same-trans c.loop.invariant
     (skipped read old mid ends.result.count ends.result.feeds is (rw c.text.ensures at ends.ensures.all)) in
     between-refill read (left read c.args.self.now) mid new HasSameNext so_far
     (record {

@@ -12,7 +12,7 @@ returns-then-eq-clause-text g c =
     let old = c.args.self.now in
     let mid = c.read_front.new.self in
     let start : left_of read old ≡ read old.reader =
-        rw (c.requires.front, c.requires.unread) (prepend-none (read old.reader)) in
+    rw (c.requires.front, c.requires.unread) (prepend-none (read old.reader)) in
     let kept = rw start at c.in_ok-read_front.ensures.text in
     let same = rw (c.text.ensures, c.as_slice.ensures) at (sym c.eq.ensures ∙ c.if-eq.true) in
     let is : at_hand mid ≡ mark = (bytes_eq-Decides (at_hand mid) mark).0 same in
@@ -27,7 +27,7 @@ returns-else-eq-clause-text g c =
     let old = c.args.self.now in
     let mid = c.read_front.new.self in
     let start : left_of read old ≡ read old.reader =
-        rw (c.requires.front, c.requires.unread) (prepend-none (read old.reader)) in
+    rw (c.requires.front, c.requires.unread) (prepend-none (read old.reader)) in
     let kept = rw start at c.in_ok-read_front.ensures.text in
     let other = rw (c.text.ensures, c.as_slice.ensures) at (sym c.eq.ensures ∙ c.if-eq.false) in
     let few = c.read_front.ensures.few in
@@ -36,7 +36,13 @@ returns-else-eq-clause-text g c =
     let inside = mid.inside in
     let len = mid.chunk.ok.0 in
     let size : length (at_hand mid) ≡ mid.filled =
-    omega (arith, front, inside, len, length-take (mid.filled - mid.next) (drop mid.next mid.chunk.items),
-        length-drop mid.next mid.chunk.items) in
+    omega (
+      arith,
+      front,
+      inside,
+      len,
+      length-take (mid.filled - mid.next) (drop mid.next mid.chunk.items),
+      length-drop mid.next mid.chunk.items,
+    ) in
     strip-no (read old.reader) (read mid.reader) (at_hand mid) (omega (arith, size, few))
-        (λ short. end (omega (arith, size, short))) other kept
+    (λ short. end (omega (arith, size, short))) other kept

@@ -11,8 +11,8 @@ returns-in-Err-clause-fault c plan past keeps =
     let beat = c.args.beat.now in
     let known = c.args.known in
     carried plan past c.args.self.now (record { link = link; beat = A beat; known = known }) keeps
-        (λ l s. (fault : Fault) × IsFirstAskFault l link s beat known fault)
-        (fault_of c.in-Err._reason, c.in-Err.ensures.fault plan keeps.suits)
+    (λ l s. (fault : Fault) × IsFirstAskFault l link s beat known fault)
+    (fault_of c.in-Err._reason, c.in-Err.ensures.fault plan keeps.suits)
 
 pub returns-then-take_ask-clause-keeps : goal.returns-then-take_ask-clause-keeps
 returns-then-take_ask-clause-keeps c plan past keeps =
@@ -21,7 +21,7 @@ returns-then-take_ask-clause-keeps c plan past keeps =
     let room = room_of view c.args.link place.wide c.sized.ensures.sized c.sized.ensures.masters c.sized.ensures.ports c.requires c.in-Ok.ensures.in_limit in
     ask_step plan past view c.take_ask.new.self c.args.link c.args.known keeps c.args.beat.now place.wide place.port room c.in-Ok.ensures.wide
     (c.in-Ok.ensures.port plan (flight_in view c.args.link place.wide).turn keeps.suits) c.in-Ok.ensures.in_ports
-        (c.in-Ok.ensures.allowed plan keeps.suits) c.take_ask.ensures.after
+    (c.in-Ok.ensures.allowed plan keeps.suits) c.take_ask.ensures.after
 
 pub returns-else-take_ask-clause-keeps : goal.returns-else-take_ask-clause-keeps
 returns-else-take_ask-clause-keeps c plan past keeps =
@@ -30,4 +30,4 @@ returns-else-take_ask-clause-keeps c plan past keeps =
     let room = room_of view c.args.link place.wide c.sized.ensures.sized c.sized.ensures.masters c.sized.ensures.ports c.requires c.in-Ok.ensures.in_limit in
     ask_step plan past view c.take_ask.new.self c.args.link c.args.known keeps c.args.beat.now place.wide place.port room c.in-Ok.ensures.wide
     (c.in-Ok.ensures.port plan (flight_in view c.args.link place.wide).turn keeps.suits) c.in-Ok.ensures.in_ports
-        (c.in-Ok.ensures.allowed plan keeps.suits) c.take_ask.ensures.after
+    (c.in-Ok.ensures.allowed plan keeps.suits) c.take_ask.ensures.after

@@ -14,10 +14,10 @@ returns-clause-keeps c plan lawful layout resets =
       slaves = c.in_ok-slaves.slaves.items;
     } in
     let slaves : made.slaves ≡ map fresh_slave plan.resets =
-        c.in_ok-slaves.ensures ∙ ap (map fresh_slave) (sym resets) in
+    c.in_ok-slaves.ensures ∙ ap (map fresh_slave) (sym resets) in
     let P : View → Type 0 = λ v. Keeps plan [] v in
     subst P (sym c.of.ensures)
-        (fresh_keeps plan made lawful layout c.in_ok-masters.ensures.links c.in_ok-masters.ensures.flights c.in_ok-ports.ensures.links c.in_ok-ports.ensures.flights c.in_ok-crossings.ensures.fresh slaves)
+    (fresh_keeps plan made lawful layout c.in_ok-masters.ensures.links c.in_ok-masters.ensures.flights c.in_ok-ports.ensures.links c.in_ok-ports.ensures.flights c.in_ok-crossings.ensures.fresh slaves)
 
 pub returns-clause-plan : goal.returns-clause-plan
 returns-clause-plan c =
@@ -36,6 +36,9 @@ returns-clause-plan c =
       slaves = c.in_ok-slaves.slaves.items;
     } in
     let slaves : made.slaves ≡ map fresh_slave plan.resets = c.in_ok-slaves.ensures in
-    let P : View → Type 0 = λ v. Keeps plan [] v in
-    (plan, refl, subst P (sym c.of.ensures)
-        (fresh_keeps plan made lawful refl c.in_ok-masters.ensures.links c.in_ok-masters.ensures.flights c.in_ok-ports.ensures.links c.in_ok-ports.ensures.flights c.in_ok-crossings.ensures.fresh slaves))
+    let P : View → Type 0 = λ v. Keeps plan [] v in (
+      plan,
+      refl,
+      subst P (sym c.of.ensures)
+          (fresh_keeps plan made lawful refl c.in_ok-masters.ensures.links c.in_ok-masters.ensures.flights c.in_ok-ports.ensures.links c.in_ok-ports.ensures.flights c.in_ok-crossings.ensures.fresh slaves),
+    )

@@ -13,9 +13,9 @@ returns-in-Master c =
     let ask = asked (flight_at c.self.inside.masters.flights c.args.wide).turn in
     let within : port < length slaves = search rules in
     let found : c.index_mut-slave.result.now ≡ slave_at slaves port =
-        slave_found slaves port c.index_mut-slave.result.now within c.index_mut-slave.ensures.value in
+    slave_found slaves port c.index_mut-slave.result.now within c.index_mut-slave.ensures.value in
     let side : c.serve.new.self ≡ side_due c.self.inside.masters c.args.wide
-        (answer_by port (slave_at slaves port) ask) = rw (← found) c.serve.ensures.due in
+    (answer_by port (slave_at slaves port) ask) = rw (← found) c.serve.ensures.due in
     let slave : c.serve.new.slave ≡ slave_by (slave_at slaves port) ask = rw (← found) c.serve.ensures.slave in
     rw (← c.self.view_is, c.in-Master.is, side, slave, slaves_served slaves port ask) refl
 
@@ -26,9 +26,9 @@ returns-in-Port c =
     let ask = asked (flight_at c.self.inside.ports.flights c.args.wide).turn in
     let within : port < length slaves = search rules in
     let found : c.index_mut-slave.result.now ≡ slave_at slaves port =
-        slave_found slaves port c.index_mut-slave.result.now within c.index_mut-slave.ensures.value in
+    slave_found slaves port c.index_mut-slave.result.now within c.index_mut-slave.ensures.value in
     let side : c.serve-in-Port.new.self ≡ side_due c.self.inside.ports c.args.wide
-        (answer_by port (slave_at slaves port) ask) = rw (← found) c.serve-in-Port.ensures.due in
+    (answer_by port (slave_at slaves port) ask) = rw (← found) c.serve-in-Port.ensures.due in
     let slave : c.serve-in-Port.new.slave ≡ slave_by (slave_at slaves port) ask =
-        rw (← found) c.serve-in-Port.ensures.slave in
+    rw (← found) c.serve-in-Port.ensures.slave in
     rw (← c.self.view_is, c.in-Port.is, side, slave, slaves_served slaves port ask) refl

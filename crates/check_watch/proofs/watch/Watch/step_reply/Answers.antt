@@ -11,7 +11,7 @@ returns-then-not-ends_reply-clause-keeps c plan past keeps =
     let place = c.in-Ok.place in
     let room = room_of view link place.wide c.sized.ensures.sized c.sized.ensures.masters c.sized.ensures.ports c.requires c.in-Ok.ensures.in_limit in
     let ends : ends_reply (under_in view link).replying c.args.beat.now ≡ false =
-        rw (← c.link.ensures) (sym c.ends_reply.ensures ∙ c.if-not-ends_reply.true) in
+    rw (← c.link.ensures) (sym c.ends_reply.ensures ∙ c.if-not-ends_reply.true) in
     part_step plan past view c.take_part.new.self link c.args.known keeps c.args.beat.now place.wide place.port room c.in-Ok.ensures.wide
     (c.in-Ok.ensures.port plan keeps.suits) c.in-Ok.ensures.in_ports ends (c.in-Ok.ensures.allowed plan keeps.suits)
     (c.take_part.ensures ∙ ap (λ (v : View). with_part v link c.args.beat.now) c.serve_late.ensures.after)
@@ -23,7 +23,7 @@ returns-clause-keeps c plan past keeps =
     let place = c.in-Ok.place in
     let room = room_of view link place.wide c.sized.ensures.sized c.sized.ensures.masters c.sized.ensures.ports c.requires c.in-Ok.ensures.in_limit in
     let ends : ends_reply (under_in view link).replying c.args.beat.now ≡ true =
-        rw (← c.link.ensures) (sym c.ends_reply.ensures ∙ c.if-not-ends_reply.false) in
+    rw (← c.link.ensures) (sym c.ends_reply.ensures ∙ c.if-not-ends_reply.false) in
     end_step plan past view c.take_end.new.self link c.args.known keeps c.args.beat.now place.wide place.port room c.in-Ok.ensures.wide
     (c.in-Ok.ensures.port plan keeps.suits) c.in-Ok.ensures.in_ports ends (c.in-Ok.ensures.allowed plan keeps.suits)
     (c.take_end.ensures ∙ ap (λ (v : View). with_end v link place.wide c.args.beat.now) c.serve_late-2.ensures.after)

@@ -10,6 +10,6 @@ returns-clause-after c =
     let link = c.args.link in
     let room = room_of view link c.args.wide c.sized.ensures.sized c.sized.ensures.masters c.sized.ensures.ports c.requires.known c.requires.wide in
     let ends : ends_ask (under_in view link).asking c.args.beat.now ≡ true =
-        rw (← c.link.ensures) (sym c.ends_ask.ensures ∙ c.if-not-ends_ask.false) in
+    rw (← c.link.ensures) (sym c.ends_ask.ensures ∙ c.if-not-ends_ask.false) in
     rw (c.serve_accepted.ensures, c.end_ask.ensures)
-        (ask_served view link c.args.wide c.args.port c.args.beat.now room ends)
+    (ask_served view link c.args.wide c.args.port c.args.beat.now room ends)

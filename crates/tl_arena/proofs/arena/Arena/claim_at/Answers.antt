@@ -31,8 +31,8 @@ push_front_reserved-requires c =
     let t = c.compare_exchange.ensures.2.0 c.if-compare_exchange-ne-FREE.false in
     let order = c.master.inside.order in
     let room = master_room c.master.inside.seat.me order.items
-        (deque_capacity order) c.master.inside.number c.master.inside.owned c.master.inside.collected c.master.invariant c.args.slot t.inside
-        (ap is_carried t.free) in
+    (deque_capacity order) c.master.inside.number c.master.inside.owned c.master.inside.collected c.master.invariant c.args.slot t.inside
+    (ap is_carried t.free) in
     let ok = order.ok in
     omega arith
 

@@ -29,18 +29,18 @@ compare_exchange-requires c =
     let key = c.self.inside.table.shared.key in
     let me = c.master.inside.seat.me in
     let arena = master_arena c.master.inside.seat.table_id me.0 c.args.master.now c.args.self.now c.self.inside.table.shared.table_id
-        (about_in key) c.master.view_is c.requires.arena c.self.view_is in
+    (about_in key) c.master.view_is c.requires.arena c.self.view_is in
     let slots = ap (λ (a : About). a.slots) arena.1 in
     let ticket : TicketView = record { slot = t.slot; ask = t.ask.value; port = t.port; known = t.known } in
     let sent = sent_in (master_view c.master.inside.seat.table_id me.0) c.args.master.now ticket c.args.ticket c.master.view_is c.ticket.view_is c.requires.ticket in
     let lt = held_inside me c.master.inside.order.items
-        (deque_capacity c.master.inside.order) c.master.inside.number c.master.inside.owned c.master.inside.collected m t.slot
-        (λ z. absurd (cc)) in (
+    (deque_capacity c.master.inside.order) c.master.inside.number c.master.inside.owned c.master.inside.collected m t.slot
+    (λ z. absurd (cc)) in (
       arena.0,
       omega arith,
       collects_at (about_in key) _ _ me t.slot _ _ none t.ask.value t.port t.known m.is sent
           (c.word_of-from.ensures ∙ ap (λ (k : ℕ). word (Answered k t.port)) (sym m.numbered))
-              (c.word_of-new.ensures ∙ ap (λ (k : ℕ). word (Taking k t.port)) (sym m.numbered)),
+          (c.word_of-new.ensures ∙ ap (λ (k : ℕ). word (Taking k t.port)) (sym m.numbered)),
     )
 
 pub push_front_reserved-requires : goal.push_front_reserved-requires
@@ -50,8 +50,8 @@ push_front_reserved-requires c =
     let me = c.master.inside.seat.me in
     let lt = in_hand_of (as_master me.0).hand c.ticket.inside.slot (λ z. let w = t.was in absurd (cc)) in
     let room = master_room me order.items
-        (deque_capacity order) c.master.inside.number c.master.inside.owned c.master.inside.collected c.master.invariant c.ticket.inside.slot lt
-        (ap is_carried t.was) in
+    (deque_capacity order) c.master.inside.number c.master.inside.owned c.master.inside.collected c.master.invariant c.ticket.inside.slot lt
+    (ap is_carried t.was) in
     let ok = order.ok in
     omega arith
 
@@ -65,9 +65,9 @@ invariant_of-master-2 c =
     let now = c.exchange-berth.ensures.3 ∙ ap (λ (y : Seat). (y.0, (i, c.empty.result) ∷ rest y.1)) t.seat in
     master_recounted c.exchange-berth.new.seat.me _ _ _ _ c.master.inside.number c.master.inside.owned _ c.push_front_reserved.ensures.items c.push_front_reserved.ensures.capacity
     (collect_kept me order.items
-        (deque_capacity order) c.master.inside.number c.master.inside.owned c.master.inside.collected c.master.invariant
+    (deque_capacity order) c.master.inside.number c.master.inside.owned c.master.inside.collected c.master.invariant
     c.exchange-berth.new.seat.me i c.empty.result t.ask t.port t.known
-        (entry t.port t.letter.index t.ask t.reply) now t.was lt)
+    (entry t.port t.letter.index t.ask t.reply) now t.was lt)
 
 pub returns-clause-ok : goal.returns-clause-ok
 returns-clause-ok c =
@@ -80,21 +80,26 @@ returns-clause-ok c =
     let sent = sent_in (master_view z me.0) c.args.master.now ticket c.args.ticket c.master.view_is c.ticket.view_is c.requires.ticket in
     let held = c.into_record.result.value in
     let letter : held ≡ t.letter =
-        taken_record _ _ k.slot _ _ _ x.2 (ap (λ (y : Seat). y.1) t.seat) c.into_record.ensures in
+    taken_record _ _ k.slot _ _ _ x.2 (ap (λ (y : Seat). y.1) t.seat) c.into_record.ensures in
     let asks : t.ask ≡ k.ask.value = (let y = t.was in cc) in
     let spells : SpellsAnswer held k.ask.value.address (told_reply held.replies k.ask.value.address) =
-        subst (λ (l : SlotRecord). SpellsAnswer l k.ask.value.address (told_reply l.replies k.ask.value.address))
-        (sym letter) (told_spelled t.letter k.ask.value.address t.reply
-        (subst (λ (q : Request). SpellsAnswer t.letter q.address t.reply) asks t.answer)) in
+    subst (λ (l : SlotRecord). SpellsAnswer l k.ask.value.address (told_reply l.replies k.ask.value.address))
+    (sym letter) (told_spelled t.letter k.ask.value.address t.reply
+    (subst (λ (q : Request). SpellsAnswer t.letter q.address t.reply) asks t.answer)) in
     let told = collected _ me c.compare_exchange.new.seat.me t z c.exchange-berth.new.seat.table_id c.exchange-berth.new.seat.me.0 ticket held.index
-        (told_reply held.replies k.ask.value.address) held
+    (told_reply held.replies k.ask.value.address) held
     (x.0 ∙ c.compare_exchange.ensures.0) (ap (λ (y : Seat). y.0) x.3) refl sent letter refl spells in
     let served : ServedView =
-        record { slot = k.slot; ask = k.ask.value; port = k.port; index = held.index;
-        reply = told_reply held.replies k.ask.value.address } in
+    record {
+      slot = k.slot;
+      ask = k.ask.value;
+      port = k.port;
+      index = held.index;
+      reply = told_reply held.replies k.ask.value.address;
+    } in
     let seat = master_view c.exchange-berth.new.seat.table_id c.exchange-berth.new.seat.me.0 in
     subst (λ (v : MasterView). IsCollected v c.args.ticket served seat) c.master.view_is
-        (subst (λ (u : TicketView). IsCollected (master_view z me.0) u served seat) c.ticket.view_is told)
+    (subst (λ (u : TicketView). IsCollected (master_view z me.0) u served seat) c.ticket.view_is told)
 
 pub into_record-requires : goal.into_record-requires
 into_record-requires c =
@@ -106,7 +111,7 @@ exchange-berth-requires c =
     let t = c.compare_exchange.ensures.2.0 c.if-compare_exchange-from.false in
     let me = c.master.inside.seat.me in
     let arena = master_arena c.master.inside.seat.table_id me.0 c.args.master.now c.args.self.now c.self.inside.table.shared.table_id
-        (about_in c.self.inside.table.shared.key) c.master.view_is c.requires.arena c.self.view_is in (
+    (about_in c.self.inside.table.shared.key) c.master.view_is c.requires.arena c.self.view_is in (
       c.compare_exchange.ensures.0 ∙ arena.0,
       (Some t.letter, taken_first _ _ _ _ (ap (λ (y : Seat). y.1) t.seat)),
     )
@@ -120,14 +125,14 @@ invariant_of-result c =
     let sent = sent_in (master_view c.master.inside.seat.table_id me.0) c.args.master.now ticket c.args.ticket c.master.view_is c.ticket.view_is c.requires.ticket in
     let held = c.into_record.result.value in
     let letter : held ≡ t.letter =
-        taken_record _ _ k.slot _ _ _ c.exchange-berth.ensures.2
-        (ap (λ (y : Seat). y.1) t.seat) c.into_record.ensures in
+    taken_record _ _ k.slot _ _ _ c.exchange-berth.ensures.2
+    (ap (λ (y : Seat). y.1) t.seat) c.into_record.ensures in
     let asks : t.ask ≡ k.ask.value = (let y = t.was in cc) in
     let spells : Spells held k.ask.value =
-        subst (λ (l : SlotRecord). Spells l k.ask.value) (sym letter)
-        (subst (λ (q : Request). Spells t.letter q) asks t.spells) in
+    subst (λ (l : SlotRecord). Spells l k.ask.value) (sym letter)
+    (subst (λ (q : Request). Spells t.letter q) asks t.spells) in
     let answers : SpellsAnswer held k.ask.value.address (told_reply held.replies k.ask.value.address) =
-        subst (λ (l : SlotRecord). SpellsAnswer l k.ask.value.address (told_reply l.replies k.ask.value.address))
-        (sym letter) (told_spelled t.letter k.ask.value.address t.reply
-        (subst (λ (q : Request). SpellsAnswer t.letter q.address t.reply) asks t.answer)) in
+    subst (λ (l : SlotRecord). SpellsAnswer l k.ask.value.address (told_reply l.replies k.ask.value.address))
+    (sym letter) (told_spelled t.letter k.ask.value.address t.reply
+    (subst (λ (q : Request). SpellsAnswer t.letter q.address t.reply) asks t.answer)) in
     (spells, answers)

@@ -15,7 +15,7 @@ split_seat-seat-requires c =
     let about = ap (λ (a : ArenaId). a.about) c.self.view_is in
     let limits = s.limits in
     let view = ap (λ (m : Seat). m.0) c.requires.next
-        ∙ ap (λ (a : About). Dealer a a.masters c.args.number) (sym about) in (
+    ∙ ap (λ (a : About). Dealer a a.masters c.args.number) (sym about) in (
       c.requires.table ∙ ap (λ (a : ArenaId). a.table) (sym c.self.view_is),
       omega arith,
       deals_port_at (about_in c.self.inside.table.shared.key) _
@@ -30,8 +30,8 @@ invariant_of-result c =
     let about = ap (λ (a : ArenaId). a.about) c.self.view_is in
     let more = subst (λ (a : About). c.args.number < a.ports) (sym about) c.requires.more in
     let dealer = ap (λ (m : Seat). m.0) c.requires.next
-        ∙ ap (λ (a : About). Dealer a a.masters c.args.number) (sym about) in
+    ∙ ap (λ (a : About). Dealer a a.masters c.args.number) (sym about) in
     new_port_kept (about_in c.self.inside.table.shared.key) _ _ _ _ c.args.number
     (c.split_seat-seat.ensures.4 ∙ ap (λ v. (next_port v, [])) dealer) c.in_ok-order.ensures.items more (omega arith)
     (let r = c.in_ok-order.ensures.capacity in omega arith)
-        (let l = c.in_ok-owners.ensures.len in let o = c.in_ok-owners.owners.ok in omega arith)
+    (let l = c.in_ok-owners.ensures.len in let o = c.in_ok-owners.owners.ok in omega arith)

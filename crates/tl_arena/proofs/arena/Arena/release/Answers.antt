@@ -22,21 +22,25 @@ store-requires c =
     let z = c.master.inside.seat.table_id in
     let me = c.master.inside.seat.me in
     let arena = master_arena z me.0 c.args.master.now c.args.self.now c.self.inside.table.shared.table_id
-        (about_in key) c.master.view_is c.requires.arena c.self.view_is in
+    (about_in key) c.master.view_is c.requires.arena c.self.view_is in
     let slots = ap (λ (a : About). a.slots) arena.1 in
     let k = c.served.inside in
     let served : ServedView =
-        record { slot = k.slot; ask = k.ask.value; port = k.port; index = k.record.value.index;
-        reply = told_reply k.record.value.replies k.ask.value.address } in
+    record {
+      slot = k.slot;
+      ask = k.ask.value;
+      port = k.port;
+      index = k.record.value.index;
+      reply = told_reply k.record.value.replies k.ask.value.address;
+    } in
     let taken : views.in_hand (as_master me.0) i ≡ Taken k.port =
-        subst (λ (v : MasterView). hand_at v i ≡ Taken k.port) (sym c.master.view_is)
-        (subst (λ (x : ServedView). hand_at c.args.master.now x.slot ≡ Taken x.port)
-        (sym c.served.view_is) c.requires.taken) in
+    subst (λ (v : MasterView). hand_at v i ≡ Taken k.port) (sym c.master.view_is)
+    (subst (λ (x : ServedView). hand_at c.args.master.now x.slot ≡ Taken x.port)
+    (sym c.served.view_is) c.requires.taken) in
     let lt = held_inside me c.master.inside.order.items
-        (deque_capacity c.master.inside.order) c.master.inside.number c.master.inside.owned c.master.inside.collected m i
-        (λ e. absurd (cc)) in
-    let now = brought_back me c.bring.new.seat.me c.exchange.new.seat.me i _ k.record.value c.of.ensures c.bring.ensures.brought.view c.exchange.ensures.3 in
-        (
+    (deque_capacity c.master.inside.order) c.master.inside.number c.master.inside.owned c.master.inside.collected m i
+    (λ e. absurd (cc)) in
+    let now = brought_back me c.bring.new.seat.me c.exchange.new.seat.me i _ k.record.value c.of.ensures c.bring.ensures.brought.view c.exchange.ensures.3 in (
       c.exchange.ensures.0 ∙ c.bring.ensures.table ∙ arena.0,
       omega arith,
       releases_at (about_in key) _ _ me c.exchange.new.seat.me i k.record.value
@@ -51,20 +55,25 @@ invariant_of-master c =
     let me = c.master.inside.seat.me in
     let k = c.served.inside in
     let served : ServedView =
-        record { slot = k.slot; ask = k.ask.value; port = k.port; index = k.record.value.index;
-        reply = told_reply k.record.value.replies k.ask.value.address } in
+    record {
+      slot = k.slot;
+      ask = k.ask.value;
+      port = k.port;
+      index = k.record.value.index;
+      reply = told_reply k.record.value.replies k.ask.value.address;
+    } in
     let taken : views.in_hand (as_master me.0) i ≡ Taken k.port =
-        subst (λ (v : MasterView). hand_at v i ≡ Taken k.port) (sym c.master.view_is)
-        (subst (λ (x : ServedView). hand_at c.args.master.now x.slot ≡ Taken x.port)
-        (sym c.served.view_is) c.requires.taken) in
+    subst (λ (v : MasterView). hand_at v i ≡ Taken k.port) (sym c.master.view_is)
+    (subst (λ (x : ServedView). hand_at c.args.master.now x.slot ≡ Taken x.port)
+    (sym c.served.view_is) c.requires.taken) in
     let now = brought_back me c.bring.new.seat.me c.exchange.new.seat.me i _ k.record.value c.of.ensures c.bring.ensures.brought.view c.exchange.ensures.3 in
     let told = told_released _ me c.exchange.new.seat.me c.store.new.seat.me i k.record.value
-        (rest c.bring.new.seat.me.1) now c.store.ensures.2 in
+    (rest c.bring.new.seat.me.1) now c.store.ensures.2 in
     let some = owns_some me order.items
-        (deque_capacity order) c.master.inside.number c.master.inside.owned c.master.inside.collected m i k.port taken in
+    (deque_capacity order) c.master.inside.number c.master.inside.owned c.master.inside.collected m i k.port taken in
     master_recounted c.store.new.seat.me _ _ _ _ c.master.inside.number _ c.master.inside.collected refl
-        (c.pop_front.ensures.capacity ∙ c.bring.ensures.capacity)
+    (c.pop_front.ensures.capacity ∙ c.bring.ensures.capacity)
     (release_kept me order.items
-        (deque_capacity order) c.master.inside.number c.master.inside.owned c.master.inside.collected m
+    (deque_capacity order) c.master.inside.number c.master.inside.owned c.master.inside.collected m
     c.bring.new.seat.me c.store.new.seat.me c.bring.new.order.items c.pop_front.new.self.items i k.port
-        (c.master.inside.owned - 1) c.bring.ensures.brought c.pop_front.ensures.rest told taken (omega arith))
+    (c.master.inside.owned - 1) c.bring.ensures.brought c.pop_front.ensures.rest told taken (omega arith))

@@ -10,7 +10,7 @@ returns c =
     let reply = c.requires.0 in
     let spelled = c.requires.1 in
     let beats : c.deref.result.now ≡ c.args.self.now.replies =
-        c.deref.ensures.0 ∙ ap (λ (r : SlotRecord). r.replies) c.self.view_is in
+    c.deref.ensures.0 ∙ ap (λ (r : SlotRecord). r.replies) c.self.view_is in
     let named = c.assemble_reply_into.ensures.all reply spelled.lawful
-        (subst (λ (bs : List DBeat). SpellsReply reply c.args.address bs) (sym beats) spelled.beats) in
+    (subst (λ (bs : List DBeat). SpellsReply reply c.args.address bs) (sym beats) spelled.beats) in
     named.1 ∙ sym (told_is reply c.args.address c.args.self.now.replies spelled.lawful spelled.beats)

@@ -10,4 +10,4 @@ returns c =
     let held = c.self.inside.record.value in
     let spells = subst (λ (r : SlotRecord). Spells r c.read_ask.new.ask) c.deref.ensures c.read_ask.ensures in
     spells_one held c.read_ask.new.ask (told_ask held.beats) spells c.self.invariant
-        ∙ ap (λ (f : ℕ × Request). f.1) c.self.view_is
+    ∙ ap (λ (f : ℕ × Request). f.1) c.self.view_is

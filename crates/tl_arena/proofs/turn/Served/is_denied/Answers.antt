@@ -9,7 +9,7 @@ pub returns-clause-value : goal.returns-clause-value
 returns-clause-value c =
     let address = c.self.inside.ask.value.address in
     c.is_denied.ensures address ∙ ap (λ (r : SlotRecord). (told_reply r.replies address).denied) c.deref.ensures
-        ∙ ap (λ (s : ServedView). s.reply.denied) c.self.view_is
+    ∙ ap (λ (s : ServedView). s.reply.denied) c.self.view_is
 
 pub returns-clause-lawful : goal.returns-clause-lawful
 returns-clause-lawful c =

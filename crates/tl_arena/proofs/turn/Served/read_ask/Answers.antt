@@ -9,4 +9,4 @@ returns c =
     let served = c.self.inside in
     let spells = subst (λ (r : SlotRecord). Spells r c.read_ask.new.ask) c.deref.ensures c.read_ask.ensures in
     spells_one served.record.value c.read_ask.new.ask served.ask.value spells c.self.invariant.0
-        ∙ ap (λ (s : ServedView). s.ask) c.self.view_is
+    ∙ ap (λ (s : ServedView). s.ask) c.self.view_is

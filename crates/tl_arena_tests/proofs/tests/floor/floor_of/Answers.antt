@@ -16,7 +16,7 @@ memories a banks us is P =
     let near : k < length us = (let m = P.many in omega arith) in
     let port = P.each k (get_or us k (new_port a 0)) (slice_get-get_or us k (new_port a 0) near) in
     ap (λ (l : List Store). get_or l k store) (sym is)
-        ∙ get_or_default a.about.resets k store no_store (let e = ap (λ (l : List Store). length l) is in omega arith)
+    ∙ get_or_default a.about.resets k store no_store (let e = ap (λ (l : List Store). length l) is in omega arith)
     ∙ sym (get_or-map memory_of us k (new_port a 0) store near ∙ ap memory_of port))
 
 pub invariant_of-result-clause-seats : goal.invariant_of-result-clause-seats

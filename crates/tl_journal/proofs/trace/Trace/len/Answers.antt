@@ -6,5 +6,5 @@ use Rattle.tl_journal.proofs.trace.Trace.len.Goals as goal
 pub returns-clause-value : goal.returns-clause-value
 returns-clause-value c =
     c.len.ensures.value ∙ sym
-        (length-entries_of c.self.inside.journal.items c.self.inside.places.items c.self.invariant.counted)
-        ∙ ap (λ v. length v.items) c.self.view_is
+    (length-entries_of c.self.inside.journal.items c.self.inside.places.items c.self.invariant.counted)
+    ∙ ap (λ v. length v.items) c.self.view_is

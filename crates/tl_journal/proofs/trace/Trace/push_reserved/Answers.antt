@@ -14,21 +14,25 @@ pub push_reserved-requires-2 : goal.push_reserved-requires-2
 push_reserved-requires-2 c =
     let counted = length-entries_of c.self.inside.journal.items c.self.inside.places.items c.self.invariant.counted in
     let more : length c.self.inside.journal.items < c.self.inside.journal.room =
-        omega (arith, rw (← c.self.view_is) at c.requires, counted) in
+    omega (arith, rw (← c.self.view_is) at c.requires, counted) in
     omega (arith, more, c.self.invariant.counted, c.self.invariant.places_fit)
 
 pub invariant_of-self : goal.invariant_of-self
 invariant_of-self c =
     let counted = length-entries_of c.self.inside.journal.items c.self.inside.places.items c.self.invariant.counted in
     let more : length c.self.inside.journal.items < c.self.inside.journal.room =
-        omega (arith, rw (← c.self.view_is) at c.requires, counted) in
+    omega (arith, rw (← c.self.view_is) at c.requires, counted) in
     let pairs = length_push c.self.inside.journal.items _ c.push_reserved.new.self.items c.push_reserved.ensures.items in
     let places = length_push c.self.inside.places.items c.args.place c.push_reserved-2.new.self.items c.push_reserved-2.ensures.items in
     record {
       counted = omega (arith, pairs, places, c.self.invariant.counted);
       few = omega (arith, pairs, more, c.push_reserved.ensures.room);
-      places_fit = omega (arith, c.self.invariant.places_fit, c.push_reserved.ensures.room,
-          c.push_reserved-2.ensures.capacity);
+      places_fit = omega (
+        arith,
+        c.self.invariant.places_fit,
+        c.push_reserved.ensures.room,
+        c.push_reserved-2.ensures.capacity,
+      );
     }
 
 pub returns-clause-items : goal.returns-clause-items
@@ -36,4 +40,4 @@ returns-clause-items c =
     rw (c.push_reserved.ensures.items, c.push_reserved-2.ensures.items)
     (entries_of-push c.self.inside.journal.items c.self.inside.places.items _ c.args.place c.self.invariant.counted
     ∙ ap (λ v. v.items ++ entry_of (record c.args.ask.now { source = c.args.source })
-        (record c.args.reply.now { source = c.args.source }) c.args.place ∷ []) c.self.view_is)
+    (record c.args.reply.now { source = c.args.source }) c.args.place ∷ []) c.self.view_is)

@@ -18,10 +18,10 @@ pub returns : goal.returns
 returns c =
     let counted = length-entries_of c.self.inside.journal.items c.self.inside.places.items c.self.invariant.counted in
     let within : c.args.place < length c.self.inside.places.items =
-        omega (arith, rw (← c.self.view_is) at c.requires, counted, c.self.invariant.counted) in
+    omega (arith, rw (← c.self.view_is) at c.requires, counted, c.self.invariant.counted) in
     let there : slice_get c.self.inside.places.items c.args.place ≡ Some c.index.result.now =
     slice_get-get_or c.self.inside.places.items c.args.place c.index.result.now within
-        ∙ ap (λ place. Some place) (sym c.index.ensures) in
+    ∙ ap (λ place. Some place) (sym c.index.ensures) in
     ap (λ v. slice_get v.items c.args.place) (sym c.self.view_is)
     ∙ slice_get-entries_of c.self.inside.journal.items c.self.inside.places.items c.args.place
-        (c.read.new.ask, c.read.new.reply) c.index.result.now c.read.ensures there
+    (c.read.new.ask, c.read.new.reply) c.index.result.now c.read.ensures there

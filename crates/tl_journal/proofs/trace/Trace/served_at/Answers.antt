@@ -15,9 +15,9 @@ returns c =
     let place = c.index.result.now in
     let counted = length-entries_of c.self.inside.journal.items c.self.inside.places.items c.self.invariant.counted in
     let within : c.args.place < length c.self.inside.places.items =
-        omega (arith, rw (← c.self.view_is) at c.requires, counted, c.self.invariant.counted) in
+    omega (arith, rw (← c.self.view_is) at c.requires, counted, c.self.invariant.counted) in
     let there : slice_get c.self.inside.places.items c.args.place ≡ Some place =
     slice_get-get_or c.self.inside.places.items c.args.place place within ∙ ap (λ at. Some at) (sym c.index.ensures) in
     subst (λ (v : TraceView). IsSomeAnd (slice_get v.items c.args.place)
-        (λ entry. place ≡ place_of entry)) c.self.view_is
+    (λ entry. place ≡ place_of entry)) c.self.view_is
     (place_of-entries_of c.self.inside.journal.items c.self.inside.places.items c.args.place place c.self.invariant.counted there)

@@ -9,4 +9,4 @@ pub returns-clause-past_end : goal.returns-clause-past_end
 returns-clause-past_end c past =
     let here = (c.port_of.ensures.port c.port_of.result).0 refl in
     rw (← c.self.view_is) (none_past_end _ c.self.invariant c.args.address c.args.size past c.port_of.result
-        (rw c.deref.ensures.value at here))
+    (rw c.deref.ensures.value at here))

@@ -13,11 +13,10 @@ invariant_of-result c =
     let counts = c.args.sources.now in
     let seat = c.args.seat in
     let made : MasterState =
-        record { seat = seat; out = c.in-Ok.out.items; trace = c.in-Ok-with_room.trace.items; limit = c.args.limit } in
+    record { seat = seat; out = c.in-Ok.out.items; trace = c.in-Ok-with_room.trace.items; limit = c.args.limit } in
     let sources = sources_are counts seat _ _ _ _ c.widen.result c.requires.sources c.number-number.ensures.value c.count.ensures.value c.unwrap_or-sources_own.ensures c.unwrap_or-start.ensures in
     let wide = wide_are counts seat _ _ _ _ c.widen.result c.requires.sources c.number-number.ensures.value c.count.ensures.value c.unwrap_or-sources_own.ensures c.unwrap_or-start.ensures c.widen.ensures.has c.widen.ensures.wide in
-    let fits = sources_fit counts seat _ _ _ _ c.widen.result c.requires.sources c.number-number.ensures.value c.count.ensures.value c.unwrap_or-sources_own.ensures c.unwrap_or-start.ensures c.count.ensures.in_limit c.widen.ensures.in_limit in
-        (
+    let fits = sources_fit counts seat _ _ _ _ c.widen.result c.requires.sources c.number-number.ensures.value c.count.ensures.value c.unwrap_or-sources_own.ensures c.unwrap_or-start.ensures c.count.ensures.in_limit c.widen.ensures.in_limit in (
       new_kept made _ _ c.requires.owned c.requires.collected c.in-Ok.ensures
           (ap (λ (t : TraceView). t.items) c.in-Ok-with_room.ensures) sources wide fits,
       rw c.in-Ok-with_room.ensures (omega arith),
@@ -33,4 +32,4 @@ returns-clause-ok c =
     let out : c.in-Ok.out.items ≡ none = c.in-Ok.ensures ∙ ap (λ (n : ℕ). replicate n None) sources in
     let empty : List Entry = [] in
     same_state seat seat c.in-Ok.out.items none c.in-Ok-with_room.trace.items empty c.args.limit c.args.limit refl out
-        (ap (λ (t : TraceView). t.items) c.in-Ok-with_room.ensures) refl
+    (ap (λ (t : TraceView). t.items) c.in-Ok-with_room.ensures) refl

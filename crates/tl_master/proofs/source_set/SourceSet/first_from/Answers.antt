@@ -18,5 +18,5 @@ pub returns-clause-none : goal.returns-clause-none
 returns-clause-none c = λ source after. ⊎_elim
     (λ (inside : source < c.loop-start.start). c.loop-start.invariant.none source after inside)
     (λ (past : c.loop-start.start ≤ source). beyond_words c.args.self.now.words source (search rules)
-        (let end = c.loop-start-test.false in omega arith))
+    (let end = c.loop-start-test.false in omega arith))
     (cases_lt source c.loop-start.start)

@@ -21,7 +21,7 @@ join-requires-send-F g c κs within =
     let name = types.name-29 g.row.R g.R.laws g.R.Threads-dict g.R.Wait-dict in
     let captured = types.of-16 g.row.R g.R.laws g.R.Threads-dict g.R.Wait-dict
     (record { mir = named 6; lft = κs.1.1.1.1.1.1.0 }) (record { mir = named 7; lft = κs.1.1.1.1.1.1.1.0 })
-        (record { mir = named 8; lft = κs.1.1.1.1.1.1.1.1.0 }) in
+    (record { mir = named 8; lft = κs.1.1.1.1.1.1.1.1.0 }) in
     let all : AllSend (shape (type_at name captured)).fields = (
       shr_send _ _ Arena.the_row arena.the_sync,
       (
@@ -39,6 +39,6 @@ join-requires-send-A g c κs within =
     let name = types.name-1 g.row.R g.R.laws g.R.Threads-dict g.R.Wait-dict in
     let given = types.of-8 g.row.R g.R.laws g.R.Threads-dict g.R.Wait-dict in
     let slots : IsSend (types.of-4 g.row.R g.R.laws g.R.Threads-dict g.R.Wait-dict) =
-        search (sendable, crosses) depth 20 in
+    search (sendable, crosses) depth 20 in
     let all : AllSend (shape (type_at name given)).fields = (master_send, (slots, tt)) in
     param_send 3 _ (arg_send _ no _ (tuple_send name given all))

@@ -11,14 +11,14 @@ pub returns : goal.returns
 returns c = λ place count.
     let port = c.index_mut.result.now in
     let at = state_at c.self.inside.ports.items c.self.inside.ports.len c.args.port port (search rules)
-        (holds_within c.self.inside.ports.items c.self.inside.ports.len c.args.port _ (search rules)
-        (rw (← c.self.view_is) at c.requires.counted)) c.index_mut.ensures.value in
+    (holds_within c.self.inside.ports.items c.self.inside.ports.len c.args.port _ (search rules)
+    (rw (← c.self.view_is) at c.requires.counted)) c.index_mut.ensures.value in
     let few = rw (at) at (rw (← c.self.view_is) at c.requires.counted) in
     let new = c.serve_into-place.new.self in
     let bank : new.bank ≡ after port.bank c.args.ask.now =
-        ap (λ (s : CountedBank). s.bank) c.serve_into-place.ensures.after in
+    ap (λ (s : CountedBank). s.bank) c.serve_into-place.ensures.after in
     let served : new.served ≡ port.served + 1 =
-        ap (λ (s : CountedBank). s.served) c.serve_into-place.ensures.after ∙ omega (arith, few) in
+    ap (λ (s : CountedBank). s.served) c.serve_into-place.ensures.after ∙ omega (arith, few) in
     let ports = served_at c.self.inside.ports.items c.args.port c.args.ask.now port new bank served in
     rw (← c.self.view_is) (record {
       port = state_of port;
@@ -26,6 +26,9 @@ returns c = λ place count.
       at = at;
       reply = c.serve_into-place.ensures.reply;
       place = rw (at) at (rw (← c.self.view_is) at count);
-      is = ap (λ (states : List PortState). record { ranges = c.self.inside.ranges; counts = c.self.inside.sources;
-          ports = states }) ports;
+      is = ap (λ (states : List PortState). record {
+        ranges = c.self.inside.ranges;
+        counts = c.self.inside.sources;
+        ports = states;
+      }) ports;
     })

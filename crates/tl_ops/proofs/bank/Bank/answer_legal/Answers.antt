@@ -10,10 +10,10 @@ tell-requires-clause-fits c =
     let legal_here : legal c.args.self.now ask ≡ true = c.requires in
     let stands = StandsIn-from_legal c.args.self.now ask legal_here in
     let from : c.self.inside.base ≤ ask.address =
-        omega (arith, stands.from, ap (λ (s : Store). s.base) c.self.view_is) in
+    omega (arith, stands.from, ap (λ (s : Store). s.base) c.self.view_is) in
     rw (c.first_lane.ensures, c.address.ensures)
-        (FitsWords-from_aligned c.self.inside.base ask.address ask.size
-        (small_from_legal c.args.self.now ask legal_here) from stands.aligned)
+    (FitsWords-from_aligned c.self.inside.base ask.address ask.size
+    (small_from_legal c.args.self.now ask legal_here) from stands.aligned)
 
 pub returns-then-carries_bytes : goal.returns-then-carries_bytes
 returns-then-carries_bytes c =
@@ -23,10 +23,10 @@ returns-then-carries_bytes c =
     let start = inside.base % 8 + (ask.address - inside.base) in
     let made = rw (c.first_lane.ensures, c.address.ensures) at c.tell.ensures in
     let window_is = window_read inside.kind inside.base inside.len inside.lanes ask c.self.invariant
-        (ap (λ (s : Store). legal s ask) c.self.view_is ∙ legal_here) in
+    (ap (λ (s : Store). legal s ask) c.self.view_is ∙ legal_here) in
     let carries : reply_carries_bytes (reply_op_of ask.op) ≡ true =
-        rw (← c.op.ensures, ← c.reply_op.ensures, ← c.carries_bytes.ensures) c.if-carries_bytes.true in
+    rw (← c.op.ensures, ← c.reply_op.ensures, ← c.carries_bytes.ensures) c.if-carries_bytes.true in
     let shows : window c.args.self.now ask ≡ shown (reply_op_of ask.op) (window c.args.self.now ask) =
-        rw carries refl in
+    rw carries refl in
     answered c.args.self.now ask c.tell.new.answer (take (2 ^ ask.size) (drop start inside.lanes)) legal_here made
-        (window_is ∙ ap (λ (s : Store). window s ask) c.self.view_is ∙ shows)
+    (window_is ∙ ap (λ (s : Store). window s ask) c.self.view_is ∙ shows)

@@ -16,10 +16,10 @@ loop-k-preserved c =
     let one : length bytes - k + spare ≡ suc rest = omega arith in
     let zeros = replicate {A = ℕ} c.args.lead 0 in
     let lanes : c.loop-k.lanes ≡ zeros ++ (take k bytes ++ (0 ∷ replicate rest 0)) =
-        c.loop-k.invariant ∙ ap (λ n. zeros ++ (take k bytes ++ replicate n 0)) one in
+    c.loop-k.invariant ∙ ap (λ n. zeros ++ (take k bytes ++ replicate n 0)) one in
     let long : length (zeros ++ take k bytes) ≡ place =
-        length-append zeros (take k bytes) ∙ omega
-        (arith, length-replicate {A = ℕ} c.args.lead 0, length-take-le k bytes (omega arith)) in
+    length-append zeros (take k bytes) ∙ omega
+    (arith, length-replicate {A = ℕ} c.args.lead 0, length-take-le k bytes (omega arith)) in
     let more : take (k + 1) bytes ≡ take k bytes ++ byte ∷ [] = take_more bytes k 0 (omega arith) in
     c.put_byte.ensures
     ∙ ap (λ l. with_window l place (byte ∷ [])) lanes

@@ -7,11 +7,16 @@ loop-k-preserved c =
     let start = c.args.start in
     let done = 8 * c.loop-k.k in
     let place : 8 * (start / 8 + c.loop-k.k) ≡ start + done =
-        omega (arith, c.requires.fits.whole_start
-        (omega (arith, c.if-width-lt-WORD_BYTES.false, c.len-width.ensures.value))) in
+    omega (
+      arith,
+      c.requires.fits.whole_start
+          (omega (arith, c.if-width-lt-WORD_BYTES.false, c.len-width.ensures.value)),
+    ) in
     let more : 8 * (c.loop-k.k + 1) ≡ done + 8 = omega arith in
     let enough : done + 8 ≤ length c.args.given.now = omega arith in
     let grown = window_grows c.args.self.now start done 8 c.args.given.now
-        (omega (arith, enough, c.requires.inside)) enough in
-    (c.put_word.ensures.after ∙ rw (place, more, c.loop-k.invariant.0) grown, c.put_word.ensures.len
-        ∙ c.loop-k.invariant.1)
+    (omega (arith, enough, c.requires.inside)) enough in (
+      c.put_word.ensures.after ∙ rw (place, more, c.loop-k.invariant.0) grown,
+      c.put_word.ensures.len
+          ∙ c.loop-k.invariant.1,
+    )

@@ -7,5 +7,5 @@ use Rattle.tl_ops.proofs.lanes.Lanes.put.Given as goal
 abbrev pub invariant-loop-k : goal.invariant-loop-k
 invariant-loop-k l =
     (l.self ≡ with_window l.initial.self l.start
-        (merged (take (8 * l.k) (drop l.start l.initial.self)) (take (8 * l.k) l.given)))
+    (merged (take (8 * l.k) (drop l.start l.initial.self)) (take (8 * l.k) l.given)))
     × (length l.self ≡ length l.initial.self)

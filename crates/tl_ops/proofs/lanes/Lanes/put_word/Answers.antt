@@ -35,11 +35,11 @@ bytes_are_new c =
     let wide = full c.args.given.now c.args.k c.requires.width in
     let within : c.args.i < length words = omega (arith, length-lanes_of words, ap length c.self.view_is) in
     let word : c.index-word.result.now ≡ get_or words c.args.i 0 =
-        get_or_read words c.args.i c.index-word.result.now within c.index-word.ensures 0 in
+    get_or_read words c.args.i c.index-word.result.now within c.index-word.ensures 0 in
     let old : low_bytes 8 c.index-word.result.now ≡ take 8 (drop (8 * c.args.i) c.args.self.now) =
-        rw (word, ← c.self.view_is) (word_read words c.args.i within) in
+    rw (word, ← c.self.view_is) (word_read words c.args.i within) in
     let width : low_bytes 8 c.new_cell.result ≡ low_bytes (length part) c.new_cell.result =
-        ap (λ n. low_bytes n c.new_cell.result) (sym wide) in
+    ap (λ n. low_bytes n c.new_cell.result) (sym wide) in
     let made = ap (λ n. merged (low_bytes n c.index-word.result.now) part) wide in
     width ∙ c.new_cell.ensures.bytes ∙ made ∙ ap (λ bytes. merged bytes part) old
 
@@ -49,9 +49,9 @@ returns-clause-after c =
     let part = word_of c.args.given.now c.args.k in
     let within : c.args.i < length words = omega (arith, length-lanes_of words, ap length c.self.view_is) in
     word_written words c.args.i c.new_cell.result within
-        ∙ ap (λ bytes. with_window (lanes_of words) (8 * c.args.i) bytes) (bytes_are_new c)
-        ∙ ap (λ lanes. with_window lanes (8 * c.args.i)
-        (merged (take 8 (drop (8 * c.args.i) c.args.self.now)) part)) c.self.view_is
+    ∙ ap (λ bytes. with_window (lanes_of words) (8 * c.args.i) bytes) (bytes_are_new c)
+    ∙ ap (λ lanes. with_window lanes (8 * c.args.i)
+    (merged (take 8 (drop (8 * c.args.i) c.args.self.now)) part)) c.self.view_is
 
 pub returns-clause-len : goal.returns-clause-len
 returns-clause-len c =
@@ -59,4 +59,4 @@ returns-clause-len c =
     let new = merged (take 8 (drop (8 * c.args.i) now)) (word_of c.args.given.now c.args.k) in
     let wide : length new ≡ 8 = ap length (sym (bytes_are_new c)) ∙ length-low_bytes 8 c.new_cell.result in
     ap length (returns-clause-after c) ∙ length-with_window now (8 * c.args.i) new
-        (omega (arith, wide, c.requires.inside))
+    (omega (arith, wide, c.requires.inside))

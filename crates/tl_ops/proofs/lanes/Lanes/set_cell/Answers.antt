@@ -26,12 +26,12 @@ returns-clause-after c =
     let cell = c.args.cell in
     let within : place < length words = omega (arith, length-lanes_of words, ap length c.self.view_is) in
     let word : c.index-word.result.now ≡ get_or words place 0 =
-        get_or_read words place c.index-word.result.now within c.index-word.ensures 0 in
+    get_or_read words place c.index-word.result.now within c.index-word.ensures 0 in
     let made : c.with_cell.result ≡ with_cell (get_or words place 0) lane width cell =
-        c.with_cell.ensures ∙ ap (λ w. with_cell w lane width cell) word in
+    c.with_cell.ensures ∙ ap (λ w. with_cell w lane width cell) word in
     let written = cell_written words c.args.start width cell within c.requires.in_word c.requires.fits in
     ap (λ w. lanes_of (set words place w)) made ∙ written
-        ∙ ap (λ lanes. with_window lanes c.args.start (low_bytes width cell)) c.self.view_is
+    ∙ ap (λ lanes. with_window lanes c.args.start (low_bytes width cell)) c.self.view_is
 
 pub returns-clause-len : goal.returns-clause-len
 returns-clause-len c =
@@ -39,4 +39,4 @@ returns-clause-len c =
     let new = low_bytes c.args.width c.args.cell in
     let wide : length new ≡ c.args.width = length-low_bytes c.args.width c.args.cell in
     ap length (returns-clause-after c) ∙ length-with_window now c.args.start new
-        (omega (arith, wide, c.requires.inside))
+    (omega (arith, wide, c.requires.inside))

@@ -13,8 +13,10 @@ only given lane in_word = word_of-only given (omega (arith, in_word))
 
 pub new_cell-requires-clause-old : goal.new_cell-requires-clause-old
 new_cell-requires-clause-old c =
-    rw (only c.args.given.now (c.args.start % 8) c.requires.in_word,
-        ← c.len-width.ensures.value) c.cell-old.ensures.fits
+    rw (
+      only c.args.given.now (c.args.start % 8) c.requires.in_word,
+      ← c.len-width.ensures.value,
+    ) c.cell-old.ensures.fits
 
 pub set_cell-requires-clause-fits : goal.set_cell-requires-clause-fits
 set_cell-requires-clause-fits c =
@@ -31,9 +33,9 @@ returns-clause-after c =
     let given = c.args.given.now in
     let whole = only given (c.args.start % 8) c.requires.in_word in
     let made : low_bytes (length given) c.new_cell.result ≡ new_window Ram c.args.op
-        (low_bytes (length given) c.cell-old.result) given = rw whole at c.new_cell.ensures.bytes in
+    (low_bytes (length given) c.cell-old.result) given = rw whole at c.new_cell.ensures.bytes in
     let old : low_bytes (length given) c.cell-old.result ≡ take (length given) (drop c.args.start now) =
-        rw c.len-width.ensures.value at c.cell-old.ensures.bytes in
+    rw c.len-width.ensures.value at c.cell-old.ensures.bytes in
     let bytes = ap (λ n. low_bytes n c.new_cell.result) c.len-width.ensures.value ∙ made
-        ∙ ap (λ was. new_window Ram c.args.op was given) old in
+    ∙ ap (λ was. new_window Ram c.args.op was given) old in
     c.set_cell.ensures.after ∙ ap (λ new. with_window now c.args.start new) bytes

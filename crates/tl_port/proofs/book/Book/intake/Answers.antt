@@ -15,12 +15,20 @@ invariant_of-self c =
 
 pub invariant_of-self-2 : goal.invariant_of-self-2
 invariant_of-self-2 c =
-    let old : BookView = record { seat = c.self.inside.seat; store = c.self.inside.bank;
-        history = c.self.inside.history.items; flights = c.self.inside.flights.items;
-        journal = c.self.inside.journal } in
-    let new : BookView = record { seat = c.take_posted.new.seat; store = c.self.inside.bank;
-        history = c.self.inside.history.items; flights = c.take_posted.new.flights.items;
-        journal = c.self.inside.journal } in
+    let old : BookView = record {
+      seat = c.self.inside.seat;
+      store = c.self.inside.bank;
+      history = c.self.inside.history.items;
+      flights = c.self.inside.flights.items;
+      journal = c.self.inside.journal;
+    } in
+    let new : BookView = record {
+      seat = c.take_posted.new.seat;
+      store = c.self.inside.bank;
+      history = c.self.inside.history.items;
+      flights = c.take_posted.new.flights.items;
+      journal = c.self.inside.journal;
+    } in
     let one = c.in-Some.ensures.some in
     let seat = one.seat in
     let pushed = one.pushed in

@@ -16,7 +16,7 @@ on_err (Err e) P holds = holds
 pub returns-in_err-push-clause-err : goal.returns-in_err-push-clause-err
 returns-in_err-push-clause-err c =
     let takes : Takes c.self.inside.pools c.match-spelled.self-inside.pools c.match-spelled.header
-        (job_of c.args.spelled c.args.bytes.now) = elim c.match-spelled.branch [
+    (job_of c.args.spelled c.args.bytes.now) = elim c.match-spelled.branch [
       | in-Wait w ↦ rw (w.self-inside-is, w.header-is, w.in-Wait.is) (takes_wait c.self.inside.pools)
       | in-Send+in_ok-keep-in-Send w ↦
           let lawful = rw w.in-Send.is at c.requires in
@@ -24,16 +24,16 @@ returns-in_err-push-clause-err c =
           (takes_send w.in-Send.op w.in-Send.size w.in-Send.source w.in-Send.address c.args.bytes.now c.self.inside.pools w.keep.new.self w.in_ok-keep-in-Send.field-0 lawful w.in_ok-keep-in-Send.ensures.ok)
     ] in
     let same : c.match-spelled.self-inside.headers.items ≡ c.self.inside.headers.items =
-        elim c.match-spelled.branch [ in-Wait w ↦ rw w.self-inside-is refl | in-Send+in_ok-keep-in-Send w ↦ rw w.self-inside-is refl ] in
+    elim c.match-spelled.branch [ in-Wait w ↦ rw w.self-inside-is refl | in-Send+in_ok-keep-in-Send w ↦ rw w.self-inside-is refl ] in
     on_err c.from_residual-in_err-push.result _
     (ap (map (job_in c.match-spelled.self-inside.pools)) (c.in_err-push.ensures.items ∙ same)
     ∙ jobs_in-grow c.self.inside.headers.items c.self.inside.pools c.match-spelled.self-inside.pools takes.grow c.self.invariant
-        ∙ c.self.view_is)
+    ∙ c.self.view_is)
 
 pub invariant_of-self-2 : goal.invariant_of-self-2
 invariant_of-self-2 c =
     let takes : Takes c.self.inside.pools c.match-spelled.self-inside.pools c.match-spelled.header
-        (job_of c.args.spelled c.args.bytes.now) = elim c.match-spelled.branch [
+    (job_of c.args.spelled c.args.bytes.now) = elim c.match-spelled.branch [
       | in-Wait w ↦ rw (w.self-inside-is, w.header-is, w.in-Wait.is) (takes_wait c.self.inside.pools)
       | in-Send+in_ok-keep-in-Send w ↦
           let lawful = rw w.in-Send.is at c.requires in
@@ -41,14 +41,14 @@ invariant_of-self-2 c =
           (takes_send w.in-Send.op w.in-Send.size w.in-Send.source w.in-Send.address c.args.bytes.now c.self.inside.pools w.keep.new.self w.in_ok-keep-in-Send.field-0 lawful w.in_ok-keep-in-Send.ensures.ok)
     ] in
     let same : c.match-spelled.self-inside.headers.items ≡ c.self.inside.headers.items =
-        elim c.match-spelled.branch [ in-Wait w ↦ rw w.self-inside-is refl | in-Send+in_ok-keep-in-Send w ↦ rw w.self-inside-is refl ] in
+    elim c.match-spelled.branch [ in-Wait w ↦ rw w.self-inside-is refl | in-Send+in_ok-keep-in-Send w ↦ rw w.self-inside-is refl ] in
     rw (c.in_ok-push.ensures.items, same) (pushed_in c.self.inside.headers.items c.match-spelled.header
-        (job_of c.args.spelled c.args.bytes.now) c.self.inside.pools c.match-spelled.self-inside.pools takes c.self.invariant)
+    (job_of c.args.spelled c.args.bytes.now) c.self.inside.pools c.match-spelled.self-inside.pools takes c.self.invariant)
 
 pub returns-clause-ok : goal.returns-clause-ok
 returns-clause-ok c =
     let takes : Takes c.self.inside.pools c.match-spelled.self-inside.pools c.match-spelled.header
-        (job_of c.args.spelled c.args.bytes.now) = elim c.match-spelled.branch [
+    (job_of c.args.spelled c.args.bytes.now) = elim c.match-spelled.branch [
       | in-Wait w ↦ rw (w.self-inside-is, w.header-is, w.in-Wait.is) (takes_wait c.self.inside.pools)
       | in-Send+in_ok-keep-in-Send w ↦
           let lawful = rw w.in-Send.is at c.requires in
@@ -56,10 +56,10 @@ returns-clause-ok c =
           (takes_send w.in-Send.op w.in-Send.size w.in-Send.source w.in-Send.address c.args.bytes.now c.self.inside.pools w.keep.new.self w.in_ok-keep-in-Send.field-0 lawful w.in_ok-keep-in-Send.ensures.ok)
     ] in
     let same : c.match-spelled.self-inside.headers.items ≡ c.self.inside.headers.items =
-        elim c.match-spelled.branch [ in-Wait w ↦ rw w.self-inside-is refl | in-Send+in_ok-keep-in-Send w ↦ rw w.self-inside-is refl ] in
+    elim c.match-spelled.branch [ in-Wait w ↦ rw w.self-inside-is refl | in-Send+in_ok-keep-in-Send w ↦ rw w.self-inside-is refl ] in
     let headers = c.self.inside.headers.items in
     ap (map (job_in c.match-spelled.self-inside.pools))
-        (c.in_ok-push.ensures.items ∙ ap (λ (hs : List Header). hs ++ c.match-spelled.header ∷ []) same)
+    (c.in_ok-push.ensures.items ∙ ap (λ (hs : List Header). hs ++ c.match-spelled.header ∷ []) same)
     ∙ pushed_jobs headers c.match-spelled.header
-        (job_of c.args.spelled c.args.bytes.now) c.self.inside.pools c.match-spelled.self-inside.pools takes c.self.invariant
-        ∙ ap (λ (jobs : List Job). jobs ++ (job_of c.args.spelled c.args.bytes.now) ∷ []) c.self.view_is
+    (job_of c.args.spelled c.args.bytes.now) c.self.inside.pools c.match-spelled.self-inside.pools takes c.self.invariant
+    ∙ ap (λ (jobs : List Job). jobs ++ (job_of c.args.spelled c.args.bytes.now) ∷ []) c.self.view_is

@@ -9,7 +9,7 @@ use Rattle.tl_script.proofs.operations.Operations.requests.Goals as goal
 pub returns : goal.returns
 returns c =
     count_from_yields_List c.filter.result _ c.count.ensures.ran
-        (YieldsList-from_filter _ is_send
-        (YieldsList-from_slice c.self.inside.headers.items (cc)) c.filter.ensures.closure
-        (λ x r q k. search (rules, tests)))
+    (YieldsList-from_filter _ is_send
+    (YieldsList-from_slice c.self.inside.headers.items (cc)) c.filter.ensures.closure
+    (λ x r q k. search (rules, tests)))
     ∙ count_of_sends c.self.inside.pools c.self.inside.headers.items ∙ ap (λ jobs. length (sends jobs)) c.self.view_is

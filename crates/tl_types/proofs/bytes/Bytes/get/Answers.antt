@@ -23,9 +23,9 @@ returns-then-self-place-eq1 c =
     let seen = ap length c.self.view_is in
     let within : c.args.place < length c.self.inside.plain.items = omega (arith, long, seen) in
     let read : slice_index c.deref.result.now c.args.place ≡ slice_index c.self.inside.plain.items c.args.place =
-        ap (λ xs. slice_index xs c.args.place) c.deref.ensures.0 in
+    ap (λ xs. slice_index xs c.args.place) c.deref.ensures.0 in
     rw (← c.self.view_is, read) (given_at c.self.inside.plain.items c.self.inside.masks c.args.place within
-        (tested_bit c.self.inside.masks c.args.place c.if-self-place-eq1.true))
+    (tested_bit c.self.inside.masks c.args.place c.if-self-place-eq1.true))
 
 pub returns-else-self-place-eq1 : goal.returns-else-self-place-eq1
 returns-else-self-place-eq1 c =
@@ -33,4 +33,4 @@ returns-else-self-place-eq1 c =
     let seen = ap length c.self.view_is in
     let within : c.args.place < length c.self.inside.plain.items = omega (arith, long, seen) in
     rw (← c.self.view_is) (unset_at c.self.inside.plain.items c.self.inside.masks c.args.place within
-        (tested_clear c.self.inside.masks c.args.place c.if-self-place-eq1.false))
+    (tested_clear c.self.inside.masks c.args.place c.if-self-place-eq1.false))

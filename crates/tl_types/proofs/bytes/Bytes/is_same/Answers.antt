@@ -12,12 +12,11 @@ returns-then-eq c =
     let one = c.self.inside in
     let other = c.other.inside in
     let masks : one.masks ≡ other.masks = same_text one.masks other.masks (sym c.if-eq.true ∙ c.eq.ensures) in
-    let told = slice_eq-Decides Decides-eqb c.as_slice.result.now c.as_slice-then-eq.result.now c.eq-then-eq.result c.eq-then-eq.ensures in
-        (
+    let told = slice_eq-Decides Decides-eqb c.as_slice.result.now c.as_slice-then-eq.result.now c.eq-then-eq.result c.eq-then-eq.ensures in (
       λ yes. let plain : one.plain.items ≡ other.plain.items =
           sym c.as_slice.ensures.value ∙ told.0 yes ∙ c.as_slice-then-eq.ensures.value in
           sym c.self.view_is ∙ ap (λ bytes. given_in (bit_in one.masks) bytes) plain
-              ∙ ap (λ ms. given_in (bit_in ms) other.plain.items) masks ∙ c.other.view_is,
+          ∙ ap (λ ms. given_in (bit_in ms) other.plain.items) masks ∙ c.other.view_is,
       λ same. told.1 (c.as_slice.ensures.value
           ∙ same_plain one.plain.items one.masks other.plain.items other.masks c.self.invariant c.other.invariant
           (c.self.view_is ∙ same ∙ sym c.other.view_is) ∙ sym c.as_slice-then-eq.ensures.value),

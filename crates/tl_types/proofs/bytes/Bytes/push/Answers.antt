@@ -35,7 +35,7 @@ invariant_of-self c =
     let seen = ap length c.self.view_is in
     let within : length plain / 8 < length masks = omega (arith, long, seen, c.self.invariant.counted) in
     rw (c.push.ensures.items, c.len-place.ensures.value)
-        (appends_given plain masks c.in-Some.byte c.self.invariant within).kept
+    (appends_given plain masks c.in-Some.byte c.self.invariant within).kept
 
 pub returns-in-Some : goal.returns-in-Some
 returns-in-Some c =
@@ -45,7 +45,7 @@ returns-in-Some c =
     let seen = ap length c.self.view_is in
     let within : length plain / 8 < length masks = omega (arith, long, seen, c.self.invariant.counted) in
     rw (c.push.ensures.items, c.len-place.ensures.value, c.in-Some.is, ← c.self.view_is)
-        (seen_given plain masks c.in-Some.byte c.self.invariant within)
+    (seen_given plain masks c.in-Some.byte c.self.invariant within)
 
 pub returns-in-None : goal.returns-in-None
 returns-in-None c =

@@ -26,7 +26,7 @@ invariant_of-self c =
     let aligned : length plain % 8 ≡ 0 = omega (arith, long, seen) in
     let items : c.try_extend_from_slice.new.self.items ≡ plain ++ c.args.bytes.now = search rules in
     rw (items, c.len-word.ensures.value)
-        (appends_word plain masks c.args.bytes.now c.self.invariant within aligned c.requires.in_word).kept
+    (appends_word plain masks c.args.bytes.now c.self.invariant within aligned c.requires.in_word).kept
 
 pub returns : goal.returns
 returns c =
@@ -38,4 +38,4 @@ returns c =
     let aligned : length plain % 8 ≡ 0 = omega (arith, long, seen) in
     let items : c.try_extend_from_slice.new.self.items ≡ plain ++ c.args.bytes.now = search rules in
     rw (items, c.len-word.ensures.value, ← c.self.view_is)
-        (seen_word plain masks c.args.bytes.now c.self.invariant within aligned c.requires.in_word)
+    (seen_word plain masks c.args.bytes.now c.self.invariant within aligned c.requires.in_word)

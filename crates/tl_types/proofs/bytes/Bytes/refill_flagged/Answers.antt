@@ -14,7 +14,7 @@ items_are c =
     let plain = c.args.plain.now in
     let items = c.refill_room.ensures in
     let cleared : c.clear_unset.new.bytes ≡ plain_of (given_in flags plain) =
-        c.clear_unset.ensures ∙ ap (λ bytes. plain_of (given_in flags bytes)) (c.as_mut_slice.ensures.value ∙ items) in
+    c.clear_unset.ensures ∙ ap (λ bytes. plain_of (given_in flags bytes)) (c.as_mut_slice.ensures.value ∙ items) in
     rw (items, cleared) (take_at (plain_of (given_in flags plain)) _ (length plain) (length-cleared flags plain))
 
 pub invariant_of-self : goal.invariant_of-self
@@ -28,4 +28,4 @@ returns c =
     let plain = c.args.plain.now in
     let masks = c.put_flagged_masks in
     rw (items_are c) (seen_flagged _ (slice_index flags) plain
-        (front_bits plain masks.new.masks flags masks.ensures.bits))
+    (front_bits plain masks.new.masks flags masks.ensures.bits))

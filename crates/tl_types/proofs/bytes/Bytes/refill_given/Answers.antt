@@ -5,7 +5,7 @@ pub invariant_of-self : goal.invariant_of-self
 invariant_of-self c =
     let masks = c.put_given_masks in
     rw c.refill_room.ensures
-        (kept_first c.args.plain.now masks.new.masks masks.ensures.counted masks.ensures.small masks.ensures.given masks.ensures.past)
+    (kept_first c.args.plain.now masks.new.masks masks.ensures.counted masks.ensures.small masks.ensures.given masks.ensures.past)
 
 pub returns : goal.returns
 returns c =

@@ -7,4 +7,4 @@ use Rattle.tlx.proofs.engine.threads.push_histories.Given as goal
 abbrev pub invariant-loop-port : goal.invariant-loop-port
 invariant-loop-port l =
     l.text.items ++ histories_from l.port (histories_of (drop l.port l.books)) ≡ l.initial.text.items
-        ++ histories_text (histories_of l.books)
+    ++ histories_text (histories_of l.books)

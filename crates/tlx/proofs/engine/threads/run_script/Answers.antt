@@ -11,7 +11,7 @@ returns-in_err-write_all-clause-answered g c =
     let front = c.in_err-write_all.ensures.front in
     let run = c.in_ok-run.run' in
     let agrees : Agrees c.sources.result.now (entries_in c.deref.result.now) (histories_of c.deref-2.result.now) =
-        c.in_ok-audit.ensures.ok in
+    c.in_ok-audit.ensures.ok in
     record {
       ok = search rules;
       script = search rules;

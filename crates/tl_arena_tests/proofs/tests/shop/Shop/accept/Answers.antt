@@ -10,9 +10,11 @@ served_now : (u v : PortView) (slot : ℕ) (result : Option (ℕ × Request))
     → IfSome result (λ a. (a.0 ≡ slot) × (ask_at u.serving slot ≡ None) × (v ≡ with_accepted u a))
     → IfSome result (λ a. (a.0 ≡ slot) × (ask_at v.serving slot ≡ Some a.1))
 served_now u v slot None h = h
-served_now u v slot (Some a) h =
-    (h.0, ap (λ (x : PortView). ask_at x.serving slot) h.2
-    ∙ ap (λ (k : ℕ). ask_at (with_accepted u (k, a.1)).serving slot) h.0 ∙ push_here u.serving slot a.1 h.1)
+served_now u v slot (Some a) h = (
+  h.0,
+  ap (λ (x : PortView). ask_at x.serving slot) h.2
+      ∙ ap (λ (k : ℕ). ask_at (with_accepted u (k, a.1)).serving slot) h.0 ∙ push_here u.serving slot a.1 h.1,
+)
 
 pub returns-clause-some : goal.returns-clause-some
 returns-clause-some c =

@@ -15,11 +15,11 @@ served_memory : (u : PortView) (f : ℕ × Request) (reply : Response)
 served_memory u f reply =
     let reset = reset_of u.arena.about u.number in
     ap (λ asks. replay reset asks) (map-append (λ (e : Request × Response). e.0) u.list ((f.1, reply) ∷ []))
-        ∙ replay-append reset (asks_of u.list) f.1
+    ∙ replay-append reset (asks_of u.list) f.1
 
 pub invariant_of-self-clause-true_memory : goal.invariant_of-self-clause-true_memory
 invariant_of-self-clause-true_memory c =
     let s = c.args.self.now in
     let f = c.args.accepted in
     c.serve-reply.ensures.after ∙ (λ k. after (s.true_memory k) (c.read_ask.ensures k))
-        ∙ sym (served_memory s.seat f c.serve-reply.result) ∙ ap memory_of (sym c.answer.ensures.seat)
+    ∙ sym (served_memory s.seat f c.serve-reply.result) ∙ ap memory_of (sym c.answer.ensures.seat)

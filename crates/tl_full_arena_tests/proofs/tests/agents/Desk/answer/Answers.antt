@@ -32,5 +32,5 @@ invariant_of-self-2 c =
           ∙ sym (served_memory s.seat f c.serve-reply.result) ∙ ap memory_of (sym c.answer.ensures.seat);
       serving = sym (ap (λ (u : PortView). u.serving) c.answer.ensures.seat
           ∙ ap (drop_slot f.0) (sym s.serving ∙ c.in_ok-accepted.ensures.items)
-              ∙ drop_first f c.pop_front.new.self.items);
+          ∙ drop_first f c.pop_front.new.self.items);
     }
