@@ -89,6 +89,27 @@ impl Pattern {
         self.cells.fill(false, count);
     }
 
+    /// Its opcode.
+    pub fn op(&self) -> ReplyOp
+        ensures { result ≡ self.now.op }
+    {
+        self.op
+    }
+
+    /// Its size, as the base-2 logarithm of a number of bytes.
+    pub fn size(&self) -> u8
+        ensures { result ≡ self.now.size }
+    {
+        self.size
+    }
+
+    /// Its source.
+    pub fn source(&self) -> u16
+        ensures { result ≡ self.now.source }
+    {
+        self.source
+    }
+
     /// Whether it is denied, if that is known.
     pub fn denied(&self) -> Option<bool>
         ensures { result ≡ self.now.denied }
