@@ -1,13 +1,13 @@
 //! The bytes of a message, of which some may be unknown.
-ghost use Rattle.std.specs.Prelude.{◌≡◌, ◌↔◌, ℕ, ◌+◌, ◌*◌, ◌^◌, ◌<◌, ◌≤◌, ◌++◌, ◌∷◌, [], length, slice_get, Some, IsTrue, replicate};
+ghost use Rattle.std.specs.Prelude.{◌≡◌, ◌↔◌, ℕ, ◌+◌, ◌*◌, ◌%◌, ◌^◌, ◌<◌, ◌≤◌, ◌++◌, ◌∷◌, [], length, take, drop, slice_get, Some, IfSome, IsTrue, replicate};
 ghost use Rattle.std.specs.Int.{bit_at};
 ghost use Rattle.tl_types.specs.Bytes.{bit_in, given_in};
 ghost use Rattle.tl_ops.specs.Number.{low_bytes};
 ghost use Rattle.tl_ops.specs.Cell.{lanes_of};
-ghost use Rattle.check_memory.specs.Known.{IsBelow};
+ghost use Rattle.check_memory.specs.Known.{IsBelow, IsKeptIn, known};
 ghost use Rattle.check_memory.specs.Place.{fill_of, known_bit};
 
-use crate::masks::{known_cell, mark_cell};
+use crate::masks::{known_cell, mark_cell, ones};
 use std::marker::Model;
 use tl_ops::cell::{cell_of, with_cell};
 use tl_types::{MAX_BYTES, WORD_BYTES};
@@ -133,18 +133,62 @@ impl Cells {
     }
 
     /// Whether each byte that is known here is known there, and is the same.
+    // word by word, and then what is left of one
     pub fn is_below(&self, other: &Cells) -> bool
         ensures { IsTrue result ↔ IsBelow self.now other.now }
     {
-        if self.len() != other.len() {
+        let len = self.len();
+        if len != other.len() {
             return false;
         }
-        for place in 0..self.len() {
+        let words = len / WORD_BYTES;
+        for word in 0..words {
+            if !self.is_part_below(other, WORD_BYTES * word, WORD_BYTES) {
+                return false;
+            }
+        }
+        let rest = len % WORD_BYTES;
+        rest == 0 || self.is_part_below(other, WORD_BYTES * words, rest)
+    }
+
+    /// The same of so many bytes of one word, from a place on.
+    fn is_part_below(&self, other: &Cells, start: usize, width: usize) -> bool
+        requires some { 0 < width }
+        requires in_word { start % WORD_BYTES + width ≤ WORD_BYTES }
+        requires inside { start + width ≤ length self.now }
+        requires paired { length other.now ≡ length self.now }
+        requires limit { start ≤ MAX_BYTES }
+        ensures { IsTrue result ↔ IsKeptIn self.now other.now start (start + width) }
+    {
+        if let (Some(less), Some(more)) = (
+            self.known_part(start, width),
+            other.known_part(start, width),
+        ) {
+            return less == more;
+        }
+        for place in start..start + width {
             if !is_kept(self.get(place), other.get(place)) {
                 return false;
             }
         }
         true
+    }
+
+    /// So many bytes of one word, from a place on, as one number, if all are known.
+    fn known_part(&self, start: usize, width: usize) -> Option<u64>
+        requires some { 0 < width }
+        requires in_word { start % WORD_BYTES + width ≤ WORD_BYTES }
+        requires inside { start + width ≤ length self.now }
+        ensures value { IfSome result (λ part.
+            take width (drop start self.now) ≡ known (low_bytes width part)) }
+        ensures fits { IfSome result (λ part. part < 2 ^ (8 * width)) }
+    {
+        let mask = known_cell(&self.masks, start, width);
+        if mask == ones(width) {
+            Some(cell_of(self.words[start / WORD_BYTES], start % WORD_BYTES, width))
+        } else {
+            None
+        }
     }
 }
 

@@ -1,42 +1,35 @@
-use Rattle.std.proofs.Common.{◌≡◌, ◌∙◌, ℕ, ◌+◌, ◌<◌, List, get_or, slice_get, Bool, Option, Some, None, true, false, sym, ap, ⊎_elim, arith}
-use Rattle.std.proofs.lemmas.Bool.{cases_lt}
-use Rattle.std.proofs.lemmas.Option.{get_or_from_slice_get}
-use Rattle.check_memory.specs.Known.{IsBelow}
+use Rattle.std.proofs.Common.{◌≡◌, ℕ, ◌+◌, ◌*◌, ◌/◌, ◌%◌, length, refl, subst, arith, rules}
+use Rattle.check_memory.specs.Known.{IsKeptIn}
+use Rattle.check_memory.proofs.KeptParts.{kept_join, below_from_kept, kept_from_below}
 use Rattle.check_memory.proofs.cells.Cells.is_below.Goals as goal
 
--- a byte that is not kept is not below
-not_below : (less more : List (Option ℕ)) (place : ℕ) (a b : Option ℕ) → slice_get less place ≡ Some a
-    → slice_get more place ≡ Some b → (((byte : ℕ) → a ≡ Some byte → b ≡ Some byte) → ⊥) → IsBelow less more → ⊥
-not_below less more place a b here there lost below =
-    lost (λ byte is. sym (get_or_from_slice_get more place b None there)
-    ∙ below.kept place byte (get_or_from_slice_get less place a None here ∙ is))
+pub returns-then-rest-eq0 : goal.returns-then-rest-eq0
+returns-then-rest-eq0 c =
+    let less = c.args.self.now in
+    let more = c.args.other.now in
+    let all : 8 * c.loop-word.word ≡ length less =
+        omega (arith, c.len-len.ensures.value, c.loop-word-test.false, c.loop-word.auto.word-end, c.if-rest-eq0.true) in
+    let long : length more ≡ length less = omega (arith, c.len-len.ensures.value, c.len.ensures.value, c.if-len.false) in
+    let kept : IsKeptIn less more 0 (length less) =
+        subst (λ (n : ℕ). IsKeptIn less more 0 n) all c.loop-word.invariant in
+    (λ _. below_from_kept less more (length less) refl long kept, λ _. search rules)
 
--- a place more
-more_kept : (less more : List (Option ℕ)) (n : ℕ) (a b : Option ℕ) → slice_get less n ≡ Some a
-    → slice_get more n ≡ Some b → ((byte : ℕ) → a ≡ Some byte → b ≡ Some byte)
-    → ((place byte : ℕ) → place < n → get_or less place None ≡ Some byte → get_or more place None ≡ Some byte)
-    → (place byte : ℕ) → place < n + 1 → get_or less place None ≡ Some byte → get_or more place None ≡ Some byte
-more_kept less more n a b here there keeps before place byte below is =
-    ⊎_elim
-    (λ lower. before place byte lower is)
-    (λ from.
-    let at : n ≡ place = omega (arith, below, from) in
-    let was : a ≡ Some byte = sym (get_or_from_slice_get less n a None here) ∙ ap (λ k. get_or less k None) at ∙ is in
-    ap (λ k. get_or more k None) (sym at) ∙ get_or_from_slice_get more n b None there ∙ keeps byte was)
-    (cases_lt place n)
-
-differ : (b : Bool) → b ≡ false → b ≡ true → ⊥
-differ b is isnt = cc
-
-pub returns-then-not-is_kept : goal.returns-then-not-is_kept
-returns-then-not-is_kept c = (
-  λ yes. cc,
-  λ below. absurd (not_below c.args.self.now c.args.other.now c.loop-place.place c.get.result c.get-in-loop-place.result
-      c.get.ensures c.get-in-loop-place.ensures
-      (λ keeps. differ _ c.if-not-is_kept.true (c.is_kept.ensures.1 keeps)) below),
-)
-
-pub loop-place-preserved : goal.loop-place-preserved
-loop-place-preserved c =
-    more_kept c.args.self.now c.args.other.now c.loop-place.place c.get.result c.get-in-loop-place.result c.get.ensures
-    c.get-in-loop-place.ensures (c.is_kept.ensures.0 c.if-not-is_kept.false) c.loop-place.invariant
+pub returns-else-rest-eq0 : goal.returns-else-rest-eq0
+returns-else-rest-eq0 c =
+    let less = c.args.self.now in
+    let more = c.args.other.now in
+    let n = c.len-len.result in
+    let words = 8 * (n / 8) in
+    let front : 8 * c.loop-word.word ≡ words =
+        omega (arith, c.loop-word-test.false, c.loop-word.auto.word-end) in
+    let long : length more ≡ length less = omega (arith, c.len-len.ensures.value, c.len.ensures.value, c.if-len.false) in
+    let all : words + n % 8 ≡ length less = omega (arith, c.len-len.ensures.value) in
+    let kept : IsKeptIn less more 0 words =
+        subst (λ (m : ℕ). IsKeptIn less more 0 m) front c.loop-word.invariant in
+    (λ yes.
+        let rest = c.is_part_below-else-rest-eq0.ensures.0 yes in
+        let every : IsKeptIn less more 0 (length less) =
+            subst (λ (m : ℕ). IsKeptIn less more 0 m) all (kept_join less more 0 words (words + n % 8) kept rest) in
+        below_from_kept less more (length less) refl long every,
+     λ below. c.is_part_below-else-rest-eq0.ensures.1
+         (kept_from_below less more words (words + n % 8) below))

@@ -1,7 +1,7 @@
-use Rattle.std.proofs.Common.{◌≡◌, ℕ, ◌<◌, get_or, Some, None}
+use Rattle.std.proofs.Common.{◌*◌}
+use Rattle.check_memory.specs.Known.{IsKeptIn}
 use Rattle.check_memory.proofs.cells.Cells.is_below.Given as goal
 
--- the bytes so far are kept
-abbrev pub invariant-loop-place : goal.invariant-loop-place
-invariant-loop-place l = (place byte : ℕ) → place < l.place → get_or l.self place None ≡ Some byte
-    → get_or l.other place None ≡ Some byte
+-- the words so far are kept
+abbrev pub invariant-loop-word : goal.invariant-loop-word
+invariant-loop-word l = IsKeptIn l.self l.other 0 (8 * l.word)
