@@ -108,7 +108,8 @@ if_same : (x y : ℕ) → x ≡ y → nat_eq x y ≡ true
 if_same x y is = rw is (search rules)
 
 -- two parts that are known are kept if they are one number
-pub same_part : (less more : List (Option ℕ)) (start width x y : ℕ) → take width (drop start less) ≡ known (low_bytes width x)
+pub same_part : (less more : List (Option ℕ)) (start width x y : ℕ)
+    → take width (drop start less) ≡ known (low_bytes width x)
     → take width (drop start more) ≡ known (low_bytes width y) → x < 2 ^ (8 * width) → y < 2 ^ (8 * width)
     → (nat_eq x y ≡ true) ↔ IsKeptIn less more start (start + width)
 same_part less more start width x y here there small small' = (

@@ -10,7 +10,7 @@ ghost use Rattle.check_memory.specs.Place.{fill_of, known_bit};
 use crate::masks::{known_cell, mark_cell, ones};
 use std::marker::Model;
 use tl_ops::cell::{cell_of, with_cell};
-use tl_types::{MAX_BYTES, WORD_BYTES};
+use tl_types::{MAX_BYTES, WORD_BYTES, write_over};
 
 /// The most words of a message.
 const MAX_WORDS: usize = MAX_BYTES / WORD_BYTES;
@@ -91,7 +91,7 @@ impl Cells {
         ensures { self.new ≡ given_in (bit_in masks.now) (lanes_of words.now) }
     {
         self.words[..words.len()].copy_from_slice(words);
-        self.masks[..masks.len()].copy_from_slice(masks);
+        write_over(&mut self.masks[..masks.len()], masks);
         self.len = WORD_BYTES * words.len();
     }
 
@@ -117,6 +117,16 @@ impl Cells {
         for byte in bytes {
             self.push(*byte);
         }
+    }
+
+    /// Puts a copy of other bytes in the place of those that there were.
+    // all words, also those past the last byte: a count that is known is copied without a call
+    pub(crate) fn refill_from(&mut self, other: &Cells)
+        ensures { self.new ≡ other.now }
+    {
+        self.words = other.words;
+        self.masks = other.masks;
+        self.len = other.len;
     }
 
     /// So many bytes that are zero, or that are unknown.

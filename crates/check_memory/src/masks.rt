@@ -50,7 +50,8 @@ fn give_word(masks: &mut [u8], start: usize, given: &Bytes, k: usize)
     requires width { WORD_BYTES * k < length given.now }
     requires limit { length given.now ≤ MAX_BYTES }
     ensures inside { (lane : ℕ) → start % WORD_BYTES + lane < WORD_BYTES
-        → bit_in masks.new (start + lane) ≡ given_bit (bit_in masks.old (start + lane)) (slice_index_or given.now (WORD_BYTES * k + lane) None) }
+        → bit_in masks.new (start + lane)
+        ≡ given_bit (bit_in masks.old (start + lane)) (slice_index_or given.now (WORD_BYTES * k + lane) None) }
     ensures outside { (place : ℕ) → (place < start) ⊎ (start + (WORD_BYTES - start % WORD_BYTES) ≤ place)
         → bit_in masks.new place ≡ bit_in masks.old place }
 {

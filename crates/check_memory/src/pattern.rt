@@ -64,6 +64,17 @@ impl Pattern {
         self.denied = Some(denied);
     }
 
+    /// Puts a copy of another reply in the place of this one.
+    pub fn refill_from(&mut self, other: &Pattern)
+        ensures { self.new ≡ other.now }
+    {
+        self.cells.refill_from(&other.cells);
+        self.op = other.op;
+        self.size = other.size;
+        self.source = other.source;
+        self.denied = other.denied;
+    }
+
     /// All but the bytes of the answer to a request.
     pub(crate) fn head(&mut self, ask: &Ask, denied: Option<bool>)
         ensures { self.new ≡ record {

@@ -30,7 +30,8 @@ device_back ask captured fits = record {
   denied_is = λ flag is. cc;
   bytes_fit = record {
     counted = fits.counted ∙ sym (length-replicate (reply_byte_count (reply_op_of ask.op) ask.size) None);
-    kept = λ place byte is. absurd (lost byte (sym (none_known (reply_byte_count (reply_op_of ask.op) ask.size) place) ∙ is));
+    kept = λ place byte is. absurd
+        (lost byte (sym (none_known (reply_byte_count (reply_op_of ask.op) ask.size) place) ∙ is));
   };
 }
   where

@@ -5,4 +5,9 @@ use Rattle.check_memory.proofs.cells.Cells.refill.Goals as goal
 pub push-requires : goal.push-requires
 push-requires c =
     let bytes = c.args.bytes.now in
-    omega (arith, ap length c.loop-byte.invariant, length-take-le c.loop-byte.byte-index bytes (omega arith), c.requires)
+    omega (
+      arith,
+      ap length c.loop-byte.invariant,
+      length-take-le c.loop-byte.byte-index bytes (omega arith),
+      c.requires,
+    )

@@ -24,7 +24,8 @@ pub serve-requires-clause-fits : goal.serve-requires-clause-fits
 serve-requires-clause-fits c =
     let ask = c.args.ask.now in
     let sizes : c.self.inside.sizes ≡ c.args.self.now.sizes = ap (λ (m : Partial). m.sizes) c.self.view_is in
-    let small : ask.size ≤ 8 = small_size c.self.inside.sizes ask.op ask.size c.self.invariant.1 (ap (λ s. allows s ask.op ask.size) sizes
+    let small : ask.size ≤ 8 = small_size c.self.inside.sizes ask.op ask.size c.self.invariant.1
+    (ap (λ s. allows s ask.op ask.size) sizes
     ∙ allowed c.args.self.now ask c.requires) in
     fits_words ask.address ask.size small (aligned c.args.self.now ask c.requires)
 
@@ -32,6 +33,7 @@ pub serve-requires-clause-inside : goal.serve-requires-clause-inside
 serve-requires-clause-inside c =
     let ask = c.args.ask.now in
     let sizes : c.self.inside.sizes ≡ c.args.self.now.sizes = ap (λ (m : Partial). m.sizes) c.self.view_is in
-    let small : ask.size ≤ 8 = small_size c.self.inside.sizes ask.op ask.size c.self.invariant.1 (ap (λ s. allows s ask.op ask.size) sizes
+    let small : ask.size ≤ 8 = small_size c.self.inside.sizes ask.op ask.size c.self.invariant.1
+    (ap (λ s. allows s ask.op ask.size) sizes
     ∙ allowed c.args.self.now ask c.requires) in
     in_page ask.address ask.size small (aligned c.args.self.now ask c.requires)

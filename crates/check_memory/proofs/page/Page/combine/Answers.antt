@@ -101,7 +101,8 @@ returns-clause-after c =
     ∙ ap (given_in (bit_in c.mark_cell.new.masks)) c.update-old.ensures.after
     ∙ atomic_shown c.args.op masks c.mark_cell.new.masks c.self.inside.lanes start c.args.given.now
     c.is_known_after-known.result whole inside c.requires.atomic marked others
-    (λ is. all_ones (λ k. bit_in masks (start + k)) c.known_cell-mask.result n (same_if c.known_cell-mask.result c.ones.result is
+    (λ is. all_ones (λ k. bit_in masks (start + k)) c.known_cell-mask.result n
+    (same_if c.known_cell-mask.result c.ones.result is
     ∙ ones) bits)
     (λ is all. apart_if c.known_cell-mask.result c.ones.result is
     (ones_from_all (λ k. bit_in masks (start + k)) c.known_cell-mask.result n small bits all ∙ sym ones))
@@ -121,7 +122,8 @@ returns-clause-shown c =
     let inside = c.self.inside in
     let bits = rw (c.as_slice.ensures.value, c.len-width.ensures.value) at c.known_cell-mask.ensures.bits in
     c.set_cell.ensures
-    ∙ ap (λ width. given_in (bit_at c.known_cell-mask.result) (low_bytes width c.update-old.result)) c.len-width.ensures.value
+    ∙ ap (λ width. given_in (bit_at c.known_cell-mask.result) (low_bytes width c.update-old.result))
+    c.len-width.ensures.value
     ∙ cell_shown inside.masks.items inside.lanes c.args.start n c.known_cell-mask.result c.update-old.result
     c.update-old.ensures.bytes bits
     ∙ ap (λ cells. take n (drop c.args.start cells)) c.self.view_is
