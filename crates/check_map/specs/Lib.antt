@@ -1,0 +1,5 @@
+pub mod Owner
+pub mod Sources
+pub mod Marks
+pub mod Ranges
+pub mod Placed
