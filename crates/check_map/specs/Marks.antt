@@ -1,7 +1,8 @@
 -- What a judge keeps of the sources: for each wide source up to the largest the master that has it. This project's own.
-use Rattle.std.specs.Prelude.{◌≡◌, ◌<◌, ◌≤◌, ◌+◌, ◌*◌, ◌-◌, ◌↔◌, ◌⊎◌, ℕ, List, length, Option, Some, slice_get, IsSomeAnd}
-use Rattle.check_map.specs.Owner.{IsOf, IsOwned, IsWide, Widens}
+use Rattle.std.specs.Prelude.{◌≡◌, ◌<◌, ◌≤◌, ◌+◌, ◌↔◌, ◌⊎◌, ℕ, List, length, Option, Some, slice_get}
+use Rattle.check_map.specs.Owner.{IsOf, IsOwned, IsWide}
 use Rattle.check_map.specs.Sources.{AreLawfulOwners}
+use Rattle.check_map.specs.declared.limits.TheConstants.{MAX_WIDE}
 use Rattle.check_map.specs.declared.sources.Owner.{Owner}
 
 -- the wide source is one of the masters before this one, or one of its own sources before this one
@@ -27,4 +28,5 @@ pub record HasRoomFor (owners : List Owner) (marks : ℕ) : Type 0 where
 pub record AreKept (owners : List Owner) (marks : List (Option ℕ)) : Type 0 where
   pub lawful : AreLawfulOwners owners
   pub room : HasRoomFor owners (length marks)
+  pub few : length marks ≤ MAX_WIDE + 1
   pub marked : AreMarked owners marks

@@ -1,5 +1,5 @@
 -- Which owners are lawful, and the faults of those that are not. All of it is this project's own.
-use Rattle.std.specs.Prelude.{◌≡◌, ◌<◌, ◌≤◌, ◌+◌, ◌-◌, ◌*◌, ⊤, ⊥, ◌⊎◌, ℕ, List, length, All, Any}
+use Rattle.std.specs.Prelude.{◌≡◌, ◌<◌, ◌≤◌, ◌+◌, ◌-◌, ◌*◌, ⊤, ◌⊎◌, ℕ, List, length, All}
 use Rattle.tl_types.specs.Fault.{IsFirstOf}
 use Rattle.check_map.specs.Owner.{IsWide, IsOf}
 use Rattle.check_map.specs.declared.sources.Owner.{Owner}
@@ -25,19 +25,32 @@ pub record AreLawfulOwners (owners : List Owner) : Type 0 where
   pub each : All IsLawfulOwner owners
   pub apart : (one other wide : ℕ) → IsShared owners one other wide → one ≡ other
 
--- the wide source is the first that a later master shares with an earlier one: no master before the later one shares any,
--- and of its own sources none before this one is shared
-pub record IsFirstShared (owners : List Owner) (earlier later wide : ℕ) : Type 0 where
+-- none of a master's sources before this one is an earlier master's
+abbrev pub SharesNone : List Owner → ℕ → ℕ → Type 0
+SharesNone owners master source =
+    (own other wide : ℕ) → own < source → IsWide owners master own wide → other < master → IsOf owners other wide → ⊥
+
+-- the wide source is the first of this master's that is an earlier master's
+pub record IsSharedBy (owners : List Owner) (earlier later wide : ℕ) : Type 0 where
   pub before : earlier < later
   pub is : IsOf owners earlier wide
   pub source : ℕ
   pub at : IsWide owners later source wide
-  pub masters : (one other shared : ℕ) → one < other → other < later → IsShared owners one other shared → ⊥
-  pub sources : (other less shared : ℕ) → less < source → IsWide owners later less shared → other < later → IsOf owners other shared → ⊥
+  pub first : SharesNone owners later source
 
--- the fault is one of these owners; memory can be refused to any
+-- no two of the masters before this one have a wide source in common
+abbrev pub AreApartBelow : List Owner → ℕ → Type 0
+AreApartBelow owners masters =
+    (one other wide : ℕ) → one < other → other < masters → IsShared owners one other wide → ⊥
+
+-- of the first master that shares a wide source with an earlier one, it is the first wide source that it shares
+pub record IsFirstShared (owners : List Owner) (earlier later wide : ℕ) : Type 0 where
+  pub here : IsSharedBy owners earlier later wide
+  pub masters : AreApartBelow owners later
+
+-- the fault is one of these owners; memory can be refused at any point
 abbrev pub HasSourceFault : List Owner → SourceFault → Type 0
-HasSourceFault owners TooMany = (MAX_MASTERS < length owners) ⊎ Any (λ owner. IsLawfulOwner owner → ⊥) owners
+HasSourceFault owners TooMany = (MAX_MASTERS < length owners) ⊎ (All IsLawfulOwner owners → ⊥)
 HasSourceFault owners (Shared earlier later wide) = IsFirstShared owners earlier later wide
 HasSourceFault owners Memory = ⊤
 

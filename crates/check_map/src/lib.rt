@@ -11,11 +11,8 @@
 //! [`blocks`] take memory. Read on in `docs/MODEL.md`, "Systems of the judge".
 #![tactic(auto)]
 
-pub mod laws;
 mod limits;
-mod map;
 mod sources;
 
 pub use limits::{MAX_BLOCK, MAX_MASTERS, MAX_PORTS, MAX_RANGES, MAX_SOURCES, MAX_WIDE};
-pub use map::{Map, MapFault};
 pub use sources::{Owner, SourceFault, Sources};

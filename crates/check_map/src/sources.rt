@@ -1,7 +1,7 @@
 //! The wide sources of masters.
-ghost use Rattle.std.specs.Prelude.{◌≡◌, ◌+◌, ◌*◌, ◌<◌, ◌≤◌, ◌×◌, ℕ, ◌↔◌, ◌⊎◌, true, None, Some, length, IsTrue, IfSome, IfNone, IfOk, OnOk, IfErr, slice_get, option_map, All, Any};
+ghost use Rattle.std.specs.Prelude.{◌≡◌, ◌≢◌, ◌+◌, ◌-◌, ◌*◌, ◌<◌, ◌≤◌, ℕ, ◌↔◌, Some, length, IsTrue, IfSome, IfNone, IfOk, OnOk, IfErr, slice_get, All};
 ghost use Rattle.check_map.specs.Owner.{IsOf, IsOwned, IsWide, Widens};
-ghost use Rattle.check_map.specs.Sources.{AreLawfulOwners, IsFirstShared, IsFirstSourceFault, IsLawfulOwner};
+ghost use Rattle.check_map.specs.Sources.{AreApartBelow, AreLawfulOwners, IsFirstSourceFault, IsLawfulOwner, IsSharedBy};
 ghost use Rattle.check_map.specs.Marks.{AreMarked, HasRoomFor, IsMarkedUpTo};
 
 use crate::limits::{MAX_MASTERS, MAX_SOURCES, MAX_WIDE};
@@ -18,6 +18,16 @@ pub enum SourceFault {
     Shared(usize, usize, u16),
     #[error("memory refused")]
     Memory,
+}
+
+impl From<AllocError> for SourceFault {
+    ghost use Rattle.check_map.specs.declared.sources.SourceFault.TheVariants.{Memory};
+
+    ghost from_gives = { λ _ fault. fault ≡ Memory };
+
+    fn from(_: AllocError) -> SourceFault {
+        SourceFault::Memory
+    }
 }
 
 /// A master's sources: the wide source of the first, how many there are, and how far apart their wide sources are.
@@ -90,20 +100,20 @@ impl Model for Sources {
 }
 
 impl Sources {
-    /// The sources of these owners, or the first fault that they have.
+    /// The sources of these owners, or the first fault that they have. Want of memory may be answered at any point.
     pub fn new(alloc: Global, owners: &[Owner]) -> Result<Sources, SourceFault>
         ensures made { IfOk result (λ sources. sources ≡ owners.now) }
         ensures lawful { OnOk result (AreLawfulOwners owners.now) }
-        ensures fault { IfErr result (IsFirstSourceFault owners.now) }
+        ensures fault { IfErr result (λ fault. fault ≢ SourceFault.Memory → IsFirstSourceFault owners.now fault) }
     {
-        if are_too_many(owners) {
+        if owners.len() > MAX_MASTERS || !are_lawful(owners) {
             return Err(SourceFault::TooMany);
         }
-        let mut marks = no_marks(alloc, owners).map_err(|_| SourceFault::Memory)?;
+        let mut marks = no_marks(alloc, owners)?;
         if let Some(fault) = mark_all(&mut marks, owners) {
             return Err(fault);
         }
-        let owners = Vec::from_slice(alloc, owners).map_err(|_| SourceFault::Memory)?;
+        let owners = Vec::from_slice(alloc, owners)?;
         Ok(Sources { owners, marks })
     }
 
@@ -111,7 +121,8 @@ impl Sources {
     pub fn widen(&self, master: usize, source: u16) -> Option<u16>
         ensures { (wide : ℕ) → (result ≡ Some wide) ↔ IsWide self.now master source wide }
     {
-        self.owners.get(master)?.wide_of(source)
+        let owner = owner_at(&self.owners, master)?;
+        owner.wide_of(source)
     }
 
     /// The master that has a wide source, and its own source.
@@ -120,7 +131,8 @@ impl Sources {
             → (result ≡ Some (master, source)) ↔ IsWide self.now master source wide }
     {
         let master = master_at(&self.marks, wide)?;
-        Some((master, self.owners[master].source_of(wide)))
+        let source = self.owners[master].source_of(wide);
+        Some((master, source))
     }
 
     /// Whether a wide source is some master's.
@@ -143,7 +155,7 @@ impl Sources {
     pub fn at(&self, master: usize) -> Option<Owner>
         ensures { result ≡ slice_get self.now master }
     {
-        self.owners.get(master).copied()
+        owner_at(&self.owners, master)
     }
 
     /// One more than the largest wide source.
@@ -156,12 +168,11 @@ impl Sources {
     }
 }
 
-/// Whether there are more masters than there may be, or an owner that is not lawful.
-fn are_too_many(owners: &[Owner]) -> bool
-    ensures { IsTrue result
-        ↔ ((MAX_MASTERS < length owners.now) ⊎ Any (λ owner. IsLawfulOwner owner → ⊥) owners.now) }
+/// Whether each owner is lawful.
+fn are_lawful(owners: &[Owner]) -> bool
+    ensures { IsTrue result ↔ All IsLawfulOwner owners.now }
 {
-    owners.len() > MAX_MASTERS || owners.iter().any(|owner| !owner.is_lawful())
+    owners.iter().all(|owner| owner.is_lawful())
 }
 
 /// One more than the largest wide source of these owners.
@@ -187,6 +198,60 @@ fn no_marks(alloc: Global, owners: &[Owner]) -> Result<Vec<Option<u8>>, AllocErr
     let mut marks = Vec::new(alloc);
     marks.resize(bound_of(owners), None)?;
     Ok(marks)
+}
+
+/// Marks the wide sources of a master in their order, up to the first that an earlier master has: that master, and the
+/// wide source.
+fn mark_master(
+    marks: &mut [Option<u8>],
+    owners: &[Owner],
+    master: usize,
+) -> Option<(usize, u16)>
+    requires within { master < length owners.now }
+    requires few { length owners.now ≤ MAX_MASTERS }
+    requires lawful { All IsLawfulOwner owners.now }
+    requires room { HasRoomFor owners.now (length marks.old) }
+    requires marked { IsMarkedUpTo owners.now master 0 marks.old }
+    ensures counted { length marks.new ≡ length marks.old }
+    ensures marked { IfNone result (IsMarkedUpTo owners.now (master + 1) 0 marks.new) }
+    ensures apart { IfNone result (AreApartBelow owners.now master → AreApartBelow owners.now (master + 1)) }
+    ensures shared { IfSome result (λ found. IsSharedBy owners.now found.0 master found.1) }
+{
+    let owner = owners[master];
+    for source in 0..owner.count {
+        let wide = owner.first as usize + owner.stride as usize * source as usize;
+        if let Some(other) = marks[wide] {
+            return Some((other as usize, wide as u16));
+        }
+        marks[wide] = Some(master as u8);
+    }
+    None
+}
+
+/// Marks the wide sources of all masters, up to the first that an earlier master has.
+fn mark_all(marks: &mut [Option<u8>], owners: &[Owner]) -> Option<SourceFault>
+    requires few { length owners.now ≤ MAX_MASTERS }
+    requires lawful { All IsLawfulOwner owners.now }
+    requires room { HasRoomFor owners.now (length marks.old) }
+    requires none { IsMarkedUpTo owners.now 0 0 marks.old }
+    ensures counted { length marks.new ≡ length marks.old }
+    ensures marked { IfNone result (AreMarked owners.now marks.new) }
+    ensures lawful { IfNone result (AreLawfulOwners owners.now) }
+    ensures fault { IfSome result (IsFirstSourceFault owners.now) }
+{
+    for master in 0..owners.len() {
+        if let Some((other, wide)) = mark_master(marks, owners, master) {
+            return Some(SourceFault::Shared(other, master, wide));
+        }
+    }
+    None
+}
+
+/// The owner of this number.
+fn owner_at(owners: &[Owner], master: usize) -> Option<Owner>
+    ensures { result ≡ slice_get owners.now master }
+{
+    owners.get(master).copied()
 }
 
 /// The master that a wide source has as its mark.
