@@ -1,3 +1,4 @@
 pub mod Owner
 pub mod Sources
 pub mod Marks
+pub mod Blocks

@@ -11,8 +11,11 @@
 //! [`blocks`] take memory. Read on in `docs/MODEL.md`, "Systems of the judge".
 #![tactic(auto)]
 
+mod block;
+pub mod laws;
 mod limits;
 mod sources;
 
+pub use block::blocks;
 pub use limits::{MAX_BLOCK, MAX_MASTERS, MAX_PORTS, MAX_RANGES, MAX_SOURCES, MAX_WIDE};
 pub use sources::{Owner, SourceFault, Sources};
