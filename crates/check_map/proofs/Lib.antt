@@ -1,0 +1,4 @@
+pub mod Overlaps
+pub mod Listing
+pub mod Routing
+pub mod Ways
