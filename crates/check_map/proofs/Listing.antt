@@ -75,7 +75,8 @@ begins_not : (address : ℕ) (each : Placed) → begins_by address each ≡ fals
 begins_not address each is = leb-false each.range.base address is
 
 module _ (placed : List Placed) (address count : ℕ)
-    (point : IsPartitionPoint (λ each. begins_by address each ≡ true) (λ each. begins_by address each ≡ false) placed count)
+    (point : IsPartitionPoint (λ each. begins_by address each ≡ true) (λ each. begins_by address each ≡ false)
+    placed count)
   where
     above : (k : ℕ) (other : Placed) → count ≤ k → k < length placed → get_or placed k other ≡ other
         → address < other.range.base

@@ -127,7 +127,10 @@ met_in_front ports port place ranges range is at met = record {
     within = slice_get_within ranges place range at
 
     less : met.0 < place
-    less = let front = length-take-le place ranges (omega (arith, within)) in let inside = met.2 in omega (arith, front, inside)
+    less =
+        let front = length-take-le place ranges (omega (arith, within)) in
+        let inside = met.2 in
+        omega (arith, front, inside)
 
     there : slice_get ranges met.0 ≡ Some met.1
     there =
@@ -191,28 +194,30 @@ port_of_met ports other port place row range is at meets =
     )
 
 -- the vector of a port that has a range at a place, and what is read at that place
-module _ (vectors : List (Vec Range Global)) (port place : ℕ) (some : IsSome (range_at (lists_in vectors) port place)) where
-  found : (range : Range) × (range_at (lists_in vectors) port place ≡ Some range)
-  found = go (range_at (lists_in vectors) port place) refl some where
-    go : (o : Option Range) → range_at (lists_in vectors) port place ≡ o → IsSome o
-        → (range : Range) × (range_at (lists_in vectors) port place ≡ Some range)
-    go None is some = absurd (cc)
-    go (Some range) is some = (range, is)
+module _ (vectors : List (Vec Range Global)) (port place : ℕ)
+    (some : IsSome (range_at (lists_in vectors) port place))
+  where
+    found : (range : Range) × (range_at (lists_in vectors) port place ≡ Some range)
+    found = go (range_at (lists_in vectors) port place) refl some where
+      go : (o : Option Range) → range_at (lists_in vectors) port place ≡ o → IsSome o
+          → (range : Range) × (range_at (lists_in vectors) port place ≡ Some range)
+      go None is some = absurd (cc)
+      go (Some range) is some = (range, is)
 
-  pub is_port : port < length vectors
-  is_port =
-      let count = length-map vectors (λ (each : Vec Range Global). each.items) in
-      let inside = port_within (lists_in vectors) port place found.0 found.1 in
-      omega (arith, count, inside)
+    pub is_port : port < length vectors
+    is_port =
+        let count = length-map vectors (λ (each : Vec Range Global). each.items) in
+        let inside = port_within (lists_in vectors) port place found.0 found.1 in
+        omega (arith, count, inside)
 
-  module _ (vector : Vec Range Global) (vector_is : vector ≡ get_or vectors port vector) where
-    pub its_list : slice_get (lists_in vectors) port ≡ Some vector.items
-    its_list = vector_at vectors port vector
-        (slice_get_read vectors (length vectors) port vector refl is_port vector_is)
+    module _ (vector : Vec Range Global) (vector_is : vector ≡ get_or vectors port vector) where
+      pub its_list : slice_get (lists_in vectors) port ≡ Some vector.items
+      its_list = vector_at vectors port vector
+          (slice_get_read vectors (length vectors) port vector refl is_port vector_is)
 
-    pub its_range : (d : Range) → slice_get vector.items place ≡ Some (get_or vector.items place d)
-    its_range d = slice_get-get_or vector.items place d
-        (place_within (lists_in vectors) port place vector.items found.0 its_list found.1)
+      pub its_range : (d : Range) → slice_get vector.items place ≡ Some (get_or vector.items place d)
+      its_range d = slice_get-get_or vector.items place d
+          (place_within (lists_in vectors) port place vector.items found.0 its_list found.1)
 
 -- ranges of a map with a byte in common are the same range
 pub one_place : (ports : List (List Range)) → IsLawfulMap ports → (port place other_port other : ℕ) (a b : Range)

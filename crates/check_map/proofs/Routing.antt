@@ -54,7 +54,8 @@ module _ (ports : List (List Range)) (placed : List Placed) (kept : IsKeptMap po
           let its : HasByte last.range last.range.base = record { from = omega arith; below = omega (arith, some) } in
           let same = one_place ports kept.lawful port at.place last.port there.0 at.range last.range at.at there.1
           (last.range.base, mine, its) in
-          let range_is = same_range ports port at.place last.port there.0 at.range last.range same.0 same.1 at.at there.1 in
+          let range_is = same_range ports port at.place last.port there.0 at.range last.range same.0 same.1 at.at
+          there.1 in
           let P : Range → Type 0 = λ range. HoldsBytes range address size in
           (subst P range_is at.holds, sym same.0)
 

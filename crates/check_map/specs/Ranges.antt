@@ -1,5 +1,5 @@
--- Maps of addresses to ports of several ranges: where a request goes, which ranges make a map, and the fault of those that
--- make none. All of it is this project's own.
+-- Maps of addresses to ports of several ranges: where a request goes, which ranges make a map, and the fault of those
+-- that make none. All of it is this project's own.
 use Rattle.std.specs.Prelude.{◌≡◌, ℕ, ◌+◌, ◌^◌, ◌<◌, ◌≤◌, ◌⊎◌, ⊤, List, map, length, Option, Some, Vec, option_and_then, slice_get, All}
 use Rattle.std.specs.Global.{Global}
 use Rattle.tl_types.specs.Fault.{IsFirstOf}
@@ -27,8 +27,8 @@ pub record PortHolds (ports : List (List Range)) (address size port : ℕ) : Typ
   pub at : range_at ports port place ≡ Some range
   pub holds : HoldsBytes range address size
 
--- 2 ^ size bytes from an address on go to this port: to the one that holds them, or to the error port, whose number is the
--- count of ports, if no port does
+-- 2 ^ size bytes from an address on go to this port: to the one that holds them, or to the error port, whose number is
+-- the count of ports, if no port does
 abbrev pub RoutesBytes : List (List Range) → ℕ → ℕ → ℕ → Type 0
 RoutesBytes ports address size port =
     PortHolds ports address size port

@@ -17,4 +17,5 @@ pub returns-clause-memory : goal.returns-clause-memory
 returns-clause-memory c =
     let ports = c.args.ports.now in
     let count = length-map ports (λ vector. vector.items) in
-    only_memory (lists_in ports) (all_apart (lists_in ports) c.loop-port.port (omega (arith, count)) c.loop-port.invariant)
+    only_memory (lists_in ports)
+    (all_apart (lists_in ports) c.loop-port.port (omega (arith, count)) c.loop-port.invariant)
