@@ -1,2 +1,3 @@
 mod map;
+mod memory;
 mod sources;

@@ -140,16 +140,24 @@ fn faults_have_their_texts(rt: HostRuntime) {
     }
 }
 
+/// This many masters of 16 sources, one after the other.
+fn in_a_row(rt: &impl Abort, alloc: Global, masters: u16) -> Vec<Owner> {
+    let mut owners = Vec::new(alloc);
+    for master in 0..masters {
+        let first = master.saturating_mul(16);
+        owners.push(owner(first, 16, 1)).expect(rt, "memory");
+    }
+    owners
+}
+
 #[test]
 fn sixty_four_masters_and_no_more(rt: HostRuntime) {
-    let mut owners = [owner(0, 16, 1); 65];
-    for master in 0..65 {
-        owners[master].first = 16 * master as u16;
-    }
-    let sources = Sources::new(rt.alloc(), &owners[..64]).expect(&rt, "sources");
+    let owners = in_a_row(&rt, rt.alloc(), 64);
+    let sources = Sources::new(rt.alloc(), &owners).expect(&rt, "sources");
     assert!(rt; sources.widen(63, 15) == Some(1023));
     assert!(rt; sources.owner(1008) == Some((63, 0)));
     assert!(rt; sources.wides() == 1024);
+    let owners = in_a_row(&rt, rt.alloc(), 65);
     assert!(rt; Sources::new(rt.alloc(), &owners).err() == Some(SourceFault::TooMany));
 }
 
