@@ -1,0 +1,7 @@
+pub mod Key
+pub mod Reading
+pub mod Value
+pub mod Name
+pub mod Port
+pub mod Master
+pub mod File

@@ -1,0 +1,36 @@
+-- The names of ports and masters. This project's own.
+use Rattle.std.specs.Prelude.{ℕ, Bool, true, false, ◌&&◌, ◌||◌, not, ◌==◌, nat_le, List, [], ◌∷◌, length, Option, None, Some, Result, Ok, Err, if◌then◌else◌}
+use Rattle.std.specs.Char.{is_ascii_alphanumeric, is_ascii_digit}
+use Rattle.std.specs.List.{list_all}
+use Rattle.toml.specs.Data.{Data, Members, get_member}
+use Rattle.check_system.specs.Key.{key_name}
+use Rattle.check_system.specs.Reading.{◌>>=◌, if_any, unless}
+use Rattle.check_system.specs.Value.{text_of}
+use Rattle.check_system.specs.declared.fault.Key.TheVariants.{Name}
+use Rattle.check_system.specs.declared.fault.SystemFault.{SystemFault}
+use Rattle.check_system.specs.declared.fault.SystemFault.TheVariants.{OutOfRange}
+use Rattle.check_system.specs.declared.name.TheConstants.{MAX_NAME}
+
+-- a letter, a digit, `_`, `.` or `-`
+abbrev pub is_name_byte : ℕ → Bool
+is_name_byte byte = is_ascii_alphanumeric byte || (byte == 95) || (byte == 46) || (byte == 45)
+
+-- `m` or `p` with digits alone after it, as captures and traces number the links
+abbrev pub is_number_of_link : List ℕ → Bool
+is_number_of_link [] = false
+is_number_of_link (first ∷ []) = false
+is_number_of_link (first ∷ digit ∷ digits) =
+    ((first == 109) || (first == 112)) && list_all is_ascii_digit (digit ∷ digits)
+
+-- the text may be a name
+abbrev pub is_name : List ℕ → Bool
+is_name text =
+    nat_le 1 (length text) && nat_le (length text) MAX_NAME && list_all is_name_byte text && not (is_number_of_link text)
+
+-- the name that a value is
+unfoldable pub name_of : Data → Result (List ℕ) SystemFault
+name_of value = text_of Name value >>= (λ text. unless (not (is_name text)) (OutOfRange Name) text)
+
+-- the name of a port or master, which may have none
+unfoldable pub name_at : Members → Result (Option (List ℕ)) SystemFault
+name_at members = if_any name_of (get_member (key_name Name) members)
