@@ -1,7 +1,8 @@
 -- Which system a file describes, and the first fault of one that describes none. This project's own.
 -- A file is read in two steps: first the parts that its tables name, in the order of the checks; then the system of
 -- these parts.
-use Rattle.std.specs.Prelude.{◌≡◌, ℕ, nat_lt, List, length, map, Result, Ok, Err, if◌then◌else◌, ok_or}
+use Rattle.std.specs.Prelude.{◌≡◌, ℕ, ◌++◌, nat_lt, List, length, map, Result, Ok, Err, if◌then◌else◌, ok_or}
+use Rattle.std.specs.List.{filter_map}
 use Rattle.std.specs.Str.{is_utf8}
 use Rattle.toml.specs.Data.{Members}
 use Rattle.toml.specs.Parse.{parse_document}
@@ -43,3 +44,10 @@ parts_view parts = record {
   ports = map port_view parts.ports.items;
   masters = map master_view parts.masters.items;
 }
+
+-- ---- the system of the parts
+
+-- the names of the ports, in order, and then those of the masters
+abbrev pub names_of : Parts → List (List ℕ)
+names_of parts =
+    filter_map (λ (port : Port). port.name) parts.ports ++ filter_map (λ (master : Master). master.name) parts.masters

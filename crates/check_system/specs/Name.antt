@@ -1,7 +1,8 @@
 -- The names of ports and masters. This project's own.
-use Rattle.std.specs.Prelude.{ℕ, Bool, true, false, ◌&&◌, ◌||◌, not, ◌==◌, nat_le, List, [], ◌∷◌, length, Option, None, Some, Result, Ok, Err, if◌then◌else◌}
+use Rattle.std.specs.Prelude.{◌<◌, ℕ, Bool, true, false, ◌&&◌, ◌||◌, not, ◌==◌, nat_le, List, [], ◌∷◌, length, take, slice_get, IsTrue, IsSomeAnd, Option, None, Some, Result, Ok, Err, if◌then◌else◌}
 use Rattle.std.specs.Char.{is_ascii_alphanumeric, is_ascii_digit}
-use Rattle.std.specs.List.{list_all}
+use Rattle.std.specs.List.{list_all, list_any}
+use Rattle.std.specs.Str.{bytes_eq}
 use Rattle.toml.specs.Data.{Data, Members, get_member}
 use Rattle.check_system.specs.Key.{key_name}
 use Rattle.check_system.specs.Reading.{◌>>=◌, if_any, unless}
@@ -34,3 +35,22 @@ name_of value = text_of Name value >>= (λ text. unless (not (is_name text)) (Ou
 -- the name of a port or master, which may have none
 unfoldable pub name_at : Members → Result (Option (List ℕ)) SystemFault
 name_at members = if_any name_of (get_member (key_name Name) members)
+
+-- ---- names that stand twice
+
+-- the name is one of these
+abbrev pub is_among : List (List ℕ) → List ℕ → Bool
+is_among names name = list_any (bytes_eq name) names
+
+-- the name at this place is one of those before it
+abbrev pub StoodBefore : List (List ℕ) → ℕ → Type 0
+StoodBefore names place = IsSomeAnd (slice_get names place) (λ name. IsTrue (is_among (take place names) name))
+
+-- the place is the first whose name stood before
+pub record IsFirstTwice (names : List (List ℕ)) (place : ℕ) : Type 0 where
+  pub here : StoodBefore names place
+  pub first : (other : ℕ) → other < place → StoodBefore names other → ⊥
+
+-- no name stands twice
+abbrev pub AreDistinct : List (List ℕ) → Type 0
+AreDistinct names = (place : ℕ) → StoodBefore names place → ⊥

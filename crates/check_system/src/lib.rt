@@ -14,6 +14,7 @@ mod fault;
 mod limits;
 mod masters;
 mod name;
+mod names;
 mod parts;
 mod ports;
 mod ranges;
