@@ -1,2 +1,4 @@
 pub mod Views
 pub mod NameLemmas
+pub mod Scripts
+pub mod ScriptTables

@@ -5,3 +5,4 @@ pub mod Name
 pub mod Port
 pub mod Master
 pub mod File
+pub mod Instance
