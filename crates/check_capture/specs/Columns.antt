@@ -2,23 +2,14 @@
 use Rattle.std.specs.Prelude.{ℕ, ◌<◌, Bool, true, false, ◌&&◌, ◌==◌, nat_lt, List, [], ◌∷◌, codes, length, Option, Some, None, Result, Ok, Err, if◌then◌else◌}
 use Rattle.std.specs.Str.{bytes_eq}
 use Rattle.std.specs.Str.Parse.{digits_value}
-use Rattle.csv.specs.Records.{field_at}
 use Rattle.check_link.specs.declared.beat.Link.{Link}
 use Rattle.check_link.specs.declared.beat.Link.TheVariants.{Master, Port}
 use Rattle.check_capture.specs.Reading.{◌>>=◌}
-use Rattle.check_capture.specs.Number.{are_digits}
+use Rattle.tl_text.specs.Number.{are_digits}
 use Rattle.check_capture.specs.declared.columns.Channel.{Channel}
 use Rattle.check_capture.specs.declared.columns.Channel.TheVariants as channel
 use Rattle.check_capture.specs.declared.fault.RowFault.{RowFault}
 use Rattle.check_capture.specs.declared.fault.RowFault.TheVariants as fault
-
--- the column of this number, counted from 0
-abbrev pub or_empty : Option (List ℕ) → List ℕ
-or_empty None = []
-or_empty (Some word) = word
-
-abbrev pub column : List (List ℕ) → ℕ → List ℕ
-column columns place = or_empty (field_at columns place)
 
 -- a link of a system with so many masters and ports
 abbrev pub IsLinkOf : ℕ → ℕ → Link → Type 0

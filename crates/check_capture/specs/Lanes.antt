@@ -2,7 +2,7 @@
 -- own.
 use Rattle.std.specs.Prelude.{ℕ, ◌+◌, ◌*◌, ◌-◌, Bool, ◌&&◌, ◌||◌, ◌==◌, List, [], ◌∷◌, length, get_or, map, Option, Some, None, Result, Ok, Err, if◌then◌else◌, option_and_then, option_map, ok_or}
 use Rattle.std.specs.Char.{is_digit}
-use Rattle.check_capture.specs.Number.{pair_of}
+use Rattle.tl_text.specs.Number.{pair_of}
 use Rattle.check_capture.specs.declared.fault.RowFault.{RowFault}
 use Rattle.check_capture.specs.declared.fault.RowFault.TheVariants.{Number}
 

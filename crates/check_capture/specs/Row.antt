@@ -2,7 +2,9 @@
 use Rattle.std.specs.Prelude.{ℕ, ◌^◌, ◌-◌, ◌==◌, List, length, Result, Ok, Err, if◌then◌else◌}
 use Rattle.check_link.specs.declared.beat.Beat.{Beat}
 use Rattle.check_link.specs.declared.beat.Beat.TheVariants as beat
-use Rattle.check_capture.specs.Columns.{column, link_of, channel_of, flag_of, nothing_of}
+use Rattle.check_capture.specs.Column.{column}
+use Rattle.check_capture.specs.Columns.{link_of, channel_of, flag_of, nothing_of}
+use Rattle.check_capture.specs.declared.column.Column.TheVariants as named
 use Rattle.check_capture.specs.Lanes.{lanes_of, bytes_of, known_of}
 use Rattle.check_capture.specs.Number.{decimal_of, address_of, mask_of}
 use Rattle.check_capture.specs.Reading.{◌>>=◌}
@@ -15,15 +17,15 @@ use Rattle.check_capture.specs.declared.row.Row.{Row}
 -- a beat of channel A has no flags
 unfoldable pub ask_of : List (List ℕ) → Result (Beat × ℕ) RowFault
 ask_of columns = do
-  opcode ← decimal_of 255 (column columns 3)
-  param ← decimal_of 255 (column columns 4)
-  size ← decimal_of 255 (column columns 5)
-  source ← decimal_of 65535 (column columns 6)
-  address ← address_of (column columns 7)
-  mask ← mask_of (column columns 8)
-  lanes ← lanes_of (column columns 9)
-  _ ← nothing_of (column columns 10)
-  _ ← nothing_of (column columns 11)
+  opcode ← decimal_of 255 (column columns named.Opcode)
+  param ← decimal_of 255 (column columns named.Param)
+  size ← decimal_of 255 (column columns named.Size)
+  source ← decimal_of 65535 (column columns named.Source)
+  address ← address_of (column columns named.Address)
+  mask ← mask_of (column columns named.Mask)
+  lanes ← lanes_of (column columns named.Data)
+  _ ← nothing_of (column columns named.Denied)
+  _ ← nothing_of (column columns named.Corrupt)
   Ok (
     beat.A (record {
       opcode = opcode;
@@ -40,15 +42,15 @@ ask_of columns = do
 -- a beat of channel D has no parameter, address or mask
 unfoldable pub reply_of : List (List ℕ) → Result (Beat × ℕ) RowFault
 reply_of columns = do
-  opcode ← decimal_of 255 (column columns 3)
-  _ ← nothing_of (column columns 4)
-  size ← decimal_of 255 (column columns 5)
-  source ← decimal_of 65535 (column columns 6)
-  _ ← nothing_of (column columns 7)
-  _ ← nothing_of (column columns 8)
-  lanes ← lanes_of (column columns 9)
-  denied ← flag_of (column columns 10)
-  corrupt ← flag_of (column columns 11)
+  opcode ← decimal_of 255 (column columns named.Opcode)
+  _ ← nothing_of (column columns named.Param)
+  size ← decimal_of 255 (column columns named.Size)
+  source ← decimal_of 65535 (column columns named.Source)
+  _ ← nothing_of (column columns named.Address)
+  _ ← nothing_of (column columns named.Mask)
+  lanes ← lanes_of (column columns named.Data)
+  denied ← flag_of (column columns named.Denied)
+  corrupt ← flag_of (column columns named.Corrupt)
   Ok (
     beat.D (record {
       opcode = opcode;
@@ -70,9 +72,9 @@ beat_of channel.D columns = reply_of columns
 unfoldable pub row_of : ℕ → ℕ → ℕ → List (List ℕ) → Result Row RowFault
 row_of masters ports line columns =
     if length columns == 12 then (do
-      time ← decimal_of (2 ^ 64 - 1) (column columns 0)
-      link ← link_of masters ports (column columns 1)
-      channel ← channel_of (column columns 2)
+      time ← decimal_of (2 ^ 64 - 1) (column columns named.Time)
+      link ← link_of masters ports (column columns named.Link)
+      channel ← channel_of (column columns named.Channel)
       seen ← beat_of channel columns
       Ok (record { line = line; time = time; sighting = record { link = link; beat = seen.0; known = seen.1 } }))
     else Err Columns

@@ -1,25 +1,16 @@
 //! The columns of a row that are no numbers.
 ghost use Rattle.std.specs.Prelude.{◌≡◌, ◌<◌, IfOk};
-ghost use Rattle.csv.specs.Records.{fields_of};
-ghost use Rattle.check_capture.specs.Columns.{IsLinkOf, channel_of, column, flag_of, index_of, link_of, nothing_of};
+ghost use Rattle.check_capture.specs.Columns.{IsLinkOf, channel_of, flag_of, index_of, link_of, nothing_of};
 
 use crate::fault::RowFault;
 use crate::number::read_decimal;
 use check_link::Link;
-use csv::ByteRecord;
 
 /// A channel of a link.
 #[derive(Debug, Clone, Copy, PartialEq, Eq)]
 pub enum Channel {
     A,
     D,
-}
-
-/// The column of this number, counted from 0; empty where there is none.
-pub fn column(columns: &ByteRecord, place: usize) -> &[u8]
-    ensures { result.now ≡ column (fields_of columns.now) place }
-{
-    columns.get(place).unwrap_or(b"")
 }
 
 /// The number that a link has among `count`, if its digits spell one.

@@ -3,7 +3,7 @@ ghost use Rattle.std.specs.Prelude.{◌≡◌, ◌≤◌, ◌<◌, length, map};
 ghost use Rattle.check_capture.specs.Lanes.{all_of, byte_in, bytes_of, is_shown, is_unknown, known_bit, known_of, lane_at, lane_numbers, lane_of, lanes_of};
 
 use crate::fault::RowFault;
-use crate::number::read_pair;
+use tl_text::read_pair;
 use tl_types::BUS_BYTES;
 
 /// The lanes of a beat, each with its byte where that was seen.

@@ -4,9 +4,12 @@
 //! [`Moment`] takes the rows of one time and has them in the order in which their beats cross; it refuses a row whose
 //! time falls, and a second beat of one channel of one link (`specs/Moment.antt`).
 //!
+//! The columns and their names stand once (`specs/Column.antt`).
+//!
 //! Read on in `docs/CAPTURE.md`, which has the format with examples.
 #![tactic(auto)]
 
+mod column;
 mod columns;
 mod fault;
 mod lanes;
@@ -14,6 +17,7 @@ mod moment;
 mod number;
 mod row;
 
+pub use column::{COLUMNS, column_name};
 pub use fault::RowFault;
 pub use moment::Moment;
 pub use row::{Row, read_row};

@@ -1,21 +1,12 @@
 //! Numbers, as columns spell them.
 ghost use Rattle.std.specs.Prelude.{◌≡◌, ◌≤◌, ◌+◌, ◌*◌, ℕ, IfOk};
-ghost use Rattle.check_capture.specs.Number.{address_of, below_64_bits, decimal_of, mask_of, number_of, pair_of};
+ghost use Rattle.check_capture.specs.Number.{address_of, decimal_of, mask_of, number_of};
 
 use crate::fault::RowFault;
+use tl_text::{read_digits, read_pair};
 
 /// The most digits of an address.
 const ADDRESS_DIGITS: usize = 16;
-
-/// A number with one more digit, while it is below 2^64.
-fn with_digit(value: Option<u64>, radix: u32, digit: u32) -> Option<u64>
-    requires { 1 ≤ radix }
-    ensures { (n : ℕ) → value ≡ below_64_bits n → result ≡ below_64_bits (n * radix + digit) }
-{
-    value?
-        .checked_mul(u64::from(radix))?
-        .checked_add(u64::from(digit))
-}
 
 /// The number that digits of this base spell.
 #[tactic(auto, unfolding(crate::specs::Number::number_of))]
@@ -24,17 +15,10 @@ fn read_number(word: &[u8], radix: u32) -> Result<u64, RowFault>
     requires high { radix ≤ 36 }
     ensures { result ≡ number_of radix word.now }
 {
-    if word.is_empty() {
-        return Err(RowFault::Number);
+    match read_digits(word, radix) {
+        Some(number) => number.ok_or(RowFault::Range),
+        None => Err(RowFault::Number),
     }
-    let mut value = Some(0);
-    for byte in word {
-        let Some(digit) = char::from(*byte).to_digit(radix) else {
-            return Err(RowFault::Number);
-        };
-        value = with_digit(value, radix, digit);
-    }
-    value.ok_or(RowFault::Range)
 }
 
 /// The number that decimal digits spell, which is `most` at most.
@@ -60,15 +44,6 @@ pub fn read_address(word: &[u8]) -> Result<u64, RowFault>
         return Err(RowFault::Number);
     }
     read_number(word, 16)
-}
-
-/// The byte that two hexadecimal digits spell.
-pub fn read_pair(high: u8, low: u8) -> Option<u8>
-    ensures { result ≡ pair_of high low }
-{
-    let high = char::from(high).to_digit(16)?;
-    let low = char::from(low).to_digit(16)?;
-    Some((16 * high + low) as u8)
 }
 
 /// The mask that two hexadecimal digits spell.

@@ -4,16 +4,14 @@ ghost use Rattle.csv.specs.Records.{fields_of};
 ghost use Rattle.check_capture.specs.Columns.{IsLinkOf};
 ghost use Rattle.check_capture.specs.Row.{ask_of, beat_of, reply_of, row_of};
 
-use crate::columns::{Channel, column, read_channel, read_flag, read_link, read_nothing};
+use crate::column::{COLUMNS, Column};
+use crate::columns::{Channel, read_channel, read_flag, read_link, read_nothing};
 use crate::fault::RowFault;
 use crate::lanes::{bytes_of, known_of, read_lanes};
 use crate::number::{read_address, read_decimal, read_mask};
 use check_link::{Beat, Link, Sighting};
 use csv::ByteRecord;
 use tl_beats::{ABeat, DBeat};
-
-/// How many columns a row has.
-const COLUMNS: usize = 12;
 
 /// The largest opcode, parameter and size that a beat can have.
 const MAX_FIELD: u64 = u8::MAX as u64;
@@ -48,15 +46,15 @@ impl Default for Row {
 fn read_ask(columns: &ByteRecord) -> Result<(Beat, u8), RowFault>
     ensures { result ≡ ask_of (fields_of columns.now) }
 {
-    let opcode = read_decimal(column(columns, 3), MAX_FIELD)?;
-    let param = read_decimal(column(columns, 4), MAX_FIELD)?;
-    let size = read_decimal(column(columns, 5), MAX_FIELD)?;
-    let source = read_decimal(column(columns, 6), MAX_SOURCE)?;
-    let address = read_address(column(columns, 7))?;
-    let mask = read_mask(column(columns, 8))?;
-    let lanes = read_lanes(column(columns, 9))?;
-    read_nothing(column(columns, 10))?;
-    read_nothing(column(columns, 11))?;
+    let opcode = read_decimal(Column::Opcode.of(columns), MAX_FIELD)?;
+    let param = read_decimal(Column::Param.of(columns), MAX_FIELD)?;
+    let size = read_decimal(Column::Size.of(columns), MAX_FIELD)?;
+    let source = read_decimal(Column::Source.of(columns), MAX_SOURCE)?;
+    let address = read_address(Column::Address.of(columns))?;
+    let mask = read_mask(Column::Mask.of(columns))?;
+    let lanes = read_lanes(Column::Data.of(columns))?;
+    read_nothing(Column::Denied.of(columns))?;
+    read_nothing(Column::Corrupt.of(columns))?;
     let beat = ABeat {
         opcode: opcode as u8,
         param: param as u8,
@@ -74,15 +72,15 @@ fn read_ask(columns: &ByteRecord) -> Result<(Beat, u8), RowFault>
 fn read_reply(columns: &ByteRecord) -> Result<(Beat, u8), RowFault>
     ensures { result ≡ reply_of (fields_of columns.now) }
 {
-    let opcode = read_decimal(column(columns, 3), MAX_FIELD)?;
-    read_nothing(column(columns, 4))?;
-    let size = read_decimal(column(columns, 5), MAX_FIELD)?;
-    let source = read_decimal(column(columns, 6), MAX_SOURCE)?;
-    read_nothing(column(columns, 7))?;
-    read_nothing(column(columns, 8))?;
-    let lanes = read_lanes(column(columns, 9))?;
-    let denied = read_flag(column(columns, 10))?;
-    let corrupt = read_flag(column(columns, 11))?;
+    let opcode = read_decimal(Column::Opcode.of(columns), MAX_FIELD)?;
+    read_nothing(Column::Param.of(columns))?;
+    let size = read_decimal(Column::Size.of(columns), MAX_FIELD)?;
+    let source = read_decimal(Column::Source.of(columns), MAX_SOURCE)?;
+    read_nothing(Column::Address.of(columns))?;
+    read_nothing(Column::Mask.of(columns))?;
+    let lanes = read_lanes(Column::Data.of(columns))?;
+    let denied = read_flag(Column::Denied.of(columns))?;
+    let corrupt = read_flag(Column::Corrupt.of(columns))?;
     let beat = DBeat {
         opcode: opcode as u8,
         size: size as u8,
@@ -119,9 +117,9 @@ pub fn read_row(
     if columns.len() != COLUMNS {
         return Err(RowFault::Columns);
     }
-    let time = read_decimal(column(columns, 0), u64::MAX)?;
-    let link = read_link(masters, ports, column(columns, 1))?;
-    let channel = read_channel(column(columns, 2))?;
+    let time = read_decimal(Column::Time.of(columns), u64::MAX)?;
+    let link = read_link(masters, ports, Column::Link.of(columns))?;
+    let channel = read_channel(Column::Channel.of(columns))?;
     let (beat, known) = read_beat(channel, columns)?;
     Ok(Row {
         line,

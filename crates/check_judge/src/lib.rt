@@ -23,4 +23,5 @@ mod trace;
 
 pub use judge::Judge;
 pub use stop::{Counts, Refusal, Stop, Unlawful};
+pub use tally::count_end;
 pub use text::{push_lawful, push_unlawful};

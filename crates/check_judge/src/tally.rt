@@ -25,6 +25,21 @@ fn is_counted(links: Links, link: Link) -> bool
     }
 }
 
+/// Counts what a beat ends at a link: a whole request or a whole reply, each modulo 2^64.
+pub fn count_end(links: Links, link: Link, end: Ended, requests: &mut u64, answered: &mut u64)
+    ensures requests { requests.new ≡ one_more (is_counted links link && ends_an_ask end) requests.old }
+    ensures answered { answered.new ≡ one_more (is_counted links link && ends_a_reply end) answered.old }
+{
+    if !is_counted(links, link) {
+        return;
+    }
+    match end {
+        Ended::Part => {}
+        Ended::Ask => *requests = requests.wrapping_add(1),
+        Ended::Reply => *answered = answered.wrapping_add(1),
+    }
+}
+
 /// The judge of beats in the order in which they cross, with how many whole requests and replies it has seen.
 #[derive(Drop)]
 pub struct Tally {
@@ -47,14 +62,8 @@ impl Tally {
             ≡ one_more (is_counted self.old.watch.layout.links link && ends_a_reply end)
             self.old.answered }
     {
-        if !is_counted(self.watch.links(), link) {
-            return;
-        }
-        match end {
-            Ended::Part => {}
-            Ended::Ask => self.requests = self.requests.wrapping_add(1),
-            Ended::Reply => self.answered = self.answered.wrapping_add(1),
-        }
+        let links = self.watch.links();
+        count_end(links, link, end, &mut self.requests, &mut self.answered);
     }
 
     /// Appends what is told of a beat that ends this.

@@ -8,7 +8,6 @@ use Rattle.clap.specs.declared.builder.action.ArgAction.TheVariants.{Set, SetTru
 use Rattle.clap.specs.declared.builder.value_parser.ValueParser.TheVariants as values
 use Rattle.clap.specs.declared.error.Error.{Error}
 use Rattle.clap.specs.declared.error.ErrorKind.{ErrorKind}
-use Rattle.clap.specs.declared.error.ErrorKind.TheVariants.{DisplayHelp, DisplayVersion, OutOfMemory}
 use Rattle.check_watch.specs.declared.links.Links.{Links}
 use Rattle.check_watch.specs.declared.links.Links.TheVariants.{Both, Masters, Ports}
 use Rattle.check_watch.specs.declared.order.Order.{Order}
@@ -167,10 +166,3 @@ Refuses kind words app = fault_of app words ≡ kind ∷ []
 
 abbrev pub AreRefusedAs : ErrorKind → List Text → Type 0
 AreRefusedAs kind words = (app : App) → IsCommandLine app → Refuses kind words app
-
--- the status of help and of the version, that of want of memory, and that of all else, which are mistakes
-abbrev pub status_of_kind : ErrorKind → ℕ
-status_of_kind DisplayHelp = 0
-status_of_kind DisplayVersion = 0
-status_of_kind OutOfMemory = 4
-status_of_kind _ = 2

@@ -13,4 +13,4 @@
 pub mod laws;
 mod options;
 
-pub use options::{Options, options_status, read_options};
+pub use options::{Options, read_options};

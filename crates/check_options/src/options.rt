@@ -1,11 +1,10 @@
 //! The command line: `tlcheck [--links both|masters|ports] [--order accept|reply] [--trace] SYSTEM [CAPTURE]`.
 ghost use Rattle.std.specs.Prelude.{◌≡◌, IfOk, [], map, false, option_map, unwrap_or};
-ghost use Rattle.clap.specs.Words.{app_of, first_value, found_of, kind_of, rule_of};
-ghost use Rattle.check_options.specs.Options.{Answers, IsCommandLine, IsLinksRule, IsOrderRule, capture_rule, file_of, flag_of, links_of, order_of, program, status_of_kind, system_rule, trace_rule};
+ghost use Rattle.clap.specs.Words.{app_of, first_value, found_of, rule_of};
+ghost use Rattle.check_options.specs.Options.{Answers, IsCommandLine, IsLinksRule, IsOrderRule, capture_rule, file_of, flag_of, links_of, order_of, program, system_rule, trace_rule};
 
 use check_watch::{Links, Order};
 use clap::builder::ValueParser;
-use clap::error::ErrorKind;
 use clap::{Arg, ArgAction, ArgMatches, Command, Error, value_parser};
 use std::alloc::{AllocError, Global};
 
@@ -170,7 +169,7 @@ fn capture_word<'a>(alloc: Global) -> Arg<'a>
     Arg::new(alloc, "capture")
         .action(ArgAction::Set)
         .value_name("CAPTURE")
-        .help("The file with the capture; standard input where there is none, or -")
+        .help("The file with the capture; standard input if there is none, or -")
 }
 
 /// The options and words that there are.
@@ -183,16 +182,4 @@ fn command<'a>(alloc: Global) -> Result<Command<'a>, AllocError>
         .arg(trace_flag(alloc))?
         .arg(system_word(alloc))?
         .arg(capture_word(alloc))
-}
-
-/// The status that the program ends with where there are no options: 0 for help and the version, 4 for want of memory,
-/// 2 for a mistake.
-pub fn options_status(error: &Error) -> u8
-    ensures { result ≡ status_of_kind (kind_of error.now) }
-{
-    match error.kind() {
-        ErrorKind::DisplayHelp | ErrorKind::DisplayVersion => 0,
-        ErrorKind::OutOfMemory => 4,
-        _ => 2,
-    }
 }

@@ -9,7 +9,7 @@ use Rattle.check_records.specs.Source.{Between, Left}
 use Rattle.check_records.specs.Text.{Ends, Gives, IsTooLong, Place}
 use Rattle.check_records.specs.Text.{Row as Record}
 use Rattle.check_watch.specs.Plan.{Plan}
-use Rattle.check_verdict.specs.Header.{header}
+use Rattle.check_capture.specs.Column.{header}
 use Rattle.check_verdict.specs.Rows.{HasNoRow, HasRows, IsAnswer, IsOut, IsTimeOver}
 use Rattle.check_verdict.specs.declared.fault.CaptureFault.{CaptureFault}
 use Rattle.check_verdict.specs.declared.fault.CaptureFault.TheVariants as fault

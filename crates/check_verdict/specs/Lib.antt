@@ -1,4 +1,3 @@
-pub mod Header
 pub mod Fault
 pub mod Out
 pub mod Rows

@@ -17,7 +17,7 @@ use crate::system::{hold, is_full, take, take_system};
 use crate::text::put_text;
 use crate::wire::{WireBeat, sighting_of};
 use check_capture::Row;
-use check_judge::{Unlawful, push_unlawful};
+use check_judge::{Unlawful, count_end, push_unlawful};
 use check_link::{Link, Sighting};
 use check_watch::{Ended, Links, Order, Watch};
 use std::alloc::Global;
@@ -106,16 +106,6 @@ pub extern "C" fn tlx_judge_make_at(
     }
 }
 
-/// Whether messages are counted at a link: at the masters' where these are watched, else at the ports'.
-fn is_counted(links: Links, link: Link) -> bool
-    ensures { result ≡ is_counted links link }
-{
-    match link {
-        Link::Master(_) => matches!(links, Links::Both | Links::Masters),
-        Link::Port(_) => matches!(links, Links::Ports),
-    }
-}
-
 /// Counts what a beat ends at a link.
 fn count(judge: &mut Judge, link: Link, end: Ended)
     ensures watch { judge.new.watch ≡ judge.old.watch }
@@ -125,14 +115,8 @@ fn count(judge: &mut Judge, link: Link, end: Ended)
     ensures answered { judge.new.answered
         ≡ one_more (is_counted judge.old.watch.layout.links link && ends_a_reply end) judge.old.answered }
 {
-    if !is_counted(judge.watch.links(), link) {
-        return;
-    }
-    match end {
-        Ended::Part => {}
-        Ended::Ask => judge.requests = judge.requests.wrapping_add(1),
-        Ended::Reply => judge.answered = judge.answered.wrapping_add(1),
-    }
+    let links = judge.watch.links();
+    count_end(links, link, end, &mut judge.requests, &mut judge.answered);
 }
 
 /// Keeps the line of a fault. A text with room for it asks for no memory.

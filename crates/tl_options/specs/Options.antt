@@ -8,7 +8,6 @@ use Rattle.clap.specs.Words.{App, Rule, Text, fault_of, matches_of, new_app, new
 use Rattle.clap.specs.declared.builder.action.ArgAction.TheVariants.{Set, SetTrue}
 use Rattle.clap.specs.declared.builder.value_parser.ValueParser.TheVariants as values
 use Rattle.clap.specs.declared.error.ErrorKind.{ErrorKind}
-use Rattle.clap.specs.declared.error.ErrorKind.TheVariants.{DisplayHelp, DisplayVersion, OutOfMemory}
 use Rattle.tl_options.specs.declared.options.Options.{Options}
 
 -- `--serial`, a flag
@@ -64,10 +63,3 @@ AskFor options words = (fault_of command_line words ≡ []) × (options_in words
 -- the words are refused as this
 abbrev pub AreRefusedAs : ErrorKind → List Text → Type 0
 AreRefusedAs kind words = fault_of command_line words ≡ kind ∷ []
-
--- the status of help and of the version, that of want of memory, and that of all else, which are mistakes
-abbrev pub status_of_kind : ErrorKind → ℕ
-status_of_kind DisplayHelp = 0
-status_of_kind DisplayVersion = 0
-status_of_kind OutOfMemory = 4
-status_of_kind _ = 2

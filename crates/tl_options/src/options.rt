@@ -1,9 +1,8 @@
 //! The command line: `tlx [--serial] [--history] [--workers N]`.
 ghost use Rattle.std.specs.Prelude.{◌≡◌, ◌≤◌, IfOk, map, false};
-ghost use Rattle.clap.specs.Words.{FailsBy, app_of, fault_of, kind_of, rule_of};
-ghost use Rattle.tl_options.specs.Options.{command_line, history_rule, options_in, program, serial_rule, status_of_kind, workers_rule};
+ghost use Rattle.clap.specs.Words.{FailsBy, app_of, fault_of, rule_of};
+ghost use Rattle.tl_options.specs.Options.{command_line, history_rule, options_in, program, serial_rule, workers_rule};
 
-use clap::error::ErrorKind;
 use clap::{Arg, ArgAction, Command, Error, value_parser};
 use std::alloc::{AllocError, Global};
 use tl_types::MAX_WORKERS;
@@ -115,16 +114,4 @@ fn command<'a>(alloc: Global) -> Result<Command<'a>, AllocError>
         .arg(serial_flag(alloc))?
         .arg(history_flag(alloc))?
         .arg(workers_option(alloc))
-}
-
-/// The status that the program ends with where there are no options: 0 for help and the version, 4 for want of memory,
-/// 2 for a mistake.
-pub fn options_status(error: &Error) -> u8
-    ensures { result ≡ status_of_kind (kind_of error.now) }
-{
-    match error.kind() {
-        ErrorKind::DisplayHelp | ErrorKind::DisplayVersion => 0,
-        ErrorKind::OutOfMemory => 4,
-        _ => 2,
-    }
 }

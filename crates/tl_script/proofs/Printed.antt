@@ -5,7 +5,8 @@ use Rattle.std.proofs.lemmas.Bool.{lt-ltb}
 use Rattle.std.proofs.lemmas.Bool.Decides.{nat_tests}
 use Rattle.std.specs.Char.{digit_value, is_digit}
 use Rattle.std.specs.Fmt.{digit_glyph}
-use Rattle.tl_script.specs.Data.{byte_of, pair_of, data_of, data_text}
+use Rattle.tl_text.specs.Number.{pair_of}
+use Rattle.tl_script.specs.Data.{byte_of, data_of, data_text}
 
 glyph_value : (d : ℕ) → d < 16 → digit_value (digit_glyph false d) ≡ d
 glyph_value d below = grind (arith, nat_tests)

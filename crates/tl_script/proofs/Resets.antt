@@ -2,7 +2,7 @@
 use Rattle.std.proofs.Common.{◌≡◌, ℕ, suc, ◌+◌, ◌*◌, ◌-◌, ◌≤◌, List, [], ◌∷◌, ◌++◌, length, drop, take, get_or, replicate, Option, Some, None, Ok, ok_or, option_map, option_and_then, nat_lt, false, refl, sym, ap, append_assoc, arith}
 use Rattle.std.proofs.lemmas.List.{take_all}
 use Rattle.std.proofs.lemmas.Grind.{common_steps}
-use Rattle.tl_script.specs.Data.{pair_of}
+use Rattle.tl_text.specs.Number.{pair_of}
 use Rattle.tl_script.specs.Port.{pairs_of, filled}
 use Rattle.tl_script.specs.declared.fault.Key.TheVariants.{Reset}
 use Rattle.tl_script.specs.declared.fault.ScriptFault.{ScriptFault}

@@ -1,14 +1,10 @@
 -- The bytes of an operation, as a word spells them: two hexadecimal digits a byte, and `--` for an unset one.
 use Rattle.std.specs.Prelude.{ℕ, ◌+◌, ◌*◌, ◌/◌, ◌%◌, false, ◌&&◌, List, [], ◌∷◌, ◌==◌, Option, Some, None, if◌then◌else◌, option_and_then, option_map, flat_map}
-use Rattle.std.specs.Char.{is_digit, digit_value}
 use Rattle.std.specs.Fmt.{digit_glyph}
+use Rattle.tl_text.specs.Number.{pair_of}
 
 abbrev pub dash : ℕ
 dash = 45
-
--- the byte that two hexadecimal digits spell
-abbrev pub pair_of : ℕ → ℕ → Option ℕ
-pair_of high low = if is_digit high 16 && is_digit low 16 then Some (16 * digit_value high + digit_value low) else None
 
 -- what two characters spell: an unset byte by dashes, or a byte
 abbrev pub byte_of : ℕ → ℕ → Option (Option ℕ)

@@ -6,7 +6,7 @@ use Rattle.tl_ops.specs.Store.{Store}
 use Rattle.tl_ops.specs.declared.kind.Kind as kind_of_slave
 use Rattle.tl_ops.specs.declared.kind.Kind.TheVariants.{Ram, Rom, Regs, ClearRegs}
 use Rattle.tl_ops.specs.declared.bank.TheConstants.{MAX_LENGTH}
-use Rattle.tl_script.specs.Data.{pair_of}
+use Rattle.tl_text.specs.Number.{pair_of}
 use Rattle.tl_script.specs.Key.{key_name}
 use Rattle.tl_script.specs.Reading.{◌>>=◌, each}
 use Rattle.tl_script.specs.Value.{value_at, number_at, text_of, tables_of}

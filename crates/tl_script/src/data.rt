@@ -1,8 +1,9 @@
 //! DATA: the bytes that a word spells.
 ghost use Rattle.std.specs.Prelude.{◌≡◌, ◌≤◌, length, option_map, IfSome};
-ghost use Rattle.tl_script.specs.Data.{byte_of, pair_of};
+ghost use Rattle.tl_script.specs.Data.{byte_of};
 ghost use Rattle.tl_script.specs.Operation.{counted_data_of};
 
+use tl_text::read_pair;
 use tl_types::{Bytes, MAX_BYTES};
 
 /// Reads the bytes that a word spells, if it spells this many, in the place of those that there were.
@@ -32,13 +33,4 @@ fn read_byte(high: u8, low: u8) -> Option<Option<u8>>
         return Some(None);
     }
     read_pair(high, low).map(Some)
-}
-
-/// The byte that two hexadecimal digits spell, in either case.
-pub fn read_pair(high: u8, low: u8) -> Option<u8>
-    ensures { result ≡ pair_of high low }
-{
-    let high = char::from(high).to_digit(16)?;
-    let low = char::from(low).to_digit(16)?;
-    Some((16 * high + low) as u8)
 }

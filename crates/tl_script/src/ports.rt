@@ -8,12 +8,12 @@ ghost use Rattle.tl_script.specs.System.{store_of};
 ghost use Rattle.tl_script.specs.declared.fault.Key.TheVariants.{Reset};
 ghost use Rattle.tl_script.specs.declared.fault.ScriptFault.TheVariants.{OutOfRange};
 
-use crate::data::read_pair;
 use crate::fault::{Key, ScriptFault};
 use crate::system::Device;
 use crate::value::{find_value, list_at, number_at, tables_of, text_of, value_at};
 use std::alloc::Global;
 use tl_ops::{Kind, MAX_LENGTH};
+use tl_text::read_pair;
 use toml::Table;
 
 /// The last address that a range may start at: the largest integer of a document.

@@ -5,14 +5,18 @@
 //! [`LimitedWriter`] alone, which let a stream be called a bounded number of times ([`READS`] reads, [`RETRIES`] writes
 //! that are tried again since they were interrupted): so whatever a stream does, they end.
 //!
-//! Both programs, `tlx` and `tlcheck`, read and write through this. Read on in `docs/PROVED.md`.
+//! [`fail`], [`no_memory`], [`unread`] and [`refused`] end a program that has a fault, with its line and its status.
+//!
+//! Both programs, `tlx` and `tlcheck`, read, write and end through this. Read on in `docs/PROVED.md`.
 #![tactic(auto)]
 
+mod ends;
 mod input;
 pub mod laws;
 mod limited;
 mod streams;
 
+pub use ends::{fail, line_status, no_memory, refused, unread};
 pub use input::{InputFault, read_whole_system};
 pub use limited::{LimitedReader, LimitedWriter, READS, RETRIES};
 pub use streams::{ReadFault, WriteFault, write_all};

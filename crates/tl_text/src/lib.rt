@@ -17,5 +17,5 @@ mod words;
 
 pub use digits::{hex_digit, push_decimal, push_field, push_hex};
 pub use name::{read_name, reply_word, word};
-pub use number::read_number;
+pub use number::{read_digits, read_number, read_pair};
 pub use words::{MAX_WORDS, split_words};

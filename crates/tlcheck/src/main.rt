@@ -19,11 +19,8 @@ pub mod terms;
 #[cfg(test)]
 mod tests;
 
-ghost use Rattle.std.specs.Prelude.{◌≡◌, ◌≢◌, IfOk, IfErr};
-ghost use Rattle.std.specs.IoError.{error_kind};
+ghost use Rattle.std.specs.Prelude.{◌≡◌, IfOk, IfErr};
 ghost use Rattle.std.specs.Process.{exit_status};
-ghost use Rattle.clap.specs.Words.{kind_of};
-ghost use Rattle.check_options.specs.Options.{status_of_kind};
 ghost use Rattle.tlcheck.specs.Engine.{IsChecked, terms_of};
 ghost use Rattle.tlcheck.specs.Fault.{status_of, status_of_verdict};
 
@@ -31,14 +28,12 @@ use crate::engine::check;
 use crate::fault::CheckFault;
 use crate::file::NamedFile;
 use crate::terms::Terms;
-use check_options::{Options, options_status, read_options};
+use check_options::{Options, read_options};
 use std::alloc::Global;
-use std::io::{ErrorKind, Read, Write};
+use std::env;
+use std::io::{Read, Write};
 use std::process::ExitCode;
-use std::{env, io};
-
-/// The status of a command line that is not text.
-const USAGE: u8 = 2;
+use tl_streams::{fail, no_memory, refused, unread};
 
 /// The status of a capture that is not lawful.
 const UNLAWFUL: u8 = 3;
@@ -49,11 +44,11 @@ fn main(rt: HostRuntime) -> ExitCode {
         Err(error) => return unread(&rt, &error),
     };
     let Ok(words) = words else {
-        return ended(&rt, Err(CheckFault::Memory));
+        return no_memory(&rt);
     };
     let line = words.iter().map(|word| word.as_str());
     let Ok(line) = line.collect::<Vec<&str>>(rt.alloc()) else {
-        return ended(&rt, Err(CheckFault::Memory));
+        return no_memory(&rt);
     };
     match read_options(rt.alloc(), &line) {
         Ok(options) => ended(&rt, run(&rt, &options)),
@@ -93,8 +88,7 @@ fn check_as_asked<S: Read, C: Read + Drop, W: Write>(
     check(alloc, system, capture, writer, terms)
 }
 
-/// The status of a verdict or a fault. The line of a fault is printed, where there is one: the status is the fault's
-/// also where it can't be.
+/// Ends the program after a verdict, or with the line and the status of a fault.
 fn ended(rt: &HostRuntime, outcome: Result<bool, CheckFault>) -> ExitCode
     ensures verdict { IfOk outcome (λ lawful. exit_status result ≡ status_of_verdict lawful) }
     ensures fault { IfErr outcome (λ fault. exit_status result ≡ status_of fault) }
@@ -102,34 +96,6 @@ fn ended(rt: &HostRuntime, outcome: Result<bool, CheckFault>) -> ExitCode
     match outcome {
         Ok(true) => ExitCode::from(0),
         Ok(false) => ExitCode::from(UNLAWFUL),
-        Err(fault) => {
-            let _ = eprintln!(rt; "{fault}");
-            ExitCode::from(fault.status())
-        }
+        Err(fault) => fail(rt, &fault, fault.status()),
     }
-}
-
-/// The status of a command line that could not be read: for want of memory, which is a fault of the run, or since a
-/// word is not text.
-fn unread(rt: &HostRuntime, error: &io::Error) -> ExitCode
-    ensures memory { error_kind error.now ≡ ErrorKind.OutOfMemory → exit_status result ≡ 4 }
-    ensures text { error_kind error.now ≢ ErrorKind.OutOfMemory → exit_status result ≡ USAGE }
-{
-    if error.kind() == ErrorKind::OutOfMemory {
-        return ended(rt, Err(CheckFault::Memory));
-    }
-    let _ = eprintln!(rt; "arguments are not text");
-    ExitCode::from(USAGE)
-}
-
-/// Prints the help that was asked for, or what is wrong with the command line, and answers its status. Want of memory
-/// is told as that of a run is.
-fn refused(rt: &HostRuntime, error: clap::Error) -> ExitCode
-    ensures { exit_status result ≡ status_of_kind (kind_of error) }
-{
-    if error.kind() == clap::error::ErrorKind::OutOfMemory {
-        return ended(rt, Err(CheckFault::Memory));
-    }
-    let _ = error.print(rt);
-    ExitCode::from(options_status(&error))
 }

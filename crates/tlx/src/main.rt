@@ -18,29 +18,24 @@ pub mod laws;
 #[cfg(test)]
 mod tests;
 
-ghost use Rattle.std.specs.Prelude.{◌≡◌, ◌≢◌, ◌≤◌, true, false, IfErr, OnOk};
-ghost use Rattle.std.specs.IoError.{error_kind};
+ghost use Rattle.std.specs.Prelude.{◌≡◌, ◌≤◌, true, false, IfErr, OnOk};
 ghost use Rattle.std.specs.Process.{exit_status};
-ghost use Rattle.clap.specs.Words.{kind_of};
 ghost use Rattle.tl_serial.specs.Text.{IsSerialText};
 ghost use Rattle.tlx.specs.Engine.{HasNoFault, HasThreadedFault, IsAnswered, IsThreadedText};
 ghost use Rattle.tlx.specs.Fault.{status_of};
-ghost use Rattle.tl_options.specs.Options.{status_of_kind};
 
 use crate::engine::serial::serial_engine;
 use crate::engine::threads::threads_engine;
 use crate::fault::RunFault;
 use std::alloc::Global;
-use std::io::{ErrorKind, Read, Write};
+use std::env;
+use std::io::{Read, Write};
 use std::process::ExitCode;
 use std::sync::Wait;
 use std::thread::Threads;
-use std::{env, io};
-use tl_options::{Options, options_status, read_options};
+use tl_options::{Options, read_options};
+use tl_streams::{fail, no_memory, refused, unread};
 use tl_types::MAX_WORKERS;
-
-/// The status of a command line that is not text.
-const USAGE: u8 = 2;
 
 fn main(rt: HostRuntime) -> ExitCode {
     let words = match env::args(&rt) {
@@ -48,11 +43,11 @@ fn main(rt: HostRuntime) -> ExitCode {
         Err(error) => return unread(&rt, &error),
     };
     let Ok(words) = words else {
-        return ended(&rt, Err(RunFault::Memory));
+        return no_memory(&rt);
     };
     let line = words.iter().map(|word| word.as_str());
     let Ok(line) = line.collect::<Vec<&str>>(rt.alloc()) else {
-        return ended(&rt, Err(RunFault::Memory));
+        return no_memory(&rt);
     };
     match read_options(rt.alloc(), &line) {
         Ok(options) => ended(
@@ -63,44 +58,15 @@ fn main(rt: HostRuntime) -> ExitCode {
     }
 }
 
-/// The status of a run. The line of its fault is printed, where there is one: the status is the fault's also where it
-/// can't be.
+/// Ends the program after a run: with its fault's line and status, if it has one.
 fn ended(rt: &HostRuntime, outcome: Result<(), RunFault>) -> ExitCode
     ensures done { OnOk outcome (exit_status result ≡ 0) }
     ensures fault { IfErr outcome (λ fault. exit_status result ≡ status_of fault) }
 {
     match outcome {
         Ok(()) => ExitCode::from(0),
-        Err(fault) => {
-            let _ = eprintln!(rt; "{fault}");
-            ExitCode::from(fault.status())
-        }
+        Err(fault) => fail(rt, &fault, fault.status()),
     }
-}
-
-/// The status of a command line that could not be read: for want of memory, which is a fault of the run, or since a
-/// word is not text.
-fn unread(rt: &HostRuntime, error: &io::Error) -> ExitCode
-    ensures memory { error_kind error.now ≡ ErrorKind.OutOfMemory → exit_status result ≡ 4 }
-    ensures text { error_kind error.now ≢ ErrorKind.OutOfMemory → exit_status result ≡ USAGE }
-{
-    if error.kind() == ErrorKind::OutOfMemory {
-        return ended(rt, Err(RunFault::Memory));
-    }
-    let _ = eprintln!(rt; "arguments are not text");
-    ExitCode::from(USAGE)
-}
-
-/// Prints the help that was asked for, or what is wrong with the command line, and answers its status. Want of memory
-/// is told as that of a run is.
-fn refused(rt: &HostRuntime, error: clap::Error) -> ExitCode
-    ensures { exit_status result ≡ status_of_kind (kind_of error) }
-{
-    if error.kind() == clap::error::ErrorKind::OutOfMemory {
-        return ended(rt, Err(RunFault::Memory));
-    }
-    let _ = error.print(rt);
-    ExitCode::from(options_status(&error))
 }
 
 /// Runs the script that is read, on one thread or by threads.

@@ -1,6 +1,7 @@
 //! The command line, row by row.
-use check_options::{Options, options_status, read_options};
+use check_options::{Options, read_options};
 use check_watch::{Links, Order};
+use tl_streams::line_status;
 
 #[test]
 fn words_give_options(rt: HostRuntime) {
@@ -82,7 +83,7 @@ fn other_words_have_a_status(rt: HostRuntime) {
     for (words, status) in rows {
         match read_options(rt.alloc(), words) {
             Ok(options) => panic!(&rt; "{options:?}"),
-            Err(error) => assert_eq!(rt; options_status(&error), status),
+            Err(error) => assert_eq!(rt; line_status(&error), status),
         }
     }
 }

@@ -1,5 +1,6 @@
 //! The command line.
-use tl_options::{Options, options_status, read_options};
+use tl_options::{Options, read_options};
+use tl_streams::line_status;
 
 #[test]
 fn words_give_options(rt: HostRuntime) {
@@ -52,7 +53,7 @@ fn other_words_have_a_status(rt: HostRuntime) {
     for (words, status) in rows {
         match read_options(rt.alloc(), words) {
             Ok(options) => panic!(&rt; "{options:?}"),
-            Err(error) => assert_eq!(rt; options_status(&error), status),
+            Err(error) => assert_eq!(rt; line_status(&error), status),
         }
     }
 }

@@ -1,6 +1,6 @@
 use Rattle.std.proofs.Common.{◌≡◌, ◌∙◌, [], Some, get_or, length, ap, sym, arith, eqb-true, eq-eqb}
 use Rattle.csv.specs.Records.{field_at, fields_of}
-use Rattle.check_verdict.specs.Header.{header}
+use Rattle.check_capture.specs.Column.{header}
 use Rattle.check_verdict.proofs.HeaderLemmas.{field_inside, one_more, same_fields}
 use Rattle.check_verdict.proofs.header.is_header.Goals as goal
 
@@ -10,17 +10,17 @@ loop-place-init c j within = absurd (omega (arith, within))
 pub returns-then-not-has : goal.returns-then-not-has
 returns-then-not-has c =
     let is_word : fields_of c.args.columns.now ≡ header
-    → field_at (fields_of c.args.columns.now) c.loop-place.place ≡ Some c.word.result.now =
+    → field_at (fields_of c.args.columns.now) c.loop-place.place ≡ Some c.column_name.result.now =
     λ is. ap (λ f. field_at f c.loop-place.place) is
     ∙ field_inside header c.loop-place.place (omega (arith, c.loop-place-test.true))
-    ∙ ap Some (sym c.word.ensures) in
+    ∙ ap Some (sym c.column_name.ensures) in
     (λ no. absurd (cc no), λ is. sym c.if-not-has.true ∙ c.has.ensures.1 (is_word is))
 
 pub loop-place-preserved : goal.loop-place-preserved
 loop-place-preserved c =
     one_more (λ j. field_at (fields_of c.args.columns.now) j ≡ Some
     (get_or header j [])) c.loop-place.place c.loop-place.invariant
-    (c.has.ensures.0 c.if-not-has.false ∙ ap Some c.word.ensures)
+    (c.has.ensures.0 c.if-not-has.false ∙ ap Some c.column_name.ensures)
 
 pub returns : goal.returns
 returns c = (
