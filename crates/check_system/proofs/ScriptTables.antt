@@ -36,7 +36,8 @@ use Rattle.check_system.specs.declared.fault.Key.{Key}
 use Rattle.check_system.specs.declared.fault.Key.TheVariants.{Port as PortKey, Master as MasterKey, Sources}
 use Rattle.check_system.specs.declared.fault.SystemFault.{SystemFault}
 use Rattle.check_system.specs.declared.fault.SystemFault.TheVariants.{Missing, NotToml, TooLong, WrongType}
-use Rattle.check_system.specs.declared.limits.TheConstants.{MAX_MASTERS, MAX_PORTS, MAX_SYSTEM}
+use Rattle.check_map.specs.declared.limits.TheConstants.{MAX_MASTERS, MAX_PORTS, MAX_SOURCES}
+use Rattle.check_system.specs.declared.read.TheConstants.{MAX_SYSTEM}
 use Rattle.check_system.proofs.Scripts.{ArePortsOf, each_first, each_none, number_at_same, number_at_within, ok_or_same, ports_same, step_same}
 
 -- what a step gave, and what the next made of it
@@ -135,8 +136,8 @@ unfolding old_master_of master_of name_at first_at stride_at number_if_any
 master_same members master plain some is =
     let read = sources_read (old_number_at OldSources 0 65535 members) (old_lines_at members) master is in
     let few = (number_at_within OldSources 0 65535 master.sources members read).1 in
-    let sources : number_at Sources 1 65536 members ≡ Ok master.sources =
-    number_at_same OldSources Sources 0 65535 1 65536 master.sources members refl read (omega (arith, some))
+    let sources : number_at Sources 1 MAX_SOURCES members ≡ Ok master.sources =
+    number_at_same OldSources Sources 0 65535 1 MAX_SOURCES master.sources members refl read (omega (arith, some))
     (omega (arith, few)) in
     rw (plain.name, sources, plain.stride) refl
 
@@ -180,12 +181,12 @@ tables_read : (members : Members) (value : Data) (tables : List Members) → val
     → tables_of MasterKey value ≡ Ok tables → nat_lt (length tables) 1 ≡ false
     → nat_lt MAX_MASTERS (length tables) ≡ false → master_tables members ≡ Ok tables
 unfolding master_tables
-tables_read members value tables value_is tables_are some few = rw (value_is, tables_are, some, few) refl
+tables_read fields value tables value_is tables_are some few = rw (value_is, tables_are, some, few) refl
 
 masters_read : (members : Members) (tables : List Members) (masters : List Master) → master_tables members ≡ Ok tables
     → list_any has_first tables ≡ false → new.each (master_of false) tables ≡ Ok masters → masters_of members ≡ Ok masters
 unfolding masters_of
-masters_read members tables masters tables_are none read = rw (tables_are, none) read
+masters_read fields tables masters tables_are none read = rw (tables_are, none) read
 
 pub masters_of_same : (members : Members) (masters : List OldMaster) → length masters ≤ MAX_MASTERS
     → ((tables : List Members) → master_tables members ≡ Ok tables → AllByRecursion IsPlainMaster tables)
@@ -216,9 +217,9 @@ masters_of_same members masters few plain some is =
 document_by : (long text : Bool) (parsed : Option Members) (members : Members)
     → (if long then Err OldTooLong else if text then ok_or parsed OldNotToml else Err OldNotToml) ≡ Ok members
     → (if long then Err TooLong else if text then ok_or parsed NotToml else Err NotToml) ≡ Ok members
-document_by true text parsed members is = absurd cc
-document_by false true parsed members is = ok_or_same parsed OldNotToml NotToml members is
-document_by false false parsed members is = absurd cc
+document_by true text parsed fields is = absurd cc
+document_by false true parsed fields is = ok_or_same parsed OldNotToml NotToml fields is
+document_by false false parsed fields is = absurd cc
 
 document_of_same : (bytes : List ℕ) (members : Members) → old_document_of bytes ≡ Ok members
     → document_of bytes ≡ Ok members
@@ -244,12 +245,12 @@ pub record ReadsScript (bytes : List ℕ) (stores : List Store) (counts : List �
 parts_read : (members : Members) (ports : List Port) (masters : List Master) → ports_of members ≡ Ok ports
     → masters_of members ≡ Ok masters → parts_in members ≡ Ok (record { ports = ports; masters = masters })
 unfolding parts_in
-parts_read members ports masters ports_are masters_are = rw (ports_are, masters_are) refl
+parts_read fields ports masters ports_are masters_are = rw (ports_are, masters_are) refl
 
 ports_read : (members : Members) (stores : List Store) (read : ReadsPorts (get_member (key_name PortKey) members) stores)
     → ports_of members ≡ Ok read.same.ports
 unfolding ports_of
-ports_read members stores read = rw (read.tables_are) read.same.read
+ports_read fields stores read = rw (read.tables_are) read.same.read
 
 -- what the parts of a script were read from
 record IsReadOf (members : Members) (parts : OldParts) : Type 0 where

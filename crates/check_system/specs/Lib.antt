@@ -4,5 +4,6 @@ pub mod Value
 pub mod Name
 pub mod Port
 pub mod Master
+pub mod System
 pub mod File
 pub mod Instance

@@ -12,7 +12,7 @@ use Rattle.check_system.specs.Value.{value_at, number_at, number_if_any, in_rang
 use Rattle.check_system.specs.declared.fault.Key.TheVariants.{Port as PortKey, Kind, Base, Length, Ranges, Reset, Order as OrderKey}
 use Rattle.check_system.specs.declared.fault.SystemFault.{SystemFault}
 use Rattle.check_system.specs.declared.fault.SystemFault.TheVariants.{WrongType, OutOfRange}
-use Rattle.check_system.specs.declared.limits.TheConstants.{MAX_PORTS, MAX_RANGES}
+use Rattle.check_map.specs.declared.limits.TheConstants.{MAX_PORTS, MAX_RANGES}
 use Rattle.check_system.specs.declared.parts.Order.{Order}
 use Rattle.check_system.specs.declared.parts.Order.TheVariants.{Accept, Reply}
 use Rattle.check_system.specs.declared.parts.Port as code_port

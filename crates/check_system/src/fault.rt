@@ -1,8 +1,10 @@
 //! The faults of system files, and the keys that they name.
 ghost use Rattle.std.specs.Prelude.{◌≡◌, Some};
 ghost use Rattle.check_system.specs.Key.{key_name};
+ghost use Rattle.check_system.specs.Reading.{map_fault, source_fault};
 ghost use Rattle.check_system.specs.declared.fault.SystemFault.TheVariants.{Memory};
 
+use check_map::{MapFault, SourceFault};
 use std::alloc::{AllocError, AllocFailed};
 use std::fmt;
 use thiserror::Error;
@@ -70,6 +72,10 @@ pub enum SystemFault {
     OutOfRange(Key),
     #[error("system: two are called {0}")]
     TwoCalled(String),
+    #[error("system: {0}")]
+    Map(MapFault),
+    #[error("system: {0}")]
+    Sources(SourceFault),
     #[error("memory refused")]
     Memory,
 }
@@ -87,5 +93,27 @@ impl<T: Drop> From<AllocFailed<T>> for SystemFault {
 
     fn from(_: AllocFailed<T>) -> SystemFault {
         SystemFault::Memory
+    }
+}
+
+impl From<MapFault> for SystemFault {
+    ghost from_gives = { λ from fault. fault ≡ map_fault from };
+
+    fn from(fault: MapFault) -> SystemFault {
+        match fault {
+            MapFault::Memory => SystemFault::Memory,
+            _ => SystemFault::Map(fault),
+        }
+    }
+}
+
+impl From<SourceFault> for SystemFault {
+    ghost from_gives = { λ from fault. fault ≡ source_fault from };
+
+    fn from(fault: SourceFault) -> SystemFault {
+        match fault {
+            SourceFault::Memory => SystemFault::Memory,
+            _ => SystemFault::Sources(fault),
+        }
     }
 }

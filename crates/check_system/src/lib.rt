@@ -11,18 +11,19 @@
 #![tactic(auto)]
 
 mod fault;
-mod limits;
 mod masters;
 mod name;
 mod names;
+mod owners;
 mod parts;
 mod ports;
 mod ranges;
 mod read;
+mod system;
 mod value;
 
 pub use fault::{Key, SystemFault};
-pub use limits::{MAX_MASTERS, MAX_PORTS, MAX_RANGES, MAX_SYSTEM};
 pub use name::MAX_NAME;
-pub use parts::{Master, Order, Parts, Port};
-pub use read::read_parts;
+pub use parts::{Master, Order, Port};
+pub use read::{MAX_SYSTEM, read_system};
+pub use system::System;

@@ -6,18 +6,12 @@ ghost use Rattle.check_system.specs.Master.{first_at, has_first as has_first_key
 ghost use Rattle.check_system.specs.Reading.{Gives, each};
 
 use crate::fault::{Key, SystemFault};
-use crate::limits::MAX_MASTERS;
 use crate::name::name_of_table;
 use crate::parts::Master;
 use crate::value::{find_value, list_at, number_at, number_if_any, tables_of, value_at};
+use check_map::{MAX_MASTERS, MAX_SOURCES, MAX_WIDE};
 use std::alloc::Global;
 use toml::Table;
-
-/// The most sources of a master.
-const MAX_COUNT: u64 = 65_536;
-
-/// The last wide source.
-const LAST_SOURCE: u64 = 65_535;
 
 /// Whether a master's table says where its wide sources begin.
 fn has_first(table: &Table) -> bool
@@ -46,7 +40,7 @@ fn first_of_master(placed: bool, table: &Table) -> Result<Option<u16>, SystemFau
     if !placed {
         return Ok(None);
     }
-    let first = number_at(table, Key::First, 0, LAST_SOURCE)?;
+    let first = number_at(table, Key::First, 0, u64::from(MAX_WIDE))?;
     Ok(Some(first as u16))
 }
 
@@ -54,7 +48,7 @@ fn first_of_master(placed: bool, table: &Table) -> Result<Option<u16>, SystemFau
 fn stride_of_master(table: &Table) -> Result<u16, SystemFault>
     ensures { Gives (λ stride. stride) result (stride_at (table_view table.now)) }
 {
-    match number_if_any(table, Key::Stride, 1, LAST_SOURCE)? {
+    match number_if_any(table, Key::Stride, 1, u64::from(MAX_WIDE))? {
         Some(stride) => Ok(stride as u16),
         None => Ok(1),
     }
@@ -65,7 +59,7 @@ fn read_master(alloc: Global, placed: bool, table: &Table) -> Result<Master, Sys
     ensures { Gives master_view result (master_of placed (table_view table.now)) }
 {
     let name = name_of_table(alloc, table)?;
-    let sources = number_at(table, Key::Sources, 1, MAX_COUNT)?;
+    let sources = number_at(table, Key::Sources, 1, u64::from(MAX_SOURCES))?;
     let first = first_of_master(placed, table)?;
     let stride = stride_of_master(table)?;
     Ok(Master {

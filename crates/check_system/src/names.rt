@@ -1,12 +1,14 @@
 //! The names of a system's ports and masters, which are all different.
-ghost use Rattle.std.specs.Prelude.{◌≡◌, ◌<◌, IfNone, IfOk, IfSome, length, map};
-ghost use Rattle.check_system.specs.File.{names_of as names_of_parts, parts_view};
+ghost use Rattle.std.specs.Prelude.{◌≡◌, ◌≢◌, ◌<◌, IfErr, IfNone, IfOk, IfSome, OnOk, length, map};
+ghost use Rattle.check_system.specs.File.{IsNameFault, names_of as names_of_parts, parts_view};
 ghost use Rattle.check_system.specs.Master.{master_view};
 ghost use Rattle.check_system.specs.Name.{AreDistinct, IsFirstTwice, is_among as is_one_of};
 ghost use Rattle.check_system.specs.Port.{port_view};
 ghost use Rattle.std.specs.List.{filter_map};
+ghost use Rattle.check_system.specs.declared.fault.SystemFault.TheVariants.{Memory};
 
-use crate::parts::{Master, Parts, Port};
+use crate::fault::SystemFault;
+use crate::parts::{Parts, Port};
 use std::alloc::{AllocError, Global};
 
 /// Whether the name is one of these.
@@ -22,7 +24,7 @@ fn is_among(names: &[&str], name: &str) -> bool
 }
 
 /// The first place whose name stood before.
-pub fn first_twice(names: &[&str]) -> Option<usize>
+fn first_twice(names: &[&str]) -> Option<usize>
     ensures found { IfSome result (IsFirstTwice (map (λ name. name.now) names.now)) }
     ensures inside { IfSome result (λ place. place < length names.now) }
     ensures none { IfNone result (AreDistinct (map (λ name. name.now) names.now)) }
@@ -51,7 +53,7 @@ fn names_of_ports<'a>(alloc: Global, ports: &'a [Port]) -> Result<Vec<&'a str>, 
 }
 
 /// The names of ports and then of masters, in order.
-pub fn names_of<'a>(alloc: Global, parts: &'a Parts) -> Result<Vec<&'a str>, AllocError>
+fn names_of<'a>(alloc: Global, parts: &'a Parts) -> Result<Vec<&'a str>, AllocError>
     ensures { IfOk result (λ names. map (λ name. name.now) names.items
         ≡ names_of_parts (parts_view parts.now)) }
 {
@@ -63,4 +65,19 @@ pub fn names_of<'a>(alloc: Global, parts: &'a Parts) -> Result<Vec<&'a str>, All
         names.push(name.as_str())?;
     }
     Ok(names)
+}
+
+/// Whether no two ports or masters have the same name.
+pub fn check_names(alloc: Global, parts: &Parts) -> Result<(), SystemFault>
+    ensures distinct { OnOk result (AreDistinct (names_of_parts (parts_view parts.now))) }
+    ensures fault { IfErr result (λ fault. fault ≢ Memory → IsNameFault (parts_view parts.now) fault) }
+{
+    let names = names_of(alloc, parts)?;
+    match first_twice(&names) {
+        Some(place) => Err(SystemFault::TwoCalled(String::from_str(
+            alloc,
+            names[place],
+        )?)),
+        None => Ok(()),
+    }
 }

@@ -1,7 +1,6 @@
 //! The ports of a system file.
 ghost use Rattle.std.specs.Prelude.{◌≡◌, map, ok_or};
 ghost use Rattle.toml.specs.View.{table_view, view};
-ghost use Rattle.tl_script.specs.Data.{pair_of};
 ghost use Rattle.tl_script.specs.Port.{kind_of, pairs_of};
 ghost use Rattle.check_system.specs.Port.{kind_at, order_at, order_in, order_of, port_of, port_view, ports_of, reset_at, reset_of};
 ghost use Rattle.check_system.specs.Reading.{Gives, each};
@@ -9,13 +8,14 @@ ghost use Rattle.check_system.specs.declared.fault.Key.TheVariants.{Reset};
 ghost use Rattle.check_system.specs.declared.fault.SystemFault.TheVariants.{OutOfRange};
 
 use crate::fault::{Key, SystemFault};
-use crate::limits::MAX_PORTS;
 use crate::name::name_of_table;
 use crate::parts::{Order, Port};
 use crate::ranges::{first_length, ranges_of_port};
 use crate::value::{find_value, list_at, tables_of, text_of, value_at};
+use check_map::MAX_PORTS;
 use std::alloc::Global;
 use tl_ops::Kind;
+use tl_text::read_pair;
 use toml::{Table, Value};
 
 /// The kind that a word names.
@@ -46,15 +46,6 @@ fn kind_of_port(table: &Table) -> Result<Kind, SystemFault>
     }
 }
 
-/// The byte that two hexadecimal digits spell, in either case.
-fn read_digits(high: u8, low: u8) -> Option<u8>
-    ensures { result ≡ pair_of high low }
-{
-    let high = char::from(high).to_digit(16)?;
-    let low = char::from(low).to_digit(16)?;
-    Some((16 * high + low) as u8)
-}
-
 /// The bytes that pairs of hexadecimal digits spell.
 fn read_bytes(alloc: Global, text: &[u8]) -> Result<Vec<u8>, SystemFault>
     ensures { Gives (λ bytes. bytes.items) result (ok_or (pairs_of text.now) (OutOfRange Reset)) }
@@ -62,7 +53,7 @@ fn read_bytes(alloc: Global, text: &[u8]) -> Result<Vec<u8>, SystemFault>
     let mut bytes = Vec::new(alloc);
     let mut rest = text;
     while let [high, low, more @ ..] = rest {
-        let Some(byte) = read_digits(*high, *low) else {
+        let Some(byte) = read_pair(*high, *low) else {
             return Err(SystemFault::OutOfRange(Key::Reset));
         };
         bytes.push(byte)?;

@@ -5,8 +5,8 @@ ghost use Rattle.check_system.specs.Port.{first_length as length_of_first, liste
 ghost use Rattle.check_system.specs.Reading.{Gives, each};
 
 use crate::fault::{Key, SystemFault};
-use crate::limits::MAX_RANGES;
 use crate::value::{LAST_INTEGER, find_value, in_range, list_at, number_at, number_if_any};
+use check_map::MAX_RANGES;
 use std::alloc::Global;
 use tl_map::Range;
 use toml::{Table, Value};
@@ -23,7 +23,7 @@ pub fn first_length(ranges: &[Range]) -> u64
 
 /// The two integers of which a value is an array.
 #[tactic(auto, unfolding(crate::specs::Port::pair_in))]
-fn read_pair(value: &Value) -> Result<(i64, i64), SystemFault>
+fn read_integers(value: &Value) -> Result<(i64, i64), SystemFault>
     ensures { Gives (λ pair. pair) result (pair_in (view value.now)) }
 {
     let [base, length] = list_at(value, Key::Ranges)? else {
@@ -40,7 +40,7 @@ fn read_each_pair(alloc: Global, values: &[Value]) -> Result<Vec<(i64, i64)>, Sy
 {
     let mut pairs = Vec::with_capacity(alloc, values.len())?;
     for value in values {
-        pairs.push(read_pair(value)?)?;
+        pairs.push(read_integers(value)?)?;
     }
     Ok(pairs)
 }

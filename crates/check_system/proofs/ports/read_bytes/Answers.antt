@@ -8,5 +8,5 @@ pub loop-rest-preserved : goal.loop-rest-preserved
 loop-rest-preserved c =
     let rest = c.loop-rest.rest.now in
     rw (c.in_ok-push.ensures.items, take_rest rest 2)
-    (pairs_of-turn c.loop-rest.bytes.items rest c.in-Some.byte (omega arith) (sym c.read_digits.ensures ∙ c.in-Some.is)
+    (pairs_of-turn c.loop-rest.bytes.items rest c.in-Some.byte (omega arith) (sym c.read_pair.ensures ∙ c.in-Some.is)
     ∙ c.loop-rest.invariant)
