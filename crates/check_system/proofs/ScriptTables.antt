@@ -1,9 +1,9 @@
 -- The tables of a script, and its masters, read as those of a system file.
 use Rattle.std.proofs.Common.{◌≡◌, ◌∙◌, ℕ, suc, ◌<◌, ◌≤◌, nat_lt, Bool, true, false, List, [], ◌∷◌, length, map, Option, Some, None, Result, Ok, Err, ok_or, refl, ap, arith}
 use Rattle.std.specs.Prelude.{if◌then◌else◌}
-use Rattle.std.specs.List.{AllByRecursion, list_any}
+use Rattle.std.specs.List.{AllByRecursion, filter_map, list_any}
 use Rattle.std.specs.Str.{is_utf8}
-use Rattle.std.proofs.lemmas.Bool.{le-ltb}
+use Rattle.std.proofs.lemmas.Bool.{le-ltb, ltb-false}
 use Rattle.std.proofs.lemmas.List.{length-map}
 use Rattle.std.proofs.lemmas.List.Elements.{recursion_from_All}
 use Rattle.toml.specs.Data.{Data, Items, Members, get_member, as_table, as_array}
@@ -23,22 +23,25 @@ use Rattle.tl_script.specs.Value.{list_of, list_at as old_list_at, number_at as 
 use Rattle.tl_script.specs.declared.fault.Key as old_key
 use Rattle.tl_script.specs.declared.fault.Key.TheVariants.{Slots as OldSlots, Port as OldPort, Master as OldMasterKey, Sources as OldSources}
 use Rattle.tl_script.specs.declared.fault.ScriptFault.{ScriptFault}
-use Rattle.tl_script.specs.declared.fault.ScriptFault.TheVariants.{Missing as OldMissing, WrongType as OldWrongType, OutOfRange as OldOutOfRange, NotToml as OldNotToml, TooLong as OldTooLong}
-use Rattle.check_system.specs.File.{Parts, document_of, parts_in, parts_of}
-use Rattle.check_system.specs.Instance.{IsPlainMaster, IsPlainPort, SaysNothingNew, plain_master, slave_of}
+use Rattle.tl_script.specs.declared.fault.ScriptFault.TheVariants.{Missing as OldMissing, WrongType as OldWrongType, NotToml as OldNotToml, TooLong as OldTooLong}
+use Rattle.check_system.specs.File.{Parts, Spells, document_of, parts_in, parts_of}
+use Rattle.check_system.specs.Instance.{IsPlainMaster, IsPlainPort, IsSameSystem, NamesSame, SaysNothingNew, plain_master, slave_of}
 use Rattle.check_system.specs.Key.{key_name}
-use Rattle.check_system.specs.Master.{Master, first_at, has_first, master_of, master_tables, masters_of, stride_at}
+use Rattle.check_map.specs.Blocks.{AreBlocks}
+use Rattle.check_map.specs.declared.sources.Owner.{Owner}
+use Rattle.check_system.specs.System.{System, ranges_of}
+use Rattle.check_system.specs.Master.{HasOwners, Master, counts_of, said_owners, first_at, has_first, master_of, master_tables, masters_of, stride_at}
 use Rattle.check_system.specs.Name.{name_at}
-use Rattle.check_system.specs.Port.{Port, port_of, port_tables, ports_of}
+use Rattle.check_system.specs.Port.{Port, port_tables, ports_of}
 use Rattle.check_system.specs.Reading as new
-use Rattle.check_system.specs.Value.{list_at, number_at, number_if_any, one_up_to, table_of, tables_of, up_to, value_at}
+use Rattle.check_system.specs.Value.{list_at, number_at, number_if_any, table_of, tables_of, up_to, value_at}
 use Rattle.check_system.specs.declared.fault.Key.{Key}
 use Rattle.check_system.specs.declared.fault.Key.TheVariants.{Port as PortKey, Master as MasterKey, Sources}
 use Rattle.check_system.specs.declared.fault.SystemFault.{SystemFault}
 use Rattle.check_system.specs.declared.fault.SystemFault.TheVariants.{Missing, NotToml, TooLong, WrongType}
 use Rattle.check_map.specs.declared.limits.TheConstants.{MAX_MASTERS, MAX_PORTS, MAX_SOURCES}
 use Rattle.check_system.specs.declared.read.TheConstants.{MAX_SYSTEM}
-use Rattle.check_system.proofs.Scripts.{ArePortsOf, each_first, each_none, number_at_same, number_at_within, ok_or_same, ports_same, step_same}
+use Rattle.check_system.proofs.Scripts.{ArePortsOf, each_first, each_none, number_at_same, number_at_within, ok_or_same, ports_same}
 
 -- what a step gave, and what the next made of it
 pub taken : {A B F : Type 0} (read : Result A F) (f : A → Result B F) (y : B) → new.◌>>=◌ read f ≡ Ok y
@@ -212,6 +215,21 @@ masters_of_same members masters few plain some is =
     (none_has_first tables.0 (plain tables.0 tables_are))
     (masters_same tables.0 masters (plain tables.0 tables_are) some read)
 
+-- a script has a master
+masters_some : (members : Members) (masters : List OldMaster) → old_masters_of members ≡ Ok masters → 0 < length masters
+unfolding old_masters_of
+masters_some members masters is =
+    let value = taken (old_value_at OldMasterKey members)
+    (λ value. new.◌>>=◌ (old_tables_of OldMasterKey value)
+    (λ tables. new.◌>>=◌ (old_some_of OldMasterKey tables) (new.each old_master_of))) masters is in
+    let tables = taken (old_tables_of OldMasterKey value.0)
+    (λ tables. new.◌>>=◌ (old_some_of OldMasterKey tables) (new.each old_master_of)) masters value.2 in
+    let kept = taken (old_some_of OldMasterKey tables.0) (new.each old_master_of) masters tables.2 in
+    let same = some_is tables.0 kept.0 kept.1 in
+    let read : new.each old_master_of tables.0 ≡ Ok masters = rw same.0 kept.2 in
+    let counted = masters_counted tables.0 masters read in
+    omega (arith, counted, ltb-false (length tables.0) 1 same.1)
+
 -- ---- the document
 
 document_by : (long text : Bool) (parsed : Option Members) (members : Members)
@@ -233,14 +251,6 @@ by_map : {A B : Type 0} (P : B → Type 0) (f : A → B) (xs : List A) → AllBy
     → AllByRecursion (λ x. P (f x)) xs
 by_map P f [] all = all
 by_map P f (x ∷ xs) all = (all.0, by_map P f xs all.1)
-
--- the parts of a script as a system file: its slaves, each with its one range, and its masters
-pub record ReadsScript (bytes : List ℕ) (stores : List Store) (counts : List ℕ) : Type 0 where
-  pub parts : Parts
-  pub read : parts_of bytes ≡ Ok parts
-  pub slaves : map slave_of parts.ports ≡ stores
-  pub ranges : map (λ (port : Port). port.ranges) parts.ports ≡ map (λ store. range_of store ∷ []) stores
-  pub masters : parts.masters ≡ map plain_master counts
 
 parts_read : (members : Members) (ports : List Port) (masters : List Master) → ports_of members ≡ Ok ports
     → masters_of members ≡ Ok masters → parts_in members ≡ Ok (record { ports = ports; masters = masters })
@@ -287,19 +297,39 @@ ports_of_read members stores few plain some is =
 -- the system has the parts' slaves and counts
 made_of : (jobs : Result (List (List Job)) ScriptFault) (parts : OldParts) (system : OldSystem)
     → (new.◌>>=◌ jobs (λ js. Ok (record {
-      slots = parts.slots; stores = parts.stores; counts = old_counts_of parts; ranges = old_ranges_of parts; jobs = js;
+      slots = parts.slots;
+      stores = parts.stores;
+      counts = old_counts_of parts;
+      ranges = old_ranges_of parts;
+      jobs = js;
     }))) ≡ Ok system
-    → (parts.stores ≡ system.stores) × (old_counts_of parts ≡ system.counts)
+    → (parts.stores ≡ system.stores) × (old_counts_of parts ≡ system.counts) × (old_ranges_of parts ≡ system.ranges)
 made_of (Err e) parts system is = absurd cc
 made_of (Ok js) parts system is =
     let same : record {
-      slots = parts.slots; stores = parts.stores; counts = old_counts_of parts; ranges = old_ranges_of parts; jobs = js;
+      slots = parts.slots;
+      stores = parts.stores;
+      counts = old_counts_of parts;
+      ranges = old_ranges_of parts;
+      jobs = js;
     } ≡ system = cc in
-    (ap (λ (s : OldSystem). s.stores) same, ap (λ (s : OldSystem). s.counts) same)
+    (ap (λ (s : OldSystem). s.stores) same, ap (λ (s : OldSystem). s.counts) same, ap (λ (s : OldSystem). s.ranges) same)
+
+no_names : (counts : List ℕ) → filter_map (λ (master : Master). master.name) (map plain_master counts) ≡ []
+no_names [] = refl
+no_names (count ∷ counts) = no_names counts
+
+-- the parts of a script as those of a system file
+record ReadsScript (bytes : List ℕ) (parts : OldParts) : Type 0 where
+  pub ports : List Port
+  pub read : parts_of bytes ≡ Ok (record { ports = ports; masters = map plain_master (old_counts_of parts) })
+  pub slaves : map slave_of ports ≡ parts.stores
+  pub ranges : ranges_of ports ≡ map (λ store. range_of store ∷ []) parts.stores
+  pub names : filter_map (λ (port : Port). port.name) ports ≡ []
+  pub some : 0 < length (old_counts_of parts)
 
 parts_of_same : (bytes : List ℕ) (parts : OldParts) → SaysNothingNew bytes → IsLawfulMap (old_ranges_of parts)
-    → AreLawfulCounts (old_counts_of parts) → old_parts_of bytes ≡ Ok parts
-    → ReadsScript bytes parts.stores (old_counts_of parts)
+    → AreLawfulCounts (old_counts_of parts) → old_parts_of bytes ≡ Ok parts → ReadsScript bytes parts
 parts_of_same bytes parts plain ranges counts is =
     let document = taken (old_document_of bytes) old_parts_in parts is in
     let members = document.0 in
@@ -309,24 +339,78 @@ parts_of_same bytes parts plain ranges counts is =
     let some_bytes : AllByRecursion (λ store. IsEmpty (range_of store) → ⊥) parts.stores =
     by_map (λ range. IsEmpty range → ⊥) range_of parts.stores
     (recursion_from_All (λ range. IsEmpty range → ⊥) (old_ranges_of parts) ranges.some) in
-    let ports = ports_of_read members parts.stores few_ports (λ tables. plain.ports members tables document_is) some_bytes read.ports in
+    let ports = ports_of_read members parts.stores few_ports (λ tables. plain.ports members tables document_is)
+    some_bytes read.ports in
     let few_masters : length parts.masters ≤ MAX_MASTERS =
     omega (arith, counts.masters, length-map parts.masters (λ (master : OldMaster). master.sources)) in
     let masters = masters_of_same members parts.masters few_masters (λ tables. plain.masters members tables document_is)
     (recursion_from_All (λ count. 0 < count) (old_counts_of parts) counts.some) read.masters in
     record {
-      parts = record { ports = ports.same.ports; masters = map plain_master (old_counts_of parts) };
-      read = rw document_is (parts_read members ports.same.ports (map plain_master (old_counts_of parts)) (ports_read members parts.stores ports) masters);
+      ports = ports.same.ports;
+      read = rw document_is (parts_read members ports.same.ports (map plain_master (old_counts_of parts))
+          (ports_read members parts.stores ports) masters);
       slaves = ports.same.slaves;
       ranges = ports.same.ranges;
-      masters = refl;
+      names = ports.same.names;
+      some = omega (
+        arith,
+        masters_some members parts.masters read.masters,
+        length-map parts.masters (λ (master : OldMaster). master.sources),
+      );
     }
 
--- a script that says nothing new is a system file with the same slaves, ranges and masters
-pub script_is_read : (bytes : List ℕ) (system : OldSystem) → OldSpells bytes system → SaysNothingNew bytes
-    → ReadsScript bytes system.stores system.counts
-script_is_read bytes system spelled plain =
+each_alone : (stores : List Store) → map (λ store. range_of store ∷ []) stores
+    ≡ map (λ range. range ∷ []) (map range_of stores)
+each_alone [] = refl
+each_alone (store ∷ stores) = ap (λ rest. (range_of store ∷ []) ∷ rest) (each_alone stores)
+
+-- a script that says nothing new names the same parts
+pub names_same : (bytes : List ℕ) (script : OldSystem) → OldSpells bytes script → SaysNothingNew bytes
+    → NamesSame script bytes
+names_same bytes script spelled plain =
     let parts = spelled.parts in
-    let made = made_of (jobs_from 0 parts.masters) parts system spelled.makes.made in
+    let made = made_of (jobs_from 0 parts.masters) parts script spelled.makes.made in
     let read = parts_of_same bytes parts plain spelled.makes.ranges spelled.makes.counts spelled.named in
-    rw (← made.0, ← made.1) read
+    record {
+      parts = record { ports = read.ports; masters = map plain_master (old_counts_of parts) };
+      named = read.read;
+      slaves = read.slaves ∙ made.0;
+      ranges = read.ranges ∙ each_alone parts.stores ∙ ap (λ rs. map (λ range. range ∷ []) rs) made.2;
+      masters = ap (λ counts. map plain_master counts) made.1;
+      names = rw (read.names, no_names (old_counts_of parts)) refl;
+      some = rw (← made.1) read.some;
+    }
+
+-- what some parts name is what they are
+same_parts : (read : Result Parts SystemFault) (one other : Parts) → read ≡ Ok one → read ≡ Ok other → one ≡ other
+same_parts read one other is also = cc
+
+-- masters that say only how many sources they have say no owners, if there are any masters
+none_said : (counts : List ℕ) → 0 < length counts → said_owners (map plain_master counts) ≡ None
+none_said [] some = absurd (omega arith)
+none_said (count ∷ counts) some = refl
+
+counted_back : (counts : List ℕ) → counts_of (map plain_master counts) ≡ counts
+counted_back [] = refl
+counted_back (count ∷ counts) = ap (λ rest. count ∷ rest) (counted_back counts)
+
+blocks_of : (masters : List Master) (counts : List ℕ) (owners : List Owner) → 0 < length counts
+    → masters ≡ map plain_master counts → HasOwners masters owners → AreBlocks counts owners
+blocks_of masters counts owners some are has =
+    rw (are, none_said counts some, counted_back counts) at has
+
+-- the system of such a script is the same
+pub system_same : (bytes : List ℕ) (script : OldSystem) (system : System) → OldSpells bytes script
+    → SaysNothingNew bytes → Spells bytes system → IsSameSystem script system
+system_same bytes script system spelled plain here =
+    let named = names_same bytes script spelled plain in
+    let same : here.parts ≡ named.parts = same_parts (parts_of bytes) here.parts named.parts here.named named.named in
+    let ports : system.ports ≡ named.parts.ports = here.makes.ports ∙ ap (λ (p : Parts). p.ports) same in
+    let masters : here.parts.masters ≡ map plain_master script.counts =
+    ap (λ (p : Parts). p.masters) same ∙ named.masters in
+    record {
+      slaves = ap (λ ps. map slave_of ps) ports ∙ named.slaves;
+      ranges = ap ranges_of ports ∙ named.ranges;
+      masters = here.makes.masters ∙ masters;
+      owners = blocks_of here.parts.masters script.counts system.owners named.some masters here.makes.owners;
+    }

@@ -1,19 +1,18 @@
 -- The parts of a script, read as those of a system file.
-use Rattle.std.proofs.Common.{◌≡◌, ◌∙◌, ℕ, ◌+◌, ◌*◌, ◌-◌, ◌<◌, ◌≤◌, nat_le, nat_lt, Bool, true, false, ◌&&◌, ℤ, pos, negsuc, List, [], ◌∷◌, ◌++◌, length, map, replicate, Option, Some, None, Result, Ok, Err, ok_or, zero, suc, length-append, refl, sym, ap, arith}
+use Rattle.std.proofs.Common.{◌≡◌, ◌∙◌, ℕ, ◌*◌, ◌-◌, ◌≤◌, nat_le, nat_lt, Bool, true, false, ◌&&◌, ℤ, pos, negsuc, List, [], ◌∷◌, ◌++◌, length, map, replicate, Option, Some, None, Result, Ok, Err, ok_or, zero, suc, length-append, refl, sym, ap, arith}
 use Rattle.std.specs.Prelude.{if◌then◌else◌}
 use Rattle.std.specs.Cmp.Derive.{both_true}
-use Rattle.std.specs.List.{AllByRecursion, list_any}
+use Rattle.std.specs.List.{AllByRecursion, filter_map}
 use Rattle.std.proofs.lemmas.Bool.{le-leb, leb-true, ltb-false, le-ltb}
 use Rattle.std.proofs.lemmas.List.{length-replicate}
-use Rattle.toml.specs.Data.{Data, Members, get_member, as_integer, as_str, as_table, as_array}
+use Rattle.toml.specs.Data.{Data, Members, get_member, as_integer, as_str}
 use Rattle.tl_map.specs.Range.{IsEmpty}
-use Rattle.tl_map.specs.declared.map.Range.{Range}
 use Rattle.tl_ops.specs.Store.{Store}
 use Rattle.tl_ops.specs.declared.bank.TheConstants.{MAX_LENGTH}
 use Rattle.tl_ops.specs.declared.kind.Kind as kind_of_slave
 use Rattle.tl_script.specs.Port.{kind_of, pairs_of, filled, kind_at as old_kind_at, reset_at as old_reset_at, reset_text as old_reset_text, last_base, port_of as old_port_of}
 use Rattle.tl_script.specs.System.{range_of}
-use Rattle.tl_script.specs.Value.{list_of, in_range as old_in_range, number_at as old_number_at, value_at as old_value_at}
+use Rattle.tl_script.specs.Value.{in_range as old_in_range, number_at as old_number_at, value_at as old_value_at}
 use Rattle.tl_script.specs.Key.{key_name as old_key_name}
 use Rattle.tl_script.specs.declared.fault.Key as old_key
 use Rattle.tl_script.specs.declared.fault.Key.TheVariants.{Kind as OldKind, Base as OldBase, Length as OldLength, Reset as OldReset}
@@ -212,6 +211,7 @@ pub record IsPortOf (members : Members) (store : Store) : Type 0 where
   pub reads : port_of members ≡ Ok port
   pub slave : slave_of port ≡ store
   pub ranges : port.ranges ≡ range_of store ∷ []
+  pub name : port.name ≡ None
 
 pub port_same : (members : Members) (store : Store) → IsPlainPort members → (IsEmpty (range_of store) → ⊥)
     → old_port_of members ≡ Ok store → IsPortOf members store
@@ -243,6 +243,7 @@ port_same members store plain some is =
       reads = rw (plain.name, kind_at_same members store.kind read.kind_is, plain.ranges, base, length_is, filled.read_is, plain.order) refl;
       slave = ap (λ bytes. record { kind = store.kind; base = store.base; bytes = bytes }) (sym filled.filled_is);
       ranges = ap (λ n. record { base = store.base; length = n } ∷ []) (sym counted);
+      name = refl;
     }
 
 -- ---- each port
@@ -268,13 +269,13 @@ pub record ArePortsOf (tables : List Members) (stores : List Store) : Type 0 whe
   pub read : new.each port_of tables ≡ Ok ports
   pub slaves : map slave_of ports ≡ stores
   pub ranges : map (λ (port : Port). port.ranges) ports ≡ map (λ store. range_of store ∷ []) stores
-  pub counted : length tables ≡ length stores
+  pub names : filter_map (λ (port : Port). port.name) ports ≡ []
 
 pub ports_same : (tables : List Members) (stores : List Store) → AllByRecursion IsPlainPort tables
     → AllByRecursion (λ store. IsEmpty (range_of store) → ⊥) stores → new.each old_port_of tables ≡ Ok stores
     → ArePortsOf tables stores
 ports_same [] [] plain some is =
-    record { ports = []; read = refl; slaves = refl; ranges = refl; counted = refl }
+    record { ports = []; read = refl; slaves = refl; ranges = refl; names = refl }
 ports_same [] (store ∷ stores) plain some is = absurd cc
 ports_same (table ∷ tables) [] plain some is =
     absurd (each_none (old_port_of table) (new.each old_port_of tables) is)
@@ -287,5 +288,5 @@ ports_same (table ∷ tables) (store ∷ stores) plain some is =
       read = rw (first.reads, rest.read) refl;
       slaves = rw (first.slave, rest.slaves) refl;
       ranges = rw (first.ranges, rest.ranges) refl;
-      counted = ap suc rest.counted;
+      names = rw (first.name, rest.names) refl;
     }

@@ -1,5 +1,5 @@
 -- The masters of a system file. This project's own.
-use Rattle.std.specs.Prelude.{◌≡◌, ℕ, Bool, true, false, List, [], ◌∷◌, length, map, Option, None, Some, MatchOption, is_some, option_and_then, option_map, unwrap_or, string_bytes, Result, Ok, Err}
+use Rattle.std.specs.Prelude.{◌≡◌, ℕ, Bool, true, false, List, [], ◌∷◌, map, Option, None, Some, MatchOption, is_some, option_and_then, option_map, unwrap_or, string_bytes, Result, Ok}
 use Rattle.std.specs.List.{list_any}
 use Rattle.toml.specs.Data.{Members, get_member}
 use Rattle.check_system.specs.Key.{key_name}

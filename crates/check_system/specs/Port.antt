@@ -1,5 +1,5 @@
 -- The ports of a system file. This project's own.
-use Rattle.std.specs.Prelude.{◌≡◌, ℕ, Bool, ◌||◌, ℤ, List, [], ◌∷◌, codes, length, map, Option, Some, None, option_map, is_some, string_bytes, Result, Ok, Err, if◌then◌else◌, ok_or}
+use Rattle.std.specs.Prelude.{ℕ, Bool, ◌||◌, ℤ, List, [], ◌∷◌, codes, length, Option, Some, None, option_map, is_some, string_bytes, Result, Ok, Err, if◌then◌else◌, ok_or}
 use Rattle.std.specs.Str.{bytes_eq}
 use Rattle.toml.specs.Data.{Data, Members, get_member, as_integer}
 use Rattle.tl_ops.specs.declared.kind.Kind as kind_of_slave

@@ -1,5 +1,5 @@
 -- What a system file describes.
-use Rattle.std.specs.Prelude.{◌≡◌, ℕ, List, length, map}
+use Rattle.std.specs.Prelude.{List, map}
 use Rattle.tl_map.specs.declared.map.Range.{Range}
 use Rattle.check_map.specs.declared.sources.Owner.{Owner}
 use Rattle.check_system.specs.Master.{Master, master_view}

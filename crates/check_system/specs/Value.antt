@@ -1,5 +1,5 @@
 -- What stands at the keys of a table of a system file: of its type, and in its range. This project's own.
-use Rattle.std.specs.Prelude.{ℕ, ◌-◌, ◌^◌, ◌&&◌, ℤ, pos, negsuc, nat_le, nat_lt, List, length, Option, None, Some, Result, Ok, Err, if◌then◌else◌, ok_or}
+use Rattle.std.specs.Prelude.{ℕ, ◌-◌, ◌^◌, ◌&&◌, ℤ, pos, negsuc, nat_le, nat_lt, List, length, Option, Result, Ok, Err, if◌then◌else◌, ok_or}
 use Rattle.toml.specs.Data.{Data, Members, get_member, as_integer, as_str, as_table, as_array}
 use Rattle.tl_script.specs.Value.{list_of}
 use Rattle.check_system.specs.Key.{key_name}

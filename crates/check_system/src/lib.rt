@@ -11,6 +11,7 @@
 #![tactic(auto)]
 
 mod fault;
+pub mod laws;
 mod masters;
 mod name;
 mod names;

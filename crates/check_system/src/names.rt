@@ -74,10 +74,7 @@ pub fn check_names(alloc: Global, parts: &Parts) -> Result<(), SystemFault>
 {
     let names = names_of(alloc, parts)?;
     match first_twice(&names) {
-        Some(place) => Err(SystemFault::TwoCalled(String::from_str(
-            alloc,
-            names[place],
-        )?)),
+        Some(place) => Err(SystemFault::TwoCalled(String::from_str(alloc, names[place])?)),
         None => Ok(()),
     }
 }

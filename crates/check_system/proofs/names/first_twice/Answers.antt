@@ -1,5 +1,5 @@
 -- The name at one more place is looked at.
-use Rattle.std.proofs.Common.{length, map, take, IsTrue, [], arith}
+use Rattle.std.proofs.Common.{map, take, IsTrue, [], arith}
 use Rattle.std.proofs.lemmas.List.{length-map}
 use Rattle.tl_map.proofs.Faults.{place_within}
 use Rattle.check_system.specs.Name.{StoodBefore, is_among}
