@@ -187,7 +187,8 @@ unfolding master_tables
 tables_read fields value tables value_is tables_are some few = rw (value_is, tables_are, some, few) refl
 
 masters_read : (members : Members) (tables : List Members) (masters : List Master) → master_tables members ≡ Ok tables
-    → list_any has_first tables ≡ false → new.each (master_of false) tables ≡ Ok masters → masters_of members ≡ Ok masters
+    → list_any has_first tables ≡ false → new.each (master_of false) tables ≡ Ok masters
+    → masters_of members ≡ Ok masters
 unfolding masters_of
 masters_read fields tables masters tables_are none read = rw (tables_are, none) read
 
@@ -257,7 +258,8 @@ parts_read : (members : Members) (ports : List Port) (masters : List Master) →
 unfolding parts_in
 parts_read fields ports masters ports_are masters_are = rw (ports_are, masters_are) refl
 
-ports_read : (members : Members) (stores : List Store) (read : ReadsPorts (get_member (key_name PortKey) members) stores)
+ports_read : (members : Members) (stores : List Store)
+    (read : ReadsPorts (get_member (key_name PortKey) members) stores)
     → ports_of members ≡ Ok read.same.ports
 unfolding ports_of
 ports_read fields stores read = rw (read.tables_are) read.same.read
@@ -282,7 +284,8 @@ parts_split (Ok n) (Ok ss) (Ok ms) parts is =
 parts_in_split : (members : Members) (parts : OldParts) → old_parts_in members ≡ Ok parts → IsReadOf members parts
 unfolding old_parts_in
 parts_in_split members parts is =
-    let both = parts_split (old_number_at OldSlots 1 MAX_SLOTS members) (old_ports_of members) (old_masters_of members) parts is in
+    let both = parts_split (old_number_at OldSlots 1 MAX_SLOTS members) (old_ports_of members)
+    (old_masters_of members) parts is in
     record { ports = both.0; masters = both.1 }
 
 ports_of_read : (members : Members) (stores : List Store) → length stores ≤ MAX_PORTS
@@ -313,7 +316,8 @@ made_of (Ok js) parts system is =
       ranges = old_ranges_of parts;
       jobs = js;
     } ≡ system = cc in
-    (ap (λ (s : OldSystem). s.stores) same, ap (λ (s : OldSystem). s.counts) same, ap (λ (s : OldSystem). s.ranges) same)
+    (ap (λ (s : OldSystem). s.stores) same, ap (λ (s : OldSystem). s.counts) same,
+    ap (λ (s : OldSystem). s.ranges) same)
 
 no_names : (counts : List ℕ) → filter_map (λ (master : Master). master.name) (map plain_master counts) ≡ []
 no_names [] = refl
@@ -335,7 +339,8 @@ parts_of_same bytes parts plain ranges counts is =
     let members = document.0 in
     let document_is = document_of_same bytes members document.1 in
     let read = parts_in_split members parts document.2 in
-    let few_ports : length parts.stores ≤ MAX_PORTS = omega (arith, ranges.in_limit, length-map parts.stores range_of) in
+    let few_ports : length parts.stores ≤ MAX_PORTS =
+    omega (arith, ranges.in_limit, length-map parts.stores range_of) in
     let some_bytes : AllByRecursion (λ store. IsEmpty (range_of store) → ⊥) parts.stores =
     by_map (λ range. IsEmpty range → ⊥) range_of parts.stores
     (recursion_from_All (λ range. IsEmpty range → ⊥) (old_ranges_of parts) ranges.some) in

@@ -108,9 +108,11 @@ pub kind_at_same : (members : Members) (kind : kind_of_slave.Kind) → old_kind_
 unfolding old_kind_at old_value_at kind_at value_at
 kind_at_same members kind is =
     step_same (get_member (key_name Kind) members) (OldMissing OldKind) (Missing Kind)
-    (λ value. new.◌>>=◌ (ok_or (as_str value) (OldWrongType OldKind)) (λ word. ok_or (kind_of word) (OldOutOfRange OldKind)))
+    (λ value. new.◌>>=◌ (ok_or (as_str value) (OldWrongType OldKind))
+    (λ word. ok_or (kind_of word) (OldOutOfRange OldKind)))
     (λ value. new.◌>>=◌ (ok_or (as_str value) (WrongType Kind)) (λ word. ok_or (kind_of word) (OutOfRange Kind))) kind
-    (λ value. step_same (as_str value) (OldWrongType OldKind) (WrongType Kind) (λ word. ok_or (kind_of word) (OldOutOfRange OldKind))
+    (λ value. step_same (as_str value) (OldWrongType OldKind) (WrongType Kind)
+    (λ word. ok_or (kind_of word) (OldOutOfRange OldKind))
     (λ word. ok_or (kind_of word) (OutOfRange Kind)) kind
     (λ word. ok_or_same (kind_of word) (OldOutOfRange OldKind) (OutOfRange Kind) kind)) is
 
@@ -240,7 +242,15 @@ port_same members store plain some is =
         reset = filled.given;
         order = None;
       };
-      reads = rw (plain.name, kind_at_same members store.kind read.kind_is, plain.ranges, base, length_is, filled.read_is, plain.order) refl;
+      reads = rw (
+        plain.name,
+        kind_at_same members store.kind read.kind_is,
+        plain.ranges,
+        base,
+        length_is,
+        filled.read_is,
+        plain.order,
+      ) refl;
       slave = ap (λ bytes. record { kind = store.kind; base = store.base; bytes = bytes }) (sym filled.filled_is);
       ranges = ap (λ n. record { base = store.base; length = n } ∷ []) (sym counted);
       name = refl;

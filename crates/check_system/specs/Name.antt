@@ -26,7 +26,8 @@ is_number_of_link (first ∷ digit ∷ digits) =
 -- the text may be a name
 abbrev pub is_name : List ℕ → Bool
 is_name text =
-    nat_le 1 (length text) && nat_le (length text) MAX_NAME && list_all is_name_byte text && not (is_number_of_link text)
+    nat_le 1 (length text) && nat_le (length text) MAX_NAME && list_all is_name_byte text
+    && not (is_number_of_link text)
 
 -- the name that a value is
 unfoldable pub name_of : Data → Result (List ℕ) SystemFault

@@ -56,8 +56,8 @@ impl fmt::Display for Key {
     }
 }
 
-/// Why a file describes no system. Ports and masters are counted from 0. Want of memory is always `Memory`, in whichever
-/// layer it was met.
+/// Why a file describes no system. Ports and masters are counted from 0. Want of memory is always `Memory`, in
+/// whichever layer it was met.
 #[derive(Debug, Drop, Error)]
 pub enum SystemFault {
     #[error("system: longer than 1048576 bytes")]

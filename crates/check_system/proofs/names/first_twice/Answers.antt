@@ -9,14 +9,16 @@ use Rattle.check_system.proofs.names.first_twice.Goals as goal
 
 pub returns-then-is_among-clause-found : goal.returns-then-is_among-clause-found
 returns-then-is_among-clause-found c = record {
-  here = stood c.args.names.now c.loop-place.place (record { ref_ptr = (0, 0); now = [] }) c.is_among.result c.loop-place-test.true c.is_among.ensures c.if-is_among.true;
+  here = stood c.args.names.now c.loop-place.place (record { ref_ptr = (0, 0); now = [] }) c.is_among.result
+      c.loop-place-test.true c.is_among.ensures c.if-is_among.true;
   first = c.loop-place.invariant;
 }
 
 pub loop-place-preserved : goal.loop-place-preserved
 loop-place-preserved c =
     below_more (λ place. StoodBefore (map shown c.args.names.now) place → ⊥) c.loop-place.place c.loop-place.invariant
-    (not_stood c.args.names.now c.loop-place.place (record { ref_ptr = (0, 0); now = [] }) c.is_among.result c.loop-place-test.true c.is_among.ensures c.if-is_among.false)
+    (not_stood c.args.names.now c.loop-place.place (record { ref_ptr = (0, 0); now = [] }) c.is_among.result
+    c.loop-place-test.true c.is_among.ensures c.if-is_among.false)
 
 pub returns-clause-none : goal.returns-clause-none
 returns-clause-none c place before =
