@@ -1,0 +1,5 @@
+pub mod Marking
+pub mod Kept
+pub mod Faults
+pub mod Placing
+pub mod Instance

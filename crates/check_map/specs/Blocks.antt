@@ -1,0 +1,27 @@
+-- The owners of masters that say only how many sources they have: tlx's blocks. This project's own.
+use Rattle.std.specs.Prelude.{◌≡◌, ◌<◌, ◌≤◌, ℕ, List, length, All, Some, slice_get}
+use Rattle.tl_map.specs.Block.{IsBlock}
+use Rattle.check_map.specs.declared.limits.TheConstants.{MAX_BLOCK, MAX_MASTERS}
+use Rattle.check_map.specs.declared.sources.Owner.{Owner}
+
+-- a master has a source, and not more than a block may have
+pub record IsFew (count : ℕ) : Type 0 where
+  pub some : 0 < count
+  pub few : count ≤ MAX_BLOCK
+
+-- few enough masters, each with a source and not too many
+pub record AreFew (counts : List ℕ) : Type 0 where
+  pub masters : length counts ≤ MAX_MASTERS
+  pub each : All IsFew counts
+
+-- the owner has the first sources of the master's block, one after the other
+pub record HasBlock (counts : List ℕ) (master : ℕ) (owner : Owner) : Type 0 where
+  pub size : ℕ
+  pub is : IsBlock counts master (record { start = owner.first; size = size })
+  pub counted : slice_get counts master ≡ Some owner.count
+  pub stride : owner.stride ≡ 1
+
+-- each master of these counts has its block
+pub record AreBlocks (counts : List ℕ) (owners : List Owner) : Type 0 where
+  pub counted : length owners ≡ length counts
+  pub each : (master : ℕ) (owner : Owner) → slice_get owners master ≡ Some owner → HasBlock counts master owner

@@ -1,0 +1,4 @@
+pub mod Owner
+pub mod Sources
+pub mod Marks
+pub mod Blocks

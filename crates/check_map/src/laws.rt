@@ -1,0 +1,39 @@
+//! Laws, each a function that does nothing and whose contract is the law.
+ghost use Rattle.std.specs.Prelude.{◌≡◌, ◌↔◌, ℕ, List};
+ghost use Rattle.tl_map.specs.Block.{IsWide as IsWideInBlock};
+ghost use Rattle.check_map.specs.Blocks.{AreBlocks};
+ghost use Rattle.check_map.specs.Owner.{IsWide};
+ghost use Rattle.check_map.specs.Sources.{AreLawfulOwners};
+ghost use Rattle.check_map.specs.declared.limits.TheConstants.{MAX_BLOCK, MAX_MASTERS, MAX_PORTS, MAX_RANGES, MAX_SOURCES, MAX_WIDE};
+ghost use Rattle.check_map.specs.declared.sources.Owner.{Owner};
+
+/// The limits in numbers. Contracts name the constants, so without this law a wrong constant would change what they
+/// promise.
+pub fn limits_in_numbers()
+    ensures masters { MAX_MASTERS ≡ 64 }
+    ensures ports { MAX_PORTS ≡ 255 }
+    ensures ranges { MAX_RANGES ≡ 16 }
+    ensures sources { MAX_SOURCES ≡ 65536 }
+    ensures wide { MAX_WIDE ≡ 65535 }
+    ensures block { MAX_BLOCK ≡ 256 }
+{}
+
+/// tlx's blocks of sources are an instance: a wide source is that of the same master's source here and there.
+pub fn blocks_are_owners()
+    ensures { (counts : List ℕ) (owners : List Owner) → AreBlocks counts owners → (master source wide : ℕ)
+        → IsWide owners master source wide ↔ IsWideInBlock counts master source wide }
+{}
+
+/// A source of a master has one wide source.
+pub fn wide_source_is_one()
+    ensures { (owners : List Owner) (master source wide other : ℕ) → IsWide owners master source wide
+        → IsWide owners master source other → wide ≡ other }
+{}
+
+/// A wide source is that of one master and of one source.
+pub fn owner_is_one()
+    ensures master { (owners : List Owner) → AreLawfulOwners owners → (master source other own wide : ℕ)
+        → IsWide owners master source wide → IsWide owners other own wide → master ≡ other }
+    ensures source { (owners : List Owner) → AreLawfulOwners owners → (master source other own wide : ℕ)
+        → IsWide owners master source wide → IsWide owners other own wide → source ≡ own }
+{}
