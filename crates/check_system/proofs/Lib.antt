@@ -2,3 +2,4 @@ pub mod Views
 pub mod NameLemmas
 pub mod Scripts
 pub mod ScriptTables
+pub mod BlockLemmas

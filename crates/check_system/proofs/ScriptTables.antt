@@ -27,10 +27,9 @@ use Rattle.tl_script.specs.declared.fault.ScriptFault.TheVariants.{Missing as Ol
 use Rattle.check_system.specs.File.{Parts, Spells, document_of, parts_in, parts_of}
 use Rattle.check_system.specs.Instance.{IsPlainMaster, IsPlainPort, IsSameSystem, NamesSame, SaysNothingNew, plain_master, slave_of}
 use Rattle.check_system.specs.Key.{key_name}
-use Rattle.check_map.specs.Blocks.{AreBlocks}
 use Rattle.check_map.specs.declared.sources.Owner.{Owner}
 use Rattle.check_system.specs.System.{System, ranges_of}
-use Rattle.check_system.specs.Master.{HasOwners, Master, counts_of, said_owners, first_at, has_first, master_of, master_tables, masters_of, stride_at}
+use Rattle.check_system.specs.Master.{HasOwners, IsInBlocks, Master, counts_of, said_owners, first_at, has_first, master_of, master_tables, masters_of, stride_at}
 use Rattle.check_system.specs.Name.{name_at}
 use Rattle.check_system.specs.Port.{Port, port_tables, ports_of}
 use Rattle.check_system.specs.Reading as new
@@ -400,7 +399,7 @@ counted_back [] = refl
 counted_back (count ∷ counts) = ap (λ rest. count ∷ rest) (counted_back counts)
 
 blocks_of : (masters : List Master) (counts : List ℕ) (owners : List Owner) → 0 < length counts
-    → masters ≡ map plain_master counts → HasOwners masters owners → AreBlocks counts owners
+    → masters ≡ map plain_master counts → HasOwners masters owners → IsInBlocks counts owners
 blocks_of masters counts owners some are has =
     rw (are, none_said counts some, counted_back counts) at has
 

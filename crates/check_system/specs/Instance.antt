@@ -5,10 +5,9 @@ use Rattle.toml.specs.Data.{Members, get_member}
 use Rattle.tl_map.specs.declared.map.Range.{Range}
 use Rattle.tl_ops.specs.Store.{Store}
 use Rattle.tl_script.specs.System.{System as OldSystem}
-use Rattle.check_map.specs.Blocks.{AreBlocks}
 use Rattle.check_system.specs.File.{Parts, document_of, names_of, parts_of}
 use Rattle.check_system.specs.Key.{key_name}
-use Rattle.check_system.specs.Master.{Master, master_tables}
+use Rattle.check_system.specs.Master.{IsInBlocks, Master, master_tables}
 use Rattle.check_system.specs.Port.{Port, first_length, port_tables}
 use Rattle.check_system.specs.System.{System, ranges_of}
 use Rattle.check_system.specs.declared.fault.Key.{Key}
@@ -75,4 +74,4 @@ pub record IsSameSystem (script : OldSystem) (system : System) : Type 0 where
   pub slaves : map slave_of system.ports ≡ script.stores
   pub ranges : ranges_of system.ports ≡ map (λ range. range ∷ []) script.ranges
   pub masters : system.masters ≡ map plain_master script.counts
-  pub owners : AreBlocks script.counts system.owners
+  pub owners : IsInBlocks script.counts system.owners

@@ -8,10 +8,11 @@ use Rattle.check_system.specs.Reading.{◌>>=◌, each}
 use Rattle.check_system.specs.Value.{value_at, number_at, number_if_any, tables_of, one_up_to}
 use Rattle.check_system.specs.declared.fault.Key.TheVariants.{Master as MasterKey, Sources, First, Stride}
 use Rattle.check_system.specs.declared.fault.SystemFault.{SystemFault}
-use Rattle.check_map.specs.Blocks.{AreBlocks, IsFirstBlockFault}
+use Rattle.check_map.specs.Blocks.{AreBlocks, AreFew}
 use Rattle.check_map.specs.Sources.{IsFirstSourceFault}
 use Rattle.check_map.specs.declared.sources.Owner.{Owner}
 use Rattle.check_map.specs.declared.sources.SourceFault.{SourceFault}
+use Rattle.check_map.specs.declared.sources.SourceFault.TheVariants.{TooMany}
 use Rattle.check_map.specs.declared.limits.TheConstants.{MAX_MASTERS, MAX_SOURCES, MAX_WIDE}
 use Rattle.check_system.specs.declared.parts.Master as code_master
 
@@ -70,16 +71,24 @@ said_owners [] = Some []
 said_owners (master ∷ masters) =
     option_and_then (λ owner. option_map (λ owners. owner ∷ owners) (said_owners masters)) (owner_of master)
 
--- these are the masters' wide sources: those that they say, or else the blocks of so many sources
+-- these are the blocks of so many sources
+pub record IsInBlocks (counts : List ℕ) (owners : List Owner) : Type 0 where
+  pub few : AreFew counts
+  pub blocks : AreBlocks counts owners
+
+-- these are the masters' wide sources: those that they say, or else blocks
 abbrev pub HasOwners : List Master → List Owner → Type 0
 HasOwners masters owners =
-    MatchOption (said_owners masters) (AreBlocks (counts_of masters) owners) (λ said. owners ≡ said)
+    MatchOption (said_owners masters) (IsInBlocks (counts_of masters) owners) (λ said. owners ≡ said)
+
+-- blocks can't be had of so many sources
+abbrev pub IsBlockFault : List ℕ → SourceFault → Type 0
+IsBlockFault counts fault = (fault ≡ TooMany) × (AreFew counts → ⊥)
 
 -- the fault is the first of the masters' wide sources
 abbrev pub IsFirstOwnerFault : List Master → SourceFault → Type 0
 IsFirstOwnerFault masters fault =
-    MatchOption (said_owners masters) (IsFirstBlockFault (counts_of masters) fault)
-    (λ said. IsFirstSourceFault said fault)
+    MatchOption (said_owners masters) (IsBlockFault (counts_of masters) fault) (λ said. IsFirstSourceFault said fault)
 
 -- what contracts see of a master
 abbrev pub master_view : code_master.Master → Master

@@ -1,8 +1,7 @@
 //! Which wide sources are each master's.
 ghost use Rattle.std.specs.Prelude.{◌≡◌, ◌≢◌, IfErr, IfOk, map, option_map};
-ghost use Rattle.check_map.specs.Blocks.{AreBlocks, IsFirstBlockFault};
 ghost use Rattle.check_map.specs.Sources.{AreLawfulOwners, IsFirstSourceFault};
-ghost use Rattle.check_system.specs.Master.{HasOwners, IsFirstOwnerFault, counts_of as counts_of_masters, master_view, owner_of as owner_of_master, said_owners};
+ghost use Rattle.check_system.specs.Master.{HasOwners, IsBlockFault, IsFirstOwnerFault, IsInBlocks, counts_of as counts_of_masters, master_view, owner_of as owner_of_master, said_owners};
 ghost use Rattle.check_system.specs.Reading.{IsOfSources};
 ghost use Rattle.check_system.specs.declared.fault.SystemFault.TheVariants.{Memory};
 
@@ -51,10 +50,10 @@ fn counts_of(alloc: Global, masters: &[Master]) -> Result<Vec<u32>, AllocError>
 
 /// The sources of masters in blocks of so many.
 fn sources_in_blocks(alloc: Global, counts: &[u32]) -> Result<Sources, SystemFault>
-    ensures blocks { IfOk result (AreBlocks counts.now) }
+    ensures blocks { IfOk result (IsInBlocks counts.now) }
     ensures lawful { IfOk result AreLawfulOwners }
     ensures fault { IfErr result
-        (λ fault. fault ≢ Memory → IsOfSources (IsFirstBlockFault counts.now) fault) }
+        (λ fault. fault ≢ Memory → IsOfSources (IsBlockFault counts.now) fault) }
 {
     let owners = blocks(alloc, counts)?;
     Ok(Sources::new(alloc, &owners)?)
