@@ -3,3 +3,7 @@ pub mod Kept
 pub mod Faults
 pub mod Placing
 pub mod Instance
+pub mod Overlaps
+pub mod Listing
+pub mod Routing
+pub mod Ways

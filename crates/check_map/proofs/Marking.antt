@@ -93,8 +93,7 @@ module _ (owners : List Owner) (master : ℕ) (owner : Owner) (at : slice_get ow
         → (slice_get (set marks wide (Some master)) place ≡ Some (Some other))
         ↔ IsBefore owners master (source + 1) other place
     elsewhere place other apart =
-        let stays = slice_get-set_other marks wide place (Some master) apart in
-        (
+        let stays = slice_get-set_other marks wide place (Some master) apart in (
           λ found. before_more other place ((marked.each place other).0 (sym stays ∙ found)),
           λ before. stays ∙ (marked.each place other).1 (before_next other place (λ p. apart (sym p)) before),
         )

@@ -1,8 +1,12 @@
 //! Laws, each a function that does nothing and whose contract is the law.
-ghost use Rattle.std.specs.Prelude.{◌≡◌, ◌↔◌, ℕ, List};
+ghost use Rattle.std.specs.Prelude.{◌≡◌, ◌↔◌, ◌∷◌, [], ℕ, List, map};
 ghost use Rattle.tl_map.specs.Block.{IsWide as IsWideInBlock};
+ghost use Rattle.tl_map.specs.Map.{RoutesBytes as RoutesPlainBytes};
+ghost use Rattle.tl_map.specs.declared.map.Range.{Range};
+ghost use Rattle.tl_types.specs.Request.{Request};
 ghost use Rattle.check_map.specs.Blocks.{AreBlocks};
 ghost use Rattle.check_map.specs.Owner.{IsWide};
+ghost use Rattle.check_map.specs.Ranges.{IsLawfulMap, Routes, RoutesBytes};
 ghost use Rattle.check_map.specs.Sources.{AreLawfulOwners};
 ghost use Rattle.check_map.specs.declared.limits.TheConstants.{MAX_BLOCK, MAX_MASTERS, MAX_PORTS, MAX_RANGES, MAX_SOURCES, MAX_WIDE};
 ghost use Rattle.check_map.specs.declared.sources.Owner.{Owner};
@@ -36,4 +40,17 @@ pub fn owner_is_one()
         → IsWide owners master source wide → IsWide owners other own wide → master ≡ other }
     ensures source { (owners : List Owner) → AreLawfulOwners owners → (master source other own wide : ℕ)
         → IsWide owners master source wide → IsWide owners other own wide → source ≡ own }
+{}
+
+/// A map of one range a port sends bytes where the map of `tl_map` of these ranges does.
+pub fn one_range_is_plain()
+    ensures { (ranges : List Range) (address size port : ℕ)
+        → RoutesBytes (map (λ range. range ∷ []) ranges) address size port
+        ↔ RoutesPlainBytes ranges address size port }
+{}
+
+/// A request goes to one port of a map.
+pub fn port_is_one()
+    ensures { (ports : List (List Range)) (ask : Request) (port other : ℕ) → IsLawfulMap ports
+        → Routes ports ask port → Routes ports ask other → port ≡ other }
 {}

@@ -14,8 +14,10 @@
 mod block;
 pub mod laws;
 mod limits;
+mod map;
 mod sources;
 
 pub use block::blocks;
 pub use limits::{MAX_BLOCK, MAX_MASTERS, MAX_PORTS, MAX_RANGES, MAX_SOURCES, MAX_WIDE};
+pub use map::{Map, MapFault};
 pub use sources::{Owner, SourceFault, Sources};

@@ -202,11 +202,7 @@ fn no_marks(alloc: Global, owners: &[Owner]) -> Result<Vec<Option<u8>>, AllocErr
 
 /// Marks the wide sources of a master in their order, up to the first that an earlier master has: that master, and the
 /// wide source.
-fn mark_master(
-    marks: &mut [Option<u8>],
-    owners: &[Owner],
-    master: usize,
-) -> Option<(usize, u16)>
+fn mark_master(marks: &mut [Option<u8>], owners: &[Owner], master: usize) -> Option<(usize, u16)>
     requires within { master < length owners.now }
     requires few { length owners.now ≤ MAX_MASTERS }
     requires lawful { All IsLawfulOwner owners.now }

@@ -57,7 +57,8 @@ returns c m s =
     let at = owner_there owners master of.0 c.args.wide c.index.result.now of.1 c.index.ensures in
     let mine : IsWide owners master source c.args.wide =
     of_owner owners master source c.args.wide c.index.result.now at c.source_of-source.ensures in
-    rw (← c.self.view_is)
-    (λ is. let parts = some_parts master source m s is in rw (← parts.0, ← parts.1) mine,
-    λ is. let one = one_owner owners c.self.invariant.lawful master source m s c.args.wide mine is in
-    rw (one.0, one.1) refl)
+    rw (← c.self.view_is) (
+      λ is. let parts = some_parts master source m s is in rw (← parts.0, ← parts.1) mine,
+      λ is. let one = one_owner owners c.self.invariant.lawful master source m s c.args.wide mine is in
+          rw (one.0, one.1) refl,
+    )

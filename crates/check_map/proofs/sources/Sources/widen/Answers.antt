@@ -8,6 +8,7 @@ returns c wide =
     let owners = c.self.inside.owners.items in
     let owner = c.in_ok-owner.owner in
     let at : slice_get owners c.args.master ≡ Some owner = search rules in
-    rw (← c.self.view_is)
-    (λ is. of_owner owners c.args.master c.args.source wide owner at ((c.wide_of.ensures wide).0 is),
-    λ is. (c.wide_of.ensures wide).1 (to_owner owners c.args.master c.args.source wide owner at is))
+    rw (← c.self.view_is) (
+      λ is. of_owner owners c.args.master c.args.source wide owner at ((c.wide_of.ensures wide).0 is),
+      λ is. (c.wide_of.ensures wide).1 (to_owner owners c.args.master c.args.source wide owner at is),
+    )

@@ -1,0 +1,114 @@
+-- What a legal request is like.
+use Rattle.std.proofs.Common.{◌≡◌, ◌∙◌, ℕ, zero, suc, ◌+◌, ◌-◌, ◌*◌, ◌/◌, ◌%◌, ◌^◌, ◌<◌, ◌≤◌, true, List, [], ◌∷◌, ◌++◌, length, take, drop, Option, None, Some, refl, sym, ap, subst, lit≤, rules, arith}
+use Rattle.std.specs.Prelude.{IfSome}
+use Rattle.std.proofs.Math.Nat.{pow-le-pow_right}
+use Rattle.std.proofs.lemmas.Nat.{pow_pos}
+use Rattle.std.proofs.lemmas.List.{append_assoc, take-append-drop, drop-drop}
+use Rattle.tl_types.specs.Operation.{byte_count}
+use Rattle.tl_types.specs.Request.{Request}
+use Rattle.tl_types.specs.declared.operation.AskOp.{AskOp}
+use Rattle.tl_types.specs.declared.operation.AskOp.TheVariants.{PutFull, PutPartial, Arithmetic, Logical, Get, Intent}
+use Rattle.tl_ops.specs.declared.kind.Kind.{Kind}
+use Rattle.tl_ops.specs.Cell.{FitsWords}
+use Rattle.tl_ops.proofs.Kept.{FitsWords-from_aligned}
+use Rattle.check_memory.specs.declared.sizes.Span.{Span}
+use Rattle.check_memory.specs.declared.sizes.SizeTable.{SizeTable}
+use Rattle.check_memory.specs.Sizes.{spans, allows, IsBetween, IsLawfulTable}
+use Rattle.check_memory.specs.Known.{replaced}
+use Rattle.check_memory.specs.Cells.{new_cells, is_atomic}
+use Rattle.check_memory.specs.Partial.{Partial, permits, window_of, after_partial}
+
+pub allowed : (memory : Partial) (ask : Request) → permits memory ask ≡ true
+    → allows memory.sizes ask.op ask.size ≡ true
+allowed memory ask is = search rules
+
+pub aligned : (memory : Partial) (ask : Request) → permits memory ask ≡ true → ask.address % 2 ^ ask.size ≡ 0
+aligned memory ask is = search rules
+
+pub fits_words : (address size : ℕ) → size ≤ 8 → address % 2 ^ size ≡ 0 → FitsWords (address % 4096) (2 ^ size)
+fits_words address size small is =
+    let base = 4096 * (address / 4096) in
+    let at : base % 8 + (address - base) ≡ address % 4096 = omega arith in
+    let below : base ≤ address = omega arith in
+    let P : ℕ → Type 0 = λ n. FitsWords n (2 ^ size) in
+    subst P at (FitsWords-from_aligned base address size small below is)
+
+pub in_page : (address size : ℕ) → size ≤ 8 → address % 2 ^ size ≡ 0 → address % 4096 + 2 ^ size ≤ 4096
+in_page address zero small is = omega arith
+in_page address (suc zero) small is = omega (arith, is)
+in_page address (suc (suc zero)) small is = omega (arith, is)
+in_page address (suc (suc (suc zero))) small is = omega (arith, is)
+in_page address (suc (suc (suc (suc zero)))) small is = omega (arith, is)
+in_page address (suc (suc (suc (suc (suc zero))))) small is = omega (arith, is)
+in_page address (suc (suc (suc (suc (suc (suc zero)))))) small is = omega (arith, is)
+in_page address (suc (suc (suc (suc (suc (suc (suc zero))))))) small is = omega (arith, is)
+in_page address (suc (suc (suc (suc (suc (suc (suc (suc zero)))))))) small is = omega (arith, is)
+in_page address (suc (suc (suc (suc (suc (suc (suc (suc (suc size))))))))) small is = absurd (omega (arith, small))
+
+-- ---- sizes of a table within the rules
+
+in_span : (low high : ℕ) (span : Option Span) (size : ℕ) → IfSome span (IsBetween low high) → spans span size ≡ true
+    → size ≤ high
+in_span low high None size lawful is = cc
+in_span low high (Some span) size lawful is =
+    let below : size ≤ span.greatest = search rules in
+    omega (arith, below, lawful.to)
+
+-- none is over that of the largest message
+pub small_size : (table : SizeTable) (op : AskOp) (size : ℕ) → IsLawfulTable table → allows table op size ≡ true
+    → size ≤ 8
+small_size table PutFull size lawful is = in_span 0 8 table.put_full size lawful.put_full is
+small_size table PutPartial size lawful is = in_span 0 8 table.put_partial size lawful.put_partial is
+small_size table (Arithmetic op) size lawful is =
+    let word : size ≤ 3 = in_span 2 3 table.arithmetic size lawful.arithmetic is in omega (arith, word)
+small_size table (Logical op) size lawful is =
+    let word : size ≤ 3 = in_span 2 3 table.logical size lawful.logical is in omega (arith, word)
+small_size table Get size lawful is = in_span 0 8 table.get size lawful.get is
+small_size table (Intent _) size lawful is = in_span 0 8 table.intent size lawful.intent is
+
+-- an atomic is of one word
+pub atomic_in_word : (table : SizeTable) (op : AskOp) (size : ℕ) → IsLawfulTable table → allows table op size ≡ true
+    → is_atomic op ≡ true → 2 ^ size ≤ 8
+atomic_in_word table PutFull size lawful is atomic = cc
+atomic_in_word table PutPartial size lawful is atomic = cc
+atomic_in_word table (Arithmetic op) size lawful is atomic =
+    pow-le-pow_right (lit≤ tt) (in_span 2 3 table.arithmetic size lawful.arithmetic is)
+atomic_in_word table (Logical op) size lawful is atomic =
+    pow-le-pow_right (lit≤ tt) (in_span 2 3 table.logical size lawful.logical is)
+atomic_in_word table Get size lawful is atomic = cc
+atomic_in_word table (Intent _) size lawful is atomic = cc
+
+-- ---- a request with no bytes changes nothing
+
+no_power : (size : ℕ) → 2 ^ size ≡ 0 → ⊥
+no_power size is = let some : 0 < 2 ^ size = pow_pos size in absurd (omega (arith, some, is))
+
+same_window : (kind : Kind) (op : AskOp) (size : ℕ) (old given : List (Option ℕ)) → byte_count op size ≡ 0
+    → new_cells kind op old given ≡ old
+same_window kind PutFull size old given none = absurd (no_power size none)
+same_window kind PutPartial size old given none = absurd (no_power size none)
+same_window kind (Arithmetic op) size old given none = absurd (no_power size none)
+same_window kind (Logical op) size old given none = absurd (no_power size none)
+same_window kind Get size old given none = refl
+same_window kind (Intent _) size old given none = refl
+
+window_back : (n : ℕ) (rest : List (Option ℕ)) → take n rest ++ drop (length (take n rest)) rest ≡ rest
+window_back zero rest = refl
+window_back (suc n) [] = refl
+window_back (suc n) (cell ∷ rest) = ap (λ cells. cell ∷ cells) (window_back n rest)
+
+replaced-same : (cells : List (Option ℕ)) (start n : ℕ) → replaced cells start (take n (drop start cells)) ≡ cells
+replaced-same cells start n =
+    let window = take n (drop start cells) in
+    append_assoc (take start cells) window (drop (start + length window) cells)
+    ∙ ap (λ back. take start cells ++ (window ++ back)) (sym (drop-drop (length window) start cells))
+    ∙ ap (λ rest. take start cells ++ rest) (window_back n (drop start cells))
+    ∙ take-append-drop start cells
+
+pub unchanged : (memory : Partial) (ask : Request) → permits memory ask ≡ true → byte_count ask.op ask.size ≡ 0
+    → after_partial memory ask ≡ memory
+unchanged memory ask is none =
+    let left : List (Option ℕ) → Partial = λ cells. record memory { cells = cells } in
+    rw is (ap left (ap (replaced memory.cells ask.address)
+    (same_window memory.kind ask.op ask.size (window_of memory ask) ask.bytes none)
+    ∙ replaced-same memory.cells ask.address (2 ^ ask.size)))

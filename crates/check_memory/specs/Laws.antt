@@ -1,0 +1,64 @@
+-- The laws, said on their own.
+use Rattle.std.specs.Prelude.{◌≡◌, ◌↔◌, ℕ, ◌++◌, ◌∷◌, [], List, length, Option}
+use Rattle.tl_types.specs.Request.{Request, IsLawfulRequest}
+use Rattle.tl_ops.specs.Store.{Store, legal, reply, after}
+use Rattle.check_memory.specs.Sizes.{row_of}
+use Rattle.check_memory.specs.Known.{IsBelow, known}
+use Rattle.check_memory.specs.Partial.{Partial, permits, after_partial, AreWithin}
+use Rattle.check_memory.specs.Pattern.{Pattern, pattern, Fits, seen_as}
+use Rattle.check_memory.specs.declared.slave.Slave.{Slave}
+use Rattle.check_memory.specs.Slave.{expected_of, MayReply}
+use Rattle.check_memory.specs.Whole.{whole, true_after, true_reply}
+
+-- a request as messages carry it
+abbrev pub IsLawful : Request → Type 0
+IsLawful ask = IsLawfulRequest ask.op ask.size ask.bytes
+
+-- a memory that is wholly known answers and changes as the definitions of tl_ops say, and stays wholly known
+pub record IsWhole (memory : Partial) (bytes : List ℕ) (ask : Request) : Type 0 where
+  pub answers : pattern (whole memory bytes) ask ≡ seen_as (true_reply memory bytes ask)
+  pub leaves : after_partial (whole memory bytes) ask ≡ whole memory (true_after memory bytes ask)
+  pub counted : length (true_after memory bytes ask) ≡ length bytes
+
+abbrev pub WholeStaysWhole : Type 0
+WholeStaysWhole =
+    (memory : Partial) (bytes : List ℕ) (ask : Request) → AreWithin memory.ranges (length bytes) → IsLawful ask
+    → IsWhole memory bytes ask
+
+-- whatever the unknown bytes are, the true reply fits the pattern, and the true bytes afterwards are those that are
+-- known
+pub record IsSound (memory : Partial) (bytes : List ℕ) (ask : Request) : Type 0 where
+  pub reply_fits : Fits (pattern memory ask) (seen_as (true_reply memory bytes ask))
+  pub stays_below : IsBelow (after_partial memory ask).cells (known (true_after memory bytes ask))
+
+abbrev pub PartialIsSound : Type 0
+PartialIsSound =
+    (memory : Partial) (bytes : List ℕ) (ask : Request) → AreWithin memory.ranges (length bytes) → IsLawful ask
+    → IsBelow memory.cells (known bytes) → IsSound memory bytes ask
+
+-- a memory in one range, whose sizes are its kind's row, is the store of tl_ops between the bytes before it and beyond
+pub record IsStore (store : Store) (before beyond : List ℕ) (memory : Partial) (ask : Request) : Type 0 where
+  pub legal_is : permits memory ask ≡ legal store ask
+  pub reply_is : true_reply memory (before ++ (store.bytes ++ beyond)) ask ≡ reply store ask
+  pub after_is : true_after memory (before ++ (store.bytes ++ beyond)) ask
+      ≡ before ++ ((after store ask).bytes ++ beyond)
+
+abbrev pub one_range : Store → List (Option ℕ) → Partial
+one_range store cells = record {
+  kind = store.kind;
+  sizes = row_of store.kind;
+  ranges = record { base = store.base; length = length store.bytes } ∷ [];
+  cells = cells;
+}
+
+abbrev pub StoreIsInstance : Type 0
+StoreIsInstance =
+    (store : Store) (before beyond : List ℕ) (cells : List (Option ℕ)) (ask : Request) → length before ≡ store.base
+    → IsLawful ask → IsStore store before beyond (one_range store cells) ask
+
+-- what fits the answer that is expected of a slave is what the slave may reply; of a device that is any reply of the
+-- right form
+abbrev pub FitsIfItMayReply : Type 0
+FitsIfItMayReply =
+    (slave : Slave) (ask : Request) (captured : Pattern)
+    → Fits (expected_of slave ask) captured ↔ MayReply slave ask captured

@@ -1,0 +1,52 @@
+-- A port's memory as contracts see it: what it supports, where it answers, and one byte for each address, known or
+-- unknown. What is legal there, and what a request leaves.
+use Rattle.std.specs.Prelude.{ℕ, ◌+◌, ◌%◌, ◌^◌, ◌≤◌, Bool, false, ◌&&◌, ◌||◌, if◌then◌else◌, ◌==◌, nat_le, List, [], ◌∷◌, take, drop, Option, All}
+use Rattle.tl_types.specs.Request.{Request}
+use Rattle.tl_ops.specs.declared.kind.Kind.{Kind}
+use Rattle.check_memory.specs.declared.sizes.SizeTable.{SizeTable}
+use Rattle.check_memory.specs.declared.range.Range.{Range}
+use Rattle.check_memory.specs.Sizes.{allows}
+use Rattle.check_memory.specs.Known.{known, replaced}
+use Rattle.check_memory.specs.Cells.{new_cells}
+
+-- a port's memory: cell a is the byte at address a. Cells outside of the ranges are never answered and never changed
+pub record Partial : Type 0 where
+  pub kind : Kind
+  pub sizes : SizeTable
+  pub ranges : List Range
+  pub cells : List (Option ℕ)
+
+-- whether one of the ranges holds so many bytes from an address on
+abbrev pub holds : List Range → ℕ → ℕ → Bool
+holds [] address width = false
+holds (range ∷ ranges) address width =
+    (nat_le range.base address && nat_le (address + width) (range.base + range.length)) || holds ranges address width
+
+-- whether a request is legal: supported, aligned as the standard has it, and in one range
+abbrev pub permits : Partial → Request → Bool
+permits memory ask =
+    allows memory.sizes ask.op ask.size
+    && (ask.address % 2 ^ ask.size == 0)
+    && holds memory.ranges ask.address (2 ^ ask.size)
+
+-- the cells of a request's window
+abbrev pub window_of : Partial → Request → List (Option ℕ)
+window_of memory ask = take (2 ^ ask.size) (drop ask.address memory.cells)
+
+-- the memory after a request
+abbrev pub after_partial : Partial → Request → Partial
+after_partial memory ask =
+    if permits memory ask then
+    record memory {
+      cells = replaced memory.cells ask.address
+          (new_cells memory.kind ask.op (window_of memory ask) ask.bytes);
+    }
+    else memory
+
+-- the memory with these bytes from an address on
+abbrev pub loaded : Partial → ℕ → List ℕ → Partial
+loaded memory address bytes = record memory { cells = replaced memory.cells address (known bytes) }
+
+-- the ranges end where the cells do, or below
+abbrev pub AreWithin : List Range → ℕ → Type 0
+AreWithin ranges count = All (λ (range : Range). range.base + range.length ≤ count) ranges

@@ -1,0 +1,147 @@
+//! The pages of a memory, which are made as they are written.
+ghost use Rattle.std.specs.Prelude.{◌≡◌, ℕ, ◌+◌, ◌*◌, ◌/◌, ◌%◌, ◌^◌, ◌<◌, ◌≤◌, [], length, take, drop, true, IfOk, IfSome, None};
+ghost use Rattle.tl_types.specs.Operation.{carries_bytes, reply_op_of};
+ghost use Rattle.tl_ops.specs.Cell.{FitsWords};
+ghost use Rattle.check_memory.specs.Known.{known, replaced};
+ghost use Rattle.check_memory.specs.Cells.{new_cells, is_atomic};
+ghost use Rattle.check_memory.specs.Pattern.{shown_cells};
+ghost use Rattle.check_memory.specs.Paged.{seen, IsAt};
+
+use crate::cells::Cells;
+use crate::page::{PAGE_BYTES, Page, Slot};
+use std::alloc::{AllocError, Global};
+use std::collections::BTreeMap;
+use std::marker::Model;
+use tl_ops::Kind;
+use tl_types::{Ask, MAX_BYTES, WORD_BYTES};
+
+/// Pages, in the order in which they were made.
+///
+/// An index knows the place of each, and most are found with no look at it: those that were made one after the other
+/// from the first on stand as far from it as their numbers do.
+#[derive(Drop)]
+pub struct Pages {
+    slots: Vec<Slot>,
+    index: BTreeMap<u64, usize>,
+    known: bool,
+}
+
+impl Model for Pages {
+    ghost use Rattle.std.specs.Ordering.{nat_cmp};
+    ghost use Rattle.std.specs.BTreeMap.{get};
+    ghost use Rattle.check_memory.specs.Paged.{Paged, AreIndexed};
+
+    ghost Value = { Paged };
+
+    ghost view = { λ p. record { slots = p.slots.items; known = p.known } };
+
+    ghost invariant = { λ p. AreIndexed p.slots.items (get nat_cmp p.index) };
+}
+
+impl Pages {
+    /// No pages, where a byte that nothing has written is zero, or unknown.
+    pub fn new(alloc: Global, known: bool) -> Pages
+        ensures { result ≡ record { slots = []; known = known } }
+    {
+        Pages {
+            slots: Vec::new(alloc),
+            index: BTreeMap::new(alloc),
+            known,
+        }
+    }
+
+    /// How many there are.
+    pub fn len(&self) -> usize
+        ensures { result ≡ length self.now.slots }
+    {
+        self.slots.len()
+    }
+
+    /// The place of a page, by its number.
+    fn find(&self, number: u64) -> Option<usize>
+        ensures found { IfSome result (λ at. IsAt self.now.slots number at) }
+        ensures none { result ≡ None → (at : ℕ) → IsAt self.now.slots number at → ⊥ }
+    {
+        if !self.slots.is_empty() {
+            let guess = number.wrapping_sub(self.slots[0].number);
+            if guess < self.slots.len() as u64 && self.slots[guess as usize].number == number {
+                return Some(guess as usize);
+            }
+        }
+        self.index.get(&number).copied()
+    }
+
+    /// The place of a page, which is made where there is none.
+    pub fn page_for(&mut self, alloc: Global, number: u64) -> Result<usize, AllocError>
+        ensures same { seen self.new ≡ seen self.old }
+        ensures at { IfOk result (λ at. IsAt self.new.slots number at) }
+    {
+        if let Some(at) = self.find(number) {
+            return Ok(at);
+        }
+        self.add_page(alloc, number)
+    }
+
+    /// A new page, which shows what was seen there before.
+    #[inline(never)]
+    fn add_page(&mut self, alloc: Global, number: u64) -> Result<usize, AllocError>
+        requires { (at : ℕ) → IsAt self.old.slots number at → ⊥ }
+        ensures same { seen self.new ≡ seen self.old }
+        ensures at { IfOk result (λ at. IsAt self.new.slots number at) }
+    {
+        let page = Page::new(alloc, self.known)?;
+        let at = self.slots.len();
+        self.slots.push(Slot { number, page })?;
+        if let Err(_) = self.index.insert(number, at) {
+            self.slots.pop();
+            return Err(AllocError);
+        }
+        Ok(at)
+    }
+
+    /// The bytes from an address on.
+    pub fn read(&self, address: u64, width: usize, cells: &mut Cells)
+        requires limit { width ≤ MAX_BYTES }
+        requires fits { FitsWords (address % PAGE_BYTES) width }
+        requires inside { address % PAGE_BYTES + width ≤ PAGE_BYTES }
+        ensures { cells.new ≡ take width (drop address (seen self.now)) }
+    {
+        match self.find(address / PAGE_BYTES as u64) {
+            Some(at) => {
+                let slot = &self.slots[at];
+                slot.page
+                    .read((address % PAGE_BYTES as u64) as usize, width, cells);
+            }
+            None => cells.fill(self.known, width),
+        }
+    }
+
+    /// Serves a request that carries bytes, in the page at a place.
+    pub fn serve(&mut self, at: usize, kind: Kind, ask: &Ask, cells: &mut Cells)
+        requires at { IsAt self.old.slots (ask.now.address / PAGE_BYTES) at }
+        requires carries { carries_bytes ask.now.op ≡ true }
+        requires counted { length ask.now.bytes ≡ 2 ^ ask.now.size }
+        requires word { is_atomic ask.now.op ≡ true → 2 ^ ask.now.size ≤ WORD_BYTES }
+        requires fits { FitsWords (ask.now.address % PAGE_BYTES) (2 ^ ask.now.size) }
+        requires inside { ask.now.address % PAGE_BYTES + 2 ^ ask.now.size ≤ PAGE_BYTES }
+        ensures after { let old = take (2 ^ ask.now.size) (drop ask.now.address (seen self.old)) in
+            seen self.new ≡ replaced (seen self.old) ask.now.address (new_cells kind ask.now.op old ask.now.bytes) }
+        ensures shown { let old = take (2 ^ ask.now.size) (drop ask.now.address (seen self.old)) in
+            cells.new ≡ shown_cells (reply_op_of ask.now.op) old }
+    {
+        let start = (ask.address() % PAGE_BYTES as u64) as usize;
+        let slot = &mut self.slots[at];
+        slot.page.serve(kind, start, ask, cells);
+    }
+
+    /// Writes bytes from an address on, in the page at a place.
+    pub fn load(&mut self, at: usize, address: u64, bytes: &[u8])
+        requires at { IsAt self.old.slots (address / PAGE_BYTES) at }
+        requires inside { address % PAGE_BYTES + length bytes.now ≤ PAGE_BYTES }
+        ensures { seen self.new ≡ replaced (seen self.old) address (known bytes.now) }
+    {
+        let start = (address % PAGE_BYTES as u64) as usize;
+        let slot = &mut self.slots[at];
+        slot.page.load(start, bytes);
+    }
+}

@@ -1,0 +1,51 @@
+//! What stands at a port.
+ghost use Rattle.std.specs.Prelude.{◌≡◌, IfOk, OnErr};
+ghost use Rattle.check_memory.specs.Slave.{slave_after, expected_of};
+
+use crate::memory::Memory;
+use crate::pattern::Pattern;
+use std::alloc::{AllocError, Global};
+use tl_types::Ask;
+
+/// A slave, as the judge keeps it.
+#[derive(Drop)]
+pub enum Slave {
+    /// A memory, whose replies follow from the requests before.
+    Memory(Memory),
+    /// A device, which keeps nothing here and decides for itself what it answers.
+    Device,
+}
+
+impl Slave {
+    /// Serves a request: the slave is the one after it, and what its answer has to fit stands in the place of another.
+    /// Where there is no memory for a page, nothing is changed.
+    pub fn serve_into(
+        &mut self,
+        alloc: Global,
+        ask: &Ask,
+        answer: &mut Pattern,
+    ) -> Result<(), AllocError>
+        ensures after { IfOk result (λ _. self.new ≡ slave_after self.old ask.now) }
+        ensures expected { IfOk result (λ _. answer.new ≡ expected_of self.old ask.now) }
+        ensures unchanged { OnErr result (self.new ≡ self.old) }
+        ensures answer_unchanged { OnErr result (answer.new ≡ answer.old) }
+    {
+        match self {
+            Slave::Memory(memory) => memory.serve_into(alloc, ask, answer),
+            Slave::Device => {
+                answer.expect_any(ask);
+                Ok(())
+            }
+        }
+    }
+
+    /// What the answer to a request that is not served has to fit.
+    pub fn answer(&self, ask: &Ask, answer: &mut Pattern)
+        ensures { answer.new ≡ expected_of self.now ask.now }
+    {
+        match self {
+            Slave::Memory(memory) => memory.answer(ask, answer),
+            Slave::Device => answer.expect_any(ask),
+        }
+    }
+}

@@ -1,0 +1,6 @@
+mod pages;
+mod refused;
+mod replies;
+mod requests;
+mod scene;
+mod sizes;

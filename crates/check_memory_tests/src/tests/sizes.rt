@@ -1,0 +1,260 @@
+//! Tables of sizes: which there are, and what they make of a kind.
+use super::scene::{Turn, memory_of, serve_all};
+use check_memory::{Range, SizeTable, Sizes, Span};
+use std::alloc::Global;
+use std::process::Abort;
+use tl_ops::Kind;
+use tl_types::{Arith, AskOp, Hint, Logic};
+
+const NONE: SizeTable = SizeTable {
+    get: None,
+    put_full: None,
+    put_partial: None,
+    arithmetic: None,
+    logical: None,
+    intent: None,
+};
+
+const fn span(least: u8, greatest: u8) -> Option<Span> {
+    Some(Span { least, greatest })
+}
+
+/// A table, and whether it is within the rules.
+fn try_table(rt: &impl Abort, table: SizeTable, lawful: bool) {
+    assert!(rt; Sizes::new(table).is_some() == lawful);
+}
+
+#[test]
+fn a_table_keeps_the_rules(rt: HostRuntime) {
+    try_table(&rt, NONE, true);
+    try_table(
+        &rt,
+        SizeTable {
+            get: span(0, 8),
+            ..NONE
+        },
+        true,
+    );
+    try_table(
+        &rt,
+        SizeTable {
+            get: span(8, 8),
+            ..NONE
+        },
+        true,
+    );
+    try_table(
+        &rt,
+        SizeTable {
+            get: span(0, 9),
+            ..NONE
+        },
+        false,
+    );
+    try_table(
+        &rt,
+        SizeTable {
+            put_full: span(3, 2),
+            ..NONE
+        },
+        false,
+    );
+    try_table(
+        &rt,
+        SizeTable {
+            put_partial: span(9, 8),
+            ..NONE
+        },
+        false,
+    );
+    try_table(
+        &rt,
+        SizeTable {
+            intent: span(0, 255),
+            ..NONE
+        },
+        false,
+    );
+    try_table(
+        &rt,
+        SizeTable {
+            arithmetic: span(2, 3),
+            ..NONE
+        },
+        true,
+    );
+    try_table(
+        &rt,
+        SizeTable {
+            arithmetic: span(1, 3),
+            ..NONE
+        },
+        false,
+    );
+    try_table(
+        &rt,
+        SizeTable {
+            logical: span(3, 3),
+            ..NONE
+        },
+        true,
+    );
+    try_table(
+        &rt,
+        SizeTable {
+            logical: span(2, 4),
+            ..NONE
+        },
+        false,
+    );
+    try_table(
+        &rt,
+        SizeTable {
+            logical: span(3, 2),
+            ..NONE
+        },
+        false,
+    );
+}
+
+/// A memory of this kind with this table, 64 bytes from 0 on, serves one request after the other.
+fn try_sizes(rt: &impl Abort, alloc: Global, kind: Kind, table: SizeTable, turns: &[Turn]) {
+    let sizes = Sizes::new(table).expect(rt, "a lawful table");
+    let range = Range {
+        base: 0,
+        length: 0x40,
+    };
+    let mut memory = memory_of(rt, alloc, kind, sizes, &[range], false);
+    serve_all(rt, alloc, &mut memory, turns);
+}
+
+/// A ROM that a table gives puts of four bytes stores them.
+const WRITTEN_ROM: [Turn; 6] = [
+    (AskOp::PutFull, 2, 4, "11 22 33 44", false, ""),
+    (AskOp::PutFull, 3, 0, "01 02 03 04 05 06 07 08", true, ""),
+    (AskOp::PutPartial, 2, 4, "11 xx 33 44", true, ""),
+    (AskOp::Intent(Hint::PrefetchWrite), 2, 4, "", true, ""),
+    (AskOp::Get, 3, 0, "", false, "xx xx xx xx 11 22 33 44"),
+    (
+        AskOp::Get,
+        4,
+        0,
+        "",
+        true,
+        "00 00 00 00 00 00 00 00 00 00 00 00 00 00 00 00",
+    ),
+];
+
+/// A RAM whose table leaves gets and logical atomics out.
+const BLIND_RAM: [Turn; 5] = [
+    (AskOp::PutFull, 3, 0, "01 02 03 04 05 06 07 08", false, ""),
+    (AskOp::Get, 3, 0, "", true, "00 00 00 00 00 00 00 00"),
+    (
+        AskOp::Logical(Logic::Swap),
+        2,
+        0,
+        "00 00 00 00",
+        true,
+        "00 00 00 00",
+    ),
+    (
+        AskOp::Arithmetic(Arith::Add),
+        3,
+        0,
+        "01 00 00 00 00 00 00 00",
+        true,
+        "00 00 00 00 00 00 00 00",
+    ),
+    (
+        AskOp::Arithmetic(Arith::Add),
+        2,
+        0,
+        "01 00 00 00",
+        false,
+        "01 02 03 04",
+    ),
+];
+
+/// Registers that a table gives atomics are as RAM in them.
+const ATOMIC_REGS: [Turn; 4] = [
+    (
+        AskOp::Logical(Logic::Swap),
+        2,
+        8,
+        "01 02 03 04",
+        false,
+        "xx xx xx xx",
+    ),
+    (
+        AskOp::Arithmetic(Arith::Add),
+        2,
+        8,
+        "ff 00 00 00",
+        false,
+        "01 02 03 04",
+    ),
+    (AskOp::Get, 3, 8, "", false, "00 03 03 04 xx xx xx xx"),
+    (AskOp::PutFull, 2, 8, "00 00 00 00", true, ""),
+];
+
+/// A partial put where writing a one clears leaves the bytes that it leaves out.
+const PARTLY_CLEARED: [Turn; 6] = [
+    (
+        AskOp::PutFull,
+        4,
+        0,
+        "ff ff ff ff ff ff ff ff ff ff ff ff ff ff ff ff",
+        false,
+        "",
+    ),
+    (
+        AskOp::Logical(Logic::Swap),
+        2,
+        0,
+        "ff 0f f0 aa",
+        false,
+        "00 00 00 00",
+    ),
+    (AskOp::PutPartial, 2, 0, "0f xx ff xx", false, ""),
+    (AskOp::Get, 3, 0, "", false, "f0 0f 00 aa 00 00 00 00"),
+    (
+        AskOp::PutPartial,
+        3,
+        16,
+        "ff xx 0f xx xx xx xx ff",
+        false,
+        "",
+    ),
+    (AskOp::Get, 3, 16, "", false, "00 xx xx xx xx xx xx 00"),
+];
+
+#[test]
+fn a_table_stands_for_its_kinds_row(rt: HostRuntime) {
+    let rom = SizeTable {
+        get: span(0, 3),
+        put_full: span(2, 2),
+        ..NONE
+    };
+    try_sizes(&rt, rt.alloc(), Kind::Rom, rom, &WRITTEN_ROM);
+    let ram = SizeTable {
+        put_full: span(0, 3),
+        arithmetic: span(2, 2),
+        ..NONE
+    };
+    try_sizes(&rt, rt.alloc(), Kind::Ram, ram, &BLIND_RAM);
+    let regs = SizeTable {
+        get: span(3, 3),
+        arithmetic: span(2, 3),
+        logical: span(2, 3),
+        ..NONE
+    };
+    try_sizes(&rt, rt.alloc(), Kind::Regs, regs, &ATOMIC_REGS);
+    let clearing = SizeTable {
+        get: span(0, 8),
+        put_full: span(0, 8),
+        put_partial: span(0, 8),
+        logical: span(2, 2),
+        ..NONE
+    };
+    try_sizes(&rt, rt.alloc(), Kind::ClearRegs, clearing, &PARTLY_CLEARED);
+}
