@@ -43,7 +43,7 @@ step_same (Some x) e e' f g y same is = same x is
 
 -- ---- numbers
 
-kept : {F : Type 0} (b : Bool) (m n : ℕ) (e : F) → (if b then Ok m else Err e) ≡ Ok n → m ≡ n
+pub kept : {F : Type 0} (b : Bool) (m n : ℕ) (e : F) → (if b then Ok m else Err e) ≡ Ok n → m ≡ n
 kept true m n e is = cc
 kept false m n e is = absurd cc
 
@@ -65,11 +65,11 @@ number_at_same old_k key low high low' high' n members named is from to =
     (λ value. step_same (as_integer value) (OldWrongType old_k) (WrongType key) (old_in_range old_k low high)
     (in_range key low' high') n (λ z within. in_range_same old_k key low high low' high' n z within from to)) is)
 
-both_parts : (a b : Bool) → a && b ≡ true → (a ≡ true) × (b ≡ true)
+pub both_parts : (a b : Bool) → a && b ≡ true → (a ≡ true) × (b ≡ true)
 both_parts true b is = (refl, is)
 both_parts false b is = absurd cc
 
-passes : {F : Type 0} (b : Bool) (m n : ℕ) (e : F) → (if b then Ok m else Err e) ≡ Ok n → b ≡ true
+pub passes : {F : Type 0} (b : Bool) (m n : ℕ) (e : F) → (if b then Ok m else Err e) ≡ Ok n → b ≡ true
 passes true m n e is = refl
 passes false m n e is = absurd cc
 
@@ -82,7 +82,7 @@ in_range_within old_k low high n (pos m) is =
     rw (← same) (leb-true low m both.0, leb-true m high both.1)
 in_range_within old_k low high n (negsuc m) is = absurd cc
 
-step_shows : {A B F : Type 0} (o : Option A) (e : F) (f : A → Result B F) (y : B) (P : Type 0)
+pub step_shows : {A B F : Type 0} (o : Option A) (e : F) (f : A → Result B F) (y : B) (P : Type 0)
     → ((x : A) → f x ≡ Ok y → P) → (new.◌>>=◌ (ok_or o e) f) ≡ Ok y → P
 step_shows None e f y P shows is = absurd cc
 step_shows (Some x) e f y P shows is = shows x is

@@ -6,7 +6,7 @@ use Rattle.std.specs.List.{filter_map}
 use Rattle.std.specs.Str.{is_utf8}
 use Rattle.toml.specs.Data.{Members}
 use Rattle.toml.specs.Parse.{parse_document}
-use Rattle.check_map.specs.Map.{IsFirstMapFault, IsLawfulMap}
+use Rattle.check_map.specs.Ranges.{IsFirstMapFault, IsLawfulMap}
 use Rattle.check_map.specs.Sources.{AreLawfulOwners}
 use Rattle.check_map.specs.declared.map.MapFault.TheVariants.{Memory as MapMemory}
 use Rattle.check_map.specs.declared.sources.SourceFault.TheVariants.{Memory as SourceMemory}

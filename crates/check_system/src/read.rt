@@ -1,7 +1,7 @@
 //! Reads the system that a file describes.
 ghost use Rattle.std.specs.Prelude.{◌≡◌, ◌≢◌, IfErr, IfOk, OnOk, map};
 ghost use Rattle.toml.specs.View.{table_view};
-ghost use Rattle.check_map.specs.Map.{IsFirstMapFault, IsLawfulMap};
+ghost use Rattle.check_map.specs.Ranges.{AreRanges, IsFirstMapFault, IsLawfulMap};
 ghost use Rattle.check_system.specs.File.{IsFirstFaultOf, IsFirstSystemFault, Makes, Spells, document_of, parts_in, parts_view};
 ghost use Rattle.check_system.specs.Port.{port_view};
 ghost use Rattle.check_system.specs.Reading.{Gives, IsOfMap};
@@ -52,6 +52,7 @@ fn read_parts(alloc: Global, table: &Table) -> Result<Parts, SystemFault>
 
 /// The map of the ports' ranges.
 fn map_of(alloc: Global, ports: &[Port]) -> Result<Map, SystemFault>
+    requires { AreRanges (ranges_of (map port_view ports.now)) }
     ensures made { IfOk result (λ m. m ≡ ranges_of (map port_view ports.now)) }
     ensures lawful { OnOk result (IsLawfulMap (ranges_of (map port_view ports.now))) }
     ensures fault { IfErr result (λ fault. fault ≢ Memory
@@ -66,6 +67,7 @@ fn map_of(alloc: Global, ports: &[Port]) -> Result<Map, SystemFault>
 
 /// The system of these parts, or their first fault.
 fn make_system(alloc: Global, parts: Parts) -> Result<System, SystemFault>
+    requires { AreRanges (ranges_of (map port_view parts.ports.items)) }
     ensures made { IfOk result (Makes (parts_view parts)) }
     ensures fault { IfErr result (λ fault. fault ≢ Memory → IsFirstFaultOf (parts_view parts) fault) }
 {
