@@ -1,0 +1,5 @@
+pub mod Views
+pub mod NameLemmas
+pub mod Scripts
+pub mod ScriptTables
+pub mod BlockLemmas

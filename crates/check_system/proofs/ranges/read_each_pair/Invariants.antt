@@ -1,0 +1,11 @@
+-- The pairs so far, and those of the rest, are the pairs of all.
+use Rattle.std.proofs.Common.{◌≡◌, drop, map}
+use Rattle.toml.specs.View.{view}
+use Rattle.check_system.specs.Port.{pair_in}
+use Rattle.check_system.specs.Reading.{each, with_front}
+use Rattle.check_system.proofs.ranges.read_each_pair.Given as goal
+
+abbrev pub invariant-loop-value : goal.invariant-loop-value
+invariant-loop-value l =
+    with_front l.pairs.items (each pair_in (map view (drop l.value-index l.values)))
+    ≡ each pair_in (map view l.values)

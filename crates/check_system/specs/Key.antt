@@ -1,0 +1,19 @@
+-- The keys of a system file.
+use Rattle.std.specs.Prelude.{ℕ, List, codes}
+use Rattle.check_system.specs.declared.fault.Key.{Key}
+use Rattle.check_system.specs.declared.fault.Key.TheVariants.{Port, Name, Kind, Base, Length, Ranges, Reset, Order, Master, Sources, First, Stride}
+
+-- the key, as a file has it
+abbrev pub key_name : Key → List ℕ
+key_name Port = codes "port"
+key_name Name = codes "name"
+key_name Kind = codes "kind"
+key_name Base = codes "base"
+key_name Length = codes "length"
+key_name Ranges = codes "ranges"
+key_name Reset = codes "reset"
+key_name Order = codes "order"
+key_name Master = codes "master"
+key_name Sources = codes "sources"
+key_name First = codes "first"
+key_name Stride = codes "stride"

@@ -1,0 +1,9 @@
+pub mod Key
+pub mod Reading
+pub mod Value
+pub mod Name
+pub mod Port
+pub mod Master
+pub mod System
+pub mod File
+pub mod Instance

@@ -1,0 +1,225 @@
+//! Files with faults: the line of each, and which of two faults is told.
+use super::fault_line;
+use std::alloc::Global;
+use std::process::Abort;
+
+/// A part of a file, and the line of the file's fault.
+type Row = (&'static str, &'static str);
+
+/// Each part makes a file that has its row's line. The part stands after the head.
+fn have_lines(rt: &impl Abort, alloc: Global, head: &str, rows: &[Row]) {
+    for (part, line) in rows {
+        let file = format!(in alloc; "{head}{part}\n").expect(rt, "memory");
+        assert_eq!(rt; fault_line(rt, alloc, file.as_bytes()).as_str(), *line);
+    }
+}
+
+const DOCUMENTS: [Row; 14] = [
+    ("", "system: missing master"),
+    ("port", "system: not TOML"),
+    ("x = 1\nx = 1", "system: not TOML"),
+    ("port = 1", "system: wrong type of port"),
+    ("port = {}", "system: wrong type of port"),
+    ("port = [{}, 1]", "system: wrong type of port"),
+    ("port = []", "system: missing master"),
+    ("master = {}", "system: wrong type of master"),
+    ("master = [{}, 1]", "system: wrong type of master"),
+    ("master = []", "system: master out of range"),
+    // Keys of tlx are nothing to a system.
+    ("slots = 'x'\nmaster = []", "system: master out of range"),
+    // Of two faults the first is answered.
+    ("port = 1\nmaster = []", "system: wrong type of port"),
+    ("port = [{}]\nmaster = 1", "system: missing kind"),
+    ("port = [{ kind = 'ram' }]", "system: missing base"),
+];
+
+#[test]
+fn documents_have_faults(rt: HostRuntime) {
+    have_lines(&rt, rt.alloc(), "", &DOCUMENTS);
+}
+
+const NAMES: [Row; 14] = [
+    ("name = 1", "system: wrong type of name"),
+    ("name = 1\nkind = 1", "system: wrong type of name"),
+    ("name = ''", "system: name out of range"),
+    ("name = 'a b'", "system: name out of range"),
+    ("name = 'a/b'", "system: name out of range"),
+    ("name = 'é'", "system: name out of range"),
+    ("name = 'm0'", "system: name out of range"),
+    ("name = 'p12'", "system: name out of range"),
+    // Without digits, with others after them, and in capitals these are names.
+    ("name = 'm'", "system: missing kind"),
+    ("name = 'p'", "system: missing kind"),
+    ("name = 'p1x'", "system: missing kind"),
+    ("name = 'M0'", "system: missing kind"),
+    ("name = 's0'", "system: missing kind"),
+    ("name = 'Uart_0.rx-9'", "system: missing kind"),
+];
+
+#[test]
+fn names_have_faults(rt: HostRuntime) {
+    have_lines(&rt, rt.alloc(), "[[port]]\n", &NAMES);
+}
+
+const PLAIN_PORTS: [Row; 13] = [
+    ("base = 0\nlength = 1", "system: missing kind"),
+    ("kind = 1", "system: wrong type of kind"),
+    ("kind = 'RAM'", "system: kind out of range"),
+    ("kind = 'ram'\nlength = 0", "system: missing base"),
+    ("kind = 'ram'\nbase = '0'", "system: wrong type of base"),
+    (
+        "kind = 'ram'\nbase = -1\nlength = 0",
+        "system: base out of range",
+    ),
+    (
+        "kind = 'ram'\nbase = 0\nreset = 1",
+        "system: missing length",
+    ),
+    (
+        "kind = 'ram'\nbase = 0\nlength = true",
+        "system: wrong type of length",
+    ),
+    (
+        "kind = 'ram'\nbase = 0\nlength = 0\nreset = 1",
+        "system: length out of range",
+    ),
+    (
+        "kind = 'ram'\nbase = 0\nlength = -1",
+        "system: length out of range",
+    ),
+    // The last base and the greatest length.
+    (
+        "kind = 'ram'\nbase = 9223372036854775807\nlength = 9223372036854775807",
+        "system: missing master",
+    ),
+    // The first port's last key is before the second port's first.
+    (
+        "kind = 'ram'\nbase = 0\nlength = 1\norder = 1\n[[port]]",
+        "system: wrong type of order",
+    ),
+    (
+        "kind = 'ram'\nbase = 0\nlength = 1\n[[port]]",
+        "system: missing kind",
+    ),
+];
+
+#[test]
+fn plain_ports_have_faults(rt: HostRuntime) {
+    have_lines(&rt, rt.alloc(), "[[port]]\n", &PLAIN_PORTS);
+}
+
+const RANGES: [Row; 18] = [
+    ("ranges = 1", "system: wrong type of ranges"),
+    ("ranges = [1]", "system: wrong type of ranges"),
+    ("ranges = [[]]", "system: wrong type of ranges"),
+    ("ranges = [[0]]", "system: wrong type of ranges"),
+    ("ranges = [[0, 1, 2]]", "system: wrong type of ranges"),
+    ("ranges = [['0', 1]]", "system: wrong type of ranges"),
+    ("ranges = [[0, 1.0]]", "system: wrong type of ranges"),
+    // A wrong type is before a range, whichever stands first.
+    ("ranges = [[-1, 1], 1]", "system: wrong type of ranges"),
+    ("ranges = 1\nbase = 0", "system: wrong type of ranges"),
+    ("ranges = []", "system: ranges out of range"),
+    ("ranges = [[-1, 1]]", "system: ranges out of range"),
+    ("ranges = [[0, 0]]", "system: ranges out of range"),
+    ("ranges = [[0, 1], [8, -1]]", "system: ranges out of range"),
+    // Beside a base or a length, which are looked at before.
+    ("ranges = [[0, 1]]\nbase = 0", "system: ranges out of range"),
+    (
+        "ranges = [[0, 1]]\nlength = 1",
+        "system: ranges out of range",
+    ),
+    ("ranges = 1\nbase = 'x'", "system: wrong type of base"),
+    ("ranges = 1\nlength = 0", "system: length out of range"),
+    ("ranges = [[0, 1], [8, 8]]", "system: missing master"),
+];
+
+#[test]
+fn ranges_have_faults(rt: HostRuntime) {
+    have_lines(&rt, rt.alloc(), "[[port]]\nkind = 'ram'\n", &RANGES);
+}
+
+const RESETS_AND_ORDERS: [Row; 10] = [
+    ("reset = 1", "system: wrong type of reset"),
+    ("reset = '0'", "system: reset out of range"),
+    ("reset = '0g'", "system: reset out of range"),
+    ("reset = '--'", "system: reset out of range"),
+    // The first range has two bytes, the second more.
+    ("reset = '000000'", "system: reset out of range"),
+    ("reset = 'aBcD'", "system: missing master"),
+    ("reset = ''\norder = 1", "system: wrong type of order"),
+    ("order = 'Reply'", "system: order out of range"),
+    ("reset = '0'\norder = 1", "system: reset out of range"),
+    ("order = 'reply'", "system: missing master"),
+];
+
+#[test]
+fn resets_and_orders_have_faults(rt: HostRuntime) {
+    let head = "[[port]]\nkind = 'ram'\nranges = [[0, 2], [8, 8]]\n";
+    have_lines(&rt, rt.alloc(), head, &RESETS_AND_ORDERS);
+}
+
+const MASTERS: [Row; 13] = [
+    ("name = 1\nsources = 0", "system: wrong type of name"),
+    ("name = 'm7'", "system: name out of range"),
+    ("first = 'x'", "system: missing sources"),
+    (
+        "sources = 'x'\nfirst = 'x'",
+        "system: wrong type of sources",
+    ),
+    ("sources = 0", "system: sources out of range"),
+    ("sources = 65537", "system: sources out of range"),
+    (
+        "sources = 1\nfirst = 'x'\nstride = 0",
+        "system: wrong type of first",
+    ),
+    ("sources = 1\nfirst = -1", "system: first out of range"),
+    ("sources = 1\nfirst = 65536", "system: first out of range"),
+    (
+        "sources = 1\nfirst = 0\nstride = 'x'",
+        "system: wrong type of stride",
+    ),
+    (
+        "sources = 1\nfirst = 0\nstride = 0",
+        "system: stride out of range",
+    ),
+    (
+        "sources = 1\nfirst = 0\nstride = 65536",
+        "system: stride out of range",
+    ),
+    // Without a first the stride is looked at too.
+    ("sources = 1\nstride = 0", "system: stride out of range"),
+];
+
+#[test]
+fn masters_have_faults(rt: HostRuntime) {
+    have_lines(&rt, rt.alloc(), "[[master]]\n", &MASTERS);
+}
+
+/// The first of two masters. If one of them has a first wide source, the other has to have one.
+const TWO_MASTERS: [Row; 6] = [
+    ("[[master]]", "system: missing sources"),
+    (
+        "[[master]]\nsources = 1\nfirst = 1",
+        "system: missing first",
+    ),
+    // It is missing at the first master, before any fault of the second one.
+    ("[[master]]\nfirst = 'x'", "system: missing first"),
+    (
+        "stride = 0\n[[master]]\nsources = 1\nfirst = 0",
+        "system: missing first",
+    ),
+    (
+        "first = 0\n[[master]]\nsources = 1\nstride = 0",
+        "system: missing first",
+    ),
+    (
+        "stride = 7\n[[master]]\nsources = 1\nstride = 'x'",
+        "system: wrong type of stride",
+    ),
+];
+
+#[test]
+fn two_masters_have_faults(rt: HostRuntime) {
+    have_lines(&rt, rt.alloc(), "[[master]]\nsources = 1\n", &TWO_MASTERS);
+}

@@ -1,0 +1,22 @@
+//! What is answered if memory is refused. This test holds whether its requests for memory are granted or not, so that
+//! each request may be refused in turn (`rt try --test --fail-alloc N`): the file is read, or want of memory is told.
+use check_system::{SystemFault, read_parts};
+
+const FILE: &str = "[[port]]
+name = 'ram'
+kind = 'ram'
+ranges = [[0, 64], [0x1000, 64]]
+reset = '0102'
+order = 'reply'
+[[master]]
+name = 'cpu'
+sources = 4
+first = 2
+stride = 4
+";
+
+#[test]
+fn a_file_is_read_or_memory_is_refused(rt: HostRuntime) {
+    let read = read_parts(rt.alloc(), FILE.as_bytes());
+    assert!(rt; matches!(&read, Ok(_) | Err(SystemFault::Memory)));
+}

@@ -1,0 +1,89 @@
+//! Scripts of tlx, read as system files.
+use super::system_of;
+use check_system::{Parts, Port};
+use std::alloc::Global;
+use std::process::Abort;
+use tl_script::{Device, System, read_system as read_script};
+
+const FIRST: &str = "slots = 4
+[[port]]
+kind = \"ram\"
+base = 0x1000
+length = 64
+[[master]]
+sources = 16
+ops = [\"0 putfull 0x1000 2 11223344\", \"0 get 0x1000 2\"]
+";
+
+const SEVERAL: &str = "slots = 8
+[[port]]
+kind = 'rom'
+base = 0x2000
+length = 5
+reset = '00aBCd'
+[[port]]
+kind = 'w1c'
+base = 0x100000
+length = 65536
+reset = 'FF'
+[[master]]
+sources = 256
+ops = []
+[[master]]
+sources = 1
+ops = ['wait', '0 get 0 0']
+";
+
+/// Whether the port's bytes at reset are the device's, but for the zeros after them.
+fn has_same_reset(device: &Device, port: &Port) -> bool {
+    device.reset.starts_with(&port.reset)
+        && device
+            .reset
+            .iter()
+            .skip(port.reset.len())
+            .all(|byte| *byte == 0)
+}
+
+/// Whether the port is the device's: its kind, its one range and its bytes.
+fn is_same_port(device: &Device, port: &Port) -> bool {
+    let [range] = port.ranges.as_slice() else {
+        return false;
+    };
+    device.kind == port.kind
+        && device.base == range.base
+        && device.reset.len() as u64 == range.length
+        && has_same_reset(device, port)
+}
+
+fn have_same_ports(script: &System, system: &Parts) -> bool {
+    script.devices().len() == system.ports.len()
+        && script
+            .devices()
+            .iter()
+            .zip(system.ports.iter())
+            .all(|(device, port)| is_same_port(device, port))
+}
+
+/// Whether a master of the file says only that it has as many sources as the script's.
+fn has_same_sources(script: &System, system: &Parts, master: usize) -> bool {
+    match (script.sources().count(master), system.masters.get(master)) {
+        (Some(count), Some(master)) => {
+            master.sources == u32::from(count) && master.first.is_none() && master.name.is_none()
+        }
+        _ => false,
+    }
+}
+
+fn are_same(rt: &impl Abort, alloc: Global, text: &str, masters: usize) -> bool {
+    let script = read_script(alloc, text.as_bytes()).expect(rt, "a script");
+    let system = system_of(rt, alloc, text);
+    have_same_ports(&script, &system)
+        && system.masters.len() == masters
+        && (0..masters).all(|master| has_same_sources(&script, &system, master))
+}
+
+#[test]
+fn a_script_is_a_system_file(rt: HostRuntime) {
+    assert!(rt; are_same(&rt, rt.alloc(), FIRST, 1));
+    assert!(rt; are_same(&rt, rt.alloc(), SEVERAL, 2));
+}
