@@ -3,3 +3,4 @@ pub mod NameLemmas
 pub mod Scripts
 pub mod ScriptTables
 pub mod BlockLemmas
+pub mod PortRanges

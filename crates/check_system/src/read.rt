@@ -1,12 +1,21 @@
-//! Reads what a system file names.
+//! Reads the system that a file describes.
+ghost use Rattle.std.specs.Prelude.{◌≡◌, ◌≢◌, IfErr, IfOk, OnOk, map};
 ghost use Rattle.toml.specs.View.{table_view};
-ghost use Rattle.check_system.specs.File.{document_of, parts_in, parts_of, parts_view};
-ghost use Rattle.check_system.specs.Reading.{Gives};
+ghost use Rattle.check_map.specs.Ranges.{AreRanges, IsFirstMapFault, IsLawfulMap};
+ghost use Rattle.check_system.specs.File.{IsFirstFaultOf, IsFirstSystemFault, Makes, Spells, document_of, parts_in, parts_view};
+ghost use Rattle.check_system.specs.Port.{port_view};
+ghost use Rattle.check_system.specs.Reading.{Gives, IsOfMap};
+ghost use Rattle.check_system.specs.System.{ranges_of};
+ghost use Rattle.check_system.specs.declared.fault.SystemFault.TheVariants.{Memory};
 
 use crate::fault::SystemFault;
 use crate::masters::read_masters;
-use crate::parts::Parts;
+use crate::names::check_names;
+use crate::owners::sources_of;
+use crate::parts::{Parts, Port};
 use crate::ports::read_ports;
+use crate::system::System;
+use check_map::Map;
 use std::alloc::Global;
 use toml::Table;
 
@@ -33,7 +42,7 @@ fn read_document(alloc: Global, bytes: &[u8]) -> Result<Table, SystemFault>
 
 /// The parts that a file's table names.
 #[tactic(auto, unfolding(crate::specs::File::parts_in))]
-fn read_tables(alloc: Global, table: &Table) -> Result<Parts, SystemFault>
+fn read_parts(alloc: Global, table: &Table) -> Result<Parts, SystemFault>
     ensures { Gives parts_view result (parts_in (table_view table.now)) }
 {
     let ports = read_ports(alloc, table)?;
@@ -41,10 +50,40 @@ fn read_tables(alloc: Global, table: &Table) -> Result<Parts, SystemFault>
     Ok(Parts { ports, masters })
 }
 
-/// The parts that a file names, or the first fault on the way to them. Want of memory may be answered at any point.
-pub fn read_parts(alloc: Global, bytes: &[u8]) -> Result<Parts, SystemFault>
-    ensures { Gives parts_view result (parts_of bytes.now) }
+/// The map of the ports' ranges.
+fn map_of(alloc: Global, ports: &[Port]) -> Result<Map, SystemFault>
+    requires { AreRanges (ranges_of (map port_view ports.now)) }
+    ensures made { IfOk result (λ m. m ≡ ranges_of (map port_view ports.now)) }
+    ensures lawful { OnOk result (IsLawfulMap (ranges_of (map port_view ports.now))) }
+    ensures fault { IfErr result (λ fault. fault ≢ Memory
+        → IsOfMap (IsFirstMapFault (ranges_of (map port_view ports.now))) fault) }
+{
+    let mut ranges = Vec::with_capacity(alloc, ports.len())?;
+    for port in ports {
+        ranges.push(Vec::from_slice(alloc, &port.ranges)?)?;
+    }
+    Ok(Map::new(alloc, &ranges)?)
+}
+
+/// The system of these parts, or their first fault.
+fn make_system(alloc: Global, parts: Parts) -> Result<System, SystemFault>
+    requires { AreRanges (ranges_of (map port_view parts.ports.items)) }
+    ensures made { IfOk result (Makes (parts_view parts)) }
+    ensures fault { IfErr result (λ fault. fault ≢ Memory → IsFirstFaultOf (parts_view parts) fault) }
+{
+    check_names(alloc, &parts)?;
+    let map = map_of(alloc, &parts.ports)?;
+    let sources = sources_of(alloc, &parts.masters)?;
+    Ok(System::new(parts.ports, parts.masters, map, sources))
+}
+
+/// The system that a file describes, or its first fault in the order of the checks. Want of memory may be answered at
+/// any point.
+pub fn read_system(alloc: Global, bytes: &[u8]) -> Result<System, SystemFault>
+    ensures spelled { IfOk result (Spells bytes.now) }
+    ensures fault { IfErr result (λ fault. fault ≢ Memory → IsFirstSystemFault bytes.now fault) }
 {
     let table = read_document(alloc, bytes)?;
-    read_tables(alloc, &table)
+    let parts = read_parts(alloc, &table)?;
+    make_system(alloc, parts)
 }

@@ -8,18 +8,18 @@ mod memory;
 mod scripts;
 mod systems;
 
-use check_system::{Parts, read_parts};
+use check_system::{System, read_system};
 use std::alloc::Global;
 use std::process::Abort;
 
 /// The system that a file describes.
-fn system_of(rt: &impl Abort, alloc: Global, file: &str) -> Parts {
-    read_parts(alloc, file.as_bytes()).expect(rt, "a system")
+fn system_of(rt: &impl Abort, alloc: Global, file: &str) -> System {
+    read_system(alloc, file.as_bytes()).expect(rt, "a system")
 }
 
 /// The line of a file's fault, and nothing where it has none.
 fn fault_line(rt: &impl Abort, alloc: Global, file: &[u8]) -> String {
-    match read_parts(alloc, file) {
+    match read_system(alloc, file) {
         Ok(_) => String::new(alloc),
         Err(fault) => format!(in alloc; "{fault}").expect(rt, "memory"),
     }

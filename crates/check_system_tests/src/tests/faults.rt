@@ -223,3 +223,75 @@ const TWO_MASTERS: [Row; 6] = [
 fn two_masters_have_faults(rt: HostRuntime) {
     have_lines(&rt, rt.alloc(), "[[master]]\nsources = 1\n", &TWO_MASTERS);
 }
+
+/// Files whose tables have no fault each: two names, two ranges or two masters' sources do not go together.
+const PARTS: [Row; 16] = [
+    (
+        "master = [{ name = 'x', sources = 1 }, { name = 'x', sources = 1 }]",
+        "system: two are called x",
+    ),
+    // The first name that stood before, not the first that comes again.
+    (
+        "master = [{ name = 'x', sources = 1 }, { name = 'y', sources = 1 }, { name = 'y', sources = 1 }, { name = 'x', sources = 1 }]",
+        "system: two are called y",
+    ),
+    (
+        "master = [{ name = 'dma', sources = 1 }]\nport = [{ name = 'dma', kind = 'ram', base = 0, length = 1 }]",
+        "system: two are called dma",
+    ),
+    (
+        "master = [{ name = 'x', sources = 1 }, { name = 'X', sources = 1 }]",
+        "",
+    ),
+    // Names are before ranges, and ranges before sources.
+    (
+        "master = [{ sources = 1 }]\nport = [{ name = 'a', kind = 'ram', base = 0, length = 1 }, { name = 'a', kind = 'ram', base = 0, length = 1 }]",
+        "system: two are called a",
+    ),
+    (
+        "master = [{ sources = 257 }]\nport = [{ kind = 'ram', base = 0, length = 2 }, { kind = 'ram', base = 1, length = 1 }]",
+        "system: ports 0 and 1 overlap",
+    ),
+    (
+        "master = [{ sources = 1 }]\nport = [{ kind = 'ram', base = 0, length = 2 }, { kind = 'ram', base = 2, length = 1 }]",
+        "",
+    ),
+    (
+        "master = [{ sources = 1 }]\nport = [{ kind = 'ram', ranges = [[0, 8], [4, 8]] }]",
+        "system: ports 0 and 0 overlap",
+    ),
+    (
+        "master = [{ sources = 1 }]\nport = [{ kind = 'ram', base = 9, length = 1 }, { kind = 'ram', ranges = [[0, 8], [9, 1]] }]",
+        "system: ports 0 and 1 overlap",
+    ),
+    // Blocks of at most 256 sources.
+    ("master = [{ sources = 256 }]", ""),
+    (
+        "master = [{ sources = 257 }]",
+        "system: too many masters or sources",
+    ),
+    // The last wide source is 65,535.
+    ("master = [{ sources = 65536, first = 0 }]", ""),
+    (
+        "master = [{ sources = 65536, first = 1 }]",
+        "system: too many masters or sources",
+    ),
+    (
+        "master = [{ sources = 4, first = 0, stride = 2 }, { sources = 4, first = 1, stride = 2 }]",
+        "",
+    ),
+    (
+        "master = [{ sources = 4, first = 0 }, { sources = 4, first = 3 }]",
+        "system: masters 0 and 1 share source 3",
+    ),
+    // Too many is tried over all masters first.
+    (
+        "master = [{ sources = 1, first = 0 }, { sources = 1, first = 0 }, { sources = 2, first = 65535 }]",
+        "system: too many masters or sources",
+    ),
+];
+
+#[test]
+fn parts_have_faults(rt: HostRuntime) {
+    have_lines(&rt, rt.alloc(), "", &PARTS);
+}

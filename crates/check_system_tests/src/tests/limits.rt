@@ -1,6 +1,7 @@
 //! How long a file may be, and how much it may say.
 use super::fault_line;
-use check_system::{MAX_MASTERS, MAX_NAME, MAX_PORTS, MAX_RANGES, MAX_SYSTEM};
+use check_map::{MAX_MASTERS, MAX_PORTS, MAX_RANGES};
+use check_system::{MAX_NAME, MAX_SYSTEM};
 use std::alloc::Global;
 use std::process::Abort;
 

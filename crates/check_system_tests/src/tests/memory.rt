@@ -1,6 +1,6 @@
 //! What is answered if memory is refused. This test holds whether its requests for memory are granted or not, so that
 //! each request may be refused in turn (`rt try --test --fail-alloc N`): the file is read, or want of memory is told.
-use check_system::{SystemFault, read_parts};
+use check_system::{SystemFault, read_system};
 
 const FILE: &str = "[[port]]
 name = 'ram'
@@ -17,6 +17,6 @@ stride = 4
 
 #[test]
 fn a_file_is_read_or_memory_is_refused(rt: HostRuntime) {
-    let read = read_parts(rt.alloc(), FILE.as_bytes());
+    let read = read_system(rt.alloc(), FILE.as_bytes());
     assert!(rt; matches!(&read, Ok(_) | Err(SystemFault::Memory)));
 }

@@ -1,9 +1,9 @@
 //! Scripts of tlx, read as system files.
 use super::system_of;
-use check_system::{Parts, Port};
+use check_system::{Port, System};
 use std::alloc::Global;
 use std::process::Abort;
-use tl_script::{Device, System, read_system as read_script};
+use tl_script::{Device, System as Script, read_system as read_script};
 
 const FIRST: &str = "slots = 4
 [[port]]
@@ -55,20 +55,23 @@ fn is_same_port(device: &Device, port: &Port) -> bool {
         && has_same_reset(device, port)
 }
 
-fn have_same_ports(script: &System, system: &Parts) -> bool {
-    script.devices().len() == system.ports.len()
+fn have_same_ports(script: &Script, system: &System) -> bool {
+    script.devices().len() == system.ports().len()
         && script
             .devices()
             .iter()
-            .zip(system.ports.iter())
+            .zip(system.ports().iter())
             .all(|(device, port)| is_same_port(device, port))
 }
 
-/// Whether a master of the file says only that it has as many sources as the script's.
-fn has_same_sources(script: &System, system: &Parts, master: usize) -> bool {
-    match (script.sources().count(master), system.masters.get(master)) {
-        (Some(count), Some(master)) => {
-            master.sources == u32::from(count) && master.first.is_none() && master.name.is_none()
+/// Whether the master's sources here are those of its block there.
+fn has_same_sources(script: &Script, system: &System, master: usize) -> bool {
+    match (script.sources().count(master), system.sources().at(master)) {
+        (Some(count), Some(owner)) => {
+            owner.count == u32::from(count)
+                && system.sources().widen(master, 0) == script.sources().widen(master, 0)
+                && system.sources().widen(master, count.saturating_sub(1))
+                    == script.sources().widen(master, count.saturating_sub(1))
         }
         _ => false,
     }
@@ -78,7 +81,7 @@ fn are_same(rt: &impl Abort, alloc: Global, text: &str, masters: usize) -> bool 
     let script = read_script(alloc, text.as_bytes()).expect(rt, "a script");
     let system = system_of(rt, alloc, text);
     have_same_ports(&script, &system)
-        && system.masters.len() == masters
+        && system.sources().masters() == masters
         && (0..masters).all(|master| has_same_sources(&script, &system, master))
 }
 

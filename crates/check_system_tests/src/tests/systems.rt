@@ -1,6 +1,7 @@
 //! The systems that files describe.
 use super::system_of;
-use check_system::{Master, Order, Parts, Port};
+use check_map::Owner;
+use check_system::{Master, Order, Port, System};
 use tl_map::Range;
 use tl_ops::Kind;
 
@@ -61,21 +62,21 @@ fn has_ranges(port: &Port, ranges: &[Range]) -> bool {
 
 /// Whether there is a port with this number and these keys.
 fn has_port(
-    system: &Parts,
+    system: &System,
     port: usize,
     name: &str,
     kind: Kind,
     reset: &[u8],
     order: Option<Order>,
 ) -> bool {
-    match system.ports.get(port) {
+    match system.ports().get(port) {
         Some(port) => has_keys(port, name, kind, reset, order),
         None => false,
     }
 }
 
-fn has_port_ranges(system: &Parts, port: usize, ranges: &[Range]) -> bool {
-    match system.ports.get(port) {
+fn has_port_ranges(system: &System, port: usize, ranges: &[Range]) -> bool {
+    match system.ports().get(port) {
         Some(port) => has_ranges(port, ranges),
         None => false,
     }
@@ -89,14 +90,14 @@ fn is_master(master: &Master, name: &str, sources: u32, first: Option<u16>, stri
 }
 
 fn has_master(
-    system: &Parts,
+    system: &System,
     master: usize,
     name: &str,
     sources: u32,
     first: Option<u16>,
     stride: u16,
 ) -> bool {
-    match system.masters.get(master) {
+    match system.masters().get(master) {
         Some(master) => is_master(master, name, sources, first, stride),
         None => false,
     }
@@ -109,7 +110,7 @@ const fn range(base: u64, length: u64) -> Range {
 #[test]
 fn ports_keep_their_order(rt: HostRuntime) {
     let system = system_of(&rt, rt.alloc(), CONTROLLER);
-    assert!(rt; system.ports.len() == 4);
+    assert!(rt; system.ports().len() == 4);
     assert!(rt; has_port(&system, 0, "flash", Kind::Rom, &[0, 0xab, 0xcd], None));
     assert!(rt; has_port(&system, 1, "", Kind::Ram, &[], Some(Order::Reply)));
     assert!(rt; has_port(&system, 2, "UART.0", Kind::Regs, &[], Some(Order::Accept)));
@@ -133,18 +134,48 @@ fn ranges_keep_their_order(rt: HostRuntime) {
 #[test]
 fn masters_keep_their_order(rt: HostRuntime) {
     let system = system_of(&rt, rt.alloc(), CONTROLLER);
-    assert!(rt; system.masters.len() == 2);
+    assert!(rt; system.masters().len() == 2);
     assert!(rt; has_master(&system, 0, "core", 16, Some(0), 2));
     assert!(rt; has_master(&system, 1, "", 1, Some(1), 1));
 }
 
-/// The most sources, and a stride that means nothing without a first wide source.
-const STRIDES: &str = "master = [{ sources = 65536, stride = 65535 }, { sources = 1 }]";
+/// Strides that mean nothing without a first wide source.
+const STRIDES: &str = "master = [{ sources = 5, stride = 65535 }, { sources = 3 }]";
+
+const fn owner(first: u16, count: u32, stride: u16) -> Option<Owner> {
+    Some(Owner {
+        first,
+        count,
+        stride,
+    })
+}
 
 #[test]
 fn a_system_may_have_no_port(rt: HostRuntime) {
     let system = system_of(&rt, rt.alloc(), STRIDES);
-    assert!(rt; system.ports.is_empty());
-    assert!(rt; has_master(&system, 0, "", 65536, None, 65535));
-    assert!(rt; has_master(&system, 1, "", 1, None, 1));
+    assert!(rt; system.ports().is_empty());
+    assert!(rt; system.map().ports() == 1);
+    assert!(rt; has_master(&system, 0, "", 5, None, 65535));
+    assert!(rt; has_master(&system, 1, "", 3, None, 1));
+}
+
+#[test]
+fn sources_are_blocks_or_what_the_file_says(rt: HostRuntime) {
+    let system = system_of(&rt, rt.alloc(), STRIDES);
+    assert!(rt; system.sources().at(0) == owner(0, 5, 1));
+    assert!(rt; system.sources().at(1) == owner(8, 3, 1));
+    let system = system_of(&rt, rt.alloc(), CONTROLLER);
+    assert!(rt; system.sources().at(0) == owner(0, 16, 2));
+    assert!(rt; system.sources().at(1) == owner(1, 1, 1));
+    assert!(rt; system.sources().masters() == 2);
+}
+
+#[test]
+fn each_range_of_a_port_leads_to_it(rt: HostRuntime) {
+    let system = system_of(&rt, rt.alloc(), CONTROLLER);
+    assert!(rt; system.map().ports() == 5);
+    assert!(rt; system.map().route_bytes(0x1000_0000, 2) == 1);
+    assert!(rt; system.map().route_bytes(0x3001_fffc, 2) == 1);
+    assert!(rt; system.map().route_bytes(0x2000_0004, 2) == 0);
+    assert!(rt; system.map().route_bytes(0x4000_0000, 2) == 4);
 }
