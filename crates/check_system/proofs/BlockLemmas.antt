@@ -1,12 +1,10 @@
 -- Blocks of sources are lawful owners.
-use Rattle.std.proofs.Common.{◌≡◌, ◌∙◌, ℕ, zero, suc, ◌+◌, ◌*◌, ◌-◌, ◌<◌, ◌≤◌, List, length, get_or, Some, slice_get, All, Result, Ok, Err, IfErr, IsErrAnd, ◌≢◌, ⊎_elim, refl, ap, arith}
+use Rattle.std.proofs.Common.{◌≡◌, ℕ, zero, suc, ◌+◌, ◌*◌, ◌-◌, ◌<◌, ◌≤◌, List, length, get_or, Some, slice_get, All, Result, Ok, Err, IfErr, IsErrAnd, ◌≢◌, ⊎_elim, refl, arith}
 use Rattle.std.proofs.lemmas.Option.{get_or_from_slice_get, slice_get-get_or, slice_get_within}
 use Rattle.tl_map.specs.Block.{Block, IsBlock}
 use Rattle.tl_map.proofs.Blocks.{has_size, in_block, in_one_block}
-use Rattle.tl_map.proofs.Faults.{some_that}
 use Rattle.tl_map.proofs.Placing.{size_low, start_low}
 use Rattle.check_map.specs.Blocks.{AreBlocks, AreFew, IsFew}
-use Rattle.check_map.specs.Owner.{IsWide}
 use Rattle.check_map.specs.Sources.{AreLawfulOwners, IsFirstSourceFault, IsLawfulOwner}
 use Rattle.check_map.specs.declared.limits.TheConstants.{MAX_MASTERS}
 use Rattle.check_map.specs.declared.sources.Owner.{Owner}

@@ -1,5 +1,5 @@
 -- The ranges of ports that were read are such as a map takes.
-use Rattle.std.proofs.Common.{◌≡◌, ◌∙◌, ℕ, suc, ◌+◌, ◌<◌, ◌≤◌, ◌^◌, nat_le, nat_lt, Bool, true, false, ◌&&◌, ◌||◌, ℤ, pos, negsuc, List, [], ◌∷◌, length, map, get_or, Option, Some, None, All, Result, Ok, Err, slice_get, refl, sym, ap, subst, arith}
+use Rattle.std.proofs.Common.{◌≡◌, ◌∙◌, ℕ, suc, ◌<◌, ◌≤◌, nat_le, nat_lt, Bool, true, false, ◌&&◌, ◌||◌, ℤ, pos, negsuc, List, [], ◌∷◌, length, map, Option, Some, None, Result, Ok, slice_get, refl, ap, subst, arith}
 use Rattle.std.specs.Prelude.{is_some, ok_or, option_and_then}
 use Rattle.std.specs.List.{AllByRecursion}
 use Rattle.std.proofs.lemmas.Bool.{leb-true, ltb-false}
@@ -8,7 +8,7 @@ use Rattle.std.proofs.lemmas.List.Elements.{All-from_recursion}
 use Rattle.std.proofs.lemmas.Option.{get_or_from_slice_get, slice_get_within}
 use Rattle.toml.specs.Data.{Data, Members, get_member, as_integer}
 use Rattle.tl_map.specs.declared.map.Range.{Range}
-use Rattle.check_map.specs.Ranges.{AreRanges, IsLawfulRange, range_at}
+use Rattle.check_map.specs.Ranges.{AreRanges, IsLawfulRange}
 use Rattle.check_map.specs.declared.limits.TheConstants.{MAX_PORTS, MAX_RANGES}
 use Rattle.check_system.specs.Key.{key_name}
 use Rattle.check_system.specs.File.{Parts, parts_in}
@@ -20,7 +20,6 @@ use Rattle.check_system.specs.System.{ranges_of}
 use Rattle.check_system.specs.Value.{in_range, last_integer, list_at, number_at, number_if_any, number_of, one_up_to, tables_of, up_to, value_at}
 use Rattle.check_system.specs.declared.fault.Key.{Key}
 use Rattle.check_system.specs.declared.fault.Key.TheVariants.{Base, Length, Port as PortKey, Ranges}
-use Rattle.check_system.specs.declared.fault.SystemFault.{SystemFault}
 use Rattle.check_system.specs.declared.fault.SystemFault.TheVariants.{Missing, OutOfRange, WrongType}
 use Rattle.check_system.proofs.Scripts.{both_parts, each_first, each_none, kept, passes, step_shows}
 use Rattle.check_system.proofs.ScriptTables.{taken}
@@ -85,8 +84,8 @@ range_is pair range is =
     range base.2 in
     let same : record { base = base.0; length = many.0 } ≡ range = cc in
     subst IsLawfulRange same (lawful_range base.0 many.0 (in_range_is Ranges 0 last_integer base.0 pair.0 base.1).1
-        (in_range_is Ranges 1 last_integer many.0 pair.1 many.1).0
-        (in_range_is Ranges 1 last_integer many.0 pair.1 many.1).1)
+    (in_range_is Ranges 1 last_integer many.0 pair.1 many.1).0
+    (in_range_is Ranges 1 last_integer many.0 pair.1 many.1).1)
 
 each_range_is : (pairs : List (ℤ × ℤ)) (ranges : List Range) → new.each range_of_pair pairs ≡ Ok ranges
     → (length pairs ≡ length ranges) × AllByRecursion IsLawfulRange ranges

@@ -314,9 +314,11 @@ made_of (Ok js) parts system is =
       counts = old_counts_of parts;
       ranges = old_ranges_of parts;
       jobs = js;
-    } ≡ system = cc in
-    (ap (λ (s : OldSystem). s.stores) same, ap (λ (s : OldSystem). s.counts) same,
-    ap (λ (s : OldSystem). s.ranges) same)
+    } ≡ system = cc in (
+      ap (λ (s : OldSystem). s.stores) same,
+      ap (λ (s : OldSystem). s.counts) same,
+      ap (λ (s : OldSystem). s.ranges) same,
+    )
 
 no_names : (counts : List ℕ) → filter_map (λ (master : Master). master.name) (map plain_master counts) ≡ []
 no_names [] = refl
