@@ -12,8 +12,8 @@ use Rattle.tl_map.proofs.map.Map.TheSendSync as map
 use Rattle.tl_arena.specs.contracts.arena.Arena as Arena
 use Rattle.tl_arena.proofs.arena.Arena.TheSendSync as arena
 use Rattle.tl_master.proofs.Crossing.{master_send, tuple_send}
-use Rattle.tl_master_port_tests.proofs.tests.masters.issue_at_once.Lts as types
-use Rattle.tl_master_port_tests.proofs.tests.masters.issue_at_once.Goals as goal
+use Rattle.tl_together.proofs.tests.masters.issue_at_once.Lts as types
+use Rattle.tl_together.proofs.tests.masters.issue_at_once.Goals as goal
 
 -- what the thread takes along, and what it gives back: Rattle finds by itself that they may cross, but for a master
 pub join-requires-send-F : goal.join-requires-send-F

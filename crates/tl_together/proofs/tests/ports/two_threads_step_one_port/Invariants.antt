@@ -1,4 +1,4 @@
-use Rattle.tl_master_port_tests.proofs.tests.ports.two_threads_step_one_port.Given as goal
+use Rattle.tl_together.proofs.tests.ports.two_threads_step_one_port.Given as goal
 
 -- the arena that was made for the test
 abbrev pub ghosts-work : goal.ghosts-work

@@ -1,4 +1,4 @@
-use Rattle.tl_master_port_tests.proofs.tests.board.seats.Goals as goal
+use Rattle.tl_together.proofs.tests.board.seats.Goals as goal
 
 pub returns-clause-first : goal.returns-clause-first
 returns-clause-first g c = c.in-Ok.ensures.masters.each 0 _ c.two-first.ensures.first
