@@ -1,7 +1,8 @@
-//! Tests of `check_map`: nothing else is here.
+//! Tests of `check_map` and of `check_crossbar` above it: nothing else is here.
 //!
-//! Its contracts say what each call answers. These tests say whether that is what was meant: owners and ranges as real
-//! systems have them, their faults in order with their texts, and the limits, all worked out by hand.
+//! Their contracts say what each call answers. These tests say whether that is what was meant: owners and ranges as real
+//! systems have them, their faults in order with their texts, the limits, and captures of such a crossbar with their
+//! verdicts, all worked out by hand.
 #![tactic(auto)]
 
 #[cfg(test)]

@@ -1,3 +1,4 @@
+mod crossbar;
 mod map;
 mod memory;
 mod sources;

@@ -9,7 +9,7 @@ use std::process::Abort;
 use tl_map::Range;
 use tl_types::{Ask, AskOp};
 
-fn range(base: u64, length: u64) -> Range {
+pub(crate) fn range(base: u64, length: u64) -> Range {
     Range { base, length }
 }
 
@@ -42,7 +42,7 @@ pub(crate) fn are_ranges(ports: &[Vec<Range>]) -> bool
 }
 
 /// The vectors of these ranges.
-fn ports_of(rt: &impl Abort, alloc: Global, rows: &[&[Range]]) -> Vec<Vec<Range>> {
+pub(crate) fn ports_of(rt: &impl Abort, alloc: Global, rows: &[&[Range]]) -> Vec<Vec<Range>> {
     let mut ports = Vec::new(alloc);
     for row in rows {
         let ranges = Vec::from_slice(alloc, *row).expect(rt, "memory");

@@ -1,0 +1,91 @@
+-- Sizes, after steps that write at places.
+use Rattle.std.proofs.Common.{◌≡◌, ◌∙◌, ℕ, List, length, ap, sym, length-set}
+use Rattle.std.specs.Prelude.{slice_set}
+use Rattle.check_link.specs.declared.beat.Beat.{Beat}
+use Rattle.check_link.specs.Past.{under_after}
+use Rattle.check_traffic.specs.Flight.{Flight, Crossing}
+use Rattle.check_traffic.specs.Side.{SideView, side_with, under_at}
+use Rattle.check_traffic.specs.Slave.{Slave}
+use Rattle.check_crossbar.specs.Plan.{Layout}
+use Rattle.check_crossbar.specs.View.{IsSized}
+
+links_with : (new side : SideView) (number wide : ℕ) (beat : Beat) (flight : Flight)
+    → new ≡ side_with side number beat wide flight → length new.links ≡ length side.links
+links_with new side number wide beat flight is =
+    ap (λ (s : SideView). length s.links) is
+    ∙ length-set side.links number (under_after (under_at side.links number) beat)
+
+flights_with : (new side : SideView) (number wide : ℕ) (beat : Beat) (flight : Flight)
+    → new ≡ side_with side number beat wide flight → length new.flights ≡ length side.flights
+flights_with new side number wide beat flight is =
+    ap (λ (s : SideView). length s.flights) is ∙ length-set side.flights wide flight
+
+module _ (layout : Layout) (masters ports : SideView) (crossings : List Crossing) (slaves : List Slave)
+    (sized : IsSized (record {
+      layout = layout;
+      masters = masters;
+      ports = ports;
+      crossings = crossings;
+      slaves = slaves;
+    })) where
+  -- a message goes on at a master's link
+  pub sized_master : (new : SideView) (number wide : ℕ) (beat : Beat) (flight : Flight) (crossing : Crossing)
+      → new ≡ side_with masters number beat wide flight
+      → IsSized (record {
+        layout = layout;
+        masters = new;
+        ports = ports;
+        crossings = slice_set crossings wide crossing;
+        slaves = slaves;
+      })
+  sized_master new number wide beat flight crossing is =
+      let same : length (slice_set crossings wide crossing) ≡ length crossings = length-set crossings wide crossing in
+      record {
+        masters = links_with new masters number wide beat flight is ∙ sized.masters;
+        ports = sized.ports;
+        slaves = sized.slaves;
+        at_masters = flights_with new masters number wide beat flight is ∙ sized.at_masters ∙ sym same;
+        at_ports = sized.at_ports ∙ sym same;
+        owned = λ w owned. rw same (sized.owned w owned);
+      }
+
+  -- a message goes on at a port's link
+  pub sized_port : (new : SideView) (number wide : ℕ) (beat : Beat) (flight : Flight) (crossing : Crossing)
+      → new ≡ side_with ports number beat wide flight
+      → IsSized (record {
+        layout = layout;
+        masters = masters;
+        ports = new;
+        crossings = slice_set crossings wide crossing;
+        slaves = slaves;
+      })
+  sized_port new number wide beat flight crossing is =
+      let same : length (slice_set crossings wide crossing) ≡ length crossings = length-set crossings wide crossing in
+      record {
+        masters = sized.masters;
+        ports = links_with new ports number wide beat flight is ∙ sized.ports;
+        slaves = sized.slaves;
+        at_masters = sized.at_masters ∙ sym same;
+        at_ports = flights_with new ports number wide beat flight is ∙ sized.at_ports ∙ sym same;
+        owned = λ w owned. rw same (sized.owned w owned);
+      }
+
+  -- how far something has come across is noted
+  pub sized_crossing : (wide : ℕ) (crossing : Crossing)
+      → IsSized (record {
+        layout = layout;
+        masters = masters;
+        ports = ports;
+        crossings = slice_set crossings wide crossing;
+        slaves = slaves;
+      })
+  sized_crossing wide crossing =
+      let same : length (slice_set crossings wide crossing) ≡ length crossings = length-set crossings wide crossing in
+      record {
+        masters = sized.masters;
+        ports = sized.ports;
+        slaves = sized.slaves;
+        at_masters = sized.at_masters ∙ sym same;
+        at_ports = sized.at_ports ∙ sym same;
+        owned = λ w owned. rw same (sized.owned w owned);
+      }

@@ -1,0 +1,12 @@
+//! A law of lawful lists of beats, on a function that does nothing but carry it.
+ghost use Rattle.std.specs.Prelude.{List, ◌++◌};
+ghost use Rattle.check_link.specs.declared.beat.Sighting.{Sighting};
+ghost use Rattle.check_crossbar.specs.Lawful.{IsLawful};
+ghost use Rattle.check_crossbar.specs.Plan.{Plan};
+
+/// A beginning of what is lawful is lawful. Lists of sightings have the latest first, so a beginning is the end of the
+/// list.
+pub fn a_beginning_is_lawful()
+    ensures { (plan : Plan) (later earlier : List Sighting)
+        → IsLawful plan (later ++ earlier) → IsLawful plan earlier }
+{}
