@@ -3,4 +3,5 @@ pub mod Count
 pub mod Told
 pub mod Verdict
 pub mod View
+pub mod Names
 pub mod Text

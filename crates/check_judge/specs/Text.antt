@@ -1,6 +1,6 @@
 -- The lines of verdicts: `lawful: ROWS rows, ASKED requests, ANSWERED answered` and `unlawful: line N, time T, LINK
 -- CHANNEL: FAULT`. This project's own.
-use Rattle.std.specs.Prelude.{ℕ, List, [], ◌∷◌, ◌++◌, codes}
+use Rattle.std.specs.Prelude.{ℕ, List, [], ◌∷◌, ◌++◌, codes, unwrap_or}
 use Rattle.std.specs.Fmt.{decimal}
 use Rattle.tl_types.specs.Response.{Response}
 use Rattle.check_link.specs.declared.beat.Beat.{Beat}
@@ -12,12 +12,18 @@ use Rattle.check_link.specs.declared.fault.FormFault.TheVariants as form
 use Rattle.check_watch.specs.declared.fault.Fault.{Fault}
 use Rattle.check_watch.specs.declared.fault.Fault.TheVariants.{Form, NoSuchSource, SourceBusy, WrongPort, NoRequest, EarlyReply, WrongSize, WrongOpcode, UnknownData, NotSent, NotGiven, WrongReply}
 use Rattle.tl_script.specs.Trace.{reply_text}
+use Rattle.check_judge.specs.Names.{NamesView, name_of}
 use Rattle.check_judge.specs.declared.stop.Counts.{Counts}
 use Rattle.check_judge.specs.declared.stop.Unlawful.{Unlawful}
 
-unfoldable pub link_text : Link → List ℕ
-link_text (Master number) = codes "m" ++ decimal number
-link_text (Port number) = codes "p" ++ decimal number
+-- a master or a port by its letter and its number
+unfoldable pub number_text : Link → List ℕ
+number_text (Master number) = codes "m" ++ decimal number
+number_text (Port number) = codes "p" ++ decimal number
+
+-- a link by the name of its master or port, if there is one, else by the letter and the number
+abbrev pub link_text : NamesView → Link → List ℕ
+link_text names link = unwrap_or (name_of names link) (number_text link)
 
 unfoldable pub channel_text : Beat → List ℕ
 channel_text (A beat) = codes " A: "
@@ -56,8 +62,8 @@ lawful_line counts =
     ++ decimal counts.answered ++ codes " answered"
     ++ 10 ∷ []
 
-unfoldable pub unlawful_line : Unlawful → List ℕ
-unlawful_line found =
+unfoldable pub unlawful_line : NamesView → Unlawful → List ℕ
+unlawful_line names found =
     codes "unlawful: line " ++ decimal found.row.line ++ codes ", time " ++ decimal found.row.time ++ codes ", "
-    ++ link_text found.row.sighting.link
+    ++ link_text names found.row.sighting.link
     ++ channel_text found.row.sighting.beat ++ fault_text found.fault ++ 10 ∷ []

@@ -16,12 +16,14 @@
 
 mod judge;
 pub mod laws;
+mod names;
 mod stop;
 mod tally;
 mod text;
 mod trace;
 
 pub use judge::Judge;
+pub use names::Names;
 pub use stop::{Counts, Refusal, Stop, Unlawful};
 pub use tally::count_end;
 pub use text::{push_lawful, push_unlawful};

@@ -2,8 +2,9 @@
 ghost use Rattle.std.specs.Prelude.{◌≡◌, ◌<◌, ◌≤◌, ◌+◌, ◌++◌, length, vec_capacity, OnErr, OnOk};
 ghost use Rattle.tl_script.specs.Trace.{reply_text};
 ghost use Rattle.tl_text.specs.Text.{BeginsWith};
-ghost use Rattle.check_judge.specs.Text.{channel_text, fault_text, form_text, lawful_line, link_text, unlawful_line, wrong_text};
+ghost use Rattle.check_judge.specs.Text.{channel_text, fault_text, form_text, lawful_line, link_text, number_text, unlawful_line, wrong_text};
 
+use crate::names::Names;
 use crate::stop::{Counts, Unlawful};
 use check_link::{Beat, FormFault, Link};
 use check_watch::Fault;
@@ -92,17 +93,32 @@ fn push_fault(text: &mut Vec<u8>, fault: &Fault) -> Result<(), AllocError>
     }
 }
 
-#[tactic(auto, using(tl_text::proofs::TextLemmas::begins), unfolding(crate::specs::Text::link_text))]
-fn push_link(text: &mut Vec<u8>, link: Link) -> Result<(), AllocError>
-    ensures ok { OnOk result (text.new.items ≡ text.old.items ++ link_text link) }
+/// Appends a master or a port by its letter and its number.
+#[tactic(auto, using(tl_text::proofs::TextLemmas::begins), unfolding(crate::specs::Text::number_text))]
+fn push_number(text: &mut Vec<u8>, link: Link) -> Result<(), AllocError>
+    ensures ok { OnOk result (text.new.items ≡ text.old.items ++ number_text link) }
     ensures err { OnErr result (BeginsWith text.old.items text.new.items) }
     ensures room { vec_capacity text.old ≤ vec_capacity text.new }
     ensures full { OnErr result (vec_capacity text.old
-        < length text.old.items + length (link_text link)) }
+        < length text.old.items + length (number_text link)) }
 {
     match link {
         Link::Master(number) => push_field(text, b"m", number as u64),
         Link::Port(number) => push_field(text, b"p", number as u64),
+    }
+}
+
+/// Appends a link by its name, or by its letter and its number.
+fn push_link(text: &mut Vec<u8>, names: &Names, link: Link) -> Result<(), AllocError>
+    ensures ok { OnOk result (text.new.items ≡ text.old.items ++ link_text names.now link) }
+    ensures err { OnErr result (BeginsWith text.old.items text.new.items) }
+    ensures room { vec_capacity text.old ≤ vec_capacity text.new }
+    ensures full { OnErr result (vec_capacity text.old
+        < length text.old.items + length (link_text names.now link)) }
+{
+    match names.name(link) {
+        Some(name) => push_words(text, name),
+        None => push_number(text, link),
     }
 }
 
@@ -128,19 +144,19 @@ pub fn push_lawful(text: &mut Vec<u8>, counts: &Counts) -> Result<(), AllocError
     text.extend_from_slice(b" answered\n")
 }
 
-/// Appends the line of a capture that is not lawful.
+/// Appends the line of a capture that is not lawful, with its link by the name that it has.
 #[tactic(auto, using(tl_text::proofs::TextLemmas::begins), unfolding(crate::specs::Text::unlawful_line))]
-pub fn push_unlawful(text: &mut Vec<u8>, found: &Unlawful) -> Result<(), AllocError>
-    ensures ok { OnOk result (text.new.items ≡ text.old.items ++ unlawful_line found.now) }
+pub fn push_unlawful(text: &mut Vec<u8>, names: &Names, found: &Unlawful) -> Result<(), AllocError>
+    ensures ok { OnOk result (text.new.items ≡ text.old.items ++ unlawful_line names.now found.now) }
     ensures err { OnErr result (BeginsWith text.old.items text.new.items) }
     ensures room { vec_capacity text.old ≤ vec_capacity text.new }
     ensures full { OnErr result (vec_capacity text.old
-        < length text.old.items + length (unlawful_line found.now)) }
+        < length text.old.items + length (unlawful_line names.now found.now)) }
 {
     push_field(text, b"unlawful: line ", found.row.line)?;
     push_field(text, b", time ", found.row.time)?;
     text.extend_from_slice(b", ")?;
-    push_link(text, found.row.sighting.link)?;
+    push_link(text, names, found.row.sighting.link)?;
     push_words(text, channel_words(&found.row.sighting.beat))?;
     push_fault(text, &found.fault)?;
     text.push(b'\n')?;

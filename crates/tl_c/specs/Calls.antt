@@ -1,6 +1,7 @@
 -- What each call makes of what a handle holds. This project's own.
 use Rattle.std.specs.Prelude.{◌≡◌, ◌↔◌, ◌&&◌, ◌<◌, ◌≤◌, ◌==◌, ◌⊎◌, if◌then◌else◌, ⊤, ℕ, List, [], ◌∷◌, length, Option, Some, None, IsSomeAnd, vec_capacity}
 use Rattle.check_judge.specs.Count.{is_counted, is_whole_ask, is_whole_reply, one_more}
+use Rattle.check_judge.specs.Names.{no_names}
 use Rattle.check_judge.specs.Text.{unlawful_line}
 use Rattle.check_judge.specs.declared.stop.Unlawful.{Unlawful}
 use Rattle.check_link.specs.declared.beat.Sighting.{Sighting}
@@ -102,7 +103,8 @@ pub record IsStep (plan : Plan) (past : List Sighting) (shown : Sighting) (old :
 
 -- the text is the line of this fault; or it is empty, if there was no room for the line
 abbrev pub IsLineOf : Unlawful → ℕ → List ℕ → Type 0
-IsLineOf found room text = (text ≡ unlawful_line found) ⊎ ((text ≡ []) × (room < length (unlawful_line found)))
+IsLineOf found room text =
+    (text ≡ unlawful_line no_names found) ⊎ ((text ≡ []) × (room < length (unlawful_line no_names found)))
 
 -- the fault of a beat that was shown with this line and this time
 abbrev pub found_at : ℕ → ℕ → Sighting → Fault → Unlawful

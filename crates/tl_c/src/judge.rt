@@ -17,7 +17,7 @@ use crate::system::{hold, is_full, take, take_system};
 use crate::text::put_text;
 use crate::wire::{WireBeat, sighting_of};
 use check_capture::Row;
-use check_judge::{Unlawful, count_end, push_unlawful};
+use check_judge::{Names, Unlawful, count_end, push_unlawful};
 use check_link::{Link, Sighting};
 use check_watch::{Ended, Links, Order, Watch};
 use std::alloc::Global;
@@ -120,18 +120,18 @@ fn count(judge: &mut Judge, link: Link, end: Ended)
 }
 
 /// Keeps the line of a fault. A text with room for it asks for no memory.
-fn keep_line(text: &mut Vec<u8>, found: &Unlawful)
+fn keep_line(alloc: Global, text: &mut Vec<u8>, found: &Unlawful)
     ensures line { IsLineOf found.now (vec_capacity text.old) text.new.items }
     ensures room { vec_capacity text.old ≤ vec_capacity text.new }
 {
     text.clear();
-    if push_unlawful(text, found).is_err() {
+    if push_unlawful(text, &Names::none(alloc), found).is_err() {
         text.clear();
     }
 }
 
 /// Judges one beat more, at a link that is watched, for its fault.
-fn judge_fault(judge: &mut Judge, line: u64, time: u64, sighting: Sighting) -> u32
+fn judge_fault(alloc: Global, judge: &mut Judge, line: u64, time: u64, sighting: Sighting) -> u32
     requires known { HasLink judge.old.watch.layout sighting.link }
     requires watched { IsWatched judge.old.watch.layout.links sighting.link }
     ensures step { (plan : Plan) (past : List Sighting) → Keeps plan past judge.old.watch
@@ -153,14 +153,14 @@ fn judge_fault(judge: &mut Judge, line: u64, time: u64, sighting: Sighting) -> u
                 time,
                 sighting,
             };
-            keep_line(&mut judge.text, &Unlawful { row, fault });
+            keep_line(alloc, &mut judge.text, &Unlawful { row, fault });
             number
         }
     }
 }
 
 /// Judges one beat more. Most are lawful, and no more is asked of them than what they end.
-fn step(judge: &mut Judge, line: u64, time: u64, sighting: Sighting) -> u32
+fn step(alloc: Global, judge: &mut Judge, line: u64, time: u64, sighting: Sighting) -> u32
     ensures step { (plan : Plan) (past : List Sighting) → Keeps plan past judge.old.watch → result ≢ NO_LINK
         → IsStep plan past sighting judge.old result judge.new }
     ensures fault { (plan : Plan) (past : List Sighting) → Keeps plan past judge.old.watch → NO_LINK < result
@@ -178,7 +178,7 @@ fn step(judge: &mut Judge, line: u64, time: u64, sighting: Sighting) -> u32
         count(judge, sighting.link, end);
         return OK;
     }
-    judge_fault(judge, line, time, sighting)
+    judge_fault(alloc, judge, line, time, sighting)
 }
 
 /// `tlx_judge_step_at` of the header: judges one beat more.
@@ -206,7 +206,7 @@ pub extern "C" fn tlx_judge_step_at(alloc: Global, judge: &mut Handle, beat: &Wi
         return EMPTY;
     };
     let number = match &mut *held {
-        Held::Judge(held) => step(held, beat.line, beat.time, sighting),
+        Held::Judge(held) => step(alloc, held, beat.line, beat.time, sighting),
         Held::System(_) | Held::Model(_) => EMPTY,
     };
     *judge = Handle::of(held);

@@ -2,6 +2,7 @@
 use Rattle.std.specs.Prelude.{◌≡◌, ◌⊎◌, ℕ, Bool, true, false, List, length, Option, Result, Ok, Err, IfOk, IfErr, IfSome}
 use Rattle.std.specs.Io.KnownBytes.{Appends, Keeps}
 use Rattle.check_options.specs.declared.options.Options.{Options}
+use Rattle.check_judge.specs.Names.{NamesView, no_names}
 use Rattle.check_judge.specs.Text.{lawful_line, unlawful_line}
 use Rattle.check_records.specs.Text.{start_of}
 use Rattle.tl_script.specs.System.{System, resets}
@@ -64,9 +65,10 @@ IsWrittenOf terms system capture old new answer =
 
 -- ---- a verdict as it is told
 
-abbrev pub line_of : Verdict → List ℕ
-line_of (Lawful counts) = lawful_line counts
-line_of (Unlawful found) = unlawful_line found
+-- with these names of links
+abbrev pub line_of : NamesView → Verdict → List ℕ
+line_of names (Lawful counts) = lawful_line counts
+line_of names (Unlawful found) = unlawful_line names found
 
 abbrev pub is_lawful : Verdict → Bool
 is_lawful (Lawful counts) = true
@@ -90,7 +92,7 @@ pub record IsJudged (terms : Terms) (read_old read_new capture written_old writt
   pub told : Option (List ℕ)
   pub has : HasVerdict terms read_old read_new capture written_old told system verdict
   pub answered : lawful ≡ is_lawful verdict
-  pub written : Appends told written_new (line_of verdict)
+  pub written : Appends told written_new (line_of no_names verdict)
 
 -- there is a system, and this is answered of the capture; what is told before that was written
 pub record IsStopped (terms : Terms) (read_old read_new capture written_old written_new : Option (List ℕ))
@@ -107,7 +109,7 @@ pub record IsUntold (terms : Terms) (read_old read_new capture written_old writt
   pub verdict : Verdict
   pub told : Option (List ℕ)
   pub has : HasVerdict terms read_old read_new capture written_old told system verdict
-  pub line : OfLine told (line_of verdict)
+  pub line : OfLine told (line_of no_names verdict)
 
 -- why there is no verdict, and what was written. A fault of the script is the first of what was read, one of the
 -- capture is one of its text. Before a verdict nothing is written but what is told; where a write failed, a front of

@@ -5,21 +5,21 @@ ghost use Rattle.tlcheck.specs.Engine.{IsChecked, is_lawful, line_of};
 use crate::fault::CheckFault;
 use crate::judge::{judge_of, sizes_of};
 use crate::terms::Terms;
-use check_judge::{push_lawful, push_unlawful};
+use check_judge::{Names, push_lawful, push_unlawful};
 use check_verdict::{Verdict, judge_capture};
 use std::alloc::Global;
 use std::io::{Read, Write};
 use tl_streams::{LimitedReader, LimitedWriter, read_whole_system, write_all};
 use tl_types::Memory;
 
-/// The line of a verdict.
-fn line_of(alloc: Global, verdict: &Verdict) -> Result<Vec<u8>, Memory>
-    ensures { IfOk result (λ text. text.items ≡ line_of verdict.now) }
+/// The line of a verdict, with these names of links.
+fn line_of(alloc: Global, names: &Names, verdict: &Verdict) -> Result<Vec<u8>, Memory>
+    ensures { IfOk result (λ text. text.items ≡ line_of names.now verdict.now) }
 {
     let mut text = Vec::new(alloc);
     match verdict {
         Verdict::Lawful(counts) => push_lawful(&mut text, counts)?,
-        Verdict::Unlawful(found) => push_unlawful(&mut text, found)?,
+        Verdict::Unlawful(found) => push_unlawful(&mut text, names, found)?,
     }
     Ok(text)
 }
@@ -67,7 +67,7 @@ fn check_within<S: Read, C: Read + Drop, W: Write>(
     let sizes = sizes_of(&system);
     let judge = judge_of(alloc, system, terms)?;
     let verdict = judge_capture(alloc, capture, writer, judge, sizes)?;
-    let line = line_of(alloc, &verdict)?;
+    let line = line_of(alloc, &Names::none(alloc), &verdict)?;
     write_all(writer, &line)?;
     Ok(is_lawful(&verdict))
 }

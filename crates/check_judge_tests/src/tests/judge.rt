@@ -3,7 +3,7 @@
 //! Port 0 has 64 bytes of memory at 0x1000 that begin with 00 11 22 33, port 1 registers at 0x2000 with 01 02 03 04.
 //! Wide sources 0 to 3 are master 0's, 4 to 6 master 1's.
 use check_capture::{Row, RowFault, read_row};
-use check_judge::{Judge, Refusal, Stop, Unlawful, push_lawful, push_unlawful};
+use check_judge::{Judge, Names, Refusal, Stop, Unlawful, push_lawful, push_unlawful};
 use check_link::{Beat, FormFault, Link, Sighting};
 use check_watch::{Fault, Links, Order, Watch};
 use csv::ByteRecord;
@@ -85,16 +85,18 @@ fn push_stop(rt: &impl Abort, alloc: Global, text: &mut Vec<u8>, line: u64, stop
             let line = format!(in alloc; "line {line}: {fault}\n").expect(rt, "memory");
             text.extend_from_slice(line.as_bytes()).expect(rt, "memory");
         }
-        Stop::Beat(found) => push_unlawful(text, &found).expect(rt, "memory"),
+        Stop::Beat(found) => push_unlawful(text, &Names::none(alloc), &found).expect(rt, "memory"),
         Stop::Memory => panic!(rt; "memory refused"),
     }
 }
 
 /// Writes what is said of a capture that was read to its end.
-fn push_end(rt: &impl Abort, judge: Judge, text: &mut Vec<u8>) {
+fn push_end(rt: &impl Abort, alloc: Global, judge: Judge, text: &mut Vec<u8>) {
     match judge.end(text) {
         Ok(counts) => push_lawful(text, &counts).expect(rt, "memory"),
-        Err(Refusal::Unlawful(found)) => push_unlawful(text, &found).expect(rt, "memory"),
+        Err(Refusal::Unlawful(found)) => {
+            push_unlawful(text, &Names::none(alloc), &found).expect(rt, "memory");
+        }
         Err(Refusal::Memory) => panic!(rt; "memory refused"),
     }
 }
@@ -112,7 +114,7 @@ fn verdict(rt: &impl Abort, alloc: Global, links: Links, trace: bool, rows: &[&s
             return text;
         }
     }
-    push_end(rt, judge, &mut text);
+    push_end(rt, alloc, judge, &mut text);
     text
 }
 
@@ -275,19 +277,25 @@ fn kinds_are_spelled(rt: HostRuntime) {
     look(&rt, rt.alloc(), Links::Both, false, &captures);
 }
 
-/// The verdict on a beat of port 14 on line 7 at time 9, with this fault.
-fn named(rt: &impl Abort, alloc: Global, fault: Fault) -> Vec<u8> {
+/// A reply's beat of a link on line 7 at time 9, with this fault.
+fn unlawful_at(link: Link, fault: Fault) -> Unlawful {
     let row = Row {
         line: 7,
         time: 9,
         sighting: Sighting {
-            link: Link::Port(14),
+            link,
             beat: Beat::D(DBeat::default()),
             known: 0,
         },
     };
+    Unlawful { row, fault }
+}
+
+/// The verdict on such a beat of port 14.
+fn named(rt: &impl Abort, alloc: Global, fault: Fault) -> Vec<u8> {
     let mut text = Vec::new(alloc);
-    push_unlawful(&mut text, &Unlawful { row, fault }).expect(rt, "memory");
+    let found = unlawful_at(Link::Port(14), fault);
+    push_unlawful(&mut text, &Names::none(alloc), &found).expect(rt, "memory");
     text
 }
 
@@ -307,5 +315,31 @@ fn faults_are_spelled(rt: HostRuntime) {
         assert!(rt; shown.as_str() == words, "{words}");
         let text = named(&rt, rt.alloc(), fault);
         assert!(rt; text.as_slice() == line.as_bytes(), "{line}");
+    }
+}
+
+#[test]
+fn links_are_called_by_their_names(rt: HostRuntime) {
+    let alloc = rt.alloc();
+    let cpu = format!(in alloc; "cpu").expect(&rt, "memory");
+    let uart = format!(in alloc; "uart0").expect(&rt, "memory");
+    let masters = Vec::from_array(alloc, [None, Some(cpu)]).expect(&rt, "memory");
+    let ports = Vec::from_array(alloc, [Some(uart), None]).expect(&rt, "memory");
+    let names = Names::new(masters, ports);
+    let links = [
+        (Link::Master(0), "m0"),
+        (Link::Master(1), "cpu"),
+        (Link::Master(2), "m2"),
+        (Link::Port(0), "uart0"),
+        (Link::Port(1), "p1"),
+        (Link::Port(14), "p14"),
+    ];
+    for (link, word) in links {
+        let line = format!(in alloc; "unlawful: line 7, time 9, {word} D: source in flight\n");
+        let line = line.expect(&rt, "memory");
+        let mut text = Vec::new(alloc);
+        let found = unlawful_at(link, Fault::SourceBusy);
+        push_unlawful(&mut text, &names, &found).expect(&rt, "memory");
+        assert!(rt; text.as_slice() == line.as_bytes(), "{word}");
     }
 }

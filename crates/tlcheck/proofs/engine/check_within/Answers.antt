@@ -1,8 +1,9 @@
 -- The verdict or the fault is that of the system, and what was written is what is told with it.
-use Rattle.std.proofs.Common.{◌∙◌, inr}
+use Rattle.std.proofs.Common.{◌∙◌, ap, inr}
 use Rattle.std.proofs.KnownBytes.{Keeps-refl}
 use Rattle.tlcheck.proofs.Failing.{checked_by, of_stopped}
 use Rattle.tlcheck.proofs.Judged.{IsJudgeOf, has_verdict, is_stopped}
+use Rattle.tlcheck.specs.Engine.{line_of}
 use Rattle.tlcheck.specs.Fault.{of_capture}
 use Rattle.tlcheck.specs.declared.fault.CheckFault.TheVariants as check
 use Rattle.tlcheck.proofs.engine.check_within.Goals as goal
@@ -53,7 +54,7 @@ returns-in_err-write_all-clause-checked g c =
       verdict = verdict;
       told = _;
       has = has;
-      line = rw (c.deref.ensures.value ∙ c.in_ok-line.ensures) at front;
+      line = rw (c.deref.ensures.value ∙ c.in_ok-line.ensures ∙ ap (λ n. line_of n verdict) c.none.ensures) at front;
     }))
 
 pub returns-clause-checked : goal.returns-clause-checked
@@ -75,7 +76,7 @@ returns-clause-checked g c =
         told = _;
         has = has;
         answered = c.is_lawful.ensures;
-        written = rw (c.deref.ensures.value ∙ c.in_ok-line.ensures) at bytes;
+        written = rw (c.deref.ensures.value ∙ c.in_ok-line.ensures ∙ ap (λ n. line_of n verdict) c.none.ensures) at bytes;
       };
       fault = tt;
     }
