@@ -1,5 +1,6 @@
 pub mod TextLemmas
 pub mod DraftLemmas
+pub mod BareLemmas
 pub mod KnownLemmas
 pub mod WithinLemmas
 pub mod MarkLemmas

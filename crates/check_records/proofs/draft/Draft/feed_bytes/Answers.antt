@@ -5,8 +5,8 @@ use Rattle.check_records.specs.Draft.{partial}
 use Rattle.check_records.specs.declared.fault.RecordFault.TheVariants.{TooLong}
 use Rattle.check_records.proofs.DraftLemmas.{feed-ends, feed-long, feed-more}
 use Rattle.check_records.proofs.TextLemmas.{feeds-no, feeds-yes}
-use Rattle.check_records.proofs.draft.Draft.feed.Goals as goal
-use Rattle.check_records.proofs.draft.Draft.feed.Goals.{else-byte-eq10, then-byte-eq10}
+use Rattle.check_records.proofs.draft.Draft.feed_bytes.Goals as goal
+use Rattle.check_records.proofs.draft.Draft.feed_bytes.Goals.{else-byte-eq10, then-byte-eq10}
 
 pub returns-in_err-take_byte-clause-long : goal.returns-in_err-take_byte-clause-long
 returns-in_err-take_byte-clause-long c = λ line is.
