@@ -1,10 +1,10 @@
 -- A byte more goes into the field at hand, or ends it.
-use Rattle.std.proofs.Common.{◌≡◌, ◌≢◌, ◌+◌, ◌-◌, ◌≤◌, ◌<◌, ◌∷◌, ◌++◌, [], take, get_or, length, slice_range, ℕ, List, sym, ◌∙◌, arith, refl}
+use Rattle.std.proofs.Common.{◌≡◌, ◌≢◌, ◌+◌, ◌-◌, ◌∷◌, ◌++◌, [], get_or, length, slice_range, ℕ, List, sym, ◌∙◌, arith, refl}
 use Rattle.std.proofs.lemmas.List.{take-take}
 use Rattle.csv.specs.Records.{fields_of}
 use Rattle.csv.specs.declared.parser.State.TheVariants as st
 use Rattle.check_records.specs.Draft.{Partial, partial}
-use Rattle.check_records.proofs.BareLemmas.{bare-none, behind_comma, no-feed, part-length, text-comma, text-end, text-more}
+use Rattle.check_records.proofs.BareLemmas.{bare-none, no-feed, part-length, text-comma, text-end, text-more}
 use Rattle.check_records.proofs.TextLemmas.{feeds-no}
 use Rattle.check_records.proofs.draft.Draft.feed_fields.Goals as goal
 use Rattle.check_records.proofs.draft.Draft.feed_fields.Goals.{then-ends_field+else-i-start+in_ok-push_field+else-byte-ne44, else-ends_field+else-i-start-2, else-i-start-2-via-then-i-start-2+else-byte-eq34, else-i-start-2-via-else-i-start-2}
@@ -16,7 +16,7 @@ returns-then-byte-ne44-clause-ok c =
     let p = partial c.loop-i.self in
     let inside = c.loop-i-test.true in
     let ends = text-end (partial c.args.self.now) p text c.loop-i.start c.loop-i.i inv.low inside inv.begins inv.bare inv.so_far
-        (sym c.ends_field.ensures ∙ c.if-ends_field.true) c.if-byte-ne44.true in
+    (sym c.ends_field.ensures ∙ c.if-ends_field.true) c.if-byte-ne44.true in
     let size = part-length text c.loop-i.start c.loop-i.i inv.low inside in
     let room = c.if-i-start.false in (
       c.loop-i.self.size + length (slice_range text c.loop-i.start c.loop-i.i),

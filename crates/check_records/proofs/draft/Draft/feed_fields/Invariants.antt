@@ -1,5 +1,5 @@
 -- The fields before `start` went on with the record, and the bytes behind it go into the next.
-use Rattle.std.proofs.Common.{◌≡◌, ◌≤◌, ◌<◌, [], take, get_or, slice_range, true}
+use Rattle.std.proofs.Common.{◌≡◌, ◌≤◌, take, get_or, slice_range, true}
 use Rattle.check_records.specs.Draft.{GoesOn, IsDraft, partial}
 use Rattle.check_records.specs.Machine.{begins_field, state_of}
 use Rattle.check_records.specs.Text.{line_feeds}
