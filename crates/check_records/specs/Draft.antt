@@ -1,12 +1,12 @@
 -- A record while it is read. This project's own.
-use Rattle.std.specs.Prelude.{◌≡◌, ℕ, ◌+◌, ◌≤◌, false, Bool, true, List, [], ◌∷◌, ◌++◌, length, take, Option, Some}
+use Rattle.std.specs.Prelude.{◌≡◌, ℕ, ◌+◌, ◌<◌, ◌≤◌, get_or, false, Bool, true, List, [], ◌∷◌, ◌++◌, length, take, Option, Some}
 use Rattle.csv.specs.Machine.{Read, field_after, fields_after, is_end, next_record, step}
 use Rattle.csv.specs.Reading.{default_config}
 use Rattle.csv.specs.Records.{fields_of, partial_of}
 use Rattle.csv.specs.declared.parser.State.{State}
 use Rattle.csv.specs.declared.parser.Action.{Action}
 use Rattle.csv.specs.declared.parser.Action.TheVariants as act
-use Rattle.check_records.specs.Machine.{state_of}
+use Rattle.check_records.specs.Machine.{begins_field, state_of}
 use Rattle.check_records.specs.Text.{bytes_from}
 use Rattle.check_records.specs.declared.draft.TheConstants.{MAX_ROW}
 use Rattle.check_records.specs.declared.draft.Draft.{Draft}
@@ -61,6 +61,12 @@ pub record EndsWith (old : Partial) (bytes : List ℕ) (fields : List (List ℕ)
   pub state : State
   pub becomes : (rest : List ℕ) → becomes old (bytes ++ rest) ≡ Some (fields, state, rest)
   pub has_size : (rest : List ℕ) → full_size old (bytes ++ rest) ≡ size
+
+-- no byte of a field is at hand, and the first of these bytes begins one, or ends an empty one
+pub record BeginsField (p : Partial) (text : List ℕ) : Type 0 where
+  pub none : p.field ≡ []
+  pub some : 0 < length text
+  pub begins : begins_field p.state (get_or text 0 0) ≡ true
 
 -- ---- the calls of a draft
 

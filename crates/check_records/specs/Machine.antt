@@ -1,4 +1,6 @@
 -- The states and actions of this crate's machine, as those of crate `csv`. This project's own.
+use Rattle.std.specs.Prelude.{ℕ, Bool, true, false, not, ◌==◌, ◌||◌}
+use Rattle.check_records.specs.Text.{is_line_end}
 use Rattle.csv.specs.declared.parser.State.{State as CsvState}
 use Rattle.csv.specs.declared.parser.State.TheVariants as st
 use Rattle.csv.specs.declared.parser.Action.{Action as CsvAction}
@@ -24,3 +26,18 @@ action_of own_action.EndRecord = act.EndRecord
 
 abbrev pub step_of : State × Action → CsvState × CsvAction
 step_of pair = (state_of pair.0, action_of pair.1)
+
+-- a byte that ends the field before it, outside of quotes
+abbrev pub ends_field : ℕ → Bool
+ends_field byte = (byte == 44) || is_line_end byte
+
+-- whether a byte that is read in this state begins a field, or ends an empty one
+abbrev pub begins_field : CsvState → ℕ → Bool
+begins_field st.StartRecord byte = not (is_line_end byte)
+begins_field st.StartField byte = true
+begins_field st.InField byte = false
+begins_field st.InQuoted byte = false
+begins_field st.AfterQuote byte = false
+begins_field st.AfterCr byte = false
+begins_field st.InEscape byte = false
+begins_field st.InComment byte = false

@@ -1,14 +1,14 @@
 //! A record while it is read.
-ghost use Rattle.std.specs.Prelude.{◌≡◌, ◌≤◌, ◌<◌, ◌++◌, ◌∷◌, [], List, ℕ, false, true, length, take, Err, Ok, IfOk, OnOk};
+ghost use Rattle.std.specs.Prelude.{◌≡◌, ◌↔◌, ◌≤◌, ◌<◌, ◌++◌, ◌∷◌, [], List, ℕ, false, true, length, take, Err, Ok, IfOk, OnOk};
 ghost use Rattle.csv.specs.Machine.{is_end, ends_at_end};
 ghost use Rattle.csv.specs.Records.{fields_of, partial_of};
 ghost use Rattle.csv.specs.declared.parser.State.TheVariants as st;
-ghost use Rattle.check_records.specs.Draft.{FeedsTo, IsDraft, TakesByte, action_at, full_size, partial};
+ghost use Rattle.check_records.specs.Draft.{BeginsField, FeedsTo, IsDraft, TakesByte, action_at, full_size, partial};
 ghost use Rattle.check_records.specs.Machine.{state_of};
 ghost use Rattle.check_records.specs.Text.{line_feeds};
 
 use crate::fault::RecordFault;
-use crate::machine::{Action, State, step};
+use crate::machine::{Action, State, begins_field, ends_field, step};
 use arrayvec::ArrayVec;
 use csv::ByteRecord;
 use std::alloc::Global;
@@ -85,6 +85,16 @@ impl Draft {
         Ok(())
     }
 
+    /// Whether the first byte of a text begins a field.
+    fn begins_field(&self, text: &[u8]) -> bool
+        ensures { result ≡ true ↔ BeginsField (partial self.now) text.now }
+    {
+        match text {
+            [first, ..] if self.field.is_empty() => begins_field(self.state, *first),
+            _ => false,
+        }
+    }
+
     /// Takes a byte, and answers whether it ends the record.
     #[inline(always)]
     fn take_byte(&mut self, byte: u8) -> Result<bool, RecordFault>
@@ -112,9 +122,47 @@ impl Draft {
         Ok(false)
     }
 
-    /// Takes a text, up to the byte that ends the record. A record that gets too long is a fault at the byte that makes
-    /// it so.
-    pub(crate) fn feed(&mut self, text: &[u8]) -> Result<Fed, RecordFault>
+    /// Takes whole fields from the front of a text whose first byte begins one, each at once. It stops before a field
+    /// that begins with a quote, that does not end in the text, or for which there may be no room.
+    fn feed_fields(&mut self, text: &[u8]) -> Result<Fed, RecordFault>
+        requires draft { IsDraft self.old }
+        requires field { BeginsField (partial self.old) text.now }
+        ensures ok { IfOk result (λ fed. FeedsTo self.old (take fed.taken text.now) self.new fed fed.ended) }
+        ensures taken { IfOk result (λ fed. fed.taken ≤ length text.now) }
+        ensures feeds { IfOk result (λ fed. fed.feeds ≡ line_feeds (take fed.taken text.now)) }
+        ensures line { self.new.line ≡ self.old.line }
+        ensures memory { (line : ℕ) → result ≡ Err (RecordFault.TooLong line) → ⊥ }
+    {
+        let mut start = 0;
+        for (i, byte) in text.iter().enumerate() {
+            if ends_field(*byte) {
+                if i - start >= MAX_ROW - self.size {
+                    break;
+                }
+                self.columns.push_field(&text[start..i])?;
+                if *byte != b',' {
+                    return Ok(Fed {
+                        taken: i + 1,
+                        feeds: usize::from(*byte == b'\n'),
+                        ended: true,
+                    });
+                }
+                self.state = State::StartField;
+                self.size += i - start + 1;
+                start = i + 1;
+            } else if i == start && *byte == b'"' {
+                break;
+            }
+        }
+        Ok(Fed {
+            taken: start,
+            feeds: 0,
+            ended: false,
+        })
+    }
+
+    /// Takes a text byte by byte, up to the byte that ends the record.
+    fn feed_bytes(&mut self, text: &[u8]) -> Result<Fed, RecordFault>
         requires { IsDraft self.old }
         ensures ok { IfOk result (λ fed. FeedsTo self.old text.now self.new fed fed.ended) }
         ensures taken { IfOk result (λ fed. fed.taken ≤ length text.now) }
@@ -140,6 +188,32 @@ impl Draft {
             taken: text.len(),
             feeds,
             ended: false,
+        })
+    }
+
+    /// Takes a text, up to the byte that ends the record. A record that gets too long is a fault at the byte that makes
+    /// it so.
+    pub(crate) fn feed(&mut self, text: &[u8]) -> Result<Fed, RecordFault>
+        requires { IsDraft self.old }
+        ensures ok { IfOk result (λ fed. FeedsTo self.old text.now self.new fed fed.ended) }
+        ensures taken { IfOk result (λ fed. fed.taken ≤ length text.now) }
+        ensures feeds { IfOk result (λ fed. fed.feeds ≡ line_feeds (take fed.taken text.now)) }
+        ensures line { self.new.line ≡ self.old.line }
+        ensures long { (line : ℕ) → result ≡ Err (RecordFault.TooLong line) → (line ≡ self.old.line)
+            × ((rest : List ℕ) → MAX_ROW < full_size (partial self.old) (text.now ++ rest)) }
+    {
+        if !self.begins_field(text) {
+            return self.feed_bytes(text);
+        }
+        let fields = self.feed_fields(text)?;
+        if fields.ended {
+            return Ok(fields);
+        }
+        let rest = self.feed_bytes(&text[fields.taken..])?;
+        Ok(Fed {
+            taken: fields.taken + rest.taken,
+            feeds: fields.feeds + rest.feeds,
+            ended: rest.ended,
         })
     }
 

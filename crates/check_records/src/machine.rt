@@ -2,7 +2,7 @@
 ghost use Rattle.std.specs.Prelude.{◌≡◌};
 ghost use Rattle.csv.specs.Machine as Csv;
 ghost use Rattle.csv.specs.Reading.{default_config};
-ghost use Rattle.check_records.specs.Machine.{state_of, step_of};
+ghost use Rattle.check_records.specs.Machine.{begins_field, ends_field, state_of, step_of};
 
 /// Where a reader stands in a record.
 #[derive(Debug, Clone, Copy, PartialEq, Eq)]
@@ -30,6 +30,25 @@ pub(crate) enum Action {
     Copy,
     EndField,
     EndRecord,
+}
+
+/// Whether a byte ends a field that it stands behind, outside of quotes.
+#[inline(always)]
+pub(crate) fn ends_field(byte: u8) -> bool
+    ensures { result ≡ ends_field byte }
+{
+    matches!(byte, b',' | b'\r' | b'\n')
+}
+
+/// Whether a byte is the first of a field, or ends one that is empty.
+pub(crate) fn begins_field(state: State, byte: u8) -> bool
+    ensures { result ≡ begins_field (state_of state) byte }
+{
+    match state {
+        State::StartField => true,
+        State::StartRecord => byte != b'\r' && byte != b'\n',
+        _ => false,
+    }
 }
 
 fn in_field(byte: u8) -> (State, Action)

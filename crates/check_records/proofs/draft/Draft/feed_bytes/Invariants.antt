@@ -2,7 +2,7 @@
 use Rattle.std.proofs.Common.{◌≡◌, ◌≤◌, take}
 use Rattle.check_records.specs.Draft.{GoesOn, IsDraft, partial}
 use Rattle.check_records.specs.Text.{line_feeds}
-use Rattle.check_records.proofs.draft.Draft.feed.Given as goal
+use Rattle.check_records.proofs.draft.Draft.feed_bytes.Given as goal
 
 abbrev pub invariant-loop-i : goal.invariant-loop-i
 invariant-loop-i l = record {
