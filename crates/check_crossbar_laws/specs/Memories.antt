@@ -1,7 +1,7 @@
 -- What lawful beats say of memories: each port's replies are those of a memory that does one request at a time. What a
--- store does is the chapter "TL-UL and TL-UH operations" of the TileLink specification (`Store.antt` of `tl_ops`); that a
--- memory is a store for each range of its port (`Slave.antt` of `check_traffic`), in which order it does its requests, and
--- where this is seen, is this project's own.
+-- store does is the chapter "TL-UL and TL-UH operations" of the TileLink specification (`Store.antt` of `tl_ops`). This
+-- project's own is that a memory is a store for each range of its port (`Slave.antt` of `check_traffic`), in which order
+-- it does its requests, and where this is seen.
 use Rattle.std.specs.Prelude.{◌≡◌, ℕ, ◌≤◌, Bool, true, false, ◌&&◌, ◌==◌, if◌then◌else◌, nat_lt, List, [], ◌∷◌, ◌++◌, length, map, filter, take, Some, unwrap_or, slice_get}
 use Rattle.tl_types.specs.Request.{Request}
 use Rattle.tl_types.specs.Response.{Response, IsLawfulResponse}

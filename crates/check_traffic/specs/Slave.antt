@@ -1,5 +1,5 @@
--- What a port's slave makes of a request. Each part of its memory is as `tl_ops` says (`specs/Store.antt` there); the rest
--- is this project's own.
+-- What a port's slave makes of a request. Each part of its memory is as `tl_ops` says (`specs/Store.antt` there). The
+-- rest is this project's own.
 use Rattle.std.specs.Prelude.{ℕ, ◌+◌, ◌%◌, ◌^◌, if◌then◌else◌, List, [], ◌∷◌, Option, Some, None, option_map}
 use Rattle.tl_types.specs.Request.{Request}
 use Rattle.tl_types.specs.Response.{Response}
@@ -27,7 +27,8 @@ memory_reply (store ∷ stores) ask = if legal store ask then reply store ask el
 -- the place of the first store at which a request is legal
 abbrev pub first_legal : List Store → Request → Option ℕ
 first_legal [] ask = None
-first_legal (store ∷ stores) ask = if legal store ask then Some 0 else option_map (λ place. place + 1) (first_legal stores ask)
+first_legal (store ∷ stores) ask =
+    if legal store ask then Some 0 else option_map (λ place. place + 1) (first_legal stores ask)
 
 -- ---- the slave
 
