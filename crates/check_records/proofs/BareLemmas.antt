@@ -1,5 +1,5 @@
 -- A field that begins with no quote, read at once.
-use Rattle.std.proofs.Common.{◌≡◌, ◌≢◌, ℕ, ◌+◌, ◌-◌, ◌<◌, ◌≤◌, ◌==◌, Bool, true, false, not, List, [], ◌∷◌, ◌++◌, take, drop, length, get_or, slice_range, refl, sym, ap, ap₂, ◌∙◌, subst, arith, append_assoc, length-append, length-take, length-drop, take-add, get_or-drop}
+use Rattle.std.proofs.Common.{◌≡◌, ◌≢◌, if◌then◌else◌, ℕ, ◌+◌, ◌-◌, ◌<◌, ◌≤◌, ◌==◌, Bool, true, false, not, List, [], ◌∷◌, ◌++◌, take, drop, length, get_or, slice_range, refl, sym, ap, ap₂, ◌∙◌, subst, arith, append_assoc, length-append, length-take, length-drop, take-add, get_or-drop}
 use Rattle.std.proofs.lemmas.Bool.{false≢true, ne_eqb, or_parts}
 use Rattle.std.proofs.lemmas.List.{take_more}
 use Rattle.csv.specs.Machine.{field_after, fields_after, is_end, step}
@@ -187,6 +187,22 @@ bare-end p bytes byte bare first ends other =
 
 -- ---- the fields of a text
 
+-- a record behind so many bytes, which are whole fields and their commas
+abbrev pub behind_fields : Partial → List (List ℕ) → ℕ → Partial
+behind_fields p fields count = record {
+  state = if count == 0 then p.state else st.StartField;
+  fields = fields;
+  field = [];
+  size = p.size + count;
+}
+
+pub begins-behind : (state : State) (i byte : ℕ)
+    → begins_field (if i + 1 == 0 then state else st.StartField) byte ≡ true
+begins-behind state i byte = rw (ne_eqb (i + 1) 0 (omega arith)) refl
+
+pub part-none : (text : List ℕ) (i : ℕ) → slice_range text i i ≡ []
+part-none text i = let none : i - i ≡ 0 = omega arith in rw none refl
+
 pub part-length : (text : List ℕ) (start i : ℕ) → start ≤ i → i < length text
     → length (slice_range text start i) ≡ i - start
 part-length text start i low inside =
@@ -237,17 +253,31 @@ parts text start i low inside =
     ∙ append_assoc (take start text) (slice_range text start i) (get_or text i 0 ∷ [])
 
 -- a whole field, and the comma behind it
-pub text-comma : (o p : Partial) (text : List ℕ) (start i : ℕ) → start ≤ i → i < length text
-    → begins_field p.state (get_or text start 0) ≡ true → IsBare p (slice_range text start i)
-    → GoesOn o (take start text) p → get_or text i 0 ≡ 44
-    → GoesOn o (take (i + 1) text) (behind_comma p (slice_range text start i))
-text-comma o p text start i low inside begins bare so_far comma =
+pub text-comma : (o : Partial) (fields : List (List ℕ)) (text : List ℕ) (start i : ℕ) → start ≤ i → i < length text
+    → begins_field (behind_fields o fields start).state (get_or text start 0) ≡ true
+    → IsBare (behind_fields o fields start) (slice_range text start i)
+    → GoesOn o (take start text) (behind_fields o fields start) → get_or text i 0 ≡ 44
+    → GoesOn o (take (i + 1) text) (behind_fields o (fields ++ (slice_range text start i ∷ [])) (i + 1))
+text-comma o fields text start i low inside begins bare so_far comma =
+    let p = behind_fields o fields start in
     let hand = slice_range text start i in
     let first : hand ≡ [] → step default_config p.state 44 ≡ step default_config st.StartField 44 =
     λ none. rw comma at (first-acts p text start i low inside begins none) in
-    subst (λ (xs : List ℕ). GoesOn o xs (behind_comma p hand))
-    (sym (parts text start i low inside ∙ ap (λ byte. take start text ++ (hand ++ byte ∷ [])) comma))
-    (goes-trans o p (behind_comma p hand) (take start text) (hand ++ 44 ∷ []) so_far (bare-comma p hand bare first))
+    let front : take start text ++ (hand ++ 44 ∷ []) ≡ take (i + 1) text =
+    sym (parts text start i low inside ∙ ap (λ byte. take start text ++ (hand ++ byte ∷ [])) comma) in
+    let some : (i + 1 == 0) ≡ false = ne_eqb (i + 1) 0 (omega arith) in
+    let count = part-length text start i low inside in
+    let size : (o.size + start) + length hand + 1 ≡ o.size + (i + 1) = omega (arith, count, low) in
+    let make : Bool → ℕ → Partial = λ none size. record {
+      state = if none then o.state else st.StartField;
+      fields = fields ++ (hand ∷ []);
+      field = [];
+      size = size;
+    } in
+    let same : behind_comma p hand ≡ behind_fields o (fields ++ (hand ∷ [])) (i + 1) = ap₂ make (sym some) size in
+    subst (λ (q : Partial). GoesOn o (take (i + 1) text) q) same
+    (subst (λ (xs : List ℕ). GoesOn o xs (behind_comma p hand)) front
+    (goes-trans o p (behind_comma p hand) (take start text) (hand ++ 44 ∷ []) so_far (bare-comma p hand bare first)))
 
 -- a whole field, and the end of a line behind it
 pub text-end : (o p : Partial) (text : List ℕ) (start i : ℕ) → start ≤ i → i < length text

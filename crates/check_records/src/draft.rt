@@ -133,26 +133,28 @@ impl Draft {
         ensures line { self.new.line ≡ self.old.line }
         ensures memory { (line : ℕ) → result ≡ Err (RecordFault.TooLong line) → ⊥ }
     {
+        let room = MAX_ROW - self.size;
         let mut start = 0;
         for (i, byte) in text.iter().enumerate() {
-            if ends_field(*byte) {
-                if i - start >= MAX_ROW - self.size {
-                    break;
-                }
-                self.columns.push_field(&text[start..i])?;
-                if *byte != b',' {
-                    return Ok(Fed {
-                        taken: i + 1,
-                        feeds: usize::from(*byte == b'\n'),
-                        ended: true,
-                    });
-                }
-                self.state = State::StartField;
-                self.size += i - start + 1;
-                start = i + 1;
-            } else if i == start && *byte == b'"' {
+            if !ends_field(*byte) {
+                continue;
+            }
+            if i >= room || text[start] == b'"' {
                 break;
             }
+            self.columns.push_field(&text[start..i])?;
+            if *byte != b',' {
+                return Ok(Fed {
+                    taken: i + 1,
+                    feeds: usize::from(*byte == b'\n'),
+                    ended: true,
+                });
+            }
+            start = i + 1;
+        }
+        if start > 0 {
+            self.state = State::StartField;
+            self.size += start;
         }
         Ok(Fed {
             taken: start,
