@@ -1,81 +1,77 @@
--- A byte more goes into the field at hand, or ends it.
-use Rattle.std.proofs.Common.{◌≡◌, ◌+◌, ◌++◌, ◌∷◌, [], get_or, length, slice_range, sym, ◌∙◌, refl, arith}
+-- One field more stands whole in the text.
+use Rattle.std.proofs.Common.{◌≡◌, ◌<◌, ◌≤◌, ◌+◌, ◌++◌, ◌∷◌, [], get_or, length, slice_range, ◌∙◌, refl, arith}
 use Rattle.std.proofs.lemmas.List.{take-take}
 use Rattle.csv.specs.Records.{fields_of}
 use Rattle.check_records.specs.Draft.{partial}
-use Rattle.check_records.proofs.BareLemmas.{bare-none, begins-behind, behind_fields, no-feed, part-length, part-none, text-comma, text-end, text-more}
-use Rattle.check_records.proofs.TextLemmas.{feeds-no}
+use Rattle.check_records.proofs.BareLemmas.{begins-behind, behind_fields, part-length, plain-at, ends-at, text-bare, text-comma, text-end, text-feeds}
+use Rattle.check_records.proofs.TextLemmas.{feeds-more, feeds-no}
 use Rattle.check_records.proofs.draft.Draft.feed_fields.Goals as goal
 
-pub loop-i-preserved-then-not-ends_field : goal.loop-i-preserved-then-not-ends_field
-loop-i-preserved-then-not-ends_field c =
-    let inv = c.loop-i.invariant in
+pub returns-then-text-end-ne44-clause-ok : goal.returns-then-text-end-ne44-clause-ok
+returns-then-text-end-ne44-clause-ok c =
+    let inv = c.loop-start.invariant in
     let text = c.args.text.now in
-    let i = c.loop-i.i in
-    let start = c.loop-i.start in
-    let p = behind_fields (partial c.args.self.now) (fields_of c.loop-i.self.columns) start in
-    let inside = c.loop-i-test.true in
-    let plain = sym c.ends_field.ensures ∙ c.if-not-ends_field.true in
-    record {
-      whole = inv.whole;
-      short = inv.short;
-      low = omega arith;
-      so_far = inv.so_far;
-      begins = inv.begins;
-      bare = λ unquoted. text-more p text start i inv.low inside inv.begins (inv.bare unquoted) plain
-          (λ here. rw here unquoted);
-      feeds_before = inv.feeds_before;
-      feeds = feeds-no text i inside (no-feed (get_or text i 0) plain) ∙ inv.feeds;
-      line = inv.line;
-      state = inv.state;
-      field = inv.field;
-      size = inv.size;
-    }
-
-pub returns-then-byte-ne44-clause-ok : goal.returns-then-byte-ne44-clause-ok
-returns-then-byte-ne44-clause-ok c =
-    let inv = c.loop-i.invariant in
-    let text = c.args.text.now in
-    let i = c.loop-i.i in
-    let start = c.loop-i.start in
+    let start = c.loop-start.start in
+    let count = c.field_length.result in
+    let end = start + count in
     let o = partial c.args.self.now in
-    let p = behind_fields o (fields_of c.loop-i.self.columns) start in
-    let inside = c.loop-i-test.true in
-    let ends = text-end o p text start i inv.low inside inv.begins (inv.bare c.if-text-start-eq34.false) inv.so_far
-    (sym c.ends_field.ensures ∙ c.if-not-ends_field.false) c.if-byte-ne44.true in
-    let size = part-length text start i inv.low inside in
-    let low = inv.low in
-    let room = c.if-i-room.false in (
-      p.size + length (slice_range text start i),
-      rw (take-take (i + 1) (i + 1) text (omega arith), c.in_ok-push_field.ensures.fields, inv.whole) ends,
-      omega (arith, size, room, low),
+    let p = behind_fields o (fields_of c.loop-start.self.columns) start in
+    let most = c.min-most.ensures in
+    let room = c.if-end-most.false in
+    let inside : end < length text = omega (arith, most, room) in
+    let low : start ≤ end = omega arith in
+    let plain = plain-at text start count inv.inside c.field_length.ensures.plain in
+    let ends = ends-at text start count inv.inside inside c.field_length.ensures.ends in
+    let bare = text-bare p text start count (omega (arith, inside)) refl inv.begins c.if-text-start-eq34.false plain in
+    let size = part-length text start end low inside in (
+      p.size + length (slice_range text start end),
+      rw (take-take (end + 1) (end + 1) text (omega arith), c.in_ok-push_field.ensures.fields, inv.whole)
+          (text-end o p text start end low inside inv.begins bare inv.so_far ends c.if-text-end-ne44.true),
+      omega (arith, size, room, most),
     )
 
-pub loop-i-preserved : goal.loop-i-preserved
-loop-i-preserved c =
-    let inv = c.loop-i.invariant in
+pub returns-then-text-end-ne44-clause-feeds : goal.returns-then-text-end-ne44-clause-feeds
+returns-then-text-end-ne44-clause-feeds c =
+    let inv = c.loop-start.invariant in
     let text = c.args.text.now in
-    let i = c.loop-i.i in
-    let start = c.loop-i.start in
+    let start = c.loop-start.start in
+    let count = c.field_length.result in
+    let most = c.min-most.ensures in
+    let room = c.if-end-most.false in
+    let inside : start + count < length text = omega (arith, most, room) in
+    let before = text-feeds text start count (omega (arith, inside)) inv.feeds
+    (plain-at text start count inv.inside c.field_length.ensures.plain) in
+    let more = feeds-more text (start + count) inside in
+    grind (arith, before, more)
+
+pub loop-start-preserved : goal.loop-start-preserved
+loop-start-preserved c =
+    let inv = c.loop-start.invariant in
+    let text = c.args.text.now in
+    let start = c.loop-start.start in
+    let count = c.field_length.result in
+    let end = start + count in
     let o = partial c.args.self.now in
-    let p = behind_fields o (fields_of c.loop-i.self.columns) start in
-    let inside = c.loop-i-test.true in
-    let comma = c.if-byte-ne44.false in
-    let feeds = feeds-no text i inside (λ is. omega (arith, is, comma)) ∙ inv.feeds in
+    let p = behind_fields o (fields_of c.loop-start.self.columns) start in
+    let most = c.min-most.ensures in
+    let room = c.if-end-most.false in
+    let inside : end < length text = omega (arith, most, room) in
+    let low : start ≤ end = omega arith in
+    let comma = c.if-text-end-ne44.false in
+    let plain = plain-at text start count inv.inside c.field_length.ensures.plain in
+    let bare = text-bare p text start count (omega (arith, inside)) refl inv.begins c.if-text-start-eq34.false plain in
     let fields : fields_of c.push_field.new.self
-    ≡ fields_of c.loop-i.self.columns ++ (slice_range text start i ∷ []) =
+    ≡ fields_of c.loop-start.self.columns ++ (slice_range text start end ∷ []) =
     rw inv.whole at c.in_ok-push_field.ensures.fields in
-    let room = c.if-i-room.false in
     record {
       whole = c.in_ok-push_field.ensures.partial;
-      short = omega (arith, room);
-      low = omega arith;
-      so_far = rw fields (text-comma o (fields_of c.loop-i.self.columns) text start i inv.low inside inv.begins
-          (inv.bare c.if-text-start-eq34.false) inv.so_far comma);
-      begins = begins-behind o.state i (get_or text (i + 1) 0);
-      bare = λ unquoted. rw (part-none text (i + 1)) (bare-none (behind_fields o (fields_of c.push_field.new.self) (i + 1)) refl);
-      feeds_before = feeds;
-      feeds = feeds;
+      short = omega (arith, room, most);
+      inside = omega (arith, inside);
+      so_far = rw fields (text-comma o (fields_of c.loop-start.self.columns) text start end low inside inv.begins bare
+          inv.so_far comma);
+      begins = begins-behind o.state end (get_or text (end + 1) 0);
+      feeds = feeds-no text end inside (λ is. omega (arith, is, comma))
+          ∙ text-feeds text start count (omega (arith, inside)) inv.feeds plain;
       line = inv.line;
       state = inv.state;
       field = inv.field;
