@@ -1,5 +1,5 @@
 -- A field that begins with no quote, read at once.
-use Rattle.std.proofs.Common.{◌≡◌, ◌≢◌, ℕ, ◌+◌, ◌-◌, ◌<◌, ◌≤◌, ◌==◌, Bool, true, false, not, List, [], ◌∷◌, ◌++◌, take, drop, length, get_or, slice_range, refl, sym, ap, ap₂, ◌∙◌, subst, arith, append_assoc, length-append, length-take, length-drop, take-add, get_or-drop}
+use Rattle.std.proofs.Common.{◌≡◌, ◌≢◌, if◌then◌else◌, ℕ, zero, suc, ◌+◌, ◌-◌, ◌<◌, ◌≤◌, ◌==◌, Bool, true, false, not, List, [], ◌∷◌, ◌++◌, take, drop, length, get_or, slice_range, refl, sym, ap, ap₂, ◌∙◌, subst, arith, append_assoc, length-append, length-take, length-drop, take-add, get_or-drop}
 use Rattle.std.proofs.lemmas.Bool.{false≢true, ne_eqb, or_parts}
 use Rattle.std.proofs.lemmas.List.{take_more}
 use Rattle.csv.specs.Machine.{field_after, fields_after, is_end, step}
@@ -10,7 +10,9 @@ use Rattle.csv.specs.declared.parser.Action.{Action}
 use Rattle.csv.specs.declared.parser.Action.TheVariants as act
 use Rattle.check_records.specs.Draft.{EndsWith, GoesOn, Partial, action_at, behind}
 use Rattle.check_records.specs.Machine.{begins_field, ends_field}
-use Rattle.check_records.specs.Text.{is_line_end}
+use Rattle.check_records.specs.Text.{is_line_end, line_feeds}
+use Rattle.check_records.proofs.FeedLemmas.{part-behind}
+use Rattle.check_records.proofs.TextLemmas.{feeds-no}
 use Rattle.check_records.proofs.DraftLemmas.{ends-behind, ends-more, goes-more, goes-none, goes-trans}
 
 -- ---- what a byte does
@@ -187,6 +189,22 @@ bare-end p bytes byte bare first ends other =
 
 -- ---- the fields of a text
 
+-- a record behind so many bytes, which are whole fields and their commas
+abbrev pub behind_fields : Partial → List (List ℕ) → ℕ → Partial
+behind_fields p fields count = record {
+  state = if count == 0 then p.state else st.StartField;
+  fields = fields;
+  field = [];
+  size = p.size + count;
+}
+
+pub begins-behind : (state : State) (i byte : ℕ)
+    → begins_field (if i + 1 == 0 then state else st.StartField) byte ≡ true
+begins-behind state i byte = rw (ne_eqb (i + 1) 0 (omega arith)) refl
+
+pub part-none : (text : List ℕ) (i : ℕ) → slice_range text i i ≡ []
+part-none text i = let none : i - i ≡ 0 = omega arith in rw none refl
+
 pub part-length : (text : List ℕ) (start i : ℕ) → start ≤ i → i < length text
     → length (slice_range text start i) ≡ i - start
 part-length text start i low inside =
@@ -227,6 +245,57 @@ text-more p text start i low inside begins bare plain unquoted =
     (bare-more p (slice_range text start i) (get_or text i 0) bare (first-acts p text start i low inside begins) plain
     (λ none. unquoted (first-place text start i low inside none)))
 
+-- a byte of the text behind a place, by its place in the text
+byte-behind : (text : List ℕ) (start k : ℕ) → start ≤ length text
+    → get_or (slice_range text start (length text)) k 0 ≡ get_or text (start + k) 0
+byte-behind text start k inside =
+    ap (λ (xs : List ℕ). get_or xs k 0) (part-behind text start inside) ∙ get_or-drop start text k 0
+
+pub plain-at : (text : List ℕ) (start count : ℕ) → start ≤ length text
+    → ((k : ℕ) → k < count → ends_field (get_or (slice_range text start (length text)) k 0) ≡ false)
+    → (k : ℕ) → k < count → ends_field (get_or text (start + k) 0) ≡ false
+plain-at text start count inside plain k below =
+    sym (ap ends_field (byte-behind text start k inside)) ∙ plain k below
+
+pub ends-at : (text : List ℕ) (start count : ℕ) → start ≤ length text → start + count < length text
+    → (count < length (slice_range text start (length text))
+    → ends_field (get_or (slice_range text start (length text)) count 0) ≡ true)
+    → ends_field (get_or text (start + count) 0) ≡ true
+ends-at text start count inside within ends =
+    let size = ap (λ (xs : List ℕ). length xs) (part-behind text start inside) ∙ length-drop start text in
+    sym (ap ends_field (byte-behind text start count inside)) ∙ ends (omega (arith, size, within))
+
+-- all bytes of a field
+pub text-bare : (p : Partial) (text : List ℕ) (start count : ℕ) → start + count ≤ length text → p.field ≡ []
+    → begins_field p.state (get_or text start 0) ≡ true → get_or text start 0 ≢ 34
+    → ((k : ℕ) → k < count → ends_field (get_or text (start + k) 0) ≡ false)
+    → IsBare p (slice_range text start (start + count))
+text-bare p text start zero inside none begins unquoted plain =
+    let place : start + 0 ≡ start = omega arith in
+    subst (IsBare p) (sym (ap (slice_range text start) place ∙ part-none text start)) (bare-none p none)
+text-bare p text start (suc k) inside none begins unquoted plain =
+    let low : start ≤ start + k = omega arith in
+    let within : start + k < length text = omega (arith, inside) in
+    let place : start + suc k ≡ start + k + 1 = omega arith in
+    let so_far = text-bare p text start k (omega (arith, inside)) none begins unquoted
+    (λ j below. plain j (omega (arith, below))) in
+    subst (IsBare p) (sym (ap (slice_range text start) place))
+    (text-more p text start (start + k) low within begins so_far (plain k (omega arith))
+    (λ here. rw here unquoted))
+
+-- no line feed is among them
+pub text-feeds : (text : List ℕ) (start count : ℕ) → start + count ≤ length text → line_feeds (take start text) ≡ 0
+    → ((k : ℕ) → k < count → ends_field (get_or text (start + k) 0) ≡ false)
+    → line_feeds (take (start + count) text) ≡ 0
+text-feeds text start zero inside none plain =
+    let place : start + 0 ≡ start = omega arith in
+    ap (λ (n : ℕ). line_feeds (take n text)) place ∙ none
+text-feeds text start (suc k) inside none plain =
+    let place : start + suc k ≡ start + k + 1 = omega arith in
+    ap (λ (n : ℕ). line_feeds (take n text)) place
+    ∙ feeds-no text (start + k) (omega (arith, inside)) (no-feed (get_or text (start + k) 0) (plain k (omega arith)))
+    ∙ text-feeds text start k (omega (arith, inside)) none (λ j below. plain j (omega (arith, below)))
+
 -- the bytes before a field, those of the field, and the one behind it
 parts : (text : List ℕ) (start i : ℕ) → start ≤ i → i < length text
     → take (i + 1) text ≡ take start text ++ (slice_range text start i ++ get_or text i 0 ∷ [])
@@ -237,17 +306,31 @@ parts text start i low inside =
     ∙ append_assoc (take start text) (slice_range text start i) (get_or text i 0 ∷ [])
 
 -- a whole field, and the comma behind it
-pub text-comma : (o p : Partial) (text : List ℕ) (start i : ℕ) → start ≤ i → i < length text
-    → begins_field p.state (get_or text start 0) ≡ true → IsBare p (slice_range text start i)
-    → GoesOn o (take start text) p → get_or text i 0 ≡ 44
-    → GoesOn o (take (i + 1) text) (behind_comma p (slice_range text start i))
-text-comma o p text start i low inside begins bare so_far comma =
+pub text-comma : (o : Partial) (fields : List (List ℕ)) (text : List ℕ) (start i : ℕ) → start ≤ i → i < length text
+    → begins_field (behind_fields o fields start).state (get_or text start 0) ≡ true
+    → IsBare (behind_fields o fields start) (slice_range text start i)
+    → GoesOn o (take start text) (behind_fields o fields start) → get_or text i 0 ≡ 44
+    → GoesOn o (take (i + 1) text) (behind_fields o (fields ++ (slice_range text start i ∷ [])) (i + 1))
+text-comma o fields text start i low inside begins bare so_far comma =
+    let p = behind_fields o fields start in
     let hand = slice_range text start i in
     let first : hand ≡ [] → step default_config p.state 44 ≡ step default_config st.StartField 44 =
     λ none. rw comma at (first-acts p text start i low inside begins none) in
-    subst (λ (xs : List ℕ). GoesOn o xs (behind_comma p hand))
-    (sym (parts text start i low inside ∙ ap (λ byte. take start text ++ (hand ++ byte ∷ [])) comma))
-    (goes-trans o p (behind_comma p hand) (take start text) (hand ++ 44 ∷ []) so_far (bare-comma p hand bare first))
+    let front : take start text ++ (hand ++ 44 ∷ []) ≡ take (i + 1) text =
+    sym (parts text start i low inside ∙ ap (λ byte. take start text ++ (hand ++ byte ∷ [])) comma) in
+    let some : (i + 1 == 0) ≡ false = ne_eqb (i + 1) 0 (omega arith) in
+    let count = part-length text start i low inside in
+    let size : (o.size + start) + length hand + 1 ≡ o.size + (i + 1) = omega (arith, count, low) in
+    let make : Bool → ℕ → Partial = λ none size. record {
+      state = if none then o.state else st.StartField;
+      fields = fields ++ (hand ∷ []);
+      field = [];
+      size = size;
+    } in
+    let same : behind_comma p hand ≡ behind_fields o (fields ++ (hand ∷ [])) (i + 1) = ap₂ make (sym some) size in
+    subst (λ (q : Partial). GoesOn o (take (i + 1) text) q) same
+    (subst (λ (xs : List ℕ). GoesOn o xs (behind_comma p hand)) front
+    (goes-trans o p (behind_comma p hand) (take start text) (hand ++ 44 ∷ []) so_far (bare-comma p hand bare first)))
 
 -- a whole field, and the end of a line behind it
 pub text-end : (o p : Partial) (text : List ℕ) (start i : ℕ) → start ≤ i → i < length text

@@ -1,10 +1,10 @@
 //! A record while it is read.
-ghost use Rattle.std.specs.Prelude.{◌≡◌, ◌↔◌, ◌≤◌, ◌<◌, ◌++◌, ◌∷◌, [], List, ℕ, false, true, length, take, Err, Ok, IfOk, OnOk};
+ghost use Rattle.std.specs.Prelude.{◌≡◌, ◌↔◌, ◌≤◌, ◌<◌, ◌++◌, ◌∷◌, [], List, ℕ, false, true, length, take, get_or, Err, Ok, IfOk, OnOk};
 ghost use Rattle.csv.specs.Machine.{is_end, ends_at_end};
 ghost use Rattle.csv.specs.Records.{fields_of, partial_of};
 ghost use Rattle.csv.specs.declared.parser.State.TheVariants as st;
 ghost use Rattle.check_records.specs.Draft.{BeginsField, FeedsTo, IsDraft, TakesByte, action_at, full_size, partial};
-ghost use Rattle.check_records.specs.Machine.{state_of};
+ghost use Rattle.check_records.specs.Machine.{ends_field, state_of};
 ghost use Rattle.check_records.specs.Text.{line_feeds};
 
 use crate::fault::RecordFault;
@@ -39,6 +39,21 @@ pub(crate) struct Fed {
     pub(crate) feeds: usize,
     /// Whether the last of them ended the record.
     pub(crate) ended: bool,
+}
+
+/// How many bytes stand before the first that ends a field; all of them, if none does.
+#[inline(always)]
+fn field_length(text: &[u8]) -> usize
+    ensures inside { result ≤ length text.now }
+    ensures plain { (place : ℕ) → place < result → ends_field (get_or text.now place 0) ≡ false }
+    ensures ends { result < length text.now → ends_field (get_or text.now result 0) ≡ true }
+{
+    for (count, byte) in text.iter().enumerate() {
+        if ends_field(*byte) {
+            return count;
+        }
+    }
+    text.len()
 }
 
 impl Draft {
@@ -133,26 +148,26 @@ impl Draft {
         ensures line { self.new.line ≡ self.old.line }
         ensures memory { (line : ℕ) → result ≡ Err (RecordFault.TooLong line) → ⊥ }
     {
+        let most = text.len().min(MAX_ROW - self.size);
         let mut start = 0;
-        for (i, byte) in text.iter().enumerate() {
-            if ends_field(*byte) {
-                if i - start >= MAX_ROW - self.size {
-                    break;
-                }
-                self.columns.push_field(&text[start..i])?;
-                if *byte != b',' {
-                    return Ok(Fed {
-                        taken: i + 1,
-                        feeds: usize::from(*byte == b'\n'),
-                        ended: true,
-                    });
-                }
-                self.state = State::StartField;
-                self.size += i - start + 1;
-                start = i + 1;
-            } else if i == start && *byte == b'"' {
+        while start < text.len() {
+            let end = start + field_length(&text[start..]);
+            if end >= most || text[start] == b'"' {
                 break;
             }
+            self.columns.push_field(&text[start..end])?;
+            if text[end] != b',' {
+                return Ok(Fed {
+                    taken: end + 1,
+                    feeds: usize::from(text[end] == b'\n'),
+                    ended: true,
+                });
+            }
+            start = end + 1;
+        }
+        if start > 0 {
+            self.state = State::StartField;
+            self.size += start;
         }
         Ok(Fed {
             taken: start,

@@ -83,7 +83,7 @@ where
 }
 
 /// Texts, and their records as `listed` writes them.
-const TEXTS: [(&[u8], &str); 16] = [
+const TEXTS: [(&[u8], &str); 22] = [
     (b"", ""),
     (b"\n\r\n\r", ""),
     (b"\xef\xbb\xbf", ""),
@@ -100,12 +100,23 @@ const TEXTS: [(&[u8], &str); 16] = [
     (b"\"\"\n\"\",\n,\n", "1:|\n2:||\n3:||\n"),
     (b"a\n\"b\nc", "1:|a\n2:|b\nc\n"),
     (b"a\r\n\n\r\"", "1:|a\n3:|\n"),
+    (b"a,b\nc,\"d\ne\",f\ng,h\n", "1:|a|b\n2:|c|d\ne|f\n4:|g|h\n"),
+    (b"a,b\"c,d\"\n\"e\"\n", "1:|a|b\"c|d\"\n2:|e\n"),
+    (b"a,\"b\"\"\",\"\",c\r\n,\r\n", "1:|a|b\"||c\n2:||\n"),
+    (b"a,\"b,c\r\n\"\r\nd\r\n", "1:|a|b,c\r\n\n3:|d\n"),
+    (b",\r,a\n\"\",b\r", "1:||\n1:||a\n2:||b\n"),
+    (b"ab,cd\r\nef,gh", "1:|ab|cd\n2:|ef|gh\n"),
 ];
 
-/// A text has these records, read whole and byte by byte with interruptions.
+/// A text has these records, read whole, in parts of each size, and byte by byte with interruptions. So each record,
+/// each field and each CR LF lies across two reads once, and ends exactly at the end of a read once.
 fn has_records(rt: &impl Abort, alloc: Global, text: &[u8], records: &str) {
     let whole = listed(rt, alloc, text).expect(rt, "a text in memory");
     assert_eq!(rt; whole.as_str(), records);
+    for step in 1..text.len() {
+        let partwise = listed(rt, alloc, reader_of(text, step, 0, 0)).expect(rt, "in parts");
+        assert_eq!(rt; partwise.as_str(), records);
+    }
     let bitwise = listed(rt, alloc, reader_of(text, 1, 2, 0)).expect(rt, "byte by byte");
     assert_eq!(rt; bitwise.as_str(), records);
 }
@@ -170,6 +181,38 @@ fn longer_records_are_refused(rt: HostRuntime) {
     for (quoted, count) in [(false, 4097), (true, 4095), (false, 200_000)] {
         let text = long_text(&rt, rt.alloc(), quoted, count);
         is_refused(&rt, rt.alloc(), &text);
+    }
+}
+
+/// A text whose third line has so many commas.
+fn comma_text(rt: &impl Abort, alloc: Global, count: usize) -> Vec<u8> {
+    let mut text = Vec::new(alloc);
+    text.extend_from_slice(b"a\r\n\n").expect(rt, "memory");
+    for _ in 0..count {
+        text.push(b',').expect(rt, "memory");
+    }
+    text.push(b'\n').expect(rt, "memory");
+    text
+}
+
+#[test]
+fn commas_count_as_bytes(rt: HostRuntime) {
+    let text = comma_text(&rt, rt.alloc(), 4096);
+    is_read(&rt, rt.alloc(), &text, 0);
+    let longer = comma_text(&rt, rt.alloc(), 4097);
+    is_refused(&rt, rt.alloc(), &longer);
+}
+
+#[test]
+fn a_record_may_be_long_over_many_reads(rt: HostRuntime) {
+    let text = comma_text(&rt, rt.alloc(), 4096);
+    let longer = comma_text(&rt, rt.alloc(), 4097);
+    for step in [1, 2, 1000, 4096, 4097] {
+        let records = listed(&rt, rt.alloc(), reader_of(&text, step, 0, 0));
+        // line 1 is `1:|a`; line 3 is `3:` and a bar before each of its 4,097 fields; each ends in a line feed
+        assert_eq!(&rt; records.expect(&rt, "in parts").len(), 5 + 2 + 4097 + 1);
+        let refused = listed(&rt, rt.alloc(), reader_of(&longer, step, 0, 0));
+        assert!(&rt; refused.err() == Some(RecordFault::TooLong(3)));
     }
 }
 
