@@ -6,3 +6,5 @@ pub mod Keeping
 pub mod Beginning
 pub mod Earlier
 pub mod Served
+pub mod InFlight
+pub mod Changes

@@ -5,3 +5,4 @@ pub mod Allowed
 pub mod Faults
 pub mod Lawful
 pub mod View
+pub mod Pending

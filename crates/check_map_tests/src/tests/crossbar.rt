@@ -5,7 +5,7 @@
 //! hosts have two sources each, with the host's number in the low two bits: host 2 has the wide sources 2 and 6. Nobody
 //! has 3 and 7.
 use super::map::{are_ranges, ports_of, range};
-use check_crossbar::{Fault, Links, Order, Seen, Watch};
+use check_crossbar::{Change, Fault, Links, Order, Origin, Seen, Watch};
 use check_link::{Beat, Link, Sighting};
 use check_map::{Map, Owner, Sources};
 use std::alloc::Global;
@@ -228,6 +228,31 @@ const AT_BOTH: [Capture; 5] = [
         "",
     ),
 ];
+
+/// What a beat does to the requests in flight on its side, which is lawful.
+fn change(rt: &impl Abort, watch: &mut Watch, row: &Row) -> Change {
+    let seen = sighting(row);
+    assert!(rt; watch.watches(seen.link));
+    let change = watch.change(&seen);
+    assert!(rt; watch.step(&seen).is_ok());
+    change
+}
+
+#[test]
+fn a_request_is_in_flight_from_its_first_beat_to_its_replys_last(rt: HostRuntime) {
+    let mut watch = watch_of(&rt, rt.alloc(), Links::Both);
+    let begins = Change::Begins(Origin {
+        wide: 6,
+        master: 2,
+        source: 1,
+    });
+    assert!(&rt; change(&rt, &mut watch, &SENT) == begins);
+    assert!(&rt; change(&rt, &mut watch, &TAKEN) == begins);
+    let given = (P0, What::Data, 6, 0, 0);
+    assert!(&rt; change(&rt, &mut watch, &given) == Change::Ends(6));
+    let back = (M2, What::Data, 1, 0, 0);
+    assert!(&rt; change(&rt, &mut watch, &back) == Change::Ends(6));
+}
 
 #[test]
 fn ports_of_several_ranges(rt: HostRuntime) {
