@@ -1,0 +1,4 @@
+pub mod Bits
+pub mod Lanes
+pub mod Written
+pub mod KeptParts
