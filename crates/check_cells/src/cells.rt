@@ -1,7 +1,7 @@
 //! The bytes of a message, of which some may be unknown.
 ghost use Rattle.std.specs.Prelude.{◌≡◌, ◌↔◌, ℕ, ◌+◌, ◌*◌, ◌%◌, ◌^◌, ◌<◌, ◌≤◌, ◌++◌, ◌∷◌, [], length, take, drop, slice_get, Some, IfSome, IsTrue, replicate};
 ghost use Rattle.std.specs.Int.{bit_at};
-ghost use Rattle.tl_types.specs.Bytes.{bit_in, given_in};
+ghost use Rattle.tl_types.specs.Bytes.{bit_in, given_in, given_byte};
 ghost use Rattle.tl_ops.specs.Number.{low_bytes};
 ghost use Rattle.tl_ops.specs.Cell.{lanes_of};
 ghost use Rattle.check_cells.specs.Known.{IsBelow, IsKeptIn, known};
@@ -11,6 +11,9 @@ use crate::masks::{known_cell, mark_cell, ones};
 use std::marker::Model;
 use tl_ops::cell::{cell_of, with_cell};
 use tl_types::{MAX_BYTES, WORD_BYTES, write_over};
+
+/// The most bytes of which one mask says which are known.
+pub const MASK_BITS: usize = u64::BITS as usize;
 
 /// The most words of a message.
 const MAX_WORDS: usize = MAX_BYTES / WORD_BYTES;
@@ -108,6 +111,91 @@ impl Cells {
         self.len = place + 1;
     }
 
+    /// Appends bytes, of which those are known whose bits are set.
+    // whole words go in as words, and these are the bytes of most beats
+    pub fn append(&mut self, bytes: &[u8], known: u64)
+        requires few { length bytes.now ≤ MASK_BITS }
+        requires room { length self.old + length bytes.now ≤ MAX_BYTES }
+        ensures { self.new ≡ self.old ++ given_in (bit_at known) bytes.now }
+    {
+        if self.len() % WORD_BYTES == 0 && bytes.len() % WORD_BYTES == 0 {
+            self.append_words(bytes, known);
+        } else {
+            self.append_each(bytes, known);
+        }
+    }
+
+    /// Appends the bytes of whole words.
+    fn append_words(&mut self, bytes: &[u8], known: u64)
+        requires aligned { length self.old % WORD_BYTES ≡ 0 }
+        requires whole { length bytes.now % WORD_BYTES ≡ 0 }
+        requires few { length bytes.now ≤ MASK_BITS }
+        requires room { length self.old + length bytes.now ≤ MAX_BYTES }
+        ensures { self.new ≡ self.old ++ given_in (bit_at known) bytes.now }
+    {
+        for word in 0..bytes.len() / WORD_BYTES {
+            let place = WORD_BYTES * word;
+            let cell = word_of(&bytes[place..place + WORD_BYTES]);
+            self.push_word(cell, (known >> place & 0xff) as u8);
+        }
+    }
+
+    /// Appends one byte after the other.
+    fn append_each(&mut self, bytes: &[u8], known: u64)
+        requires few { length bytes.now ≤ MASK_BITS }
+        requires room { length self.old + length bytes.now ≤ MAX_BYTES }
+        ensures { self.new ≡ self.old ++ given_in (bit_at known) bytes.now }
+    {
+        for place in 0..bytes.len() {
+            self.push(seen(bytes[place], known >> place & 1));
+        }
+    }
+
+    /// Appends a word, of whose bytes those are known whose bits are set.
+    fn push_word(&mut self, word: u64, known: u8)
+        requires aligned { length self.old % WORD_BYTES ≡ 0 }
+        requires room { length self.old + WORD_BYTES ≤ MAX_BYTES }
+        ensures { self.new ≡ self.old ++ given_in (bit_at known) (low_bytes WORD_BYTES word) }
+    {
+        let place = self.len / WORD_BYTES;
+        self.words[place] = word;
+        self.masks[place] = known;
+        self.len += WORD_BYTES;
+    }
+
+    /// Puts so many of these bytes from a place on, of which those are known whose bits are set, in the place of those
+    /// that there were.
+    // a part of one word, as most beats carry, is cut out of it as a number
+    pub fn refill_part(&mut self, bytes: &[u8], known: u64, start: usize, count: usize)
+        requires few { length bytes.now ≤ MASK_BITS }
+        requires inside { start + count ≤ length bytes.now }
+        ensures { self.new ≡ take count (drop start (given_in (bit_at known) bytes.now)) }
+    {
+        self.clear();
+        if count == 0 {
+            return;
+        }
+        let lane = start % WORD_BYTES;
+        let word = start - lane;
+        if lane + count <= WORD_BYTES && word + WORD_BYTES <= bytes.len() {
+            let bytes = &bytes[word..word + WORD_BYTES];
+            self.set_part(bytes, known >> start, lane, count);
+        } else {
+            self.append(&bytes[start..start + count], known >> start);
+        }
+    }
+
+    /// The bytes of a part of a word, of which those are known whose bits are set.
+    fn set_part(&mut self, word: &[u8], known: u64, lane: usize, width: usize)
+        requires word { length word.now ≡ WORD_BYTES }
+        requires some { 0 < width }
+        requires in_word { lane + width ≤ WORD_BYTES }
+        ensures { self.new ≡ given_in (bit_at known) (take width (drop lane word.now)) }
+    {
+        let cell = cell_of(word_of(word), lane, width);
+        self.set_cell(cell, (known & 0xff) as u8, width);
+    }
+
     /// Puts these bytes in the place of those that there were.
     pub fn refill(&mut self, bytes: &[Option<u8>])
         requires { length bytes.now ≤ MAX_BYTES }
@@ -200,6 +288,24 @@ impl Cells {
             None
         }
     }
+}
+
+/// A byte that is known, or not, by a bit.
+fn seen(byte: u8, bit: u64) -> Option<u8>
+    requires { bit < 2 }
+    ensures { result ≡ given_byte bit byte }
+{
+    if bit == 1 { Some(byte) } else { None }
+}
+
+/// The bytes of a word as one number, the lowest first.
+fn word_of(bytes: &[u8]) -> u64
+    requires { length bytes.now ≡ WORD_BYTES }
+    ensures { low_bytes WORD_BYTES result ≡ bytes.now }
+{
+    u64::from_le_bytes([
+        bytes[0], bytes[1], bytes[2], bytes[3], bytes[4], bytes[5], bytes[6], bytes[7],
+    ])
 }
 
 /// Whether a byte, where it is known, is known there too and is the same.

@@ -15,6 +15,6 @@ mod cells;
 mod masks;
 mod pattern;
 
-pub use cells::{Cells, mask_of};
+pub use cells::{Cells, MASK_BITS, mask_of};
 pub use masks::{give, known_cell, mark_cell, ones};
 pub use pattern::Pattern;

@@ -58,10 +58,23 @@ impl Pattern {
         ensures { self.new ≡ captured_as op size source denied bytes.now }
     {
         put_captured(&mut self.cells, denied, bytes);
+        self.set_fields(op, size, source, Some(denied));
+    }
+
+    /// Puts these fields in the place of all but its bytes.
+    pub fn set_fields(&mut self, op: ReplyOp, size: u8, source: u16, denied: Option<bool>)
+        ensures { self.new ≡ record {
+          op = op;
+          size = size;
+          source = source;
+          denied = denied;
+          bytes = self.old.bytes;
+        } }
+    {
         self.op = op;
         self.size = size;
         self.source = source;
-        self.denied = Some(denied);
+        self.denied = denied;
     }
 
     /// Puts a copy of another reply in the place of this one.
@@ -85,10 +98,7 @@ impl Pattern {
           bytes = self.old.bytes;
         } }
     {
-        self.op = ask.op().reply_op();
-        self.size = ask.size();
-        self.source = ask.source();
-        self.denied = denied;
+        self.set_fields(ask.op().reply_op(), ask.size(), ask.source(), denied);
     }
 
     /// What is expected of a device: any reply of the right form.
