@@ -1,0 +1,3 @@
+pub mod Alike
+pub mod SpelledAlike
+pub mod NamedAlike
