@@ -1,5 +1,5 @@
 -- What it says that a bus of eight bytes is judged as `check_link` judges it: these are this project's own words.
-use Rattle.std.specs.Prelude.{◌≡◌, ◌↔◌, ℕ, Bool, true, List, [], ◌∷◌, ◌++◌, Option, Some, None, length, map}
+use Rattle.std.specs.Prelude.{◌≡◌, ◌↔◌, ℕ, Bool, true, List, [], ◌∷◌, ◌++◌, Option, Some, None, length, map, slice_get}
 use Rattle.tl_types.specs.Request.{Request}
 use Rattle.check_beats.specs.Spelling.{AskBeat, SpellsAsk, ReplyBeat}
 use Rattle.std.specs.List.{flat_map}
@@ -11,15 +11,19 @@ use Rattle.check_link.specs.Form as link
 use Rattle.check_link.specs.Past as past
 use Rattle.check_link.specs.Laws as link_laws
 use Rattle.check_link.specs.Message as link_message
-use Rattle.check_beats.specs.Laws.{asking, replying}
+use Rattle.check_beats.specs.Laws.{asking, replying, begun_reply}
+use Rattle.check_cells.specs.Pattern.{seen_as}
+use Rattle.tl_types.specs.Response.{Response, IsLawfulResponse}
+use Rattle.tl_beats.specs.Replies as narrow_reply
+use Rattle.check_link.specs.declared.beat.Sighting.{Sighting}
 use Rattle.check_link.specs.declared.beat.Beat.{Beat}
 use Rattle.check_link.specs.declared.beat.Beat.TheVariants.{A, D}
 use Rattle.check_link.specs.declared.fault.FormFault.{FormFault as OldFault}
 use Rattle.check_link.specs.declared.fault.FormFault.TheVariants as old
 use Rattle.check_beats.specs.Bus.{lane_of, beat_count, active_mask}
-use Rattle.check_beats.specs.Form.{IsLawfulMask, FitsAsk, HasAskFormFault, FitsReply, HasReplyFormFault}
+use Rattle.check_beats.specs.Form.{IsLawfulMask, FitsAsk, HasAskFormFault, FitsReply, HasReplyFormFault, IsKnownReply}
 use Rattle.check_beats.specs.Message.{ask_part, seen_at}
-use Rattle.check_beats.specs.State.{AskBegun, first_ask, ends_ask, ask_of, ask_after, ReplyBegun, first_reply, ends_reply, reply_after}
+use Rattle.check_beats.specs.State.{AskBegun, first_ask, ends_ask, ask_of, ask_after, ReplyBegun, first_reply, ends_reply, reply_of, reply_after}
 use Rattle.check_beats.specs.declared.beat.AskHead.{AskHead}
 use Rattle.check_beats.specs.declared.beat.ReplyHead.{ReplyHead}
 use Rattle.check_beats.specs.declared.fault.FormFault.{FormFault}
@@ -149,3 +153,44 @@ AskNamedAlike =
     (crossed : List Beat) (beat : ABeat) → EndsAsk crossed beat
     → ask_of 8 (asking 8 (asks_of crossed)) (head_of beat) beat.lanes
     ≡ link_message.ask_of beat (past.asking crossed ++ beat ∷ [])
+
+-- what was seen of a beat of channel D
+abbrev pub seen_of : DBeat → ℕ → ReplyBeat
+seen_of beat known = record { head = reply_head_of beat; known = known; lanes = beat.lanes }
+
+abbrev pub seen_after : Beat → ℕ → List ReplyBeat → List ReplyBeat
+seen_after (A beat) known earlier = earlier
+seen_after (D beat) known earlier = seen_of beat known ∷ earlier
+
+-- what was seen of the beats of channel D
+abbrev pub seen_replies : List Sighting → List ReplyBeat
+seen_replies [] = []
+seen_replies (seen ∷ earlier) = seen_after seen.beat seen.known (seen_replies earlier)
+
+-- the beats that were seen
+abbrev pub beats_of : List Sighting → List Beat
+beats_of crossed = map (λ (seen : Sighting). seen.beat) crossed
+
+-- each lane is known that carries a byte of a reply to a request at the address
+abbrev pub AreKnown : ℕ → List ReplyBeat → Type 0
+AreKnown address message =
+    (k : ℕ) (beat : ReplyBeat) → slice_get message k ≡ Some beat → IsKnownReply 8 address beat.head beat.known
+
+-- a beat that ends its reply, after beats that fit one after the other, and all lanes of the reply that carry a byte
+-- are known
+pub record EndsReply (crossed : List Sighting) (address : ℕ) (beat : DBeat) (known : ℕ) : Type 0 where
+  pub fitting : link_laws.AreFitting (beats_of crossed)
+  pub lanes : HaveLanes (beats_of crossed)
+  pub fits : link.FitsReply (past.replying (beats_of crossed)) beat
+  pub wide : length beat.lanes ≡ 8
+  pub ends : past.ends_reply (past.replying (beats_of crossed)) beat ≡ true
+  pub all_known : AreKnown address (begun_reply 8 (seen_replies crossed) ++ seen_of beat known ∷ [])
+
+-- the pattern that is gathered is the lawful reply that the beats spell, wholly known
+abbrev pub ReplyNamedAlike : Type 0
+ReplyNamedAlike =
+    (crossed : List Sighting) (address : ℕ) (beat : DBeat) (known : ℕ) (reply : Response)
+    → EndsReply crossed address beat known
+    → IsLawfulResponse reply.op reply.size reply.denied reply.bytes
+    → narrow_reply.SpellsReply reply address (past.replying (beats_of crossed) ++ beat ∷ [])
+    → reply_of 8 (replying 8 (seen_replies crossed)) address (reply_head_of beat) known beat.lanes ≡ seen_as reply

@@ -6,7 +6,7 @@
 #![tactic(auto)]
 
 ghost use Rattle.check_beats_eight.specs.Laws.{BusIsThatOfEight, MaskIsThatOfEight, AskFitsAlike, AskFaultsAlike, AskEndsAlike, AskGoesOnAlike};
-ghost use Rattle.check_beats_eight.specs.Laws.{ReplyFitsAlike, ReplyFaultsAlike, ReplyEndsAlike, ReplyGoesOnAlike, AsksStandAlike, RepliesStandAlike, AskSpelledAlike, AskNamedAlike};
+ghost use Rattle.check_beats_eight.specs.Laws.{ReplyFitsAlike, ReplyFaultsAlike, ReplyEndsAlike, ReplyGoesOnAlike, AsksStandAlike, RepliesStandAlike, AskSpelledAlike, AskNamedAlike, ReplyNamedAlike};
 
 /// Where bytes stand, and how many beats there are.
 pub fn bus_is_that_of_eight()
@@ -36,4 +36,9 @@ pub fn replies_are_judged_alike()
 pub fn requests_are_the_same()
     ensures spelled { AskSpelledAlike }
     ensures named { AskNamedAlike }
+{}
+
+/// The reply that is gathered from beats whose lanes are known is the one that they spell.
+pub fn replies_are_the_same()
+    ensures { ReplyNamedAlike }
 {}
