@@ -45,6 +45,13 @@ impl UnderWay {
         }
     }
 
+    /// The bus of the link.
+    pub fn bus(&self) -> Bus
+        ensures { bus_bytes result ≡ self.now.bus }
+    {
+        self.asking.bus()
+    }
+
     /// Whether a beat of channel A is the first of its request.
     pub fn begins_ask(&self) -> bool
         ensures { IsTrue result ↔ (self.now.asking ≡ None) }
