@@ -1,0 +1,4 @@
+pub mod WordLemmas
+pub mod HandLemmas
+pub mod ScannerLemmas
+pub mod LeftLemmas
