@@ -1,8 +1,8 @@
 -- The words that are left as bytes are taken and read.
-use Rattle.std.proofs.Common.{◌≡◌, ℕ, Bool, true, false, List, [], ◌∷◌, ◌++◌, Option, Some, None, refl, sym, ap, ◌∙◌, subst}
+use Rattle.std.proofs.Common.{◌≡◌, ℕ, true, false, List, [], ◌∷◌, ◌++◌, Option, Some, None, refl, sym, ap, ◌∙◌, subst}
 use Rattle.std.specs.Option.{option_map}
 use Rattle.std.specs.Io.KnownBytes.{IsAtEnd, Keeps, prepend_known}
-use Rattle.check_vcd.specs.Words.{Both, Front, IsFront, Word, nothing, words_from}
+use Rattle.check_vcd.specs.Words.{Both, Front, Word, nothing, words_from}
 use Rattle.check_vcd.specs.Scanner.{Takes, at_hand, front, left, left_of, word_at_hand}
 use Rattle.check_vcd.specs.declared.scanner.Scanner.{Scanner}
 

@@ -2,3 +2,5 @@ pub mod WordLemmas
 pub mod HandLemmas
 pub mod ScannerLemmas
 pub mod LeftLemmas
+pub mod CodeLemmas
+pub mod DumpLemmas

@@ -1,5 +1,5 @@
 -- The bytes at hand are taken.
-use Rattle.std.proofs.Common.{◌≡◌, ℕ, ◌+◌, ◌<◌, ◌≤◌, Bool, true, false, nat_lt, List, [], ◌∷◌, ◌++◌, length, get_or, slice_range, Result, Ok, Err, refl, sym, ap, ap₂, ◌∙◌, arith, subst}
+use Rattle.std.proofs.Common.{◌≡◌, ℕ, ◌+◌, ◌<◌, ◌≤◌, Bool, true, false, nat_lt, List, ◌∷◌, ◌++◌, length, get_or, slice_range, Result, Ok, Err, refl, sym, ap, ap₂, ◌∙◌, arith, subst}
 use Rattle.std.proofs.lemmas.Bool.Decides.{nat_tests}
 use Rattle.std.specs.Result.{IfOk, OnOk}
 use Rattle.check_vcd.specs.Words.{Front, IsFront, Word, is_blank, line_after, nothing, with_byte, words_from}
@@ -26,15 +26,14 @@ first old new byte next moved =
 pub took-letter : {R : Type 0} (old new : Scanner R) (byte : ℕ) → HasNext old byte → HasMoved old new
     → is_blank byte ≡ false
     → front new ≡ with_byte (front old) byte → new.next_line ≡ old.next_line → Takes old new false
-took-letter old new byte next moved not fronts lines =
-    (
-      (λ rest.
+took-letter old new byte next moved not fronts lines = (
+  (λ rest.
       ap (λ (hand : List ℕ). words_from old.next_line (front old) (hand ++ rest)) (first old new byte next moved)
       ∙ words-letter old.next_line (front old) byte (at_hand new ++ rest) not
       ∙ ap₂ (λ (line : ℕ) (f : Front). words_from line f (at_hand new ++ rest)) (sym lines) (sym fronts)),
-      (λ none. let size : new.size ≡ old.size + 1 = ap (λ (f : Front). f.size) fronts in
+  (λ none. let size : new.size ≡ old.size + 1 = ap (λ (f : Front). f.size) fronts in
       absurd (omega (arith, none, size))),
-    )
+)
 
 -- a blank, behind a front or before the first byte of a word
 blank : {R : Type 0} (old new : Scanner R) (byte : ℕ) (ended : Bool) → HasNext old byte → HasMoved old new
@@ -49,12 +48,11 @@ blank old new byte true next moved is front_is fronts line lines test = λ rest.
     ∙ words-ended old.next_line (front old) byte (at_hand new ++ rest) is some
     ∙ ap₂ (λ (w : Word) (l : ℕ). w ∷ words_from l nothing (at_hand new ++ rest)) (sym word) (sym lines)
 blank old new byte false next moved is front_is fronts line lines test =
-    let none : old.size ≡ 0 = grind (arith, nat_tests) in
-    (
+    let none : old.size ≡ 0 = grind (arith, nat_tests) in (
       (λ rest.
-      ap (λ (hand : List ℕ). words_from old.next_line (front old) (hand ++ rest)) (first old new byte next moved)
-      ∙ words-skipped old.next_line (front old) byte (at_hand new ++ rest) is none front_is
-      ∙ ap₂ (λ (l : ℕ) (f : Front). words_from l f (at_hand new ++ rest)) (sym lines) (sym fronts)),
+          ap (λ (hand : List ℕ). words_from old.next_line (front old) (hand ++ rest)) (first old new byte next moved)
+          ∙ words-skipped old.next_line (front old) byte (at_hand new ++ rest) is none front_is
+          ∙ ap₂ (λ (l : ℕ) (f : Front). words_from l f (at_hand new ++ rest)) (sym lines) (sym fronts)),
       subst IsFront (sym fronts) front_is,
     )
 

@@ -1,7 +1,7 @@
 -- What a byte does to the words of a text.
 use Rattle.std.proofs.Common.{◌≡◌, ℕ, ◌<◌, ◌==◌, Bool, true, false, cond, List, [], ◌∷◌, ◌++◌, ◌+◌, refl, sym, ap, ap₂, arith, ◌∙◌}
 use Rattle.std.proofs.lemmas.Bool.Decides.{nat_tests}
-use Rattle.check_vcd.specs.Words.{Front, IsFront, Word, is_blank, line_after, nothing, with_byte, word_if_any, words_from}
+use Rattle.check_vcd.specs.Words.{Front, IsFront, is_blank, line_after, nothing, with_byte, word_if_any, words_from}
 
 -- a byte of a word
 pub words-letter : (line : ℕ) (front : Front) (byte : ℕ) (text : List ℕ) → is_blank byte ≡ false

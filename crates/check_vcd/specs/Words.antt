@@ -1,6 +1,6 @@
 -- The words of a dump. That white space stands between them is the rule of IEEE 1364, "Value change dump files". The
 -- lines, that a long word is cut to its front, and that what no blank ends is no word are this project's own.
-use Rattle.std.specs.Prelude.{◌≡◌, ℕ, ◌+◌, ◌==◌, nat_le, nat_lt, Bool, true, false, List, [], ◌∷◌, ◌++◌, length, Option, None, Some, ⊤, option_map, if◌then◌else◌}
+use Rattle.std.specs.Prelude.{◌≡◌, ℕ, ◌+◌, ◌==◌, nat_le, nat_lt, Bool, true, false, List, [], ◌∷◌, ◌++◌, length, Option, None, Some, ⊤, if◌then◌else◌}
 use Rattle.check_vcd.specs.declared.scanner.TheConstants.{MAX_WORD}
 
 -- a space, or a byte of control

@@ -1,6 +1,8 @@
 //! Why a dump was not read to its end.
 ghost use Rattle.std.specs.Prelude.{◌≡◌};
 ghost use Rattle.check_vcd.specs.declared.fault.DumpFault.TheVariants.{Memory};
+ghost use Rattle.check_vcd.specs.Fault.{on_line};
+ghost use Rattle.check_vcd.specs.declared.fault.WordFault.TheVariants as word;
 
 use std::alloc::{AllocError, AllocFailed};
 use thiserror::Error;
@@ -47,5 +49,40 @@ impl<T: Drop> From<AllocFailed<T>> for DumpFault {
 
     fn from(_e: AllocFailed<T>) -> DumpFault {
         DumpFault::Memory
+    }
+}
+
+/// Why a word was not taken.
+#[derive(Debug, Clone, Copy, PartialEq, Eq)]
+pub(crate) enum WordFault {
+    Wrong(Mistake),
+    Memory,
+}
+
+impl WordFault {
+    /// The same, with the line of the word.
+    pub(crate) fn on(self, line: u64) -> DumpFault
+        ensures { result ≡ on_line line self }
+    {
+        match self {
+            WordFault::Wrong(mistake) => DumpFault::At(line, mistake),
+            WordFault::Memory => DumpFault::Memory,
+        }
+    }
+}
+
+impl From<AllocError> for WordFault {
+    ghost from_gives = { λ _ e. e ≡ word.Memory };
+
+    fn from(_e: AllocError) -> WordFault {
+        WordFault::Memory
+    }
+}
+
+impl<T: Drop> From<AllocFailed<T>> for WordFault {
+    ghost from_gives = { λ _ e. e ≡ word.Memory };
+
+    fn from(_e: AllocFailed<T>) -> WordFault {
+        WordFault::Memory
     }
 }

@@ -1,6 +1,7 @@
 //! The bytes of a stream, and the word that they spell.
-ghost use Rattle.std.specs.Prelude.{◌≡◌, ℕ, Err, true, false, ◌≤◌, ◌<◌, ◌+◌, ◌++◌, ◌∷◌, [], List, length, take, vec_len, nat_lt, IfOk, OnOk};
+ghost use Rattle.std.specs.Prelude.{◌≡◌, ℕ, Err, true, false, ◌≤◌, ◌<◌, ◌+◌, ◌++◌, ◌∷◌, [], List, length, take, vec_len, nat_lt, IfOk, IfErr, OnOk};
 ghost use Rattle.std.specs.Io.KnownBytes.{Consumes, IsAtEnd, Keeps};
+ghost use Rattle.check_vcd.specs.Fault.{IsNoMistake};
 ghost use Rattle.check_vcd.specs.Words.{is_blank};
 
 use crate::fault::DumpFault;
@@ -31,6 +32,7 @@ fn read_some<R: Read>(reader: &mut R, buffer: &mut [u8]) -> Result<usize, DumpFa
         (take count buffer.new)) }
     ensures end { IfOk result (λ count. count ≡ 0 → 0 < length buffer.new
         → IsAtEnd (R.remaining reader.new)) }
+    ensures fault { IfErr result IsNoMistake }
 {
     for _ in 0..MAX_TRIES {
         match reader.read(buffer) {
@@ -50,6 +52,7 @@ fn read_over<R: Read>(reader: &mut R, chunk: &mut Vec<u8>) -> Result<usize, Dump
         (take count chunk.new.items)) }
     ensures end { IfOk result (λ count. count ≡ 0 → 0 < vec_len chunk.new
         → IsAtEnd (R.remaining reader.new)) }
+    ensures fault { IfErr result IsNoMistake }
 {
     read_some(reader, chunk.as_mut_slice())
 }
@@ -77,7 +80,8 @@ impl<R: Read + Drop> Scanner<R> {
 
     /// The words of what a reader gives.
     pub(crate) fn new(alloc: Global, reader: R) -> Result<Scanner<R>, DumpFault>
-        ensures { IfOk result (λ scanner. HasWordsOf (R.remaining reader) (left R.remaining scanner nothing)) }
+        ensures ok { IfOk result (λ scanner. HasWordsOf (R.remaining reader) (left R.remaining scanner nothing)) }
+        ensures fault { IfErr result IsNoMistake }
     {
         let mut chunk = Vec::with_capacity(alloc, CHUNK)?;
         chunk.resize(CHUNK, 0)?;
@@ -101,6 +105,7 @@ impl<R: Read + Drop> Scanner<R> {
             → (at_hand self.new ≡ []) × IsAtEnd (R.remaining self.new.reader)) }
         ensures line { self.new.next_line ≡ self.old.next_line }
         ensures word { front self.new ≡ front self.old }
+        ensures fault { IfErr result IsNoMistake }
     {
         self.next = 0;
         self.filled = 0;
@@ -115,6 +120,7 @@ impl<R: Read + Drop> Scanner<R> {
         ensures front { OnOk result (front self.new ≡ with_byte (front self.old) byte) }
         ensures same { HasSameBytes self.old self.new }
         ensures line { self.new.next_line ≡ self.old.next_line }
+        ensures fault { IfErr result IsNoMistake }
     {
         if self.word.len() < MAX_WORD {
             self.word.push(byte)?;
@@ -131,6 +137,7 @@ impl<R: Read + Drop> Scanner<R> {
             × (self.new.next_line ≡ line_after self.old.next_line byte)) }
         ensures same { HasSameBytes self.old self.new }
         ensures front { front self.new ≡ front self.old }
+        ensures fault { IfErr result IsNoMistake }
     {
         self.line = self.next_line;
         if byte == b'\n' {
@@ -146,6 +153,7 @@ impl<R: Read + Drop> Scanner<R> {
         requires front { IsFront (front self.old) }
         ensures ok { IfOk result (Takes self.old self.new) }
         ensures moves { HasMoved self.old self.new }
+        ensures fault { IfErr result IsNoMistake }
     {
         let byte = self.chunk[self.next];
         self.next += 1;
@@ -163,6 +171,7 @@ impl<R: Read + Drop> Scanner<R> {
         ensures ok { IfOk result (Takes self.old self.new) }
         ensures all { IfOk result (λ ended. ended ≡ false → at_hand self.new ≡ []) }
         ensures reader { self.new.reader ≡ self.old.reader }
+        ensures fault { IfErr result IsNoMistake }
     {
         while self.next < self.filled {
             if self.take_byte()? {
@@ -174,8 +183,9 @@ impl<R: Read + Drop> Scanner<R> {
 
     /// Reads the next word; answers whether there was one. A last word that no blank ends is none, since it may be cut.
     pub(crate) fn read(&mut self) -> Result<bool, DumpFault>
-        ensures { IfOk result (Answers (left R.remaining self.old nothing) (left R.remaining self.new nothing)
+        ensures ok { IfOk result (Answers (left R.remaining self.old nothing) (left R.remaining self.new nothing)
             (word_at_hand self.new)) }
+        ensures fault { IfErr result IsNoMistake }
     {
         self.word.clear();
         self.size = 0;

@@ -1,5 +1,6 @@
 //! The words of a text, one after the other.
-ghost use Rattle.std.specs.Prelude.{◌≡◌, IfOk};
+ghost use Rattle.std.specs.Prelude.{◌≡◌, IfErr, IfOk};
+ghost use Rattle.check_vcd.specs.Fault.{IsNoMistake};
 ghost use Rattle.check_vcd.specs.Words.{Answers, HasWordsOf};
 
 use crate::fault::DumpFault;
@@ -28,7 +29,8 @@ impl<R: Read + Drop> Model for Words<R> {
 impl<R: Read + Drop> Words<R> {
     /// The words of what a reader gives.
     pub fn new(alloc: Global, reader: R) -> Result<Words<R>, DumpFault>
-        ensures { IfOk result (λ words. HasWordsOf (R.remaining reader) words.left) }
+        ensures ok { IfOk result (λ words. HasWordsOf (R.remaining reader) words.left) }
+        ensures fault { IfErr result IsNoMistake }
     {
         Ok(Words {
             scanner: Scanner::new(alloc, reader)?,
@@ -37,7 +39,8 @@ impl<R: Read + Drop> Words<R> {
 
     /// Reads the next word; answers whether there was one. A last word that no blank ends is none, since it may be cut.
     pub fn read(&mut self) -> Result<bool, DumpFault>
-        ensures { IfOk result (Answers self.old.left self.new.left self.new.word) }
+        ensures ok { IfOk result (Answers self.old.left self.new.left self.new.word) }
+        ensures fault { IfErr result IsNoMistake }
     {
         self.scanner.read()
     }

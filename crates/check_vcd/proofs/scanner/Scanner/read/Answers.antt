@@ -5,8 +5,8 @@ use Rattle.check_vcd.specs.Scanner.{front, left}
 use Rattle.check_vcd.proofs.LeftLemmas.{AreSame, ends-words, goes-on, refilled, same-then, same-trans}
 use Rattle.check_vcd.proofs.scanner.Scanner.read.Goals as goal
 
-pub returns-then-not-branch : goal.returns-then-not-branch
-returns-then-not-branch g c =
+pub returns-then-not-branch-clause-ok : goal.returns-then-not-branch-clause-ok
+returns-then-not-branch-clause-ok g c =
     let read = g.R.Read.remaining in
     let start = c.args.self.now in
     let old = c.loop.self in

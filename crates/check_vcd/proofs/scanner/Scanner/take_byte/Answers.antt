@@ -1,5 +1,5 @@
 -- The next byte is a blank or not.
-use Rattle.std.proofs.Common.{rules, arith}
+use Rattle.std.proofs.Common.{rules}
 use Rattle.check_vcd.specs.Scanner.{HasMoved}
 use Rattle.check_vcd.proofs.ScannerLemmas.{HasNext, took-blank, took-letter}
 use Rattle.check_vcd.proofs.scanner.Scanner.take_byte.Goals as goal
