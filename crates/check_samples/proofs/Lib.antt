@@ -1,0 +1,2 @@
+pub mod ValueLemmas
+pub mod RowsLemmas
