@@ -48,7 +48,7 @@ impl Values {
     }
 
     /// Changes the value in a slot.
-    pub(crate) fn change(&mut self, slot: usize, digits: &[u8]) -> Result<(), AllocError>
+    pub fn change(&mut self, slot: usize, digits: &[u8]) -> Result<(), AllocError>
         requires { slot < vec_len self.old.slots }
         ensures before { OnOk result (all_before self.new ≡ all_before self.old) }
         ensures now { OnOk result (all_now self.new
