@@ -1,6 +1,6 @@
 -- The names of signals that a system file gives, or the first fault on the way to them. This project's own; the names of
 -- a link's signals are the TileLink specification's.
-use Rattle.std.specs.Prelude.{◌≡◌, ◌≢◌, ℕ, ◌++◌, Bool, true, false, List, [], ◌∷◌, map, codes, Option, None, Some, option_map, unwrap_or, MatchResult, Result, Ok, Err, if◌then◌else◌, ok_or}
+use Rattle.std.specs.Prelude.{◌≡◌, ◌≢◌, ℕ, ◌++◌, Bool, true, false, List, [], ◌∷◌, map, codes, Option, None, Some, option_map, MatchResult, Result, Ok, Err, if◌then◌else◌, ok_or}
 use Rattle.std.specs.Str.{bytes_eq, is_utf8}
 use Rattle.std.specs.Prelude.{Vec}
 use Rattle.std.specs.Global.{Global}
@@ -9,13 +9,13 @@ use Rattle.toml.specs.Parse.{parse_document}
 use Rattle.tl_script.specs.Value.{list_of}
 use Rattle.check_samples.specs.Signal.{name_of}
 use Rattle.check_samples.specs.declared.signal.Signal.{Signal}
-use Rattle.check_samples.specs.declared.signal.Signal.TheVariants as signal
 use Rattle.check_signals.specs.Key.{key_name}
 use Rattle.check_signals.specs.declared.fault.Key.{Key}
 use Rattle.check_signals.specs.declared.fault.Key.TheVariants.{Port, Master, Clock, Reset, ResetActive, Signals, Wires}
 use Rattle.check_signals.specs.declared.fault.KeyFault.{KeyFault}
 use Rattle.check_signals.specs.declared.fault.KeyFault.TheVariants.{NotToml, Missing, WrongType, OutOfRange, Memory}
 use Rattle.check_signals.specs.declared.keys.Names as code_names
+use Rattle.check_signals.specs.declared.keys.TheConstants.{SIGNALS}
 
 infixl 10 ◌>>=◌
 -- the first, and if it has no fault, the second on what it gave
@@ -54,13 +54,6 @@ is_low_in members = optional_text ResetActive members >>= is_low_by
 
 -- ---- a link
 
--- the signals, in the order in which they are looked for
-abbrev pub all_signals : List Signal
-all_signals =
-    signal.AValid ∷ signal.AReady ∷ signal.AOpcode ∷ signal.AParam ∷ signal.ASize ∷ signal.ASource ∷ signal.AAddress
-    ∷ signal.AMask ∷ signal.AData ∷ signal.DValid ∷ signal.DReady ∷ signal.DOpcode ∷ signal.DSize ∷ signal.DSource
-    ∷ signal.DData ∷ signal.DDenied ∷ signal.DCorrupt ∷ []
-
 abbrev pub wires_in : Members → Result (Option Members) KeyFault
 wires_in members = if_any (λ value. ok_or (as_table value) (WrongType Wires)) (get_member (key_name Wires) members)
 
@@ -77,16 +70,20 @@ abbrev pub name_in : List ℕ → Option Members → Signal → Result (List ℕ
 name_in prefix wires which = name_by prefix which (wire_in wires which)
 
 abbrev pub names_in : List ℕ → Option Members → Result (List (List ℕ)) KeyFault
-names_in prefix wires = each (name_in prefix wires) all_signals
+names_in prefix wires = each (name_in prefix wires) SIGNALS
 
 -- the names of a link's signals, if its table gives a prefix or wires
 -- what was read, and then the rest
 abbrev pub with_front : {B : Type 0} → List B → Result (List B) KeyFault → Result (List B) KeyFault
 with_front front rest = rest >>= (λ more. Ok (front ++ more))
 
+abbrev pub some_names_in : List ℕ → Option Members → Result (Option (List (List ℕ))) KeyFault
+some_names_in prefix wires = names_in prefix wires >>= (λ names. Ok (Some names))
+
 abbrev pub link_by : Option (List ℕ) → Option Members → Result (Option (List (List ℕ))) KeyFault
 link_by None None = Ok None
-link_by prefix wires = names_in (unwrap_or prefix []) wires >>= (λ names. Ok (Some names))
+link_by None (Some wires) = some_names_in [] (Some wires)
+link_by (Some prefix) wires = some_names_in prefix wires
 
 unfoldable pub link_in : Members → Result (Option (List (List ℕ))) KeyFault
 link_in members = do

@@ -9,7 +9,7 @@ use Rattle.check_signals.specs.declared.wires.Places.{Places}
 abbrev pub places_in : Span → Span → Option Places
 places_in span part =
     if (nat_le part.left span.left && nat_le part.right part.left && nat_le span.right part.right)
-        || (nat_le span.left part.left && nat_le part.left part.right && nat_le part.right span.right)
+    || (nat_le span.left part.left && nat_le part.left part.right && nat_le part.right span.right)
     then (if nat_lt (abs_diff span.left part.right + 1) (2 ^ 64)
-        then Some (record { from = abs_diff span.left part.left; to = abs_diff span.left part.right + 1 }) else None)
+    then Some (record { from = abs_diff span.left part.left; to = abs_diff span.left part.right + 1 }) else None)
     else None

@@ -2,8 +2,9 @@
 ghost use Rattle.std.specs.Prelude.{◌≡◌, ◌++◌, Ok, map, option_map};
 ghost use Rattle.toml.specs.Data.{get_member};
 ghost use Rattle.toml.specs.View.{table_view, view};
+ghost use Rattle.check_samples.specs.Signal.{name_of as name_of_signal};
 ghost use Rattle.check_signals.specs.Key.{key_name};
-ghost use Rattle.check_signals.specs.Names.{Gives, all_names, each, is_low_in, link_in, link_of, link_view, links_in, name_in, names_in, names_of_file, names_view, optional_text, text_of as text_in, wires_in};
+ghost use Rattle.check_signals.specs.Names.{Gives, all_names as all_names_of, each, is_low_in, link_by, link_in, link_of, link_view, links_in, name_in, names_in, names_of_file, names_view, optional_text, some_names_in, text_of as text_in, wire_in, wires_in};
 
 use crate::fault::{Key, KeyFault};
 use check_samples::Signal;
@@ -105,6 +106,25 @@ fn joined(alloc: Global, prefix: &[u8], name: &[u8]) -> Result<Vec<u8>, KeyFault
     Ok(text)
 }
 
+/// The value at the key of a signal, if it is there.
+fn find_signal(wires: &Table, signal: Signal) -> Option<&Value>
+    ensures { option_map (λ value. view value.now) result
+        ≡ get_member (name_of_signal signal) (table_view wires.now) }
+{
+    wires.get(signal.name())
+}
+
+/// The same of wires that may be absent.
+fn wire_of(wires: Option<&Table>, signal: Signal) -> Option<&Value>
+    ensures { option_map (λ value. view value.now) result
+        ≡ wire_in (option_map (λ wires. table_view wires.now) wires.entry) signal }
+{
+    match wires {
+        Some(wires) => find_signal(wires, signal),
+        None => None,
+    }
+}
+
 /// The name of a signal: that of its wire, or else the prefix with the specification's name.
 fn name_of(
     alloc: Global,
@@ -115,28 +135,65 @@ fn name_of(
     ensures { Gives (λ text. text.items) result
         (name_in prefix.now (option_map (λ wires. table_view wires.now) wires.entry) signal) }
 {
-    if let Some(wires) = wires {
-        if let Some(value) = wires.get(signal.name()) {
-            return Ok(Vec::from_slice(alloc, text_of(value, Key::Wires)?)?);
-        }
+    match wire_of(wires, signal) {
+        Some(value) => Ok(Vec::from_slice(alloc, text_of(value, Key::Wires)?)?),
+        None => joined(alloc, prefix, signal.name().as_bytes()),
     }
-    joined(alloc, prefix, signal.name().as_bytes())
 }
 
-/// The names of all signals of a link.
+/// The names of signals of a link.
 fn names_of(
     alloc: Global,
     prefix: &[u8],
     wires: Option<&Table>,
+    signals: &[Signal],
 ) -> Result<LinkNames, KeyFault>
     ensures { Gives (λ names. map (λ name. name.items) names.items) result
-        (names_in prefix.now (option_map (λ wires. table_view wires.now) wires.entry)) }
+        (each (name_in prefix.now (option_map (λ wires. table_view wires.now) wires.entry)) signals.now) }
 {
-    let mut names = Vec::with_capacity(alloc, SIGNALS.len())?;
-    for signal in SIGNALS.iter() {
+    let mut names = Vec::with_capacity(alloc, signals.len())?;
+    for signal in signals {
         names.push(name_of(alloc, prefix, wires, *signal)?)?;
     }
     Ok(names)
+}
+
+/// The names of all signals of a link.
+fn all_names(alloc: Global, prefix: &[u8], wires: Option<&Table>) -> Result<LinkNames, KeyFault>
+    ensures { Gives (λ names. map (λ name. name.items) names.items) result
+        (names_in prefix.now (option_map (λ wires. table_view wires.now) wires.entry)) }
+{
+    names_of(alloc, prefix, wires, SIGNALS.as_slice())
+}
+
+/// The names of all signals of a link that has names.
+fn some_names(
+    alloc: Global,
+    prefix: &[u8],
+    wires: Option<&Table>,
+) -> Result<Option<LinkNames>, KeyFault>
+    ensures { Gives link_view result
+        (some_names_in prefix.now (option_map (λ wires. table_view wires.now) wires.entry)) }
+{
+    Ok(Some(all_names(alloc, prefix, wires)?))
+}
+
+/// The names of a link's signals, if there is a prefix or there are wires.
+fn names_if_any(
+    alloc: Global,
+    prefix: Option<&[u8]>,
+    wires: Option<&Table>,
+) -> Result<Option<LinkNames>, KeyFault>
+    ensures { Gives link_view result (link_by (option_map (λ prefix. prefix.now) prefix.entry)
+        (option_map (λ wires. table_view wires.now) wires.entry)) }
+{
+    match prefix {
+        Some(prefix) => some_names(alloc, prefix, wires),
+        None => match wires {
+            Some(wires) => some_names(alloc, b"", Some(wires)),
+            None => Ok(None),
+        },
+    }
 }
 
 /// The names of the signals of the link that a table is of, if it gives any.
@@ -146,10 +203,7 @@ fn link_names(alloc: Global, table: &Table) -> Result<Option<LinkNames>, KeyFaul
 {
     let prefix = text_if_any(table, Key::Signals)?;
     let wires = wires_if_any(table)?;
-    if prefix.is_none() && wires.is_none() {
-        return Ok(None);
-    }
-    Ok(Some(names_of(alloc, prefix.unwrap_or(b""), wires)?))
+    names_if_any(alloc, prefix, wires)
 }
 
 /// The names of the signals of each link of a kind, of which there may be none.
@@ -167,11 +221,7 @@ fn links_at(alloc: Global, table: &Table, key: Key) -> Result<Vec<Option<LinkNam
 }
 
 #[tactic(auto, unfolding(crate::specs::Names::link_of))]
-fn links_of(
-    alloc: Global,
-    values: &[Value],
-    key: Key,
-) -> Result<Vec<Option<LinkNames>>, KeyFault>
+fn links_of(alloc: Global, values: &[Value], key: Key) -> Result<Vec<Option<LinkNames>>, KeyFault>
     ensures { Gives (λ links. map link_view links.items) result
         (each (link_of key) (map view values.now)) }
 {
@@ -188,7 +238,7 @@ fn links_of(
 /// The names that a system's table gives.
 #[tactic(auto, unfolding(crate::specs::Names::all_names))]
 fn names_of_table(alloc: Global, table: &Table) -> Result<Names, KeyFault>
-    ensures { Gives names_view result (all_names (table_view table.now)) }
+    ensures { Gives names_view result (all_names_of (table_view table.now)) }
 {
     let Some(clock) = text_if_any(table, Key::Clock)? else {
         return Err(KeyFault::Missing(Key::Clock));

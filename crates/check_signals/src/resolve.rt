@@ -330,7 +330,7 @@ pub struct Resolved {
 
 /// Finds the signals that a system file names among those that a dump declares: the clock, the reset, and then port by
 /// port and master by master those of its link.
-pub fn resolve(alloc: Global, names: &Names, vars: &[Var]) -> Result<Resolved, SignalFault> {
+pub fn find_signals(alloc: Global, names: &Names, vars: &[Var]) -> Result<Resolved, SignalFault> {
     let kept = Kept {
         values: Values::new(alloc),
         codes: Vec::new(alloc),

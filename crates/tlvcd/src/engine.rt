@@ -2,7 +2,7 @@
 use crate::fault::WaveFault;
 use crate::input::read_up_to;
 use check_samples::Sampler;
-use check_signals::{Names, read_names, resolve};
+use check_signals::{Names, find_signals, read_names};
 use check_system::{MAX_SYSTEM, read_system};
 use check_vcd::{Dump, Event};
 use std::alloc::{AllocError, Global};
@@ -43,7 +43,7 @@ fn open<D: Read + Drop>(
     names: &Names,
 ) -> Result<(Dump<D>, Sampler), WaveFault> {
     let (vars, mut dump) = Dump::open(alloc, reader)?;
-    let resolved = resolve(alloc, names, &vars)?;
+    let resolved = find_signals(alloc, names, &vars)?;
     keep_all(alloc, &mut dump, &resolved.codes)?;
     let sampler = Sampler::new(resolved.probes, resolved.values);
     Ok((dump, sampler))

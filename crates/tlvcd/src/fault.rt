@@ -3,8 +3,8 @@ ghost use Rattle.std.specs.Prelude.{◌≡◌};
 ghost use Rattle.tlvcd.specs.Fault.{of_dump, of_keys, of_read, of_sample, of_system, status_of};
 ghost use Rattle.tlvcd.specs.declared.fault.WaveFault.TheVariants.{Write, Memory};
 
-use check_samples::{SampleFault, UnknownBit};
 use check_link::Link;
+use check_samples::{SampleFault, UnknownBit};
 use check_signals::{KeyFault, SignalFault};
 use check_system::SystemFault;
 use check_vcd::{DumpFault, Mistake};
@@ -56,8 +56,14 @@ fn write_beat<W: fmt::Write>(f: &mut fmt::Formatter<W>, unknown: &UnknownBit) ->
         "D"
     };
     match unknown.link {
-        Link::Master(number) => write!(f, "tlvcd: time {time}, m{number} {channel}: {signal} is unknown"),
-        Link::Port(number) => write!(f, "tlvcd: time {time}, p{number} {channel}: {signal} is unknown"),
+        Link::Master(number) => write!(
+            f,
+            "tlvcd: time {time}, m{number} {channel}: {signal} is unknown"
+        ),
+        Link::Port(number) => write!(
+            f,
+            "tlvcd: time {time}, p{number} {channel}: {signal} is unknown"
+        ),
     }
 }
 
