@@ -1,7 +1,9 @@
 -- The rows of what happens in a dump. This project's own.
-use Rattle.std.specs.Prelude.{◌≡◌, ℕ, ◌==◌, Bool, true, false, nat_lt, List, [], ◌∷◌, length, Option, None, Some, if◌then◌else◌}
+use Rattle.std.specs.Prelude.{◌≡◌, ℕ, ◌==◌, Bool, true, false, nat_lt, List, [], ◌∷◌, ◌++◌, length, Option, None, Some, Result, Ok, Err, if◌then◌else◌}
 use Rattle.check_vcd.specs.Body.{Happens, At, Sets, Wrong}
 use Rattle.check_samples.specs.Digits.{set_extended}
+use Rattle.check_samples.specs.declared.sampler.SampleFault.{SampleFault}
+use Rattle.check_samples.specs.declared.sampler.SampleFault.TheVariants.{Unknown, Memory}
 use Rattle.check_samples.specs.Rows.{Probes, Rows, and_then, has_edge, no_rows, rows_of}
 
 -- what is looked at; the values before the present time and at it, and how many bits each has; and the present time
@@ -50,3 +52,12 @@ rows_from (At time ∷ happens) s =
     else and_then (rows_now s) (rows_from happens (at_time s time))
 rows_from (Sets slot digits ∷ happens) s = rows_from happens (with_value s slot digits)
 rows_from (Wrong line mistake ∷ happens) s = no_rows
+
+-- ---- what calls answer
+
+-- the rows that were to come are those that were appended and those that are left to come; or the first beat that is
+-- none was met, behind all rows before it; unless memory ran out
+abbrev pub Leads : Result Unit SampleFault → List ℕ → List ℕ → Rows → Rows → Type 0
+Leads (Ok done) old new before left = (new ++ left.text ≡ old ++ before.text) × (left.fault ≡ before.fault)
+Leads (Err (Unknown fault)) old new before left = (new ≡ old ++ before.text) × (before.fault ≡ Some fault)
+Leads (Err Memory) old new before left = Unit {0}

@@ -1,5 +1,5 @@
 //! The beats that cross, edge by edge.
-ghost use Rattle.std.specs.Prelude.{◌≡◌, None, IfOk, OnOk};
+ghost use Rattle.std.specs.Prelude.{◌≡◌, ◌∷◌, List, None, IfOk, OnOk};
 ghost use Rattle.check_samples.specs.Rows.{Appended, Writes, crosses, is_one, has_edge, is_active, is_zero, row_at, rows_at, rows_of, view_of};
 ghost use Rattle.check_samples.specs.Values.{all_before, all_now, all_widths};
 
@@ -8,6 +8,7 @@ use crate::row::{ask_cells, push_ask, push_reply, reply_cells};
 use crate::signal::Signal;
 use crate::tap::Tap;
 use crate::values::Values;
+use check_vcd::Event;
 use std::alloc::AllocError;
 use std::marker::Model;
 
@@ -177,7 +178,8 @@ impl Model for Sampler {
 }
 
 impl Sampler {
-    ghost use Rattle.check_samples.specs.Sampling.{at_time, is_at, rows_now, with_value};
+    ghost use Rattle.check_vcd.specs.Body.{Happens, happens_of};
+    ghost use Rattle.check_samples.specs.Sampling.{Leads, at_time, is_at, rows_from, rows_now, with_value};
 
     /// Before anything has happened: each value is unknown, save those that are given.
     pub fn new(probes: Probes, values: Values) -> Sampler
@@ -195,7 +197,7 @@ impl Sampler {
     }
 
     /// Changes the value in a slot; a slot that is not kept is left alone.
-    pub fn change(&mut self, slot: usize, digits: &[u8]) -> Result<(), AllocError>
+    fn change(&mut self, slot: usize, digits: &[u8]) -> Result<(), AllocError>
         ensures { OnOk result (self.new ≡ with_value self.old slot digits.now) }
     {
         if slot < self.values.count() {
@@ -218,7 +220,7 @@ impl Sampler {
     }
 
     /// A time begins; nothing is changed by the present one.
-    pub fn begin(&mut self, time: u64) -> Result<(), AllocError>
+    fn begin(&mut self, time: u64) -> Result<(), AllocError>
         ensures { OnOk result (self.new ≡ at_time self.old time) }
     {
         if self.time == Some(time) {
@@ -229,8 +231,33 @@ impl Sampler {
         Ok(())
     }
 
+    /// Takes what happens next in a dump, with the digits of a value that changes. If a time begins, the rows of the one
+    /// before are appended, up to the first beat that is none.
+    pub fn take(
+        &mut self,
+        text: &mut Vec<u8>,
+        event: Event,
+        digits: &[u8],
+    ) -> Result<(), SampleFault>
+        ensures { (rest : List Happens) → Leads result text.old.items text.new.items
+            (rows_from (happens_of event digits.now ∷ rest) self.old) (rows_from rest self.new) }
+    {
+        match event {
+            Event::Change(slot) => self.change(slot, digits)?,
+            Event::Time(time) => {
+                if !self.is_at(time) {
+                    match self.push_rows(text) {
+                        Ok(()) => self.begin(time)?,
+                        Err(fault) => return Err(fault),
+                    }
+                }
+            }
+        }
+        Ok(())
+    }
+
     /// Whether this is the present time.
-    pub fn is_at(&self, time: u64) -> bool
+    fn is_at(&self, time: u64) -> bool
         ensures { result ≡ is_at self.now time }
     {
         self.time == Some(time)

@@ -3,7 +3,7 @@ ghost use Rattle.std.specs.Prelude.{Some};
 
 use check_samples::{SampleFault, Sampler};
 use check_signals::{SignalFault, find_signals, read_names};
-use check_vcd::{Dump, DumpFault, Event, Mistake};
+use check_vcd::{Dump, DumpFault, Mistake};
 use std::alloc::Global;
 use std::io;
 use std::io::{ErrorKind, Read};
@@ -39,7 +39,7 @@ impl<'a> Read for Trickle<'a> {
 }
 
 /// A reader of these bytes, so many at a time.
-fn trickle(text: &[u8], step: usize) -> Trickle<'_> {
+fn reader_of(text: &[u8], step: usize) -> Trickle<'_> {
     Trickle {
         rest: text,
         step,
@@ -58,29 +58,16 @@ enum Outcome {
 }
 
 /// The rows of a dump behind its header, or its fault.
-fn rows_of(
-    rt: &impl Abort,
-    mut dump: Dump<Trickle<'_>>,
-    mut sampler: Sampler,
-    alloc: Global,
-) -> Outcome {
+fn rows_of(mut dump: Dump<Trickle<'_>>, mut sampler: Sampler, alloc: Global) -> Outcome {
     let mut text = Vec::new(alloc);
     for _ in 0..u32::MAX {
-        match dump.read() {
+        let event = match dump.read() {
             Err(fault) => return Outcome::Dump(fault),
             Ok(None) => break,
-            Ok(Some(Event::Change(slot))) => {
-                let changed = sampler.change(slot, dump.value());
-                assert!(rt; changed.is_ok());
-            }
-            Ok(Some(Event::Time(time))) => {
-                if !sampler.is_at(time) {
-                    if let Err(fault) = sampler.push_rows(&mut text) {
-                        return Outcome::Unknown(text, fault);
-                    }
-                    assert!(rt; sampler.begin(time).is_ok());
-                }
-            }
+            Ok(Some(event)) => event,
+        };
+        if let Err(fault) = sampler.take(&mut text, event, dump.value()) {
+            return Outcome::Unknown(text, fault);
         }
     }
     match sampler.push_rows(&mut text) {
@@ -104,12 +91,12 @@ fn outcome_of(rt: &impl Abort, alloc: Global, system: &[u8], reader: Trickle<'_>
         assert!(rt; dump.keep(alloc, code, slot).is_ok());
     }
     let sampler = Sampler::new(resolved.probes, resolved.values);
-    rows_of(rt, dump, sampler, alloc)
+    rows_of(dump, sampler, alloc)
 }
 
 /// A clock, a reset that is active at 0, and the link of a master with constants for most signals.
 const SYSTEM: &[u8] =
-    b"clock = 'c'\nreset = 'r'\nreset_active = 'low'\n[[master]]\nwires = { a_valid = 's.v[0]', a_ready = 's.g[1].rdy', a_opcode = '1', a_param = '0', a_size = 's.n[2:1]', a_source = 's.\\\\esc+', a_address = '0', a_mask = '1', a_data = '0', d_valid = '0', d_ready = '0', d_opcode = '0', d_size = '0', d_source = '0', d_data = '0', d_denied = '0', d_corrupt = '0' }\n";
+    b"clock = 'c'\nreset = 'r'\nreset_active = 'low'\n[[master]]\nwires = { a_valid = 's.v[0]', a_ready = 's.g[1].rdy', a_opcode = '1', a_param = '0', a_size = 's.n[2:1]', a_source = 's.\\esc+', a_address = '0', a_mask = '1', a_data = '0', d_valid = '0', d_ready = '0', d_opcode = '0', d_size = '0', d_source = '0', d_data = '0', d_denied = '0', d_corrupt = '0' }\n";
 
 /// The header of its dumps: scopes of generated blocks, a name with brackets, an escaped one, and two names of one signal.
 const HEAD: &[u8] =
@@ -127,7 +114,7 @@ fn joined(rt: &impl Abort, alloc: Global, head: &[u8], body: &[u8]) -> Vec<u8> {
 fn expect_rows(rt: &impl Abort, alloc: Global, body: &[u8], rows: &[u8]) {
     let text = joined(rt, alloc, HEAD, body);
     for step in [1, 2, 7, 100_000] {
-        match outcome_of(rt, alloc, SYSTEM, trickle(&text, step)) {
+        match outcome_of(rt, alloc, SYSTEM, reader_of(&text, step)) {
             Outcome::Rows(found) => assert_eq!(rt; found.as_slice(), rows),
             other => panic!(rt; "{other:?}"),
         }
@@ -173,7 +160,7 @@ fn rows_of_edges(rt: HostRuntime) {
 /// A body has this fault.
 fn expect_mistake(rt: &impl Abort, alloc: Global, body: &[u8], line: u64, mistake: Mistake) {
     let text = joined(rt, alloc, HEAD, body);
-    match outcome_of(rt, alloc, SYSTEM, trickle(&text, 3)) {
+    match outcome_of(rt, alloc, SYSTEM, reader_of(&text, 3)) {
         Outcome::Dump(fault) => assert!(rt; fault == DumpFault::At(line, mistake)),
         other => panic!(rt; "{other:?}"),
     }
@@ -196,7 +183,7 @@ fn faults_of_bodies(rt: HostRuntime) {
 
 /// A whole text has this fault.
 fn expect_no_dump(rt: &impl Abort, alloc: Global, text: &[u8], line: u64, mistake: Mistake) {
-    match outcome_of(rt, alloc, SYSTEM, trickle(text, 3)) {
+    match outcome_of(rt, alloc, SYSTEM, reader_of(text, 3)) {
         Outcome::Dump(fault) => assert!(rt; fault == DumpFault::At(line, mistake)),
         other => panic!(rt; "{other:?}"),
     }
@@ -230,7 +217,7 @@ fn a_dump_that_is_cut_has_a_front_of_the_rows(rt: HostRuntime) {
         b"0! 1\" b101 # 1$ 1' 1& #5 1! #6 0! #7 1!\n",
     );
     for len in HEAD.len()..text.len() {
-        match outcome_of(&rt, alloc, SYSTEM, trickle(&text[..len], 64)) {
+        match outcome_of(&rt, alloc, SYSTEM, reader_of(&text[..len], 64)) {
             Outcome::Rows(found) => {
                 assert!(&rt; found.is_empty() || found.as_slice() == ROW_AT_5)
             }
@@ -248,7 +235,7 @@ fn an_unknown_bit_is_told_behind_the_rows_before_it(rt: HostRuntime) {
         HEAD,
         b"0! 1\" b101 # 1$ 1' 1& #5 1! #6 0! b1x # #7 1!\n",
     );
-    match outcome_of(&rt, alloc, SYSTEM, trickle(&text, 9)) {
+    match outcome_of(&rt, alloc, SYSTEM, reader_of(&text, 9)) {
         Outcome::Unknown(found, SampleFault::Unknown(unknown)) => {
             assert!(&rt; found.as_slice() == ROW_AT_5);
             assert!(&rt; unknown.time == 7);
@@ -262,8 +249,8 @@ fn an_unknown_bit_is_told_behind_the_rows_before_it(rt: HostRuntime) {
 fn a_read_that_fails_is_the_fault(rt: HostRuntime) {
     let alloc = rt.alloc();
     let text = joined(&rt, alloc, HEAD, b"0! #5 1!\n");
-    for fails_at in 0..8 {
-        let mut reader = trickle(&text, 64);
+    for fails_at in 0..7 {
+        let mut reader = reader_of(&text, 64);
         reader.fails_at = fails_at;
         let outcome = outcome_of(&rt, alloc, SYSTEM, reader);
         assert!(&rt; matches!(outcome, Outcome::Dump(DumpFault::Read)));
@@ -272,7 +259,7 @@ fn a_read_that_fails_is_the_fault(rt: HostRuntime) {
 
 /// A wire that is not found, or has a wrong width.
 fn expect_signal_fault(rt: &impl Abort, alloc: Global, system: &[u8], line: &str) {
-    match outcome_of(rt, alloc, system, trickle(HEAD, 64)) {
+    match outcome_of(rt, alloc, system, reader_of(HEAD, 64)) {
         Outcome::Signal(fault) => {
             let text = format!(in alloc; "{fault}").expect(rt, "a text");
             assert_eq!(rt; text.as_str(), line);

@@ -4,7 +4,7 @@ use crate::input::read_up_to;
 use check_samples::Sampler;
 use check_signals::{Names, find_signals, read_names};
 use check_system::{MAX_SYSTEM, read_system};
-use check_vcd::{Dump, Event};
+use check_vcd::Dump;
 use std::alloc::{AllocError, Global};
 use std::io::{Read, Write};
 use tl_streams::{LimitedReader, LimitedWriter, write_all};
@@ -57,19 +57,13 @@ fn push_all<D: Read + Drop, W: Write>(
     writer: &mut LimitedWriter<'_, W>,
 ) -> Result<(), WaveFault> {
     for _ in 0..u64::MAX {
-        match dump.read()? {
-            Some(Event::Change(slot)) => sampler.change(slot, dump.value())?,
-            Some(Event::Time(time)) => {
-                if !sampler.is_at(time) {
-                    sampler.push_rows(text)?;
-                    sampler.begin(time)?;
-                }
-                if text.len() >= ROOM {
-                    write_all(writer, text)?;
-                    text.clear();
-                }
-            }
-            None => return Ok(sampler.push_rows(text)?),
+        let Some(event) = dump.read()? else {
+            return Ok(sampler.push_rows(text)?);
+        };
+        sampler.take(text, event, dump.value())?;
+        if text.len() >= ROOM {
+            write_all(writer, text)?;
+            text.clear();
         }
     }
     Err(WaveFault::Read)
