@@ -233,7 +233,7 @@ fn an_unknown_bit_is_told_behind_the_rows_before_it(rt: HostRuntime) {
         &rt,
         alloc,
         HEAD,
-        b"0! 1\" b101 # 1$ 1' 1& #5 1! #6 0! b1x # #7 1!\n",
+        b"0! 1\" b101 # 1$ 1' 1& #5 1! #6 0! b1x1 # #7 1!\n",
     );
     match outcome_of(&rt, alloc, SYSTEM, reader_of(&text, 9)) {
         Outcome::Unknown(found, SampleFault::Unknown(unknown)) => {
