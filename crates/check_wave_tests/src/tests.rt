@@ -1,7 +1,5 @@
 //! Dumps, and the rows that they hold.
-ghost use Rattle.std.specs.Prelude.{Some};
-
-use check_samples::{SampleFault, Sampler};
+use check_samples::{SampleFault, Sampler, Signal};
 use check_signals::{SignalFault, find_signals, read_names};
 use check_vcd::{Dump, DumpFault, Mistake};
 use std::alloc::Global;
@@ -19,8 +17,6 @@ struct Trickle<'a> {
 }
 
 impl<'a> Read for Trickle<'a> {
-    ghost remaining = { λ r. Some r.rest.now };
-
     fn read(&mut self, buf: &mut [u8]) -> io::Result<usize> {
         let call = self.reads;
         self.reads = self.reads.saturating_add(1);
@@ -49,7 +45,7 @@ fn reader_of(text: &[u8], step: usize) -> Trickle<'_> {
 }
 
 /// What becomes of a dump.
-#[derive(Debug, Drop)]
+#[derive(Drop)]
 enum Outcome {
     Rows(Vec<u8>),
     Unknown(Vec<u8>, SampleFault),
@@ -116,7 +112,7 @@ fn expect_rows(rt: &impl Abort, alloc: Global, body: &[u8], rows: &[u8]) {
     for step in [1, 2, 7, 100_000] {
         match outcome_of(rt, alloc, SYSTEM, reader_of(&text, step)) {
             Outcome::Rows(found) => assert_eq!(rt; found.as_slice(), rows),
-            other => panic!(rt; "{other:?}"),
+            _ => panic!(rt; "another outcome"),
         }
     }
 }
@@ -162,7 +158,7 @@ fn expect_mistake(rt: &impl Abort, alloc: Global, body: &[u8], line: u64, mistak
     let text = joined(rt, alloc, HEAD, body);
     match outcome_of(rt, alloc, SYSTEM, reader_of(&text, 3)) {
         Outcome::Dump(fault) => assert!(rt; fault == DumpFault::At(line, mistake)),
-        other => panic!(rt; "{other:?}"),
+        _ => panic!(rt; "another outcome"),
     }
 }
 
@@ -185,7 +181,7 @@ fn faults_of_bodies(rt: HostRuntime) {
 fn expect_no_dump(rt: &impl Abort, alloc: Global, text: &[u8], line: u64, mistake: Mistake) {
     match outcome_of(rt, alloc, SYSTEM, reader_of(text, 3)) {
         Outcome::Dump(fault) => assert!(rt; fault == DumpFault::At(line, mistake)),
-        other => panic!(rt; "{other:?}"),
+        _ => panic!(rt; "another outcome"),
     }
 }
 
@@ -221,7 +217,7 @@ fn a_dump_that_is_cut_has_a_front_of_the_rows(rt: HostRuntime) {
             Outcome::Rows(found) => {
                 assert!(&rt; found.is_empty() || found.as_slice() == ROW_AT_5)
             }
-            other => panic!(&rt; "{other:?}"),
+            _ => panic!(&rt; "another outcome"),
         }
     }
 }
@@ -235,13 +231,24 @@ fn an_unknown_bit_is_told_behind_the_rows_before_it(rt: HostRuntime) {
         HEAD,
         b"0! 1\" b101 # 1$ 1' 1& #5 1! #6 0! b1x1 # #7 1!\n",
     );
-    match outcome_of(&rt, alloc, SYSTEM, reader_of(&text, 9)) {
-        Outcome::Unknown(found, SampleFault::Unknown(unknown)) => {
-            assert!(&rt; found.as_slice() == ROW_AT_5);
-            assert!(&rt; unknown.time == 7);
-            assert!(&rt; unknown.signal.name() == "a_size");
-        }
-        other => panic!(&rt; "{other:?}"),
+    let (found, fault) = unknown_of(&rt, outcome_of(&rt, alloc, SYSTEM, reader_of(&text, 9)));
+    assert!(&rt; found.as_slice() == ROW_AT_5);
+    assert!(&rt; is_size_at_7(fault));
+}
+
+/// The rows before a beat that is none, and why it is none.
+fn unknown_of(rt: &impl Abort, outcome: Outcome) -> (Vec<u8>, SampleFault) {
+    match outcome {
+        Outcome::Unknown(found, fault) => (found, fault),
+        _ => panic!(rt; "another outcome"),
+    }
+}
+
+/// Whether a size is unknown at time 7.
+fn is_size_at_7(fault: SampleFault) -> bool {
+    match fault {
+        SampleFault::Unknown(unknown) => unknown.time == 7 && unknown.signal == Signal::ASize,
+        SampleFault::Memory => false,
     }
 }
 
@@ -264,7 +271,7 @@ fn expect_signal_fault(rt: &impl Abort, alloc: Global, system: &[u8], line: &str
             let text = format!(in alloc; "{fault}").expect(rt, "a text");
             assert_eq!(rt; text.as_str(), line);
         }
-        other => panic!(rt; "{other:?}"),
+        _ => panic!(rt; "another outcome"),
     }
 }
 
