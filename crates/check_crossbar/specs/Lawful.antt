@@ -5,6 +5,8 @@ use Rattle.check_link.specs.declared.beat.Beat.{Beat}
 use Rattle.check_link.specs.declared.beat.Beat.TheVariants.{A, D}
 use Rattle.check_link.specs.declared.beat.Sighting.{Sighting}
 use Rattle.check_crossbar.specs.declared.fault.Fault.{Fault}
+use Rattle.check_crossbar.specs.declared.fault.StepError.{StepError}
+use Rattle.check_crossbar.specs.declared.fault.StepError.TheVariants.{Unlawful, Memory}
 use Rattle.check_crossbar.specs.Plan.{Plan}
 use Rattle.check_crossbar.specs.declared.seen.Seen.{Seen}
 use Rattle.check_crossbar.specs.Scene.{Scene, seen}
@@ -35,3 +37,8 @@ IsFirstFault plan past x = IsFirstFaultOf plan (scene plan past x) x x.beat
 -- what a beat ends after this past
 abbrev pub what_is_seen : Plan → List Sighting → Sighting → Seen
 what_is_seen plan past x = seen plan.layout x.link (scene plan past x) x.beat
+
+-- what is said of the fault, where a step is refused for one
+abbrev pub OfFault : (Fault → Type 0) → StepError → Type 0
+OfFault Is (Unlawful fault) = Is fault
+OfFault Is Memory = Unit {0}

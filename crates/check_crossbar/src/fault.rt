@@ -36,6 +36,17 @@ pub enum Fault {
     WrongReply(Reply, Reply),
 }
 
+/// Why a step is not taken.
+#[derive(Debug, Drop, Error)]
+pub enum StepError {
+    /// The beat is not lawful after those before it.
+    #[error("{0}")]
+    Unlawful(Fault),
+    /// It may be: what would be kept of it has no room.
+    #[error("memory refused")]
+    Memory,
+}
+
 /// Why a beat is not lawful, but for the reply that it ends. A fault of that tells both replies, which are some 600
 /// bytes long: it is made where a beat is refused, and this is what the judge hands on.
 #[derive(Debug, Clone, Copy, PartialEq, Eq)]

@@ -10,7 +10,7 @@
 //! What is lawful is said beat by beat (`specs/Allowed.antt`) by what the beat finds: the messages under way at its
 //! link, what is in flight of its source, how far that has come across, and its port's slave (`specs/Scene.antt`,
 //! `specs/Past.antt`); what is kept of these is `check_traffic`'s. A request takes effect with its last beat, or with
-//! the first beat of its reply, as its port's [`Order`] says. No step takes memory.
+//! the first beat of its reply, as its port's [`Order`] says. No step takes memory, so none answers [`StepError::Memory`].
 //!
 //! Read on in `docs/MODEL.md`, "The judge over such systems".
 #![tactic(auto)]
@@ -25,9 +25,10 @@ mod replies;
 mod seen;
 mod watch;
 
-pub use fault::Fault;
+pub use fault::{Fault, Reason, StepError};
 pub use links::Links;
 pub use order::Order;
 pub use pending::{Change, Origin};
+pub use replies::{answer_fault, entry_of, is_same};
 pub use seen::{Ended, Seen};
 pub use watch::Watch;

@@ -47,7 +47,7 @@ fn is_known(ask: &Ask, beat: &DBeat, known: u8) -> bool
 }
 
 /// The first fault of a beat as an answer to what is in flight of its source, at the link of this number.
-fn answer_fault(flight: &Flight, number: usize, beat: &DBeat, known: u8) -> Option<Reason>
+pub fn answer_fault(flight: &Flight, number: usize, beat: &DBeat, known: u8) -> Option<Reason>
     ensures fault { IfSome result (λ reason. IsFirstOf (HasAnswerFault number flight.now.turn beat.now known) fault_rank
         (fault_of reason)) }
     ensures none { IfNone result (OfAsked number flight.now.turn (IsAnswer beat.now known)) }
@@ -81,7 +81,7 @@ fn is_same_but_source(expected: &Reply, captured: &Reply) -> bool
 }
 
 /// Whether two replies are the same.
-fn is_same(expected: &Reply, captured: &Reply) -> bool
+pub fn is_same(expected: &Reply, captured: &Reply) -> bool
     ensures { IsTrue result ↔ (expected.now ≡ captured.now) }
 {
     expected.source() == captured.source() && is_same_but_source(expected, captured)
@@ -279,7 +279,7 @@ fn must_come(
 }
 
 /// The entry of a request that gets this answer.
-fn entry_of(ask: &Ask, answer: Answer) -> Entry
+pub fn entry_of(ask: &Ask, answer: Answer) -> Entry
     ensures { result ≡ entry_of ask.now answer }
 {
     Entry {

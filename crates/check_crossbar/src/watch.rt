@@ -1,5 +1,5 @@
 //! The judge of what crossed the links of a crossbar.
-ghost use Rattle.std.specs.Prelude.{◌≡◌, ◌<◌, ◌≤◌, ◌↔◌, ◌+◌, ℕ, List, [], ◌∷◌, ◌++◌, length, map, false, Some, None, IsTrue, IfOk, IsOk, OnOk, OnErr, IfErr, IfSome, IsSome, IfNone, OnSome};
+ghost use Rattle.std.specs.Prelude.{◌≡◌, ◌<◌, ◌≤◌, ◌↔◌, ◌+◌, ℕ, List, [], ◌∷◌, ◌++◌, length, map, false, Some, None, IsTrue, IfOk, IsOk, OnOk, OnErr, IfErr, Err, IfSome, IsSome, IfNone, OnSome};
 ghost use Rattle.check_map.specs.Owner.{IsOwned};
 ghost use Rattle.check_map.specs.Ranges.{RoutesBytes};
 ghost use Rattle.check_link.specs.declared.beat.Beat.{Beat};
@@ -17,11 +17,11 @@ ghost use Rattle.check_traffic.specs.Slave.{answer_by};
 ghost use Rattle.check_crossbar.specs.Past.{port_of};
 ghost use Rattle.check_crossbar.specs.Plan.{Plan, IsPlan, Side, side_of, HasLink, HasSource, IsWideAt, number_of, crosses, are_both, order_at, is_at_acceptance, IsWatched};
 ghost use Rattle.check_crossbar.specs.Scene.{takes_effect, is_given, ended};
-ghost use Rattle.check_crossbar.specs.Lawful.{IsLawful, IsFirstFault, what_is_seen};
+ghost use Rattle.check_crossbar.specs.Lawful.{IsLawful, IsFirstFault, OfFault, what_is_seen};
 ghost use Rattle.check_crossbar.specs.View.{View, IsSized, stores_in, wides_in, Suits, Keeps, side_in, under_in, flight_in, crossing_at, crossings_given, fresh_slave, slave_at, slaves_with, effect_in, is_late_in, late_answer, with_answer, with_ask_at, with_ask, with_due, with_late, with_part, with_end};
 
 use crate::asks::judge_ask;
-use crate::fault::Fault;
+use crate::fault::{Fault, StepError};
 use crate::links::Links;
 use crate::order::Order;
 use crate::replies::{judge_reply, lawful_reply, seen_end};
@@ -567,11 +567,8 @@ impl Watch {
         Some(Ended::Reply)
     }
 
-    /// Takes one beat more, at a link that is watched, where it is lawful: what it ends. Where it is not, nothing
-    /// changes.
-    ///
-    /// It costs less than [`Watch::step`], which makes the fault or the reply that a beat ends, too.
-    pub fn take(&mut self, sighting: &Sighting) -> Option<Ended>
+    /// Takes one beat more, at a link that is watched, where it is lawful: what it ends.
+    pub fn admit(&mut self, sighting: &Sighting) -> Option<Ended>
         requires known { HasLink self.old.layout sighting.now.link }
         requires watched { IsWatched self.old.layout.links sighting.now.link }
         ensures lawful { (plan : Plan) (past : List Sighting) → Keeps plan past self.old
@@ -588,8 +585,8 @@ impl Watch {
         }
     }
 
-    /// Judges one beat more, at a link that is watched: what it ends, or its first fault, which changes nothing.
-    pub fn step(&mut self, sighting: &Sighting) -> Result<Seen, Fault>
+    /// Judges one beat more, at a link that is watched: what it ends, or its first fault.
+    pub fn judge(&mut self, sighting: &Sighting) -> Result<Seen, Fault>
         requires known { HasLink self.old.layout sighting.now.link }
         requires watched { IsWatched self.old.layout.links sighting.now.link }
         ensures lawful { (plan : Plan) (past : List Sighting) → Keeps plan past self.old
@@ -605,6 +602,47 @@ impl Watch {
         match &sighting.beat {
             Beat::A(beat) => self.step_ask(sighting.link, beat, sighting.known),
             Beat::D(beat) => self.step_reply(sighting.link, beat, sighting.known),
+        }
+    }
+
+    /// Takes one beat more, at a link that is watched, where it is lawful: what it ends. `None` says that it is not. Then
+    /// nothing changes, nor where memory is refused.
+    ///
+    /// It costs less than [`Watch::step`], which makes the fault or the reply that a beat ends, too.
+    pub fn take(&mut self, sighting: &Sighting) -> Result<Option<Ended>, AllocError>
+        requires known { HasLink self.old.layout sighting.now.link }
+        requires watched { IsWatched self.old.layout.links sighting.now.link }
+        ensures lawful { (plan : Plan) (past : List Sighting) → Keeps plan past self.old
+            → IfOk result (λ end. IsSome end ↔ IsLawful plan (sighting.now ∷ past)) }
+        ensures keeps { (plan : Plan) (past : List Sighting) → Keeps plan past self.old
+            → IfOk result (λ end. OnSome end (Keeps plan (sighting.now ∷ past) self.new)) }
+        ensures ended { (plan : Plan) (past : List Sighting) → Keeps plan past self.old
+            → IfOk result (λ end. IfSome end (λ e. e ≡ ended (what_is_seen plan past sighting.now))) }
+        ensures none { IfOk result (λ end. IfNone end (self.new ≡ self.old)) }
+        ensures err { OnErr result (self.new ≡ self.old) }
+        ensures ready { IsOk result }
+    {
+        Ok(self.admit(sighting))
+    }
+
+    /// Judges one beat more, at a link that is watched: what it ends, or its first fault. An `Err` changes nothing.
+    pub fn step(&mut self, sighting: &Sighting) -> Result<Seen, StepError>
+        requires known { HasLink self.old.layout sighting.now.link }
+        requires watched { IsWatched self.old.layout.links sighting.now.link }
+        ensures lawful { (plan : Plan) (past : List Sighting) → Keeps plan past self.old
+            → (result ≡ Err StepError.Memory → ⊥) → IsOk result ↔ IsLawful plan (sighting.now ∷ past) }
+        ensures keeps { (plan : Plan) (past : List Sighting) → Keeps plan past self.old
+            → OnOk result (Keeps plan (sighting.now ∷ past) self.new) }
+        ensures seen { (plan : Plan) (past : List Sighting) → Keeps plan past self.old
+            → IfOk result (λ s. s ≡ what_is_seen plan past sighting.now) }
+        ensures fault { (plan : Plan) (past : List Sighting) → Keeps plan past self.old
+            → IfErr result (OfFault (IsFirstFault plan past sighting.now)) }
+        ensures err { OnErr result (self.new ≡ self.old) }
+        ensures ready { IfErr result (λ why. why ≡ StepError.Memory → ⊥) }
+    {
+        match self.judge(sighting) {
+            Ok(seen) => Ok(seen),
+            Err(fault) => Err(StepError::Unlawful(fault)),
         }
     }
 }

@@ -5,7 +5,7 @@
 //! hosts have two sources each, with the host's number in the low two bits: host 2 has the wide sources 2 and 6. Nobody
 //! has 3 and 7.
 use super::map::{are_ranges, ports_of, range};
-use check_crossbar::{Change, Fault, Links, Order, Origin, Seen, Watch};
+use check_crossbar::{Change, Links, Order, Origin, Seen, StepError, Watch};
 use check_link::{Beat, Link, Sighting};
 use check_map::{Map, Owner, Sources};
 use std::alloc::Global;
@@ -107,7 +107,7 @@ fn sighting(row: &Row) -> Sighting {
 }
 
 /// What the judge says of one beat more.
-fn step(rt: &impl Abort, watch: &mut Watch, row: &Row) -> Result<Seen, Fault> {
+fn step(rt: &impl Abort, watch: &mut Watch, row: &Row) -> Result<Seen, StepError> {
     let seen = sighting(row);
     assert!(rt; watch.watches(seen.link));
     watch.step(&seen)

@@ -5,7 +5,7 @@ use Rattle.check_link.specs.declared.beat.Beat.TheVariants.{A, D}
 use Rattle.check_link.specs.declared.beat.Sighting.{Sighting}
 use Rattle.check_crossbar.specs.Lawful.{IsLawful}
 use Rattle.check_crossbar.proofs.Keeping.{lawful_taken}
-use Rattle.check_crossbar.proofs.watch.Watch.take.Goals as goal
+use Rattle.check_crossbar.proofs.watch.Watch.admit.Goals as goal
 
 pub returns-in-A-clause-lawful : goal.returns-in-A-clause-lawful
 returns-in-A-clause-lawful c plan past keeps =
