@@ -1,0 +1,6 @@
+mod Puts
+mod Alone
+mod PortSteps
+mod Grouping
+mod Steps
+mod Fresh
