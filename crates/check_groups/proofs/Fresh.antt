@@ -10,20 +10,19 @@ use Rattle.check_groups.specs.declared.links.Links.TheVariants.{Both, Masters, P
 use Rattle.check_groups.specs.Groups.{are_apart, shared_past, shared_plan, port_plan}
 use Rattle.check_groups.specs.Flights.{flight_of}
 use Rattle.check_groups.specs.Plan.{Plan, IsPlan}
-use Rattle.check_groups.specs.View.{AreOwnMemories, Keeps, KeepsPort, PortView, View, fresh_link}
+use Rattle.check_groups.specs.View.{Keeps, KeepsPort, PortView, View, fresh_link}
 
-shared_none : (links : Links) → shared_past links [] ≡ []
+pub shared_none : (links : Links) → shared_past links [] ≡ []
 shared_none Both = refl
 shared_none Masters = refl
 shared_none Ports = refl
 shared_none Each = refl
 
-pub own_are : (links : Links) (resets own : List (List Store)) → IsTrue (are_apart links)
-    → AreOwnMemories links resets own → own ≡ resets
-own_are Both resets own apart are = cc
-own_are Masters resets own apart are = cc
-own_are Ports resets own apart are = cc
-own_are Each resets own apart are = are
+pub each_is : (links : Links) → IsTrue (are_apart links) → links ≡ Each
+each_is Both apart = cc
+each_is Masters apart = cc
+each_is Ports apart = cc
+each_is Each apart = refl
 
 -- the link that stands at a place
 link_fresh : (memories : List (List Store)) (port : ℕ) (link : PortView)

@@ -1,6 +1,6 @@
 mod Puts
 mod Alone
 mod PortSteps
-mod Grouping
+pub mod Grouping
 mod Steps
-mod Fresh
+pub mod Fresh

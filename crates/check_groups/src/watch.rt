@@ -7,7 +7,7 @@ ghost use Rattle.check_crossbar.specs.View.{stores_in};
 ghost use Rattle.check_groups.specs.Groups.{is_alone, together_of};
 ghost use Rattle.check_groups.specs.Lawful.{IsLawful, IsFirstFault, OfFault, what_is_seen};
 ghost use Rattle.check_groups.specs.Plan.{Plan, IsPlan, HasLink, IsWatched};
-ghost use Rattle.check_groups.specs.View.{AreOwnMemories, IsSized, Keeps, fresh_link};
+ghost use Rattle.check_groups.specs.View.{IsSized, Keeps, fresh_link};
 
 use crate::links::Links;
 use crate::port::PortLink;
@@ -82,7 +82,7 @@ fn links_of(alloc: Global, memories: Vec<Vec<Bank>>) -> Result<Vec<PortLink>, Al
 impl Watch {
     /// The judge of a crossbar with these ports and sources, before any beat. There is an order and a memory for each
     /// port, the error port's last: when its requests take effect, and what it holds at reset. With `Links::Each` the
-    /// same memories are given a second time, for the ports' side; otherwise that list is empty.
+    /// same memories are given a second time, for the ports' side; otherwise that list is not looked at.
     pub fn new(
         alloc: Global,
         links: Links,
@@ -93,7 +93,7 @@ impl Watch {
         own: Vec<Vec<Bank>>,
     ) -> Result<Watch, AllocError>
         requires counted { length memories.items ≡ length map + 1 }
-        requires own { AreOwnMemories links (stores_in memories.items) (stores_in own.items) }
+        requires own { links ≡ Links.Each → stores_in own.items ≡ stores_in memories.items }
         ensures layout { IfOk result (λ watch. watch.layout
             ≡ record { links = links; orders = orders.items; owners = sources; ports = map }) }
         ensures plan { IfOk result (λ watch. (plan : Plan) × (plan.resets ≡ stores_in memories.items)

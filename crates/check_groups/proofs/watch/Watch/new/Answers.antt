@@ -11,14 +11,14 @@ use Rattle.check_crossbar.specs.View.{stores_in}
 use Rattle.check_groups.specs.Groups.{are_apart, shared_plan, together_of}
 use Rattle.check_groups.specs.Plan.{Layout, Plan, IsPlan}
 use Rattle.check_groups.specs.View.{Keeps, View, fresh_link}
-use Rattle.check_groups.proofs.Fresh.{fresh_keeps, own_are, shared_is_plan}
+use Rattle.check_groups.proofs.Fresh.{each_is, fresh_keeps, shared_is_plan}
 use Rattle.check_groups.proofs.watch.Watch.new.Goals as goal
 
 pub invariant_of-result : goal.invariant_of-result
 invariant_of-result c = record {
   together = ap (λ (l : GroupLayout). l.links) c.in_ok-shared.ensures.layout ∙ c.together_of.ensures;
   ports = λ apart.
-      let own = own_are c.args.links (stores_in c.args.memories.items) (stores_in c.args.own.items) apart c.requires.own in
+      let own = c.requires.own (each_is c.args.links apart) in
       let made : length c.in_ok-ports.ports.items ≡ length c.args.memories.items =
       ap (λ l. length l) c.in_ok-ports.ensures ∙ length-map (stores_in c.args.own.items) fresh_link
       ∙ ap (λ (l : List (List Store)). length l) own ∙ length-map c.args.memories.items (λ m. m.items) in
@@ -58,8 +58,7 @@ keeps_by c plan lawful layout resets =
     (ap to layout ∙ ap linked (sym c.together_of.ensures)) resets)
     (λ apart. c.in_ok-ports.ensures
     ∙ ap (λ (l : List (List Store)). map fresh_link l)
-    (own_are c.args.links (stores_in c.args.memories.items) (stores_in c.args.own.items)
-    (subst (λ (l : Layout). IsTrue (are_apart l.links)) layout apart) c.requires.own ∙ sym resets))
+    (c.requires.own (each_is c.args.links (subst (λ (l : Layout). IsTrue (are_apart l.links)) layout apart)) ∙ sym resets))
 
 pub returns-clause-keeps : goal.returns-clause-keeps
 returns-clause-keeps c plan lawful layout resets = keeps_by c plan lawful layout resets
