@@ -4,3 +4,4 @@ mod PortSteps
 pub mod Grouping
 mod Steps
 pub mod Fresh
+mod Changes

@@ -3,3 +3,4 @@ pub mod Groups
 pub mod Lawful
 pub mod Flights
 pub mod View
+pub mod Pending

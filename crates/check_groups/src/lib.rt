@@ -15,8 +15,10 @@
 
 mod flights;
 mod links;
+mod pending;
 mod port;
 mod watch;
 
+pub use check_crossbar::{Change, Ended, Fault, Order, Origin, Seen, StepError};
 pub use links::Links;
 pub use watch::Watch;

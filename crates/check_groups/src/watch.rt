@@ -24,7 +24,7 @@ use tl_ops::Bank;
 pub struct Watch {
     links: Links,
     /// Of the links that are judged together.
-    shared: Together,
+    pub(crate) shared: Together,
     /// Of each port's link that is judged by itself; nothing where none is.
     ports: Vec<PortLink>,
 }
@@ -150,7 +150,7 @@ impl Watch {
     }
 
     /// The port whose link this is, if it is judged by itself.
-    fn alone(&self, link: Link) -> Option<usize>
+    pub(crate) fn alone(&self, link: Link) -> Option<usize>
         ensures alone { IfSome result (λ port. (link ≡ Port port)
             × (is_alone self.now.layout.links link ≡ true)) }
         ensures shared { IfNone result (is_alone self.now.layout.links link ≡ false) }
