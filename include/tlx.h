@@ -1,10 +1,12 @@
-/* tlx as a library: a system read from a script, the model of its crossbar, and the judge of what crosses a crossbar's links.
+/* tlx as a library: a system read from a script with the model of its crossbar, and the judge of what crosses the links of a crossbar that
+ * a system file describes.
  *
  * A handle is a struct that the caller owns and the library fills: `struct tlx_judge judge = {0};` holds nothing. What a `_make` or
  * `_read` call has put into a handle is given back by the `_free` call, once. The fields of a handle are the library's: never read,
  * write or copy them. A handle is used by one thread at a time; several handles may be used by several threads at once. The library
  * starts no thread, takes no lock, writes nothing and keeps no pointer that it is given. Only the calls that make what a handle holds
- * (tlx_system_read, tlx_model_make, tlx_judge_make) take memory, by malloc, realloc and free; no call may be made from a signal handler.
+ * (tlx_system_read, tlx_model_make, tlx_judge_read), and tlx_judge_step with TLX_EACH_LINK, take memory, by malloc, realloc and free; no
+ * call may be made from a signal handler.
  *
  * Each call that reads, makes, serves or judges answers a fault, TLX_OK (0) where there is none; its faults are listed in the order in
  * which they are tried. A call that answers another fault has changed nothing of what a handle holds, unless it says so. A null pointer is
@@ -24,6 +26,10 @@
 extern "C" {
 #endif
 
+/* The version of this header. It rises when a struct, a number or a call changes; a call that reads a text answers TLX_OTHER_VERSION if the
+ * library was built for another one. */
+#define TLX_VERSION 2
+
 /* The room of a message's bytes in the structs below. The largest size that a call takes is the library's own: tlx_largest_size. */
 #define TLX_ROOM 256
 
@@ -38,15 +44,18 @@ enum tlx_fault {
   TLX_FULL = 3,           /* the handle holds something already: free it first */
   TLX_MEMORY = 4,         /* memory was refused */
   TLX_BAD_ARGUMENT = 5,   /* a number that has no meaning where it stands: links, order; of a beat side, channel, `denied`, `corrupt` */
-  /* of a script (tlx_system_read, which has their order) */
+  TLX_OTHER_VERSION = 6,  /* the library was built for a header of another version */
+  /* of a script or a system file (tlx_system_read, tlx_judge_read, which have their order) */
   TLX_NOT_TOML = 10,
   TLX_MISSING = 11,       /* a key is missing */
   TLX_WRONG_TYPE = 12,    /* a value has another type than its key wants */
   TLX_OUT_OF_RANGE = 13,  /* a value is out of its key's range */
   TLX_BAD_OPERATION = 14, /* a line of a master's operations spells none */
   TLX_BAD_PORTS = 15,     /* too many ports, or address ranges that are empty, too long or overlap */
-  TLX_BAD_SOURCES = 16,   /* too many masters or sources, or a master without one */
+  TLX_BAD_SOURCES = 16,   /* too many masters or sources, a master without one, or two masters that share one */
   TLX_TOO_LONG = 17,      /* longer than 1048576 bytes */
+  TLX_TWO_CALLED = 18,    /* two masters or ports have the same name */
+  TLX_LONG_RANGE = 19,    /* a range of a port has more than 65536 bytes */
   /* of a request (tlx_model_serve, tlx_model_byte) */
   TLX_NO_OPERATION = 20,  /* opcode and param name no operation of TL-UL or TL-UH */
   TLX_SIZE = 21,          /* the size is above tlx_largest_size() */
@@ -77,7 +86,7 @@ enum tlx_fault {
 
 enum tlx_side { TLX_MASTER = 0, TLX_PORT = 1 };
 enum tlx_channel { TLX_A = 0, TLX_D = 1 };
-enum tlx_links { TLX_BOTH_LINKS = 0, TLX_MASTER_LINKS = 1, TLX_PORT_LINKS = 2 };
+enum tlx_links { TLX_BOTH_LINKS = 0, TLX_MASTER_LINKS = 1, TLX_PORT_LINKS = 2, TLX_EACH_LINK = 3 };
 enum tlx_order { TLX_ACCEPT_ORDER = 0, TLX_REPLY_ORDER = 1 };
 
 /* The handles. */
@@ -132,7 +141,8 @@ struct tlx_beat {
 };
 
 /* The exports, which take no null pointer. Call the inline functions below, which do. */
-uint32_t tlx_system_read_at(struct tlx_system *system, const uint8_t *script, size_t length, char *text, size_t room, size_t *written);
+uint32_t tlx_system_read_at(struct tlx_system *system, const uint8_t *script, size_t length, uint32_t version, char *text, size_t room,
+                            size_t *written);
 void tlx_system_free_at(struct tlx_system *system);
 uint32_t tlx_model_make_at(struct tlx_model *model, struct tlx_system *system);
 void tlx_model_free_at(struct tlx_model *model);
@@ -140,7 +150,8 @@ uint32_t tlx_model_serve_at(struct tlx_model *model, uint64_t master, const stru
 uint32_t tlx_model_byte_at(struct tlx_model *model, uint64_t address, uint8_t *byte);
 uint64_t tlx_model_masters_at(struct tlx_model *model);
 uint64_t tlx_model_ports_at(struct tlx_model *model);
-uint32_t tlx_judge_make_at(struct tlx_judge *judge, struct tlx_system *system, uint8_t links, uint8_t order);
+uint32_t tlx_judge_read_at(struct tlx_judge *judge, const uint8_t *file, size_t length, uint8_t links, uint8_t order, uint32_t version,
+                           char *text, size_t room, size_t *written);
 void tlx_judge_free_at(struct tlx_judge *judge);
 uint32_t tlx_judge_step_at(struct tlx_judge *judge, const struct tlx_beat *beat);
 size_t tlx_judge_text_at(struct tlx_judge *judge, char *text, size_t room);
@@ -151,6 +162,9 @@ size_t tlx_fault_text_at(uint32_t fault, char *text, size_t room);
 /* The largest size of a message, as log2 of its bytes. */
 uint8_t tlx_largest_size(void);
 
+/* The version of the header that the library was built for: TLX_VERSION of that header. */
+uint32_t tlx_version(void);
+
 /* Texts. A text call writes as much of the text as fits with a zero byte behind it, and answers the length of what it wrote without
  * that byte; with no room (or no buffer) it writes nothing and answers 0. The longest text has under 1,600 bytes. */
 
@@ -159,9 +173,9 @@ static inline size_t tlx_fault_text(uint32_t fault, char *text, size_t room) {
   return text && room ? tlx_fault_text_at(fault, text, room) : 0;
 }
 
-/* Reads the system that the bytes of a script describe into an empty handle, and writes the text of a fault of the script (which also
+/* Reads the system that the bytes of a script describe into an empty handle, for a model, and writes the text of a fault of the script (which also
  * names the key, master or port) into `text`, an empty one if there is none, or no memory for it. `text` may be null.
- * Faults: TLX_NULL, TLX_FULL, TLX_TOO_LONG, TLX_NOT_TOML; then key by key, in the order that docs/FORMATS.md has, TLX_MISSING,
+ * Faults: TLX_NULL, TLX_OTHER_VERSION, TLX_FULL, TLX_TOO_LONG, TLX_NOT_TOML; then key by key, in the order that docs/FORMATS.md has, TLX_MISSING,
  * TLX_WRONG_TYPE, TLX_OUT_OF_RANGE; then TLX_BAD_PORTS, TLX_BAD_SOURCES, TLX_BAD_OPERATION. Behind TLX_TOO_LONG, TLX_MEMORY may come at
  * any point. */
 static inline uint32_t tlx_system_read(struct tlx_system *system, const void *script, size_t length, char *text, size_t room) {
@@ -170,7 +184,7 @@ static inline uint32_t tlx_system_read(struct tlx_system *system, const void *sc
   if (text && room) *text = 0;
   if (!system || !script) return (uint32_t)TLX_NULL;
   if (!text || !room) { text = &none; room = 1; }
-  return tlx_system_read_at(system, (const uint8_t *)script, length, text, room, &written);
+  return tlx_system_read_at(system, (const uint8_t *)script, length, TLX_VERSION, text, room, &written);
 }
 
 /* Gives back what a system's handle holds, if anything. */
@@ -202,19 +216,29 @@ static inline uint32_t tlx_model_byte(struct tlx_model *model, uint64_t address,
 static inline uint64_t tlx_model_masters(struct tlx_model *model) { return model ? tlx_model_masters_at(model) : 0; }
 static inline uint64_t tlx_model_ports(struct tlx_model *model) { return model ? tlx_model_ports_at(model) : 0; }
 
-/* Makes the judge of a crossbar that is this system, before any beat, in an empty handle: `links` are the links that are watched (enum
- * tlx_links), `order` when a request takes effect at its port (enum tlx_order). It takes what the system's handle holds, as
- * tlx_model_make does.
- * Faults: TLX_NULL, TLX_BAD_ARGUMENT, TLX_FULL, TLX_EMPTY, TLX_MEMORY. */
-static inline uint32_t tlx_judge_make(struct tlx_judge *judge, struct tlx_system *system, uint8_t links, uint8_t order) {
-  return judge && system ? tlx_judge_make_at(judge, system, links, order) : (uint32_t)TLX_NULL;
+/* Makes the judge of the crossbar that the bytes of a system file describe, before any beat, in an empty handle: `links` are the links
+ * that are watched (enum tlx_links), `order` when a request takes effect at a port for which the file does not say it (enum tlx_order). The
+ * text of a fault of the file is written into `text`, an empty one if there is none, or no memory for it. `text` may be null. A script of
+ * tlx is a system file; its slots and operations are not looked at.
+ * Faults: TLX_NULL, TLX_OTHER_VERSION, TLX_BAD_ARGUMENT, TLX_FULL, TLX_TOO_LONG, TLX_NOT_TOML; then key by key, in the order that
+ * docs/FORMATS.md has, TLX_MISSING, TLX_WRONG_TYPE, TLX_OUT_OF_RANGE; then TLX_TWO_CALLED, TLX_BAD_PORTS, TLX_BAD_SOURCES, TLX_LONG_RANGE.
+ * After TLX_TOO_LONG, TLX_MEMORY may come at any point. */
+static inline uint32_t tlx_judge_read(struct tlx_judge *judge, const void *file, size_t length, uint8_t links, uint8_t order, char *text,
+                                      size_t room) {
+  char none;
+  size_t written;
+  if (text && room) *text = 0;
+  if (!judge || !file) return (uint32_t)TLX_NULL;
+  if (!text || !room) { text = &none; room = 1; }
+  return tlx_judge_read_at(judge, (const uint8_t *)file, length, links, order, TLX_VERSION, text, room, &written);
 }
 
 static inline void tlx_judge_free(struct tlx_judge *judge) { if (judge) tlx_judge_free_at(judge); }
 
 /* Judges one beat more: TLX_OK if what crossed so far is lawful with it, else the first fault that it has, which changes nothing but the
  * text. Of one clock cycle give channel A of the masters' links first, then A of the ports', D of the ports', and D of the masters'.
- * Faults: TLX_NULL, TLX_BAD_ARGUMENT, TLX_EMPTY, TLX_NO_LINK, and those of a beat. */
+ * With TLX_EACH_LINK the call may take memory. If that is refused it answers TLX_MEMORY and changes nothing: the same beat may be given again.
+ * Faults: TLX_NULL, TLX_BAD_ARGUMENT, TLX_EMPTY, TLX_NO_LINK, TLX_MEMORY, and those of a beat. */
 static inline uint32_t tlx_judge_step(struct tlx_judge *judge, const struct tlx_beat *beat) {
   return judge && beat ? tlx_judge_step_at(judge, beat) : (uint32_t)TLX_NULL;
 }

@@ -26,9 +26,8 @@ static void *whole(const char *path, size_t *length) {
 }
 
 static void judge(const char *script, size_t length, const struct tlx_beat *beats, size_t count) {
-  struct tlx_system system = {0};
   struct tlx_judge judge = {0};
-  if (tlx_system_read(&system, script, length, NULL, 0) || tlx_judge_make(&judge, &system, TLX_BOTH_LINKS, TLX_ACCEPT_ORDER)) exit(1);
+  if (tlx_judge_read(&judge, script, length, TLX_BOTH_LINKS, TLX_ACCEPT_ORDER, NULL, 0)) exit(1);
   double start = now();
   for (size_t k = 0; k < count; k++)
     if (tlx_judge_step(&judge, &beats[k])) exit(1);

@@ -71,14 +71,16 @@ static const char *words_of(enum tlx_fault fault) {
     case TLX_FULL: return "full handle";
     case TLX_MEMORY: return "memory refused";
     case TLX_BAD_ARGUMENT: return "bad argument";
-    case TLX_NOT_TOML: return "script: not TOML";
-    case TLX_MISSING: return "script: missing key";
-    case TLX_WRONG_TYPE: return "script: wrong type";
-    case TLX_OUT_OF_RANGE: return "script: out of range";
-    case TLX_BAD_OPERATION: return "script: bad operation";
-    case TLX_BAD_PORTS: return "script: bad ports";
-    case TLX_BAD_SOURCES: return "script: bad sources";
-    case TLX_TOO_LONG: return "script: longer than 1048576 bytes";
+    case TLX_NOT_TOML: return "not TOML";
+    case TLX_MISSING: return "missing key";
+    case TLX_WRONG_TYPE: return "wrong type";
+    case TLX_OUT_OF_RANGE: return "out of range";
+    case TLX_BAD_OPERATION: return "bad operation";
+    case TLX_BAD_PORTS: return "bad ports";
+    case TLX_BAD_SOURCES: return "bad sources";
+    case TLX_TOO_LONG: return "longer than 1048576 bytes";
+    case TLX_TWO_CALLED: return "two of one name";
+    case TLX_LONG_RANGE: return "a range of more than 65536 bytes";
     case TLX_NO_OPERATION: return "no such operation";
     case TLX_SIZE: return "size over the limit";
     case TLX_NO_MASTER: return "no such master";
@@ -240,7 +242,7 @@ static int has_words(const char *line, const struct tlx_beat *beat, uint32_t fau
 static void judge_rows(struct tlx_judge *judge, const struct row *rows, size_t count, uint8_t links, char *verdict, size_t room) {
   for (size_t k = 0; k < count; k++) {
     const struct tlx_beat *beat = &rows[k].beat;
-    int watched = links == TLX_BOTH_LINKS || (links == TLX_MASTER_LINKS) == (beat->side == TLX_MASTER);
+    int watched = links == TLX_BOTH_LINKS || links == TLX_EACH_LINK || (links == TLX_MASTER_LINKS) == (beat->side == TLX_MASTER);
     uint32_t fault = watched ? tlx_judge_step(judge, beat) : TLX_OK;
     if (fault != TLX_OK) {
       tlx_judge_text(judge, verdict, room);
@@ -256,7 +258,6 @@ static void check_capture(const char *folder, const char *script, size_t length,
   static char text[MAX_TEXT], args[MAX_TEXT], expected[MAX_TEXT];
   static struct row rows[MAX_ROWS];
   char path[512], verdict[2048], *last = expected;
-  struct tlx_system system = {0};
   struct tlx_judge judge = {0};
   snprintf(path, sizeof path, "%s.verdict", name);
   read_file(folder, path, expected);
@@ -264,16 +265,16 @@ static void check_capture(const char *folder, const char *script, size_t length,
   if (!strncmp(last, "capture:", 8)) return; /* of the text of a capture, which is no beat */
   snprintf(path, sizeof path, "%s.args", name);
   if (!read_file(folder, path, args)) args[0] = 0;
-  uint8_t links = strstr(args, "masters") ? TLX_MASTER_LINKS : strstr(args, "ports") ? TLX_PORT_LINKS : TLX_BOTH_LINKS;
+  uint8_t links = strstr(args, "masters") ? TLX_MASTER_LINKS : strstr(args, "ports") ? TLX_PORT_LINKS :
+                  strstr(args, "each") ? TLX_EACH_LINK : TLX_BOTH_LINKS;
   uint8_t order = strstr(args, "reply") ? TLX_REPLY_ORDER : TLX_ACCEPT_ORDER;
   snprintf(path, sizeof path, "%s.csv", name);
   read_file(folder, path, text);
   size_t count = read_rows(text, rows);
-  tlx_system_read(&system, script, length, 0, 0);
-  int made = tlx_judge_make(&judge, &system, links, order) == TLX_OK;
+  int made = tlx_judge_read(&judge, script, length, links, order, 0, 0) == TLX_OK;
   size_t before = requests;
   judge_rows(&judge, rows, count, links, verdict, sizeof verdict);
-  tell(name, made && !strcmp(verdict, last) && requests == before);
+  tell(name, made && !strcmp(verdict, last) && (links == TLX_EACH_LINK || requests == before));
   if (strcmp(verdict, last)) fprintf(stderr, "  %s  %s", verdict, last);
   tlx_judge_free(&judge);
 }
@@ -472,12 +473,10 @@ static void check_steps(struct tlx_judge *judge) {
 /* A get of 256 bytes that is answered ff, where zeros must come: its fault has the longest line, for which there is room. */
 static void check_longest_line(void) {
   static const char LONG[] = "slots = 1\n[[port]]\nkind = \"ram\"\nbase = 0\nlength = 256\n[[master]]\nsources = 1\nops = []\n";
-  struct tlx_system system = {0};
   struct tlx_judge judge = {0};
   struct tlx_beat beat = {0};
   char text[2048], expected[2048];
-  tlx_system_read(&system, LONG, strlen(LONG), 0, 0);
-  int is_well = tlx_judge_make(&judge, &system, TLX_MASTER_LINKS, TLX_ACCEPT_ORDER) == TLX_OK;
+  int is_well = tlx_judge_read(&judge, LONG, strlen(LONG), TLX_MASTER_LINKS, TLX_ACCEPT_ORDER, 0, 0) == TLX_OK;
   size_t before = requests;
   beat.line = beat.time = UINT64_MAX;
   beat.opcode = 4;
@@ -501,23 +500,55 @@ static void check_longest_line(void) {
   tlx_judge_free(&judge);
 }
 
+/* System files with faults, most with a later one as well, which is not told. */
+#define HOST(sources) "[[master]]\nsources = " sources "\n"
+static const struct { const char *file; uint32_t fault; const char *text; } FILES[] = {
+    {"port = 1\n=", TLX_NOT_TOML, "system: not TOML"},
+    {"port = 1 # \xff", TLX_NOT_TOML, "system: not TOML"},
+    {"", TLX_MISSING, "system: missing master"},
+    {"port = 1", TLX_WRONG_TYPE, "system: wrong type of port"},
+    {PORT("0x1000", "0"), TLX_OUT_OF_RANGE, "system: length out of range"},
+    {"[[master]]\nname = \"a\"\nsources = 1\n[[master]]\nname = \"a\"\nsources = 300\n", TLX_TWO_CALLED, "system: two are called a"},
+    {PORT("0x1000", "64") PORT("0x103f", "1") HOST("257"), TLX_BAD_PORTS, "system: ports 0 and 1 overlap"},
+    {PORT("0x1000", "65537") HOST("257"), TLX_BAD_SOURCES, "system: too many masters or sources"},
+    {"[[master]]\nsources = 2\nfirst = 1\n[[master]]\nsources = 1\nfirst = 2\n", TLX_BAD_SOURCES, "system: masters 0 and 1 share source 2"},
+    {PORT("0", "1") PORT("0x1000", "65537") HOST("1"), TLX_LONG_RANGE, "system: port 1: a range of more than 65536 bytes"},
+};
+
+static uint32_t read_file_of(struct tlx_judge *judge, const char *file, char *text, size_t room) {
+  return tlx_judge_read(judge, file, strlen(file), TLX_MASTER_LINKS, TLX_ACCEPT_ORDER, text, room);
+}
+
+static void check_files(void) {
+  static char longest[(1 << 20) + 1];
+  struct tlx_judge judge = {0};
+  char text[128];
+  for (size_t k = 0; k < sizeof FILES / sizeof *FILES; k++)
+    tell(FILES[k].text, read_file_of(&judge, FILES[k].file, text, sizeof text) == FILES[k].fault && !strcmp(text, FILES[k].text));
+  memset(longest, '#', sizeof longest);
+  tell("a file too long", tlx_judge_read(&judge, longest, sizeof longest, 0, 0, text, sizeof text) == TLX_TOO_LONG &&
+       !strcmp(text, "system: longer than 1048576 bytes"));
+  tell("a file as long as it may be", tlx_judge_read(&judge, longest, sizeof longest - 1, 0, 0, text, sizeof text) == TLX_MISSING);
+  tell("a header of another version", tlx_version() == TLX_VERSION &&
+       tlx_judge_read_at(&judge, (const uint8_t *)"", 0, 9, 9, TLX_VERSION + 1, text, sizeof text, &(size_t){0}) == TLX_OTHER_VERSION);
+}
+
 static void check_judges(void) {
-  struct tlx_system system = {0};
   struct tlx_judge judge = {0};
   struct tlx_beat beat = {0};
-  tell("a judge of no system", tlx_judge_make(&judge, &system, 0, 0) == TLX_EMPTY && tlx_judge_make(0, &system, 0, 0) == TLX_NULL);
+  char text[128];
+  memset(text, 'a', sizeof text);
+  tell("a judge of no file", tlx_judge_read(&judge, 0, 0, 0, 0, text, sizeof text) == TLX_NULL && !text[0] && text[1] == 'a');
+  tell("no judge", tlx_judge_read(0, SYSTEM, strlen(SYSTEM), 0, 0, 0, 9) == TLX_NULL);
   tell("an empty judge", tlx_judge_step(&judge, &beat) == TLX_EMPTY && tlx_judge_requests(&judge) == 0 && tlx_judge_answered(&judge) == 0);
-  tlx_system_read(&system, SYSTEM, strlen(SYSTEM), 0, 0);
-  tell("links that there are not", tlx_judge_make(&judge, &system, 3, 0) == TLX_BAD_ARGUMENT);
-  tell("an order that there is not", tlx_judge_make(&judge, &system, 0, 2) == TLX_BAD_ARGUMENT);
-  tell("a judge", tlx_judge_make(&judge, &system, TLX_MASTER_LINKS, TLX_ACCEPT_ORDER) == TLX_OK);
-  tlx_system_read(&system, SYSTEM, strlen(SYSTEM), 0, 0);
-  tell("a second judge in one handle", tlx_judge_make(&judge, &system, 0, 0) == TLX_FULL);
+  tell("links that there are not", tlx_judge_read(&judge, SYSTEM, strlen(SYSTEM), 9, 0, 0, 0) == TLX_BAD_ARGUMENT);
+  tell("an order that there is not", tlx_judge_read(&judge, SYSTEM, strlen(SYSTEM), 0, 9, 0, 0) == TLX_BAD_ARGUMENT);
+  tell("a judge", read_file_of(&judge, SYSTEM, text, sizeof text) == TLX_OK && !text[0]);
+  tell("a second judge in one handle", read_file_of(&judge, SYSTEM, 0, 0) == TLX_FULL);
   check_steps(&judge);
   tlx_judge_free(&judge);
   tlx_judge_free(&judge);
   tlx_judge_free(0);
-  tlx_system_free(&system);
 }
 
 /* ---- calls that are refused memory */
@@ -539,9 +570,8 @@ static uint32_t make_model(struct handles *handles, const char *script) {
   return tlx_model_make(&handles->model, &handles->system);
 }
 
-static uint32_t make_judge(struct handles *handles, const char *script) {
-  (void)script;
-  return tlx_judge_make(&handles->judge, &handles->system, TLX_BOTH_LINKS, TLX_ACCEPT_ORDER);
+static uint32_t read_judge(struct handles *handles, const char *script) {
+  return tlx_judge_read(&handles->judge, script, strlen(script), TLX_BOTH_LINKS, TLX_ACCEPT_ORDER, 0, 0);
 }
 
 static int are_empty(struct handles *handles) {
@@ -595,6 +625,21 @@ static void refuse_text(void) {
   tell("a fault without memory for its text", is_well && without_text > 0 && number > without_text + 1 && blocks == before);
 }
 
+/* Where each port's link is judged by itself, the first beat of a source there takes memory: if it is refused, the beat may be given again. */
+static void refuse_step(void) {
+  struct tlx_judge judge = {0};
+  struct tlx_beat beat = {.side = TLX_PORT, .opcode = 4, .size = 2, .source = 4321, .address = 0x1000, .mask = 0x0f};
+  long before = blocks;
+  int is_well = tlx_judge_read(&judge, SYSTEM, strlen(SYSTEM), TLX_EACH_LINK, TLX_ACCEPT_ORDER, 0, 0) == TLX_OK;
+  requests = 0;
+  refused = 1;
+  is_well &= tlx_judge_step(&judge, &beat) == TLX_MEMORY && requests == 1;
+  refused = 0;
+  is_well &= tlx_judge_step(&judge, &beat) == TLX_OK && tlx_judge_step(&judge, &beat) == TLX_SOURCE_IN_FLIGHT;
+  tlx_judge_free(&judge);
+  tell("a beat that is refused memory", is_well && blocks == before);
+}
+
 static void check_memory(const char *script) {
   static const char OPERATIONS[] =
       "slots = 1\n" PORT("0x1000", "64") MASTER("2", "0 putfull 0x1000 2 11223344\", \"wait\", \"1 putpart 0x1000 2 --556677")
@@ -602,8 +647,9 @@ static void check_memory(const char *script) {
   refuse_each("a system that is refused memory", NULL, read_system, script);
   refuse_each("one with operations", NULL, read_system, OPERATIONS);
   refuse_each("a model that is refused memory", read_system, make_model, script);
-  refuse_each("a judge that is refused memory", read_system, make_judge, script);
+  refuse_each("a judge that is refused memory", NULL, read_judge, script);
   refuse_text();
+  refuse_step();
 }
 
 int main(int count, char **words) {
@@ -613,6 +659,7 @@ int main(int count, char **words) {
   check_scripts();
   check_systems();
   check_models();
+  check_files();
   check_judges();
   check_longest_line();
   snprintf(folder, sizeof folder, "%s/captures", count > 1 ? words[1] : "..");

@@ -55,23 +55,17 @@ static char *read_script(const char *path, size_t *length) {
 
 /* Makes the judge of a watch; what is wrong stands in its text. */
 static void make(struct watch *watch, const char *path, const char *links, const char *order) {
-  static const char *const views[] = {"both", "masters", "ports"}, *const orders[] = {"accept", "reply"};
-  struct tlx_system system;
+  static const char *const views[] = {"both", "masters", "ports", "each"}, *const orders[] = {"accept", "reply"};
   size_t length = 0;
   char why[MAX_TEXT / 2] = "";
-  uint8_t view = place_of(links, views, 3), when = place_of(order, orders, 2);
+  uint8_t view = place_of(links, views, 4), when = place_of(order, orders, 2);
   char *script = read_script(path, &length);
-  memset(&system, 0, sizeof system);
   if (!script) {
     snprintf(watch->text, MAX_TEXT, "judge: %s: could not be read\n", path);
     return;
   }
-  uint32_t fault = tlx_system_read(&system, script, length, why, sizeof why);
+  uint32_t fault = tlx_judge_read(&watch->judge, script, length, view, when, why, sizeof why);
   free(script);
-  if (fault == TLX_OK) {
-    fault = tlx_judge_make(&watch->judge, &system, view, when);
-    tlx_system_free(&system);
-  }
   if (fault == TLX_OK) {
     watch->links = view;
     return;

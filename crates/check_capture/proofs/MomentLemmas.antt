@@ -9,14 +9,14 @@ use Rattle.check_link.specs.declared.beat.Beat.TheVariants.{A, D}
 use Rattle.check_link.specs.declared.beat.Link.{Link}
 use Rattle.check_link.specs.declared.beat.Link.TheVariants.{Master, Port}
 
--- a row's place is one of 64
-inside-at : (link : Link) (beat : Beat) → IsLink link → place_at link beat < 64
+-- a row's place is one of 638: two channels of 64 masters and of 255 ports
+inside-at : (link : Link) (beat : Beat) → IsLink link → place_at link beat < 638
 inside-at (Master n) (A b) h = omega (arith, h)
 inside-at (Port n) (A b) h = omega (arith, h)
 inside-at (Port n) (D b) h = omega (arith, h)
 inside-at (Master n) (D b) h = omega (arith, h)
 
-all-inside : (rows : List Row) → All (λ row. IsLink row.sighting.link) rows → All (λ row. place_of row < 64) rows
+all-inside : (rows : List Row) → All (λ row. IsLink row.sighting.link) rows → All (λ row. place_of row < 638) rows
 all-inside rows all k d inside = let row = get_or rows k d in
     inside-at row.sighting.link row.sighting.beat (all k d inside)
 
@@ -69,8 +69,8 @@ cross-insert low (first ∷ more) (suc i) row d cross above inside before behind
     )
 
 -- so many rows are no more than there are places
-cross-length : (low : ℕ) (rows : List Row) → Cross low rows → All (λ row. place_of row < 64) rows
-    → length rows ≤ 64 - low
+cross-length : (low : ℕ) (rows : List Row) → Cross low rows → All (λ row. place_of row < 638) rows
+    → length rows ≤ 638 - low
 unfolding Cross
 cross-length low [] cross all = omega arith
 cross-length low (row ∷ more) cross all =
@@ -127,7 +127,7 @@ moment-insert moment i row h = record {
 }
 
 -- it has room
-pub moment-room : (moment : Moment) (i : ℕ) (row : Row) → Belongs moment i row → length moment.rows < 64
+pub moment-room : (moment : Moment) (i : ℕ) (row : Row) → Belongs moment i row → length moment.rows < 638
 moment-room moment i row h =
     let more = moment-insert moment i row h in
     let short = cross-length 0 (insert moment.rows i row) more.in_order

@@ -1,7 +1,7 @@
 -- The rows of one time, in the order in which their beats cross. This project's own.
 use Rattle.std.specs.Prelude.{◌≡◌, ℕ, ◌+◌, ◌*◌, ◌<◌, ◌≤◌, ⊤, true, false, Bool, List, [], ◌∷◌, All, Contains, length, get_or}
 use Rattle.std.specs.List.Sorted.{IsPermutation}
-use Rattle.tl_types.specs.declared.limits.TheConstants.{MAX_MASTERS, MAX_PORTS}
+use Rattle.check_map.specs.declared.limits.TheConstants.{MAX_MASTERS, MAX_PORTS}
 use Rattle.check_link.specs.declared.beat.Beat.{Beat}
 use Rattle.check_link.specs.declared.beat.Beat.TheVariants.{A, D}
 use Rattle.check_link.specs.declared.beat.Link.{Link}

@@ -7,8 +7,8 @@ use crate::fault::RowFault;
 use crate::row::Row;
 use arrayvec::ArrayVec;
 use check_link::{Beat, Link};
+use check_map::{MAX_MASTERS, MAX_PORTS};
 use std::marker::Model;
-use tl_types::{MAX_MASTERS, MAX_PORTS};
 
 /// The most beats of one time: one for each channel of each link.
 const MAX_ROWS: usize = 2 * (MAX_MASTERS + MAX_PORTS);

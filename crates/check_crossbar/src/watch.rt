@@ -168,6 +168,23 @@ impl Watch {
         &self.sources
     }
 
+    /// The address map of the ports.
+    pub fn map(&self) -> &Map
+        ensures { result.now ≡ self.now.layout.ports }
+    {
+        &self.map
+    }
+
+    /// When requests of a port take effect.
+    pub fn order(&self, port: usize) -> Order
+        ensures { result ≡ order_at self.now.layout port }
+    {
+        match self.orders.get(port) {
+            Some(order) => *order,
+            None => Order::Accept,
+        }
+    }
+
     /// The side that a link is on.
     fn side(&self, link: Link) -> &Side
         ensures { result.now ≡ side_in self.now (side_of link) }
@@ -296,10 +313,7 @@ impl Watch {
     fn is_at_acceptance(&self, port: usize) -> bool
         ensures { result ≡ is_at_acceptance (order_at self.now.layout port) }
     {
-        match self.orders.get(port) {
-            Some(Order::Accept) | None => true,
-            Some(Order::Reply) => false,
-        }
+        matches!(self.order(port), Order::Accept)
     }
 
     /// Whether requests to a port take effect as the next beat of channel D crosses at a link.
@@ -479,6 +493,7 @@ impl Watch {
         ensures seen { (plan : Plan) (past : List Sighting) → Keeps plan past self.old
             → IfOk result (λ s. s ≡ what_is_seen plan past (record { link = link; beat = A beat.now; known = known })) }
         ensures err { OnErr result (self.new ≡ self.old) }
+        ensures layout { self.new.layout ≡ self.old.layout }
     {
         self.sized();
         let place = match judge_ask(self, link, beat, known) {
@@ -502,6 +517,7 @@ impl Watch {
         ensures seen { (plan : Plan) (past : List Sighting) → Keeps plan past self.old
             → IfOk result (λ s. s ≡ what_is_seen plan past (record { link = link; beat = D beat.now; known = known })) }
         ensures err { OnErr result (self.new ≡ self.old) }
+        ensures layout { self.new.layout ≡ self.old.layout }
     {
         self.sized();
         let place = match judge_reply(self, link, beat, known) {
@@ -529,6 +545,7 @@ impl Watch {
         ensures ended { (plan : Plan) (past : List Sighting) → Keeps plan past self.old
             → IfSome result (λ e. e ≡ ended (what_is_seen plan past (record { link = link; beat = A beat.now; known = known }))) }
         ensures none { IfNone result (self.new ≡ self.old) }
+        ensures layout { self.new.layout ≡ self.old.layout }
     {
         self.sized();
         let place = match judge_ask(self, link, beat, known) {
@@ -552,6 +569,7 @@ impl Watch {
         ensures ended { (plan : Plan) (past : List Sighting) → Keeps plan past self.old
             → IfSome result (λ e. e ≡ ended (what_is_seen plan past (record { link = link; beat = D beat.now; known = known }))) }
         ensures none { IfNone result (self.new ≡ self.old) }
+        ensures layout { self.new.layout ≡ self.old.layout }
     {
         self.sized();
         let Some(place) = lawful_reply(self, link, beat, known) else {
@@ -578,6 +596,7 @@ impl Watch {
         ensures ended { (plan : Plan) (past : List Sighting) → Keeps plan past self.old
             → IfSome result (λ e. e ≡ ended (what_is_seen plan past sighting.now)) }
         ensures none { IfNone result (self.new ≡ self.old) }
+        ensures layout { self.new.layout ≡ self.old.layout }
     {
         match &sighting.beat {
             Beat::A(beat) => self.admit_ask(sighting.link, beat, sighting.known),
@@ -598,6 +617,7 @@ impl Watch {
         ensures fault { (plan : Plan) (past : List Sighting) → Keeps plan past self.old
             → IfErr result (IsFirstFault plan past sighting.now) }
         ensures err { OnErr result (self.new ≡ self.old) }
+        ensures layout { self.new.layout ≡ self.old.layout }
     {
         match &sighting.beat {
             Beat::A(beat) => self.step_ask(sighting.link, beat, sighting.known),

@@ -5,9 +5,9 @@ use Rattle.std.specs.List.Sorted.{IsPermutation}
 use Rattle.std.proofs.lemmas.List.{length_push}
 use Rattle.std.proofs.lemmas.List.Elements.{All-append, All-contains, All-weaker, All-from_recursion, recursion_from_All, Contains-append_left}
 use Rattle.std.proofs.lemmas.List.Sorted.{IsPermutation-refl, IsPermutation-sym, IsPermutation-trans, IsPermutation-cons, IsPermutation-append, IsPermutation-reverse, IsPermutation-push_more, All-permutation, Contains-permutation, length_permutation, IsNonDecreasingBy-push, IsNonDecreasingBy-short}
-use Rattle.check_watch.specs.Plan.{Plan}
-use Rattle.check_watch.specs.View.{Keeps}
-use Rattle.check_watch.specs.Lawful.{IsLawful}
+use Rattle.check_groups.specs.Plan.{Plan}
+use Rattle.check_groups.specs.View.{Keeps}
+use Rattle.check_groups.specs.Lawful.{IsLawful}
 use Rattle.check_capture.specs.Moment.{Moment, IsMoment, Takes, HasFault}
 use Rattle.check_capture.specs.declared.fault.RowFault.{RowFault}
 use Rattle.check_capture.specs.declared.fault.RowFault.TheVariants as fault

@@ -1,7 +1,7 @@
 -- The row among some at which a judge stops, with what is told.
 use Rattle.std.proofs.Common.{◌≡◌, ◌∙◌, ℕ, ◌+◌, ◌<◌, Bool, List, ◌∷◌, ◌++◌, reverse, length, get_or, take, drop, sym, ap, subst}
 use Rattle.std.proofs.lemmas.List.{drop_more, take-append-drop}
-use Rattle.check_watch.specs.Plan.{Plan}
+use Rattle.check_groups.specs.Plan.{Plan}
 use Rattle.check_capture.specs.declared.row.Row.{Row}
 use Rattle.check_judge.specs.declared.stop.Refusal.{Refusal}
 use Rattle.check_judge.specs.declared.stop.Refusal.TheVariants as refusal

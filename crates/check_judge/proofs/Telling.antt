@@ -1,65 +1,93 @@
 -- What is told, beat by beat.
-use Rattle.std.proofs.Common.{◌≡◌, ◌∙◌, ℕ, inl, inr, Bool, true, false, ◌&&◌, List, [], ◌∷◌, ◌++◌, append_assoc, append-nil, refl, sym, ap, subst}
+use Rattle.std.proofs.Common.{◌≡◌, ◌∙◌, ℕ, inl, inr, Bool, true, false, ◌&&◌, if◌then◌else◌, List, [], ◌∷◌, ◌++◌, append_assoc, append-nil, refl, sym, ap, subst}
 use Rattle.tl_types.specs.declared.trace.Entry.{Entry}
 use Rattle.check_link.specs.declared.beat.Beat.{Beat}
 use Rattle.check_link.specs.declared.beat.Beat.TheVariants.{A, D}
 use Rattle.check_link.specs.declared.beat.Link.{Link}
 use Rattle.check_link.specs.declared.beat.Link.TheVariants.{Master, Port}
 use Rattle.check_link.specs.declared.beat.Sighting.{Sighting}
-use Rattle.tl_map.proofs.Blocks.{one_master, one_source}
+use Rattle.check_map.specs.declared.sources.Owner.{Owner}
+use Rattle.check_map.specs.Sources.{AreLawfulOwners}
+use Rattle.check_map.proofs.Kept.{one_owner}
 use Rattle.tl_script.specs.Trace.{trace_line}
-use Rattle.check_watch.specs.declared.seen.Seen.{Seen}
-use Rattle.check_watch.specs.declared.seen.Seen.TheVariants.{Part, WholeAsk, WholeReply}
-use Rattle.check_watch.specs.Plan.{Layout, Plan, HasSource, source_of}
-use Rattle.check_watch.specs.Scene.{Scene}
-use Rattle.check_watch.specs.Past.{scene}
-use Rattle.check_watch.specs.Lawful.{IsAllowed, IsAllowedBeat, what_is_seen}
+use Rattle.check_crossbar.specs.declared.seen.Seen.{Seen}
+use Rattle.check_crossbar.specs.declared.seen.Seen.TheVariants.{Part, WholeAsk, WholeReply}
+use Rattle.check_groups.specs.Plan.{IsPlan, Layout, Plan}
+use Rattle.check_crossbar.specs.Plan.{Layout as GroupLayout, Plan as GroupPlan, HasSource, source_of}
+use Rattle.check_groups.specs.Groups.{is_alone, plan_at, port_plan, shared_plan}
+use Rattle.check_groups.specs.declared.links.Links.{Links}
+use Rattle.check_groups.specs.declared.links.Links.TheVariants.{Both, Masters, Ports, Each}
+use Rattle.check_crossbar.specs.Scene.{Scene}
+use Rattle.check_groups.specs.Lawful.{scene}
+use Rattle.check_groups.specs.Lawful.{what_is_seen}
+use Rattle.check_crossbar.specs.Lawful.{IsAllowed, IsAllowedBeat}
 use Rattle.check_capture.specs.declared.row.Row.{Row}
 use Rattle.check_judge.specs.Count.{is_counted}
 use Rattle.check_judge.specs.Order.{is_watched, seen}
-use Rattle.check_judge.specs.Told.{AppendsLine, AppendsTold, AppendsToldOf, HasOwner, IsLine, IsTold, IsToldOf, sent_by}
+use Rattle.check_judge.specs.Told.{AppendsLine, AppendsTold, AppendsToldOf, HasOwner, IsCountedOfOwner, IsLine, IsTold, IsToldOf, sent_by}
 use Rattle.check_judge.proofs.Watched.{seen_one, seen_other}
 
 -- ---- the line of a beat
 
 -- the source of a lawful beat is one that its link has
-source_of_beat : (plan : Plan) (here : Scene) (x : Sighting) (beat : Beat) → IsAllowedBeat plan here x beat
+source_of_beat : (plan : GroupPlan) (here : Scene) (x : Sighting) (beat : Beat) → IsAllowedBeat plan here x beat
     → HasSource plan.layout x.link (source_of beat)
 source_of_beat plan here x (A beat) allowed = allowed.source
 source_of_beat plan here x (D beat) allowed = allowed.source
 
-pub has_source : (plan : Plan) (here : Scene) (x : Sighting) → IsAllowed plan here x
+has_source : (plan : GroupPlan) (here : Scene) (x : Sighting) → IsAllowed plan here x
     → HasSource plan.layout x.link (source_of x.beat)
 has_source plan here x allowed = source_of_beat plan here x x.beat allowed
 
-pub has_owner : (layout : Layout) (link : Link) (source : ℕ) → HasSource layout link source
-    → HasOwner layout.counts link source
+has_owner : (layout : GroupLayout) (link : Link) (source : ℕ) → HasSource layout link source
+    → HasOwner layout.owners link source
 has_owner layout (Master m) source has = tt
-has_owner layout (Port p) source has = let is = has.1 in is.1
+has_owner layout (Port p) source has = let is = has.1 in let owned = is.1 in (owned.0, owned.1.0, owned.1.1)
 
-pub line_is_told : (counts : List ℕ) (link : Link) (source : ℕ) (entry : Entry) (old new : List ℕ)
-    → HasOwner counts link source → AppendsLine counts link source entry old new
-    → (line : List ℕ) × (new ≡ old ++ line) × IsLine counts link source entry line
-line_is_told counts link source entry old new owner (inl line) = line
-line_is_told counts link source entry old new owner (inr none) = absurd (none.1 owner)
+-- where messages of a link are counted, it is not judged by itself
+counted_together : (links : Links) (link : Link) → is_counted links link ≡ true → is_alone links link ≡ false
+counted_together Both link is = refl
+counted_together Masters link is = refl
+counted_together Ports link is = refl
+counted_together Each (Master m) is = refl
+counted_together Each (Port p) is = absurd cc
+
+-- so its sources are those of the masters
+pub counted_of_owner : (plan : Plan) (past : List Sighting) (x : Sighting)
+    → IsAllowed (plan_at plan x.link) (scene plan past x) x
+    → IsCountedOfOwner plan.layout.links plan.layout.owners x.link (source_of x.beat)
+counted_of_owner plan past x allowed counted =
+    let here : HasSource (plan_at plan x.link).layout x.link (source_of x.beat) =
+    has_source (plan_at plan x.link) (scene plan past x) x allowed in
+    let P : Bool → Type 0 = λ alone.
+    HasSource (if alone then port_plan plan else shared_plan plan).layout x.link (source_of x.beat) in
+    has_owner (shared_plan plan).layout x.link (source_of x.beat)
+    (subst P (counted_together plan.layout.links x.link counted) here)
+
+pub line_is_told : (owners : List Owner) (link : Link) (source : ℕ) (entry : Entry) (old new : List ℕ)
+    → HasOwner owners link source → AppendsLine owners link source entry old new
+    → (line : List ℕ) × (new ≡ old ++ line) × IsLine owners link source entry line
+line_is_told owners link source entry old new owner (inl line) = line
+line_is_told owners link source entry old new owner (inr none) = absurd (none.1 owner)
 
 -- what is told at the judge's layout is told at the plan's
 pub tells_step : (trace other : Bool) (plan : Plan) (past : List Sighting) (x : Sighting) (layout : Layout)
     (sees : Seen) (old new : List ℕ)
-    → other ≡ trace → layout ≡ plan.layout → sees ≡ what_is_seen plan past x → IsAllowed plan (scene plan past x) x
-    → (HasSource layout x.link (source_of x.beat)
-    → AppendsToldOf (other && is_counted layout.links x.link) layout.counts x.link (source_of x.beat) sees old new)
-    → AppendsToldOf (trace && is_counted plan.layout.links x.link) plan.layout.counts x.link (source_of x.beat)
+    → other ≡ trace → layout ≡ plan.layout → sees ≡ what_is_seen plan past x
+    → IsAllowed (plan_at plan x.link) (scene plan past x) x
+    → (IsCountedOfOwner layout.links layout.owners x.link (source_of x.beat)
+    → AppendsToldOf (other && is_counted layout.links x.link) layout.owners x.link (source_of x.beat) sees old new)
+    → AppendsToldOf (trace && is_counted plan.layout.links x.link) plan.layout.owners x.link (source_of x.beat)
     (what_is_seen plan past x) old new
 tells_step trace other plan past x layout sees old new same_trace same_layout same_seen allowed tells =
     let P : Bool → Layout → Seen → Type 0 =
-    λ t l s. HasSource l x.link (source_of x.beat)
-    → AppendsToldOf (t && is_counted l.links x.link) l.counts x.link (source_of x.beat) s old new in
+    λ t l s. IsCountedOfOwner l.links l.owners x.link (source_of x.beat)
+    → AppendsToldOf (t && is_counted l.links x.link) l.owners x.link (source_of x.beat) s old new in
     let by_trace : P trace layout sees = subst (λ t. P t layout sees) same_trace tells in
     let by_layout : P trace plan.layout sees = subst (λ l. P trace l sees) same_layout by_trace in
     let by_seen : P trace plan.layout (what_is_seen plan past x) =
     subst (λ s. P trace plan.layout s) same_seen by_layout in
-    by_seen (has_source plan (scene plan past x) x allowed)
+    by_seen (counted_of_owner plan past x allowed)
 
 -- ---- a text that grows
 
@@ -82,7 +110,7 @@ tells_then trace plan past mid now old between new one two = record {
 }
 
 tells_one : (trace : Bool) (plan : Plan) (past : List Sighting) (x : Sighting) (old new : List ℕ)
-    → AppendsToldOf (trace && is_counted plan.layout.links x.link) plan.layout.counts x.link (source_of x.beat)
+    → AppendsToldOf (trace && is_counted plan.layout.links x.link) plan.layout.owners x.link (source_of x.beat)
     (what_is_seen plan past x) old new
     → AppendsTold trace plan past (x ∷ past) old new
 tells_one trace plan past x old new one = record {
@@ -94,7 +122,7 @@ tells_one trace plan past x old new one = record {
 -- a row whose link is watched, and one whose link is not
 pub tells_row : (trace : Bool) (plan : Plan) (before : List Row) (row : Row) (old new : List ℕ)
     → is_watched plan.layout row.sighting.link ≡ true
-    → AppendsToldOf (trace && is_counted plan.layout.links row.sighting.link) plan.layout.counts row.sighting.link
+    → AppendsToldOf (trace && is_counted plan.layout.links row.sighting.link) plan.layout.owners row.sighting.link
     (source_of row.sighting.beat)
     (what_is_seen plan (seen plan.layout before) row.sighting) old new
     → AppendsTold trace plan (seen plan.layout before) (seen plan.layout (row ∷ before)) old new
@@ -120,41 +148,41 @@ tells_no_row trace plan before row text watched =
 
 -- ---- one text is told
 
-one_line : (counts : List ℕ) (link : Link) (source : ℕ) (entry : Entry) (line other : List ℕ)
-    → IsLine counts link source entry line → IsLine counts link source entry other → line ≡ other
-one_line counts (Master m) source entry line other one two = one ∙ sym two
-one_line counts (Port p) source entry line other one two =
-    let master : one.0 ≡ two.0 = one_master counts one.0 one.1 two.0 two.1 source one.2 two.2 in
-    let own : one.1 ≡ two.1 = one_source counts one.0 one.1 two.0 two.1 source one.2 two.2 in
-    one.3 ∙ (λ i. trace_line (master i) (sent_by (own i) entry)) ∙ sym two.3
+one_line : (owners : List Owner) → AreLawfulOwners owners → (link : Link) (source : ℕ) (entry : Entry)
+    (line other : List ℕ) → IsLine owners link source entry line → IsLine owners link source entry other → line ≡ other
+one_line owners lawful (Master m) source entry line other one two = one ∙ sym two
+one_line owners lawful (Port p) source entry line other one two =
+    let same : (one.0 ≡ two.0) × (one.1 ≡ two.1) =
+    one_owner owners lawful one.0 one.1 two.0 two.1 source one.2 two.2 in
+    one.3 ∙ (λ i. trace_line (same.0 i) (sent_by (same.1 i) entry)) ∙ sym two.3
 
-one_told_of : (counted : Bool) (counts : List ℕ) (link : Link) (source : ℕ) (sees : Seen) (text other : List ℕ)
-    → IsToldOf counted counts link source sees text
-    → IsToldOf counted counts link source sees other → text ≡ other
-one_told_of true counts link source (WholeReply entry) text other one two =
-    one_line counts link source entry text other one two
-one_told_of true counts link source WholeAsk text other one two = one ∙ sym two
-one_told_of true counts link source Part text other one two = one ∙ sym two
-one_told_of false counts link source sees text other one two = one ∙ sym two
+one_told_of : (counted : Bool) (owners : List Owner) → AreLawfulOwners owners → (link : Link) (source : ℕ) (sees : Seen)
+    (text other : List ℕ) → IsToldOf counted owners link source sees text
+    → IsToldOf counted owners link source sees other → text ≡ other
+one_told_of true owners lawful link source (WholeReply entry) text other one two =
+    one_line owners lawful link source entry text other one two
+one_told_of true owners lawful link source WholeAsk text other one two = one ∙ sym two
+one_told_of true owners lawful link source Part text other one two = one ∙ sym two
+one_told_of false owners lawful link source sees text other one two = one ∙ sym two
 
-pub one_told : (trace : Bool) (plan : Plan) (past : List Sighting) (text other : List ℕ) → IsTold trace plan past text
-    → IsTold trace plan past other → text ≡ other
-one_told trace plan [] text other one two = one ∙ sym two
-one_told trace plan (x ∷ past) text other one two =
-    let so_far : one.0 ≡ two.0 = one_told trace plan past one.0 two.0 one.3 two.3 in
+pub one_told : (trace : Bool) (plan : Plan) (past : List Sighting) (text other : List ℕ) → IsPlan plan
+    → IsTold trace plan past text → IsTold trace plan past other → text ≡ other
+one_told trace plan [] text other is one two = one ∙ sym two
+one_told trace plan (x ∷ past) text other is one two =
+    let so_far : one.0 ≡ two.0 = one_told trace plan past one.0 two.0 is one.3 two.3 in
     let more : one.1 ≡ two.1 =
-    one_told_of (trace && is_counted plan.layout.links x.link) plan.layout.counts x.link (source_of x.beat)
+    one_told_of (trace && is_counted plan.layout.links x.link) plan.layout.owners is.owners x.link (source_of x.beat)
     (what_is_seen plan past x) one.1 two.1 one.4 two.4 in
     one.2 ∙ (λ i. so_far i ++ more i) ∙ sym two.2
 
 -- ---- where replies are not traced nothing is told
 
-none_of : (counts : List ℕ) (link : Link) (source : ℕ) (sees : Seen) (text : List ℕ)
-    → IsToldOf false counts link source sees text → text ≡ []
-none_of counts link source sees text is = is
+none_of : (owners : List Owner) (link : Link) (source : ℕ) (sees : Seen) (text : List ℕ)
+    → IsToldOf false owners link source sees text → text ≡ []
+none_of owners link source sees text is = is
 
 pub untraced : (plan : Plan) (past : List Sighting) (text : List ℕ) → IsTold false plan past text → text ≡ []
 untraced plan [] text is = is
 untraced plan (x ∷ past) text is =
     is.2 ∙ ap (λ l. l ++ is.1) (untraced plan past is.0 is.3)
-    ∙ none_of plan.layout.counts x.link (source_of x.beat) (what_is_seen plan past x) is.1 is.4
+    ∙ none_of plan.layout.owners x.link (source_of x.beat) (what_is_seen plan past x) is.1 is.4

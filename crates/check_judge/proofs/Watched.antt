@@ -3,10 +3,10 @@ use Rattle.std.proofs.Common.{◌≡◌, ℕ, ◌<◌, ◌↔◌, Bool, true, fa
 use Rattle.std.proofs.lemmas.Bool.Decides.{nat_tests}
 use Rattle.check_link.specs.declared.beat.Link.{Link}
 use Rattle.check_link.specs.declared.beat.Link.TheVariants.{Master, Port}
-use Rattle.check_watch.specs.declared.links.Links.{Links}
-use Rattle.check_watch.specs.declared.links.Links.TheVariants.{Both, Masters, Ports}
-use Rattle.check_watch.specs.Plan.{Layout, Plan, HasLink, IsWatched}
-use Rattle.check_watch.specs.Lawful.{IsLawful}
+use Rattle.check_groups.specs.declared.links.Links.{Links}
+use Rattle.check_groups.specs.declared.links.Links.TheVariants.{Both, Masters, Ports, Each}
+use Rattle.check_groups.specs.Plan.{Layout, Plan, HasLink, IsWatched}
+use Rattle.check_groups.specs.Lawful.{IsLawful}
 use Rattle.check_capture.specs.declared.row.Row.{Row}
 use Rattle.check_judge.specs.Order.{are_masters_watched, are_ports_watched, is_watched, seen}
 
@@ -21,17 +21,19 @@ master_watched : (links : Links) (m count : ℕ) → IsTrue (are_masters_watched
 master_watched Both m count = ((λ h. (below m count h, tt)), λ h. is_below m count h.0)
 master_watched Masters m count = ((λ h. (below m count h, tt)), λ h. is_below m count h.0)
 master_watched Ports m count = ((λ h. absurd (cc)), λ h. absurd h.1)
+master_watched Each m count = ((λ h. (below m count h, tt)), λ h. is_below m count h.0)
 
 port_watched : (links : Links) (p count : ℕ) → IsTrue (are_ports_watched links && nat_lt p count)
     ↔ ((p < count) × IsWatched links (Port p))
 port_watched Both p count = ((λ h. (below p count h, tt)), λ h. is_below p count h.0)
 port_watched Masters p count = ((λ h. absurd (cc)), λ h. absurd h.1)
 port_watched Ports p count = ((λ h. (below p count h, tt)), λ h. is_below p count h.0)
+port_watched Each p count = ((λ h. (below p count h, tt)), λ h. is_below p count h.0)
 
 pub watched_is : (layout : Layout) (link : Link) → IsTrue (is_watched layout link)
     ↔ (HasLink layout link × IsWatched layout.links link)
-watched_is layout (Master m) = master_watched layout.links m (length layout.counts)
-watched_is layout (Port p) = port_watched layout.links p (length layout.ranges)
+watched_is layout (Master m) = master_watched layout.links m (length layout.owners)
+watched_is layout (Port p) = port_watched layout.links p (length layout.ports)
 
 same_answer : {P : Type 0} (a b : Bool) → (IsTrue a ↔ P) → (IsTrue b ↔ P) → a ≡ b
 same_answer true true p q = refl

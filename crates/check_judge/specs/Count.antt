@@ -3,14 +3,14 @@ use Rattle.std.specs.Prelude.{ℕ, ◌+◌, ◌%◌, ◌^◌, Bool, true, false,
 use Rattle.check_link.specs.declared.beat.Link.{Link}
 use Rattle.check_link.specs.declared.beat.Link.TheVariants.{Master, Port}
 use Rattle.check_link.specs.declared.beat.Sighting.{Sighting}
-use Rattle.check_watch.specs.declared.links.Links.{Links}
-use Rattle.check_watch.specs.declared.links.Links.TheVariants.{Both, Masters, Ports}
-use Rattle.check_watch.specs.declared.seen.Seen.{Seen}
-use Rattle.check_watch.specs.declared.seen.Ended.{Ended}
-use Rattle.check_watch.specs.declared.seen.Ended.TheVariants as ends
-use Rattle.check_watch.specs.Plan.{Plan}
-use Rattle.check_watch.specs.Scene.{ended}
-use Rattle.check_watch.specs.Lawful.{what_is_seen}
+use Rattle.check_groups.specs.declared.links.Links.{Links}
+use Rattle.check_groups.specs.declared.links.Links.TheVariants.{Both, Masters, Ports, Each}
+use Rattle.check_crossbar.specs.declared.seen.Seen.{Seen}
+use Rattle.check_crossbar.specs.declared.seen.Ended.{Ended}
+use Rattle.check_crossbar.specs.declared.seen.Ended.TheVariants as ends
+use Rattle.check_groups.specs.Plan.{Plan}
+use Rattle.check_crossbar.specs.Scene.{ended}
+use Rattle.check_groups.specs.Lawful.{what_is_seen}
 
 -- messages are counted at the masters' links where these are watched, else at the ports'
 abbrev pub is_counted : Links → Link → Bool
@@ -20,6 +20,8 @@ is_counted Masters (Master m) = true
 is_counted Masters (Port p) = false
 is_counted Ports (Master m) = false
 is_counted Ports (Port p) = true
+is_counted Each (Master m) = true
+is_counted Each (Port p) = false
 
 abbrev pub ends_an_ask : Ended → Bool
 ends_an_ask ends.Part = false

@@ -5,3 +5,4 @@ pub mod Verdict
 pub mod View
 pub mod Names
 pub mod Text
+pub mod Start

@@ -6,9 +6,9 @@ use Rattle.std.specs.List.Sorted.{IsPermutation, IsNonDecreasingBy}
 use Rattle.check_link.specs.declared.beat.Link.{Link}
 use Rattle.check_link.specs.declared.beat.Link.TheVariants.{Master, Port}
 use Rattle.check_link.specs.declared.beat.Sighting.{Sighting}
-use Rattle.check_watch.specs.declared.links.Links.{Links}
-use Rattle.check_watch.specs.declared.links.Links.TheVariants.{Both, Masters, Ports}
-use Rattle.check_watch.specs.Plan.{Layout}
+use Rattle.check_groups.specs.declared.links.Links.{Links}
+use Rattle.check_groups.specs.declared.links.Links.TheVariants.{Both, Masters, Ports, Each}
+use Rattle.check_groups.specs.Plan.{Layout}
 use Rattle.check_capture.specs.Moment.{place_of}
 use Rattle.check_capture.specs.declared.fault.RowFault.{RowFault}
 use Rattle.check_capture.specs.declared.fault.RowFault.TheVariants as fault
@@ -55,16 +55,18 @@ abbrev pub are_masters_watched : Links → Bool
 are_masters_watched Both = true
 are_masters_watched Masters = true
 are_masters_watched Ports = false
+are_masters_watched Each = true
 
 abbrev pub are_ports_watched : Links → Bool
 are_ports_watched Both = true
 are_ports_watched Masters = false
 are_ports_watched Ports = true
+are_ports_watched Each = true
 
 -- the system has the link, and it is watched
 abbrev pub is_watched : Layout → Link → Bool
-is_watched layout (Master m) = are_masters_watched layout.links && nat_lt m (length layout.counts)
-is_watched layout (Port p) = are_ports_watched layout.links && nat_lt p (length layout.ranges)
+is_watched layout (Master m) = are_masters_watched layout.links && nat_lt m (length layout.owners)
+is_watched layout (Port p) = are_ports_watched layout.links && nat_lt p (length layout.ports)
 
 -- the sightings of rows, those at links that are watched
 abbrev pub seen : Layout → List Row → List Sighting

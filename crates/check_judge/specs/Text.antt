@@ -9,8 +9,8 @@ use Rattle.check_link.specs.declared.beat.Link.{Link}
 use Rattle.check_link.specs.declared.beat.Link.TheVariants.{Master, Port}
 use Rattle.check_link.specs.declared.fault.FormFault.{FormFault}
 use Rattle.check_link.specs.declared.fault.FormFault.TheVariants as form
-use Rattle.check_watch.specs.declared.fault.Fault.{Fault}
-use Rattle.check_watch.specs.declared.fault.Fault.TheVariants.{Form, NoSuchSource, SourceBusy, WrongPort, NoRequest, EarlyReply, WrongSize, WrongOpcode, UnknownData, NotSent, NotGiven, WrongReply}
+use Rattle.check_crossbar.specs.declared.fault.Fault.{Fault}
+use Rattle.check_crossbar.specs.declared.fault.Fault.TheVariants.{Form, NoSuchSource, SourceBusy, WrongPort, NoRequest, EarlyReply, WrongSize, WrongOpcode, UnknownData, NotSent, NotGiven, WrongReply}
 use Rattle.tl_script.specs.Trace.{reply_text}
 use Rattle.check_judge.specs.Names.{NamesView, name_of}
 use Rattle.check_judge.specs.declared.stop.Counts.{Counts}

@@ -2,15 +2,18 @@
 -- end. Lists of sightings have the latest first. This project's own.
 use Rattle.std.specs.Prelude.{◌≡◌, ◌⊎◌, ℕ, Bool, true, false, ◌&&◌, List, [], ◌∷◌, ◌++◌}
 use Rattle.tl_types.specs.declared.trace.Entry.{Entry}
-use Rattle.tl_map.specs.Block.{IsWide}
+use Rattle.check_map.specs.Owner.{IsWide}
+use Rattle.check_map.specs.declared.sources.Owner.{Owner}
 use Rattle.tl_script.specs.Trace.{trace_line}
 use Rattle.check_link.specs.declared.beat.Link.{Link}
 use Rattle.check_link.specs.declared.beat.Link.TheVariants.{Master, Port}
 use Rattle.check_link.specs.declared.beat.Sighting.{Sighting}
-use Rattle.check_watch.specs.declared.seen.Seen.{Seen}
-use Rattle.check_watch.specs.declared.seen.Seen.TheVariants.{Part, WholeAsk, WholeReply}
-use Rattle.check_watch.specs.Plan.{Plan, source_of}
-use Rattle.check_watch.specs.Lawful.{what_is_seen}
+use Rattle.check_crossbar.specs.declared.seen.Seen.{Seen}
+use Rattle.check_crossbar.specs.declared.seen.Seen.TheVariants.{Part, WholeAsk, WholeReply}
+use Rattle.check_groups.specs.Plan.{Plan}
+use Rattle.check_crossbar.specs.Plan.{source_of}
+use Rattle.check_groups.specs.Lawful.{what_is_seen}
+use Rattle.check_groups.specs.declared.links.Links.{Links}
 use Rattle.check_judge.specs.Count.{is_counted}
 
 -- the entry with this source
@@ -25,22 +28,26 @@ sent_by source entry =
 
 -- the line of an entry whose reply was seen at a link, to this source of the link. At a port's link that is a wide
 -- source, and the line has the master that owns it and the master's own source
-abbrev pub IsLine : List ℕ → Link → ℕ → Entry → List ℕ → Type 0
-IsLine counts (Master m) source entry line = line ≡ trace_line m entry
-IsLine counts (Port p) source entry line =
-    (master : ℕ) × (own : ℕ) × IsWide counts master own source × (line ≡ trace_line master (sent_by own entry))
+abbrev pub IsLine : List Owner → Link → ℕ → Entry → List ℕ → Type 0
+IsLine owners (Master m) source entry line = line ≡ trace_line m entry
+IsLine owners (Port p) source entry line =
+    (master : ℕ) × (own : ℕ) × IsWide owners master own source × (line ≡ trace_line master (sent_by own entry))
 
 -- the source of a link is somebody's: at a port's link it is a wide source that some master has
-abbrev pub HasOwner : List ℕ → Link → ℕ → Type 0
-HasOwner counts (Master m) source = Unit {0}
-HasOwner counts (Port p) source = (master : ℕ) × (own : ℕ) × IsWide counts master own source
+abbrev pub HasOwner : List Owner → Link → ℕ → Type 0
+HasOwner owners (Master m) source = Unit {0}
+HasOwner owners (Port p) source = (master : ℕ) × (own : ℕ) × IsWide owners master own source
+
+-- where messages of a link are counted, the source is somebody's
+abbrev pub IsCountedOfOwner : Links → List Owner → Link → ℕ → Type 0
+IsCountedOfOwner links owners link source = is_counted links link ≡ true → HasOwner owners link source
 
 -- what is told of a beat that ends this, where it is counted: the line of a whole reply, and nothing of all else
-abbrev pub IsToldOf : Bool → List ℕ → Link → ℕ → Seen → List ℕ → Type 0
-IsToldOf true counts link source (WholeReply entry) text = IsLine counts link source entry text
-IsToldOf true counts link source WholeAsk text = text ≡ []
-IsToldOf true counts link source Part text = text ≡ []
-IsToldOf false counts link source seen text = text ≡ []
+abbrev pub IsToldOf : Bool → List Owner → Link → ℕ → Seen → List ℕ → Type 0
+IsToldOf true owners link source (WholeReply entry) text = IsLine owners link source entry text
+IsToldOf true owners link source WholeAsk text = text ≡ []
+IsToldOf true owners link source Part text = text ≡ []
+IsToldOf false owners link source seen text = text ≡ []
 
 -- what is told of beats that crossed, if they are traced: of none nothing; of one more the text so far, and then what
 -- is told of it
@@ -48,21 +55,21 @@ abbrev pub IsTold : Bool → Plan → List Sighting → List ℕ → Type 0
 IsTold trace plan [] text = text ≡ []
 IsTold trace plan (x ∷ past) text =
     (so_far : List ℕ) × (more : List ℕ) × (text ≡ so_far ++ more) × IsTold trace plan past so_far
-    × IsToldOf (trace && is_counted plan.layout.links x.link) plan.layout.counts x.link (source_of x.beat)
+    × IsToldOf (trace && is_counted plan.layout.links x.link) plan.layout.owners x.link (source_of x.beat)
     (what_is_seen plan past x) more
 
 -- ---- for the proofs: a text that grows
 
 -- a text grew by the line of an entry, or by nothing where its source is nobody's
-abbrev pub AppendsLine : List ℕ → Link → ℕ → Entry → List ℕ → List ℕ → Type 0
-AppendsLine counts link source entry old new =
-    ((line : List ℕ) × (new ≡ old ++ line) × IsLine counts link source entry line)
-    ⊎ ((new ≡ old) × (HasOwner counts link source → ⊥))
+abbrev pub AppendsLine : List Owner → Link → ℕ → Entry → List ℕ → List ℕ → Type 0
+AppendsLine owners link source entry old new =
+    ((line : List ℕ) × (new ≡ old ++ line) × IsLine owners link source entry line)
+    ⊎ ((new ≡ old) × (HasOwner owners link source → ⊥))
 
 -- a text grew by what is told of a beat that ends this
-abbrev pub AppendsToldOf : Bool → List ℕ → Link → ℕ → Seen → List ℕ → List ℕ → Type 0
-AppendsToldOf counted counts link source seen old new =
-    (more : List ℕ) × (new ≡ old ++ more) × IsToldOf counted counts link source seen more
+abbrev pub AppendsToldOf : Bool → List Owner → Link → ℕ → Seen → List ℕ → List ℕ → Type 0
+AppendsToldOf counted owners link source seen old new =
+    (more : List ℕ) × (new ≡ old ++ more) × IsToldOf counted owners link source seen more
 
 -- a text grew by what is told of the beats that crossed since a past
 pub record AppendsTold (trace : Bool) (plan : Plan) (past now : List Sighting) (old new : List ℕ) : Type 0 where

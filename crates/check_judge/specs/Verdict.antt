@@ -1,8 +1,8 @@
 -- The verdict over the rows of a capture. Lists of what crossed have the latest first. This project's own.
 use Rattle.std.specs.Prelude.{◌≡◌, ℕ, ◌%◌, ◌^◌, ◌<◌, Bool, List, [], ◌∷◌, ◌++◌, IsTrue, length, reverse}
 use Rattle.std.specs.List.{AllByRecursion}
-use Rattle.check_watch.specs.Plan.{Plan}
-use Rattle.check_watch.specs.Lawful.{IsLawful, IsFirstFault}
+use Rattle.check_groups.specs.Plan.{Plan}
+use Rattle.check_groups.specs.Lawful.{IsLawful, IsFirstFault}
 use Rattle.check_capture.specs.declared.row.Row.{Row}
 use Rattle.check_judge.specs.declared.stop.Counts.{Counts}
 use Rattle.check_judge.specs.declared.stop.Refusal.{Refusal}

@@ -1,8 +1,9 @@
 -- What a judge knows of the rows that it has taken. Lists of what crossed have the latest first. This project's own.
-use Rattle.std.specs.Prelude.{◌≡◌, ℕ, ◌<◌, ◌%◌, ◌^◌, Bool, List, [], ◌++◌, reverse, length}
+use Rattle.std.specs.Prelude.{◌≡◌, ◌⊎◌, true, ℕ, ◌<◌, ◌%◌, ◌^◌, Bool, List, [], ◌++◌, reverse, length}
 use Rattle.std.specs.List.{AllByRecursion}
-use Rattle.check_watch.specs.Plan.{Plan}
-use Rattle.check_watch.specs.View.{Keeps}
+use Rattle.check_groups.specs.Plan.{Plan}
+use Rattle.check_groups.specs.View.{Keeps}
+use Rattle.check_groups.specs.declared.links.Links.TheVariants.{Each}
 use Rattle.check_capture.specs.declared.row.Row.{Row}
 use Rattle.check_judge.specs.declared.judge.Judge.{Judge}
 use Rattle.check_judge.specs.declared.tally.Tally.{Tally}
@@ -18,6 +19,10 @@ pub record Kept (plan : Plan) (crossed : List Row) (tally : Tally) : Type 0 wher
   pub keeps : Keeps plan (seen plan.layout crossed) tally.watch
   pub requests : tally.requests ≡ asked plan (seen plan.layout crossed)
   pub answered : tally.answered ≡ answered plan (seen plan.layout crossed)
+
+-- memory can be refused: for what is told, or for what is kept of a port's link that is judged by itself
+abbrev pub MayWantMemory : Bool → Plan → Type 0
+MayWantMemory trace plan = (trace ≡ true) ⊎ (plan.layout.links ≡ Each)
 
 -- the rows of a file so far are those of the moment at hand and some of earlier times, and those are kept
 pub record Judges (plan : Plan) (file : List Row) (judge : Judge) : Type 0 where

@@ -1,16 +1,16 @@
 //! The judge of the rows of a file.
 ghost use Rattle.std.specs.Prelude.{◌≡◌, ◌+◌, ◌%◌, ◌^◌, ◌<◌, ◌↔◌, ℕ, true, List, [], ◌∷◌, ◌++◌, Err, IsOk, IfOk, OnOk, IfErr};
-ghost use Rattle.check_watch.specs.Plan.{Plan};
-ghost use Rattle.check_watch.specs.View.{Keeps};
+ghost use Rattle.check_groups.specs.Plan.{Plan};
+ghost use Rattle.check_groups.specs.View.{Keeps};
 ghost use Rattle.check_capture.specs.Moment.{IsLink, IsMoment};
 ghost use Rattle.check_capture.specs.declared.row.Row.{Row};
-ghost use Rattle.check_judge.specs.View.{HasTold, Judges, TellsOn, TellsStop, is_traced};
+ghost use Rattle.check_judge.specs.View.{HasTold, Judges, MayWantMemory, TellsOn, TellsStop, is_traced};
 ghost use Rattle.check_judge.specs.Verdict.{HasCounts, IsFirstUnlawful, IsLawfulFile, IsStop, IsToldBefore, IsToldFile, OfUnlawful};
 
 use crate::stop::{Counts, Refusal, Stop, stop_of};
 use crate::tally::Tally;
 use check_capture::{Moment, Row};
-use check_watch::Watch;
+use check_groups::Watch;
 
 /// The judge of the rows of a file, which it takes in the order in which they stand there.
 #[derive(Drop)]
@@ -67,7 +67,8 @@ impl Judge {
             → HasTold plan file self.old so_far
             → IfErr result (TellsStop (is_traced self.old) plan file so_far
             text.old.items text.new.items) }
-        ensures memory { IfErr result (λ stop. stop ≡ Stop.Memory → is_traced self.old ≡ true) }
+        ensures memory { (plan : Plan) (file : List Row) → Judges plan file self.old
+            → IfErr result (λ stop. stop ≡ Stop.Memory → MayWantMemory (is_traced self.old) plan) }
     {
         if let Err(refusal) = self.tally.judge_rows(self.moment.rows(), text) {
             return Err(stop_of(refusal));
@@ -94,7 +95,8 @@ impl Judge {
             → HasTold plan file self.old so_far
             → IfErr result (TellsStop (is_traced self.old) plan file so_far
             text.old.items text.new.items) }
-        ensures memory { IfErr result (λ stop. stop ≡ Stop.Memory → is_traced self.old ≡ true) }
+        ensures memory { (plan : Plan) (file : List Row) → Judges plan file self.old
+            → IfErr result (λ stop. stop ≡ Stop.Memory → MayWantMemory (is_traced self.old) plan) }
     {
         // asked for its clause that they are a moment
         let _rows = self.moment.rows();
@@ -124,7 +126,8 @@ impl Judge {
             → IfErr result (OfUnlawful (λ found. (more : List ℕ)
             × (text.new.items ≡ text.old.items ++ more)
             × IsToldBefore (is_traced self) plan file (so_far ++ more) found)) }
-        ensures memory { IfErr result (λ why. why ≡ Refusal.Memory → is_traced self ≡ true) }
+        ensures memory { (plan : Plan) (file : List Row) → Judges plan file self
+            → IfErr result (λ why. why ≡ Refusal.Memory → MayWantMemory (is_traced self) plan) }
     {
         if let Err(refusal) = self.tally.judge_rows(self.moment.rows(), text) {
             return Err(refusal);

@@ -1,13 +1,13 @@
 //! Laws of what is told, each on a function that does nothing but carry it.
 ghost use Rattle.std.specs.Prelude.{◌≡◌, ℕ, Bool, false, List, []};
 ghost use Rattle.check_link.specs.declared.beat.Sighting.{Sighting};
-ghost use Rattle.check_watch.specs.Plan.{Plan};
+ghost use Rattle.check_groups.specs.Plan.{IsPlan, Plan};
 ghost use Rattle.check_judge.specs.Told.{IsTold};
 
-/// What is told of beats that crossed is one text.
+/// What is told of beats that crossed is one text: by a plan in which no two masters share a wide source.
 pub fn one_text_is_told()
     ensures { (trace : Bool) (plan : Plan) (past : List Sighting) (text other : List ℕ)
-        → IsTold trace plan past text → IsTold trace plan past other → text ≡ other }
+        → IsPlan plan → IsTold trace plan past text → IsTold trace plan past other → text ≡ other }
 {}
 
 /// Where replies are not traced nothing is told.

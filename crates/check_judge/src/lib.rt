@@ -1,12 +1,12 @@
 //! The verdict over the rows of a captured trace: lawful, with counts, or the first row that makes it unlawful, and
 //! why.
 //!
-//! A [`Judge`] is made of a [`check_watch::Watch`], the judge of beats. [`Judge::take`] takes the rows of a file one by
-//! one, in the order in which they stand there, and judges the beats of one time once a row of a later time comes, in
-//! the order in which they cross; [`Judge::end`] judges the last ones. What is promised is said of the whole file so
-//! far (`specs/Verdict.antt`): its rows in crossing order are lawful at the links that are watched, or [`Unlawful`] is
-//! the first one that makes them unlawful, with its first fault. Of a judge that has answered an error nothing is
-//! promised: it must not be used again.
+//! [`begin`] makes the judge of beats of a system, a [`check_groups::Watch`] (`specs/Start.antt`), and a [`Judge`] is made
+//! of that. [`Judge::take`] takes the rows of a file one by one, in the order in which they stand there. It judges the
+//! beats of one time once a row of a later time comes, in the order in which they cross; [`Judge::end`] judges the last
+//! ones. What is promised is said of the whole file so far (`specs/Verdict.antt`): its rows in crossing order are lawful
+//! at the links that are watched, or [`Unlawful`] is the first one that makes them unlawful, with its first fault. Of a
+//! judge that has answered an error nothing is promised: it must not be used again.
 //!
 //! If replies are traced, what is told of rows is appended to a text as they are judged: a line for each whole reply
 //! that is counted, in the order in which the replies end (`specs/Told.antt`).
@@ -17,6 +17,7 @@
 mod judge;
 pub mod laws;
 mod names;
+mod start;
 mod stop;
 mod tally;
 mod text;
@@ -24,6 +25,7 @@ mod trace;
 
 pub use judge::Judge;
 pub use names::Names;
+pub use start::{Beginning, Terms, begin};
 pub use stop::{Counts, Refusal, Stop, Unlawful};
 pub use tally::count_end;
 pub use text::{push_lawful, push_unlawful};

@@ -3,7 +3,7 @@ ghost use Rattle.std.specs.Prelude.{◌≡◌};
 ghost use Rattle.check_judge.specs.Verdict.{stop_of};
 
 use check_capture::{Row, RowFault};
-use check_watch::Fault;
+use check_crossbar::Fault;
 
 /// How many rows there are, and how many whole requests and replies were seen, each modulo 2^64.
 #[derive(Debug, Clone, Copy, PartialEq, Eq)]

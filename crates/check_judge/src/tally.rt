@@ -1,18 +1,21 @@
 //! Beats judged in the order in which they cross, and what they end, counted.
-ghost use Rattle.std.specs.Prelude.{◌≡◌, ◌&&◌, false, true, List, ◌∷◌, ◌++◌, reverse, OnOk, IfErr};
-ghost use Rattle.check_watch.specs.Plan.{Plan, HasLink, HasSource, IsWatched, source_of};
+ghost use Rattle.std.specs.Prelude.{◌≡◌, ◌&&◌, false, true, List, ◌∷◌, ◌++◌, reverse, OnOk, IsOk, IfOk, IfErr};
+ghost use Rattle.check_groups.specs.Plan.{Plan, HasLink, IsWatched};
+ghost use Rattle.check_crossbar.specs.Plan.{source_of};
+ghost use Rattle.check_groups.specs.Groups.{is_alone};
 ghost use Rattle.check_capture.specs.declared.row.Row.{Row};
 ghost use Rattle.check_judge.specs.Count.{ends_a_reply, ends_an_ask, is_counted, one_more};
 ghost use Rattle.check_judge.specs.Order.{seen};
-ghost use Rattle.check_judge.specs.Told.{AppendsTold, AppendsToldOf};
-ghost use Rattle.check_judge.specs.View.{Kept};
+ghost use Rattle.check_judge.specs.Told.{AppendsTold, AppendsToldOf, IsCountedOfOwner};
+ghost use Rattle.check_judge.specs.View.{Kept, MayWantMemory};
 ghost use Rattle.check_judge.specs.Verdict.{IsUnlawfulAfter, OfUnlawful, StopsTelling};
 
 use crate::stop::{Refusal, Unlawful};
 use crate::trace::{push_answer, source_of};
 use check_capture::Row;
+use check_crossbar::{Ended, Seen, StepError};
+use check_groups::{Links, Watch};
 use check_link::{Link, Sighting};
-use check_watch::{Ended, Links, Seen, Watch};
 use std::alloc::AllocError;
 
 /// Whether messages are counted at a link: at the masters' where these are watched, else at the ports'.
@@ -20,7 +23,7 @@ fn is_counted(links: Links, link: Link) -> bool
     ensures { result ≡ is_counted links link }
 {
     match link {
-        Link::Master(_) => matches!(links, Links::Both | Links::Masters),
+        Link::Master(_) => matches!(links, Links::Both | Links::Masters | Links::Each),
         Link::Port(_) => matches!(links, Links::Ports),
     }
 }
@@ -68,10 +71,10 @@ impl Tally {
 
     /// Appends what is told of a beat that ends this.
     fn tell(&self, sighting: &Sighting, seen: &Seen, text: &mut Vec<u8>) -> Result<(), AllocError>
-        ensures told { HasSource self.now.watch.layout sighting.now.link (source_of sighting.now.beat)
-            → OnOk result (AppendsToldOf
+        ensures told { IsCountedOfOwner self.now.watch.layout.links self.now.watch.layout.owners sighting.now.link
+            (source_of sighting.now.beat) → OnOk result (AppendsToldOf
             (self.now.trace && is_counted self.now.watch.layout.links sighting.now.link)
-            self.now.watch.layout.counts sighting.now.link (source_of sighting.now.beat) seen.now
+            self.now.watch.layout.owners sighting.now.link (source_of sighting.now.beat) seen.now
             text.old.items text.new.items) }
         ensures memory { IfErr result (λ _. self.now.trace ≡ true) }
     {
@@ -90,20 +93,21 @@ impl Tally {
 
     /// Takes the beat of a row behind those before it, if it is lawful, and tells nothing: whether it is. Most beats of
     /// a file are, and where nothing is told of them nobody asks for their replies.
-    fn take_row(&mut self, row: &Row) -> bool
+    fn take_row(&mut self, row: &Row) -> Result<bool, AllocError>
         requires known { HasLink self.old.watch.layout row.now.sighting.link }
         requires watched { IsWatched self.old.watch.layout.links row.now.sighting.link }
         ensures trace { self.new.trace ≡ self.old.trace }
-        ensures keeps { (plan : Plan) (before : List Row) → Kept plan before self.old → result ≡ true
-            → Kept plan (row.now ∷ before) self.new }
-        ensures refused { result ≡ false → self.new ≡ self.old }
+        ensures keeps { (plan : Plan) (before : List Row) → Kept plan before self.old
+            → IfOk result (λ taken. taken ≡ true → Kept plan (row.now ∷ before) self.new) }
+        ensures refused { IfOk result (λ taken. taken ≡ false → self.new ≡ self.old) }
+        ensures ready { is_alone self.old.watch.layout.links row.now.sighting.link ≡ false → IsOk result }
     {
-        match self.watch.take(&row.sighting) {
+        match self.watch.take(&row.sighting)? {
             Some(end) => {
                 self.count(row.sighting.link, end);
-                true
+                Ok(true)
             }
-            None => false,
+            None => Ok(false),
         }
     }
 
@@ -121,11 +125,15 @@ impl Tally {
             → IfErr result (OfUnlawful (IsUnlawfulAfter plan before)) }
         ensures row { IfErr result (OfUnlawful (λ found. found.row ≡ row.now)) }
         ensures quiet { IfErr result (OfUnlawful (λ _. text.new.items ≡ text.old.items)) }
-        ensures memory { IfErr result (λ why. why ≡ Refusal.Memory → self.old.trace ≡ true) }
+        ensures memory { (plan : Plan) (before : List Row) → Kept plan before self.old
+            → IfErr result (λ why. why ≡ Refusal.Memory → MayWantMemory self.old.trace plan) }
     {
         let seen = match self.watch.step(&row.sighting) {
             Ok(seen) => seen,
-            Err(fault) => return Err(Refusal::Unlawful(Unlawful { row: *row, fault })),
+            Err(StepError::Unlawful(fault)) => {
+                return Err(Refusal::Unlawful(Unlawful { row: *row, fault }));
+            }
+            Err(StepError::Memory) => return Err(Refusal::Memory),
         };
         self.count(row.sighting.link, seen.ended());
         match self.tell(&row.sighting, &seen, text) {
@@ -146,7 +154,8 @@ impl Tally {
             → IfErr result (OfUnlawful (IsUnlawfulAfter plan before)) }
         ensures row { IfErr result (OfUnlawful (λ found. found.row ≡ row.now)) }
         ensures quiet { IfErr result (OfUnlawful (λ _. text.new.items ≡ text.old.items)) }
-        ensures memory { IfErr result (λ why. why ≡ Refusal.Memory → self.old.trace ≡ true) }
+        ensures memory { (plan : Plan) (before : List Row) → Kept plan before self.old
+            → IfErr result (λ why. why ≡ Refusal.Memory → MayWantMemory self.old.trace plan) }
     {
         if !self.watch.watches(row.sighting.link) {
             return Ok(());
@@ -154,11 +163,12 @@ impl Tally {
         if self.trace {
             return self.tell_row(row, text);
         }
-        if self.take_row(row) {
-            return Ok(());
+        match self.take_row(row) {
+            Ok(true) => Ok(()),
+            // it is judged again for its fault
+            Ok(false) => self.tell_row(row, text),
+            Err(AllocError) => Err(Refusal::Memory),
         }
-        // it is judged again for its fault
-        self.tell_row(row, text)
     }
 
     /// Judges the beats of rows that cross in this order behind those before them, up to the first that is not lawful,
@@ -173,7 +183,8 @@ impl Tally {
         ensures fault { (plan : Plan) (before : List Row) → Kept plan before self.old
             → IfErr result (OfUnlawful (StopsTelling self.old.trace plan rows.now before
             text.old.items text.new.items)) }
-        ensures memory { IfErr result (λ why. why ≡ Refusal.Memory → self.old.trace ≡ true) }
+        ensures memory { (plan : Plan) (before : List Row) → Kept plan before self.old
+            → IfErr result (λ why. why ≡ Refusal.Memory → MayWantMemory self.old.trace plan) }
     {
         for row in rows {
             if let Err(refusal) = self.judge_row(row, text) {

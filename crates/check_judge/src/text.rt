@@ -6,8 +6,8 @@ ghost use Rattle.check_judge.specs.Text.{channel_text, fault_text, form_text, la
 
 use crate::names::Names;
 use crate::stop::{Counts, Unlawful};
+use check_crossbar::Fault;
 use check_link::{Beat, FormFault, Link};
-use check_watch::Fault;
 use std::alloc::AllocError;
 use tl_script::push_reply;
 use tl_text::push_field;

@@ -2,11 +2,11 @@
 ghost use Rattle.std.specs.Prelude.{◌≡◌, OnErr, OnOk};
 ghost use Rattle.check_judge.specs.Told.{AppendsLine};
 ghost use Rattle.tl_text.specs.Text.{BeginsWith};
-ghost use Rattle.check_watch.specs.Plan.{source_of};
+ghost use Rattle.check_crossbar.specs.Plan.{source_of};
 
 use check_link::{Beat, Link};
+use check_map::Sources;
 use std::alloc::AllocError;
-use tl_map::Sources;
 use tl_script::push_entry;
 use tl_types::Entry;
 

@@ -1,4 +1,5 @@
 mod crossbar;
+mod groups;
 mod map;
 mod memory;
 mod sources;

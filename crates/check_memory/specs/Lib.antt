@@ -1,12 +1,11 @@
 pub mod Sizes
-pub mod Known
+pub use Rattle.check_cells.specs.Known
 pub mod Cells
 pub mod Partial
 pub mod Pattern
 pub mod Slave
 pub mod Whole
 pub mod Place
-pub mod Room
 pub mod Kept
 pub mod Paged
 pub mod Laws

@@ -2,7 +2,7 @@
 //!
 //! Contracts see a [`Memory`] as a `Partial` (`specs/Partial.antt`): its kind, the sizes that it supports, its ranges,
 //! and one byte for each address, known or unknown. [`Memory::serve_into`] leaves the memory `after_partial` a request
-//! and the `pattern` of its answer; [`Pattern::fits`] says whether a captured reply fits it. A [`Slave`] is a memory
+//! and the `pattern` of its answer; [`Pattern::fits`] (`check_cells`) says whether a captured reply fits it. A [`Slave`] is a memory
 //! or a device, which keeps nothing. A table of sizes is within the rules, or makes no [`Sizes`].
 //!
 //! `laws` says that a memory that is wholly known is the sequential memory of `tl_ops`, and that the true reply fits
@@ -11,20 +11,16 @@
 //! Read on in `docs/MODEL.md`, "The judge's memory".
 #![tactic(auto)]
 
-mod cells;
 pub mod laws;
-mod masks;
 mod memory;
 mod page;
 mod pages;
-mod pattern;
 mod range;
 mod sizes;
 mod slave;
 
-pub use cells::Cells;
+pub use check_cells::{Cells, Pattern};
 pub use memory::Memory;
-pub use pattern::Pattern;
 pub use range::{Range, are_within};
 pub use sizes::{SizeTable, Sizes, Span};
 pub use slave::Slave;

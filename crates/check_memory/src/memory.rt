@@ -6,12 +6,11 @@ ghost use Rattle.check_memory.specs.Partial.{permits, after_partial, loaded, Are
 ghost use Rattle.check_memory.specs.Pattern.{pattern, shown_cells};
 ghost use Rattle.check_memory.specs.Place.{fill_of, tabulate};
 
-use crate::cells::Cells;
 use crate::page::PAGE_BYTES;
 use crate::pages::Pages;
-use crate::pattern::Pattern;
 use crate::range::Range;
 use crate::sizes::{SizeTable, Sizes};
+use check_cells::{Cells, Pattern};
 use std::alloc::{AllocError, Global};
 use std::marker::Model;
 use tl_ops::Kind;

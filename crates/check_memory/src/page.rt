@@ -9,8 +9,7 @@ ghost use Rattle.check_memory.specs.Pattern.{shown_cells};
 ghost use Rattle.check_memory.specs.Cells.{put_cells, new_cells, clear_cell, is_atomic, is_swap};
 ghost use Rattle.check_memory.specs.Place.{fill_of};
 
-use crate::cells::{Cells, mask_of};
-use crate::masks::{give, known_cell, mark_cell, ones};
+use check_cells::{Cells, give, known_cell, mark_cell, mask_of, ones};
 use std::alloc::{AllocError, Global};
 use std::marker::Model;
 use tl_ops::Kind;

@@ -7,8 +7,8 @@ ghost use Rattle.check_memory.specs.Cells.{new_cells, is_atomic};
 ghost use Rattle.check_memory.specs.Pattern.{shown_cells};
 ghost use Rattle.check_memory.specs.Paged.{seen, IsAt};
 
-use crate::cells::Cells;
 use crate::page::{PAGE_BYTES, Page, Slot};
+use check_cells::Cells;
 use std::alloc::{AllocError, Global};
 use std::collections::BTreeMap;
 use std::marker::Model;

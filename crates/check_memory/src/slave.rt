@@ -3,7 +3,7 @@ ghost use Rattle.std.specs.Prelude.{◌≡◌, IfOk, OnErr};
 ghost use Rattle.check_memory.specs.Slave.{slave_after, expected_of};
 
 use crate::memory::Memory;
-use crate::pattern::Pattern;
+use check_cells::Pattern;
 use std::alloc::{AllocError, Global};
 use tl_types::Ask;
 

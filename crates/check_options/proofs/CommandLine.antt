@@ -17,31 +17,34 @@ moved : (word : Bor Text) (text : Text) → word.now ≡ text → word ≡ at wo
 moved word text e = ap (at word.ref_ptr) e
 
 -- the lists of the program, at any places
-abbrev pub links_at : ℕ × ℕ → ℕ × ℕ → ℕ × ℕ → ℕ × ℕ → Names
-links_at place a b c = list_at place (at a (codes "both") ∷ at b (codes "masters") ∷ at c (codes "ports") ∷ [])
+abbrev pub links_at : ℕ × ℕ → ℕ × ℕ → ℕ × ℕ → ℕ × ℕ → ℕ × ℕ → Names
+links_at place a b c f =
+    list_at place (at a (codes "both") ∷ at b (codes "masters") ∷ at c (codes "ports") ∷ at f (codes "each") ∷ [])
 
 abbrev pub orders_at : ℕ × ℕ → ℕ × ℕ → ℕ × ℕ → Names
 orders_at place a b = list_at place (at a (codes "accept") ∷ at b (codes "reply") ∷ [])
 
--- a list of three words is one at its places, and so is a list of two
-of_three : (P : Names → Type 0) (s t u : Text)
-    → ((place a b c : ℕ × ℕ) → P (list_at place (at a s ∷ at b t ∷ at c u ∷ [])))
-    → (names : Names) → texts_of names ≡ s ∷ t ∷ u ∷ [] → P names
-of_three P s t u holds names listed = go names.now listed
+-- a list of four words is one at its places, and so is a list of two
+of_four : (P : Names → Type 0) (s t u v : Text)
+    → ((place a b c f : ℕ × ℕ) → P (list_at place (at a s ∷ at b t ∷ at c u ∷ at f v ∷ [])))
+    → (names : Names) → texts_of names ≡ s ∷ t ∷ u ∷ v ∷ [] → P names
+of_four P s t u v holds names listed = go names.now listed
   where
-    go : (words : List (Bor Text)) → map (λ (word : Bor Text). word.now) words ≡ s ∷ t ∷ u ∷ []
+    go : (words : List (Bor Text)) → map (λ (word : Bor Text). word.now) words ≡ s ∷ t ∷ u ∷ v ∷ []
         → P (list_at names.ref_ptr words)
     go [] e = cc
     go (a ∷ []) e = cc
     go (a ∷ b ∷ []) e = cc
-    go (a ∷ b ∷ c ∷ []) e =
+    go (a ∷ b ∷ c ∷ []) e = cc
+    go (a ∷ b ∷ c ∷ f ∷ []) e =
         let first : a ≡ at a.ref_ptr s = moved a s cc in
         let second : b ≡ at b.ref_ptr t = moved b t cc in
         let third : c ≡ at c.ref_ptr u = moved c u cc in
-        let all : at a.ref_ptr s ∷ at b.ref_ptr t ∷ at c.ref_ptr u ∷ [] ≡ a ∷ b ∷ c ∷ [] = cc in
+        let fourth : f ≡ at f.ref_ptr v = moved f v cc in
+        let all : at a.ref_ptr s ∷ at b.ref_ptr t ∷ at c.ref_ptr u ∷ at f.ref_ptr v ∷ [] ≡ a ∷ b ∷ c ∷ f ∷ [] = cc in
         subst (λ (words : List (Bor Text)). P (list_at names.ref_ptr words)) all
-        (holds names.ref_ptr a.ref_ptr b.ref_ptr c.ref_ptr)
-    go (a ∷ b ∷ c ∷ d ∷ words) e = cc
+        (holds names.ref_ptr a.ref_ptr b.ref_ptr c.ref_ptr f.ref_ptr)
+    go (a ∷ b ∷ c ∷ f ∷ g ∷ words) e = cc
 
 of_two : (P : Names → Type 0) (s t : Text) → ((place a b : ℕ × ℕ) → P (list_at place (at a s ∷ at b t ∷ [])))
     → (names : Names) → texts_of names ≡ s ∷ t ∷ [] → P names
@@ -61,24 +64,24 @@ of_two P s t holds names listed = go names.now listed
 
 -- what holds at all places holds of the command line
 pub wherever : (P : App → Type 0)
-    → ((l a b c o d e : ℕ × ℕ) → P (with_rules (links_at l a b c) (orders_at o d e)))
+    → ((l a b c f o d e : ℕ × ℕ) → P (with_rules (links_at l a b c f) (orders_at o d e)))
     → (app : App) → IsCommandLine app → P app
 wherever P holds app line =
     subst P (sym line.is)
-    (of_three (λ (links : Names). P (with_rules links line.orders)) _ _ _
-    (λ l a b c. of_two (λ (orders : Names). P (with_rules (links_at l a b c) orders)) _ _
-    (holds l a b c) line.orders line.orders_listed)
+    (of_four (λ (links : Names). P (with_rules links line.orders)) _ _ _ _
+    (λ l a b c f. of_two (λ (orders : Names). P (with_rules (links_at l a b c f) orders)) _ _
+    (holds l a b c f) line.orders line.orders_listed)
     line.links line.links_listed)
 
 -- it is one whose matches and faults clap tells
 pub is_simple_line : (app : App) → IsCommandLine app → is_simple app ≡ true
-is_simple_line = wherever (λ (app : App). is_simple app ≡ true) (λ l a b c o d e. refl)
+is_simple_line = wherever (λ (app : App). is_simple app ≡ true) (λ l a b c f o d e. refl)
 
 pub is_free_line : (app : App) → IsCommandLine app → is_simple_and_free app ≡ true
-is_free_line = wherever (λ (app : App). is_simple_and_free app ≡ true) (λ l a b c o d e. refl)
+is_free_line = wherever (λ (app : App). is_simple_and_free app ≡ true) (λ l a b c f o d e. refl)
 
 -- there is one
-pub some_line : IsCommandLine (with_rules (links_at (0, 0) (0, 0) (0, 0) (0, 0)) (orders_at (0, 0) (0, 0) (0, 0)))
+pub some_line : IsCommandLine (with_rules (links_at (0, 0) (0, 0) (0, 0) (0, 0) (0, 0)) (orders_at (0, 0) (0, 0) (0, 0)))
 some_line = record { links = _; orders = _; links_listed = refl; orders_listed = refl; is = refl }
 
 -- the first value of an option is what the words give it

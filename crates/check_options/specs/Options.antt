@@ -8,10 +8,10 @@ use Rattle.clap.specs.declared.builder.action.ArgAction.TheVariants.{Set, SetTru
 use Rattle.clap.specs.declared.builder.value_parser.ValueParser.TheVariants as values
 use Rattle.clap.specs.declared.error.Error.{Error}
 use Rattle.clap.specs.declared.error.ErrorKind.{ErrorKind}
-use Rattle.check_watch.specs.declared.links.Links.{Links}
-use Rattle.check_watch.specs.declared.links.Links.TheVariants.{Both, Masters, Ports}
-use Rattle.check_watch.specs.declared.order.Order.{Order}
-use Rattle.check_watch.specs.declared.order.Order.TheVariants.{Accept, Reply}
+use Rattle.check_groups.specs.declared.links.Links.{Links}
+use Rattle.check_groups.specs.declared.links.Links.TheVariants.{Both, Masters, Ports, Each}
+use Rattle.check_crossbar.specs.declared.order.Order.{Order}
+use Rattle.check_crossbar.specs.declared.order.Order.TheVariants.{Accept, Reply}
 use Rattle.check_options.specs.declared.options.Options.{Options}
 
 -- ---- the command line
@@ -25,7 +25,7 @@ texts_of names = map (λ name. name.now) names.now
 
 -- the words of `--links`, and those of `--order`
 abbrev pub links_words : List Text
-links_words = codes "both" ∷ codes "masters" ∷ codes "ports" ∷ []
+links_words = codes "both" ∷ codes "masters" ∷ codes "ports" ∷ codes "each" ∷ []
 
 abbrev pub order_words : List Text
 order_words = codes "accept" ∷ codes "reply" ∷ []
@@ -117,7 +117,8 @@ asked_of options = record {
 -- the links that a word names, and the order
 abbrev pub links_of : Text → Links
 links_of word =
-    if bytes_eq word (codes "masters") then Masters else (if bytes_eq word (codes "ports") then Ports else Both)
+    if bytes_eq word (codes "masters") then Masters
+    else (if bytes_eq word (codes "ports") then Ports else (if bytes_eq word (codes "each") then Each else Both))
 
 abbrev pub order_of : Text → Order
 order_of word = if bytes_eq word (codes "reply") then Reply else Accept

@@ -2,8 +2,8 @@
 //! for, or are refused as.
 ghost use Rattle.std.specs.Prelude.{[], ◌∷◌, codes, true, false, Some, None};
 ghost use Rattle.clap.specs.declared.error.ErrorKind.TheVariants.{DisplayHelp, DisplayVersion, InvalidValue, MissingRequiredArgument, TooManyValues, UnknownArgument};
-ghost use Rattle.check_watch.specs.declared.links.Links.TheVariants.{Both, Masters, Ports};
-ghost use Rattle.check_watch.specs.declared.order.Order.TheVariants.{Accept, Reply};
+ghost use Rattle.check_groups.specs.declared.links.Links.TheVariants.{Both, Masters, Ports, Each};
+ghost use Rattle.check_crossbar.specs.declared.order.Order.TheVariants.{Accept, Reply};
 ghost use Rattle.check_options.specs.Options.{AskFor, AreRefusedAs};
 
 /// The lines that are taken. The first word is the program's name.
@@ -48,6 +48,15 @@ pub fn lines_ask_for_options()
       capture = Some (codes "c.csv");
     })
         (codes "tlcheck" ∷ codes "--links=ports" ∷ codes "s.toml" ∷ codes "c.csv"
+        ∷ codes "--order" ∷ codes "reply" ∷ []) }
+    ensures each { AskFor (record {
+      links = Each;
+      order = Reply;
+      trace = false;
+      system = codes "s.toml";
+      capture = Some (codes "c.csv");
+    })
+        (codes "tlcheck" ∷ codes "--links=each" ∷ codes "s.toml" ∷ codes "c.csv"
         ∷ codes "--order" ∷ codes "reply" ∷ []) }
     ensures trace { AskFor (record {
       links = Masters;

@@ -1,4 +1,4 @@
-//! The command line of tlcheck: `tlcheck [--links both|masters|ports] [--order accept|reply] [--trace] SYSTEM
+//! The command line of tlcheck: `tlcheck [--links both|masters|ports|each] [--order accept|reply] [--trace] SYSTEM
 //! [CAPTURE]`.
 //!
 //! [`read_options`] carries the promise: the words are taken or refused just as the command line says, by clap's own
@@ -6,7 +6,7 @@
 //! laws say of lines that the documents name what they ask for, or as what they are refused. What help and refusals
 //! read as is clap's.
 //!
-//! This crate stands on clap, and of the crates for captures on the two choices that the options name (`check_watch`).
+//! This crate stands on clap, and of the crates for captures on the two choices that the options name (`check_groups`, `check_crossbar`).
 //! Read on in `docs/CAPTURE.md`, "The command".
 #![tactic(auto)]
 

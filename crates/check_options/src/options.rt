@@ -1,16 +1,17 @@
-//! The command line: `tlcheck [--links both|masters|ports] [--order accept|reply] [--trace] SYSTEM [CAPTURE]`.
+//! The command line: `tlcheck [--links both|masters|ports|each] [--order accept|reply] [--trace] SYSTEM [CAPTURE]`.
 ghost use Rattle.std.specs.Prelude.{◌≡◌, IfOk, [], map, false, option_map, unwrap_or};
 ghost use Rattle.clap.specs.Words.{app_of, first_value, found_of, rule_of};
 ghost use Rattle.check_options.specs.Options.{Answers, IsCommandLine, IsLinksRule, IsOrderRule, capture_rule, file_of, flag_of, links_of, order_of, program, system_rule, trace_rule};
 
-use check_watch::{Links, Order};
+use check_crossbar::Order;
+use check_groups::Links;
 use clap::builder::ValueParser;
 use clap::{Arg, ArgAction, ArgMatches, Command, Error, value_parser};
 use std::alloc::{AllocError, Global};
 
 /// What help says at its end.
 const AFTER_HELP: &str = "\
-SYSTEM is a script of tlx. CAPTURE has a row for each beat that crossed a link:
+SYSTEM describes the ports and masters. CAPTURE has a row for each beat that crossed a link:
   time,link,channel,opcode,param,size,source,address,mask,data,denied,corrupt
   10,m0,A,4,0,2,3,1000,0f,,,
   12,p0,D,1,,2,3,,,xxxxxxxx33221100,0,0
@@ -65,6 +66,7 @@ fn read_links(word: &str) -> Links
     match word {
         "masters" => Links::Masters,
         "ports" => Links::Ports,
+        "each" => Links::Each,
         _ => Links::Both,
     }
 }
@@ -112,7 +114,7 @@ fn links_option<'a>(alloc: Global) -> Arg<'a>
     ensures rule { IsLinksRule (rule_of result) }
     ensures local { result.global ≡ false }
 {
-    let words: &'a [&'a str] = &["both", "masters", "ports"];
+    let words: &'a [&'a str] = &["both", "masters", "ports", "each"];
     Arg::new(alloc, "links")
         .long("links")
         .action(ArgAction::Set)

@@ -4,3 +4,4 @@ pub mod Scripts
 pub mod ScriptTables
 pub mod BlockLemmas
 pub mod PortRanges
+mod KeptPorts

@@ -7,3 +7,4 @@ pub mod Master
 pub mod System
 pub mod File
 pub mod Instance
+pub mod Reset

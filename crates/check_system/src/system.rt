@@ -17,6 +17,15 @@ pub struct System {
     sources: Sources,
 }
 
+/// The parts of a system, each to be taken on its own.
+#[derive(Drop)]
+pub struct Described {
+    pub ports: Vec<Port>,
+    pub masters: Vec<Master>,
+    pub addresses: Map,
+    pub sources: Sources,
+}
+
 impl Model for System {
     ghost use Rattle.std.specs.Prelude.{◌≡◌, map};
     ghost use Rattle.check_system.specs.Port.{port_view};
@@ -74,5 +83,20 @@ impl System {
         ensures { result.now ≡ self.now.owners }
     {
         &self.sources
+    }
+
+    /// The parts.
+    pub fn into_parts(self) -> Described
+        ensures ports { map port_view result.ports.items ≡ self.ports }
+        ensures masters { map master_view result.masters.items ≡ self.masters }
+        ensures addresses { result.addresses ≡ ranges_of self.ports }
+        ensures sources { result.sources ≡ self.owners }
+    {
+        Described {
+            ports: self.ports,
+            masters: self.masters,
+            addresses: self.addresses,
+            sources: self.sources,
+        }
     }
 }

@@ -5,6 +5,7 @@
 mod faults;
 mod limits;
 mod memory;
+mod resets;
 mod scripts;
 mod systems;
 

@@ -14,7 +14,7 @@ use Rattle.check_judge.proofs.Judging.{part_before, part_of_file, told_earlier}
 use Rattle.check_records.specs.Source.{Between, Left}
 use Rattle.check_records.specs.Text.{Place, start_of}
 use Rattle.tl_streams.specs.Streams.{AppendsPart}
-use Rattle.check_watch.specs.Plan.{Plan}
+use Rattle.check_groups.specs.Plan.{Plan}
 use Rattle.check_verdict.specs.Capture.{HasHeader, IsFault, IsVerdict, IsWritten, IsWrittenOf}
 use Rattle.check_verdict.specs.Out.{Finishes, WritesPart, is_cut}
 use Rattle.check_verdict.specs.Rows.{AllTaken, IsJudged, IsJudgedAt, IsOut, IsToldBy, WroteBy, refused}

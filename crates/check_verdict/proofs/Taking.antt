@@ -15,7 +15,7 @@ use Rattle.check_records.specs.Text.{Row as Record}
 use Rattle.check_records.proofs.Chain.{reads-more}
 use Rattle.check_records.proofs.KnownLemmas.{between-trans}
 use Rattle.tl_streams.specs.Streams.{AppendsPart}
-use Rattle.check_watch.specs.Plan.{Plan}
+use Rattle.check_groups.specs.Plan.{Plan}
 use Rattle.check_verdict.specs.Out.{Moves, WritesFront}
 use Rattle.check_verdict.specs.Rows.{AllTaken, GivesRow, HasNoRow, HasRows, IsJudged, IsJudgedAt, IsUnlawfulBefore, SpellAll, Spells, StopsAt, TakesNext, TellsBefore, Took, TookRows, answer_of}
 use Rattle.check_verdict.specs.declared.fault.CaptureFault.TheVariants as fault

@@ -8,7 +8,7 @@ use Rattle.check_records.specs.Reading.{StopsLong}
 use Rattle.check_records.specs.Source.{Between, Left}
 use Rattle.check_records.specs.Text.{Ends, Gives, IsTooLong, Place}
 use Rattle.check_records.specs.Text.{Row as Record}
-use Rattle.check_watch.specs.Plan.{Plan}
+use Rattle.check_groups.specs.Plan.{Plan}
 use Rattle.check_capture.specs.Column.{header}
 use Rattle.check_verdict.specs.Rows.{HasNoRow, HasRows, IsAnswer, IsOut, IsTimeOver}
 use Rattle.check_verdict.specs.declared.fault.CaptureFault.{CaptureFault}

@@ -14,7 +14,7 @@ use Rattle.check_records.specs.Source.{Between, Left}
 use Rattle.check_records.specs.Text.{Ends, Gives, IsTooLong, Place, Reads}
 use Rattle.check_records.specs.Text.{Row as Record}
 use Rattle.check_records.specs.Reading.{StopsLong}
-use Rattle.check_watch.specs.Plan.{Plan}
+use Rattle.check_groups.specs.Plan.{Plan}
 use Rattle.check_verdict.specs.declared.fault.CaptureFault.{CaptureFault}
 use Rattle.check_verdict.specs.declared.fault.CaptureFault.TheVariants as fault
 use Rattle.check_verdict.specs.Out.{WritesAll, WritesFront, WritesPart, Wrote}

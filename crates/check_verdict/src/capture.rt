@@ -2,7 +2,7 @@
 ghost use Rattle.std.specs.Prelude.{◌≡◌, ◌≤◌, [], None, OnOk, IfOk, IfErr, IfSome};
 ghost use Rattle.check_records.specs.Source.{Between};
 ghost use Rattle.check_records.specs.Text.{start_of};
-ghost use Rattle.check_watch.specs.Plan.{Plan};
+ghost use Rattle.check_groups.specs.Plan.{Plan};
 ghost use Rattle.check_judge.specs.View.{Judges, is_traced};
 ghost use Rattle.check_verdict.specs.Capture.{HasHeader, HasHeaderFault, IsFault, IsVerdict, IsWritten};
 
@@ -11,11 +11,11 @@ use crate::header::is_header;
 use crate::out::finish;
 use crate::rows::{Sizes, judge_rows};
 use check_judge::Judge;
+use check_map::{MAX_MASTERS, MAX_PORTS};
 use check_records::Records;
 use std::alloc::Global;
 use std::io::{Read, Write};
 use tl_streams::LimitedWriter;
-use tl_types::{MAX_MASTERS, MAX_PORTS};
 
 /// Reads the header.
 fn read_header<R: Read + Drop>(records: &mut Records<R>) -> Result<(), CaptureFault>

@@ -7,10 +7,10 @@ use crate::fault::{CaptureFault, Verdict};
 use crate::out::write_long;
 use check_capture::read_row;
 use check_judge::{Judge, Refusal, Stop, Unlawful};
+use check_map::{MAX_MASTERS, MAX_PORTS};
 use check_records::Records;
 use std::io::{Read, Write};
 use tl_streams::LimitedWriter;
-use tl_types::{MAX_MASTERS, MAX_PORTS};
 
 /// How many masters a system has, and how many ports that have a link.
 #[derive(Debug, Clone, Copy, PartialEq, Eq)]

@@ -3,9 +3,9 @@ use Rattle.std.proofs.Common.{◌≡◌, ℕ, ◌<◌, Bool, if◌then◌else◌
 use Rattle.std.specs.Prelude.{◌&&◌, nat_lt, length}
 use Rattle.check_link.specs.declared.beat.Link.{Link}
 use Rattle.check_link.specs.declared.beat.Link.TheVariants.{Master, Port}
-use Rattle.check_watch.specs.declared.links.Links.{Links}
-use Rattle.check_watch.specs.declared.links.Links.TheVariants.{Both, Masters, Ports}
-use Rattle.check_watch.specs.Plan.{Plan, Layout, IsPlan, HasLink, IsWatched}
+use Rattle.check_groups.specs.declared.links.Links.{Links}
+use Rattle.check_groups.specs.declared.links.Links.TheVariants.{Both, Masters, Ports, Each}
+use Rattle.check_groups.specs.Plan.{Plan, Layout, IsPlan, HasLink, IsWatched}
 use Rattle.check_capture.specs.declared.row.Row.{Row}
 use Rattle.check_judge.specs.Order.{are_masters_watched, are_ports_watched, is_watched, seen}
 use Rattle.check_judge.specs.Verdict.{IsLawfulFile, IsFirstUnlawful}
@@ -15,10 +15,8 @@ use Rattle.check_records.specs.Text.{Place}
 use Rattle.check_verdict.specs.Capture.{IsVerdict}
 use Rattle.check_verdict.specs.declared.fault.Verdict.TheVariants.{Lawful, Unlawful as Not}
 use Rattle.check_verdict.specs.declared.rows.Sizes.{Sizes}
-use Rattle.check_laws.specs.Crossed.{AreWatched}
-use Rattle.check_laws.proofs.Back.{rules_make_lawful}
-use Rattle.check_laws.proofs.Rules.{always_keeps}
-use Rattle.check_laws.proofs.Whole.{seen_whole}
+use Rattle.check_groups_laws.specs.Rules.{AreWatched}
+use Rattle.check_groups_laws.proofs.Rules.{always_keeps, rules_make_lawful, seen_whole}
 use Rattle.check_verdict_laws.specs.Rules.{FileKeepsRules, BreaksRules, CaptureKeepsRules, CaptureBreaksRules}
 
 less : (m n : ℕ) → nat_lt m n ≡ true → m < n
@@ -32,20 +30,22 @@ masters_watched : (links : Links) (m : ℕ) → are_masters_watched links ≡ tr
 masters_watched Both m is = tt
 masters_watched Masters m is = tt
 masters_watched Ports m is = cc
+masters_watched Each m is = tt
 
 ports_watched : (links : Links) (p : ℕ) → are_ports_watched links ≡ true → IsWatched links (Port p)
 ports_watched Both p is = tt
 ports_watched Masters p is = cc
 ports_watched Ports p is = tt
+ports_watched Each p is = tt
 
 watched_link : (layout : Layout) (link : Link) → is_watched layout link ≡ true → HasLink layout link
     × IsWatched layout.links link
 watched_link layout (Master m) is =
-    let both = both_true (are_masters_watched layout.links) (nat_lt m (length layout.counts)) is in
-    (less m (length layout.counts) both.1, masters_watched layout.links m both.0)
+    let both = both_true (are_masters_watched layout.links) (nat_lt m (length layout.owners)) is in
+    (less m (length layout.owners) both.1, masters_watched layout.links m both.0)
 watched_link layout (Port p) is =
-    let both = both_true (are_ports_watched layout.links) (nat_lt p (length layout.ranges)) is in
-    (less p (length layout.ranges) both.1, ports_watched layout.links p both.0)
+    let both = both_true (are_ports_watched layout.links) (nat_lt p (length layout.ports)) is in
+    (less p (length layout.ports) both.1, ports_watched layout.links p both.0)
 
 -- what is seen of rows is at links that are watched
 seen_watched : (layout : Layout) (crossed : List Row) → AreWatched layout (seen layout crossed)

@@ -1,6 +1,6 @@
 -- What `lawful` means of a file of rows, and of the text of a capture. It is this project's own.
 use Rattle.std.specs.Prelude.{List, ◌∷◌, ◌++◌}
-use Rattle.check_watch.specs.Plan.{Plan}
+use Rattle.check_groups.specs.Plan.{Plan}
 use Rattle.check_capture.specs.declared.row.Row.{Row}
 use Rattle.check_judge.specs.Order.{IsCrossing, seen}
 use Rattle.check_judge.specs.Verdict.{HasCounts}
@@ -10,7 +10,7 @@ use Rattle.check_records.specs.Text.{Place}
 use Rattle.check_verdict.specs.Capture.{Begins, IsCapture}
 use Rattle.check_verdict.specs.Rows.{IsTimeOver}
 use Rattle.check_verdict.specs.declared.rows.Sizes.{Sizes}
-use Rattle.check_laws.specs.Rules.{AlwaysKeepsRules, AreSeenWhole}
+use Rattle.check_groups_laws.specs.Rules.{AlwaysKeepsRules, AreSeenWhole}
 
 -- in the order in which the rows of a file cross, what they show of the links that are watched keeps the rules at each
 -- moment, and each lane that carries a byte was seen

@@ -1,6 +1,6 @@
 //! Laws of lawful verdicts, each on a function that does nothing but carry it.
 ghost use Rattle.std.specs.Prelude.{List};
-ghost use Rattle.check_watch.specs.Plan.{Plan, IsPlan};
+ghost use Rattle.check_groups.specs.Plan.{Plan, IsPlan};
 ghost use Rattle.check_capture.specs.declared.row.Row.{Row};
 ghost use Rattle.check_judge.specs.Verdict.{IsLawfulFile};
 ghost use Rattle.check_judge.specs.declared.stop.Counts.{Counts};

@@ -1,4 +1,4 @@
-//! What `lawful` on standard output means: the laws of `check_laws`, of the rows of a file and of the text of a
+//! What `lawful` on standard output means: the laws of `check_groups_laws`, of the rows of a file and of the text of a
 //! capture.
 //!
 //! The judges of `check_judge` and `check_verdict` promise that a file is lawful row by row.
@@ -6,7 +6,7 @@
 //! replies of memories, requests and replies that cross. Where the verdict is `unlawful`, it says that the row which is
 //! named is the first with which they are not.
 //!
-//! Nothing runs here. Read `specs/Rules.antt`, and then the page of `check_laws`.
+//! Nothing runs here. Read `specs/Rules.antt`, and then the page of `check_groups_laws`.
 #![tactic(auto)]
 
 pub mod laws;

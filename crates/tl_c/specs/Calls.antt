@@ -1,32 +1,39 @@
 -- What each call makes of what a handle holds. This project's own.
-use Rattle.std.specs.Prelude.{◌≡◌, ◌↔◌, ◌&&◌, ◌<◌, ◌≤◌, ◌==◌, ◌⊎◌, if◌then◌else◌, ⊤, ℕ, List, [], ◌∷◌, length, Option, Some, None, IsSomeAnd, vec_capacity}
+use Rattle.std.specs.Prelude.{◌≡◌, ◌↔◌, ◌&&◌, ◌<◌, ◌≤◌, ◌==◌, ◌≢◌, ◌⊎◌, if◌then◌else◌, ⊤, ℕ, List, [], ◌∷◌, length, Option, Some, None, IsSomeAnd, vec_capacity}
 use Rattle.check_judge.specs.Count.{is_counted, is_whole_ask, is_whole_reply, one_more}
-use Rattle.check_judge.specs.Names.{no_names}
+use Rattle.check_judge.specs.Names.{NamesView}
+use Rattle.check_judge.specs.Start.{ByThePlan, layout_of, names_of}
 use Rattle.check_judge.specs.Text.{unlawful_line}
+use Rattle.check_judge.specs.declared.start.Terms.{Terms}
 use Rattle.check_judge.specs.declared.stop.Unlawful.{Unlawful}
 use Rattle.check_link.specs.declared.beat.Sighting.{Sighting}
 use Rattle.tl_model.specs.Crossbar.{CrossbarState, Accepts, IsFirstServeFault, IsServed}
 use Rattle.tl_model.specs.declared.crossbar.Answer.{Answer}
 use Rattle.tl_model.specs.declared.fault.ServeFault.{ServeFault}
 use Rattle.tl_script.specs.Script.{IsFirstScriptFault}
-use Rattle.tl_script.specs.System.{System, resets}
+use Rattle.tl_script.specs.System.{System}
+use Rattle.check_system.specs.File.{IsFirstSystemFault, Spells as Describes}
+use Rattle.check_system.specs.Reset.{IsFirstTooLong}
+use Rattle.check_system.specs.System.{System as Described}
+use Rattle.check_system.specs.declared.fault.SystemFault.{SystemFault}
+use Rattle.check_system.specs.declared.reset.ResetFault.TheVariants.{TooLong}
 use Rattle.tl_script.specs.declared.fault.ScriptFault.{ScriptFault}
 use Rattle.tl_types.specs.Request.{Request}
-use Rattle.check_watch.specs.Lawful.{IsFirstFault, IsLawful, what_is_seen}
-use Rattle.check_watch.specs.Plan.{IsPlan, Layout, Plan}
-use Rattle.check_watch.specs.View.{Keeps}
-use Rattle.check_watch.specs.declared.fault.Fault.{Fault}
-use Rattle.check_watch.specs.declared.links.Links.{Links}
-use Rattle.check_watch.specs.declared.links.Links.TheVariants.{Both, Masters, Ports}
-use Rattle.check_watch.specs.declared.order.Order.{Order}
-use Rattle.check_watch.specs.declared.order.Order.TheVariants.{Accept, Reply}
-use Rattle.tl_c.specs.Numbers.{beat_number, script_number, serve_number}
+use Rattle.check_groups.specs.Lawful.{IsFirstFault, IsLawful, what_is_seen}
+use Rattle.check_groups.specs.Plan.{Plan}
+use Rattle.check_groups.specs.View.{Keeps}
+use Rattle.check_crossbar.specs.declared.fault.Fault.{Fault}
+use Rattle.check_groups.specs.declared.links.Links.{Links}
+use Rattle.check_groups.specs.declared.links.Links.TheVariants.{Both, Masters, Ports, Each}
+use Rattle.check_crossbar.specs.declared.order.Order.{Order}
+use Rattle.check_crossbar.specs.declared.order.Order.TheVariants.{Accept, Reply}
+use Rattle.tl_c.specs.Numbers.{beat_number, file_number, reset_number, script_number, serve_number}
 use Rattle.tl_c.specs.Wire.{IsAnswerOf, IsAskOf}
-use Rattle.tl_c.specs.declared.fault.TheConstants.{MEMORY, OK}
+use Rattle.tl_c.specs.declared.fault.TheConstants.{MEMORY, OK, OTHER_VERSION}
 use Rattle.tl_c.specs.declared.held.Held.{Held}
 use Rattle.tl_c.specs.declared.held.Held.TheVariants as held
 use Rattle.tl_c.specs.declared.held.Judge.{Judge}
-use Rattle.tl_c.specs.declared.judge.TheConstants.{LINE_ROOM}
+use Rattle.tl_c.specs.declared.reading.TheConstants.{LINE_ROOM}
 use Rattle.tl_c.specs.declared.wire.WireAnswer.{WireAnswer}
 use Rattle.tl_c.specs.declared.wire.WireAsk.{WireAsk}
 
@@ -62,10 +69,10 @@ IsJudge = HoldsJudge (λ _. ⊤)
 
 -- ---- scripts
 
--- the number is that of the script's first fault, or of want of memory or a full handle
+-- the number is that of the script's first fault, or of want of memory, a full handle or another version
 abbrev pub IsScriptAnswer : List ℕ → ℕ → Type 0
 IsScriptAnswer script number =
-    MEMORY < number → (fault : ScriptFault) × (number ≡ script_number fault) × IsFirstScriptFault script fault
+    OTHER_VERSION < number → (fault : ScriptFault) × (number ≡ script_number fault) × IsFirstScriptFault script fault
 
 -- ---- models
 
@@ -93,18 +100,20 @@ pub record IsRefusedBy (old : CrossbarState) (master : ℕ) (wire : WireAsk) (nu
 -- the judge was shown this, after these beats by this plan, and has answered this number
 pub record IsStep (plan : Plan) (past : List Sighting) (shown : Sighting) (old : Judge) (number : ℕ)
     (new : Judge) : Type 0 where
-  pub lawful : number ≡ OK ↔ IsLawful plan (shown ∷ past)
+  pub lawful : number ≢ MEMORY → number ≡ OK ↔ IsLawful plan (shown ∷ past)
+  pub memory : number ≡ MEMORY → plan.layout.links ≡ Each
   pub keeps : number ≡ OK → Keeps plan (shown ∷ past) new.watch
   pub requests : number ≡ OK → new.requests ≡ one_more
       (is_counted plan.layout.links shown.link && is_whole_ask (what_is_seen plan past shown)) old.requests
   pub answered : number ≡ OK → new.answered ≡ one_more
       (is_counted plan.layout.links shown.link && is_whole_reply (what_is_seen plan past shown)) old.answered
   pub text : number ≡ OK → new.text ≡ old.text
+  pub names : number ≡ OK → new.names ≡ old.names
 
--- the text is the line of this fault; or it is empty, if there was no room for the line
-abbrev pub IsLineOf : Unlawful → ℕ → List ℕ → Type 0
-IsLineOf found room text =
-    (text ≡ unlawful_line no_names found) ⊎ ((text ≡ []) × (room < length (unlawful_line no_names found)))
+-- the text is the line of this fault, with these names of links; or it is empty, if there was no room for the line
+abbrev pub IsLineOf : NamesView → Unlawful → ℕ → List ℕ → Type 0
+IsLineOf names found room text =
+    (text ≡ unlawful_line names found) ⊎ ((text ≡ []) × (room < length (unlawful_line names found)))
 
 -- the fault of a beat that was shown with this line and this time
 abbrev pub found_at : ℕ → ℕ → Sighting → Fault → Unlawful
@@ -117,31 +126,22 @@ pub record IsFaultOfBeat (plan : Plan) (past : List Sighting) (shown : Sighting)
   pub fault : Fault
   pub number_is : number ≡ beat_number fault
   pub first : IsFirstFault plan past shown fault
-  pub text : IsLineOf (found_at line time shown fault) (vec_capacity old.text) new.text.items
+  pub text : IsLineOf old.names (found_at line time shown fault) (vec_capacity old.text) new.text.items
 
 -- after a fault the judge is as it was, but for its text, whose room is no less
 pub record KeepsAllButText (old new : Judge) : Type 0 where
   pub watch : new.watch ≡ old.watch
+  pub names : new.names ≡ old.names
   pub requests : new.requests ≡ old.requests
   pub answered : new.answered ≡ old.answered
   pub room : vec_capacity old.text ≤ vec_capacity new.text
 
--- the links that are watched, and the order, sources and ranges by which beats are judged
-abbrev pub layout_of : Links → Order → System → Layout
-layout_of links order system = record { links = links; order = order; counts = system.counts; ranges = system.ranges }
-
--- this is a plan of the system
-pub record IsPlanOf (links : Links) (order : Order) (system : System) (plan : Plan) : Type 0 where
-  pub lawful : IsPlan plan
-  pub layout : plan.layout ≡ layout_of links order system
-  pub resets : plan.resets ≡ resets system
-
 -- a judge of this system before any beat: it keeps no beat by each plan of the system, of which there is one, and has
 -- counted none; its text is empty, with room for a line
-pub record BeginsBy (links : Links) (order : Order) (system : System) (judge : Judge) : Type 0 where
-  pub layout : judge.watch.layout ≡ layout_of links order system
-  pub some : (plan : Plan) × IsPlanOf links order system plan
-  pub keeps : (plan : Plan) → IsPlanOf links order system plan → Keeps plan [] judge.watch
+pub record BeginsBy (terms : Terms) (system : Described) (judge : Judge) : Type 0 where
+  pub layout : judge.watch.layout ≡ layout_of terms system
+  pub keeps : ByThePlan terms system (λ plan. Keeps plan [] judge.watch)
+  pub names : judge.names ≡ names_of system
   pub requests : judge.requests ≡ 0
   pub answered : judge.answered ≡ 0
   pub text : judge.text.items ≡ []
@@ -149,12 +149,45 @@ pub record BeginsBy (links : Links) (order : Order) (system : System) (judge : J
 
 -- the links and the order of a number
 abbrev pub links_of : ℕ → Option Links
-links_of n = if n == 0 then Some Both else if n == 1 then Some Masters else if n == 2 then Some Ports else None
+links_of n =
+    if n == 0 then Some Both
+    else if n == 1 then Some Masters
+    else if n == 2 then Some Ports
+    else if n == 3 then Some Each
+    else None
 
 abbrev pub order_of : ℕ → Option Order
 order_of n = if n == 0 then Some Accept else if n == 1 then Some Reply else None
 
--- the same, of the numbers of links and order
-abbrev pub BeginsAs : ℕ → ℕ → System → Judge → Type 0
-BeginsAs links order system judge =
-    IsSomeAnd (links_of links) (λ l. IsSomeAnd (order_of order) (λ o. BeginsBy l o system judge))
+-- the same, of the system that a file describes
+pub record IsJudgeOf (terms : Terms) (file : List ℕ) (judge : Judge) : Type 0 where
+  pub system : Described
+  pub described : Describes file system
+  pub begins : BeginsBy terms system judge
+
+-- and of the numbers of links and order
+abbrev pub IsReadAs : ℕ → ℕ → List ℕ → Judge → Type 0
+IsReadAs links order file judge =
+    IsSomeAnd (links_of links)
+    (λ l. IsSomeAnd (order_of order) (λ o. IsJudgeOf (record { links = l; order = o }) file judge))
+
+-- ---- system files
+
+-- the number is that of the first fault of a system file
+pub record IsFileFault (file : List ℕ) (number : ℕ) : Type 0 where
+  pub fault : SystemFault
+  pub number_is : number ≡ file_number fault
+  pub first : IsFirstSystemFault file fault
+
+-- the file describes a system with a range that is too long, and the number says so
+pub record IsLongRange (file : List ℕ) (number : ℕ) : Type 0 where
+  pub system : Described
+  pub described : Describes file system
+  pub port : ℕ
+  pub first : IsFirstTooLong system.ports port
+  pub number_is : number ≡ reset_number (TooLong port)
+
+-- the number is that of the fault of a system file, or of want of memory, a full handle, a bad argument or another
+-- version
+abbrev pub IsFileAnswer : List ℕ → ℕ → Type 0
+IsFileAnswer file number = OTHER_VERSION < number → IsFileFault file number ⊎ IsLongRange file number

@@ -1,9 +1,10 @@
 //! The numbers of faults, as the header has them, and their words.
 ghost use Rattle.std.specs.Prelude.{◌≡◌, ◌<◌};
-ghost use Rattle.tl_c.specs.Numbers.{beat_number, form_number, script_number, serve_number};
+ghost use Rattle.tl_c.specs.Numbers.{beat_number, file_number, form_number, reset_number, script_number, serve_number};
 
+use check_crossbar::Fault;
 use check_link::FormFault;
-use check_watch::Fault;
+use check_system::{ResetFault, SystemFault};
 use tl_model::ServeFault;
 use tl_script::ScriptFault;
 
@@ -16,6 +17,9 @@ pub(crate) const FULL: u32 = 3;
 pub(crate) const MEMORY: u32 = 4;
 
 pub(crate) const BAD_ARGUMENT: u32 = 5;
+
+/// The caller was built with a header of another version.
+pub(crate) const OTHER_VERSION: u32 = 6;
 
 pub(crate) const NO_OPERATION: u32 = 20;
 
@@ -39,6 +43,33 @@ pub(crate) fn script_number(fault: ScriptFault) -> u32
         ScriptFault::Map(_) => 15,
         ScriptFault::Sources(_) => 16,
         ScriptFault::TooLong => 17,
+    }
+}
+
+/// The number of a fault of a system file.
+pub(crate) fn file_number(fault: &SystemFault) -> u32
+    ensures { result ≡ file_number fault.now }
+{
+    match fault {
+        SystemFault::Memory => 4,
+        SystemFault::NotToml => 10,
+        SystemFault::Missing(_) => 11,
+        SystemFault::WrongType(_) => 12,
+        SystemFault::OutOfRange(_) => 13,
+        SystemFault::Map(_) => 15,
+        SystemFault::Sources(_) => 16,
+        SystemFault::TooLong => 17,
+        SystemFault::TwoCalled(_) => 18,
+    }
+}
+
+/// The number of a fault of a system's memories.
+pub(crate) fn reset_number(fault: ResetFault) -> u32
+    ensures { result ≡ reset_number fault }
+{
+    match fault {
+        ResetFault::Memory => 4,
+        ResetFault::TooLong(_) => 19,
     }
 }
 
@@ -89,7 +120,7 @@ pub(crate) fn beat_number(fault: &Fault) -> u32
     }
 }
 
-/// The words of a call's own fault, or of a script's or request's.
+/// The words of a call's own fault, or of a script's, a system file's or a request's.
 fn call_words(number: u32) -> &'static str {
     match number {
         0 => "no fault",
@@ -98,14 +129,17 @@ fn call_words(number: u32) -> &'static str {
         3 => "full handle",
         4 => "memory refused",
         5 => "bad argument",
-        10 => "script: not TOML",
-        11 => "script: missing key",
-        12 => "script: wrong type",
-        13 => "script: out of range",
-        14 => "script: bad operation",
-        15 => "script: bad ports",
-        16 => "script: bad sources",
-        17 => "script: longer than 1048576 bytes",
+        6 => "header of another version",
+        10 => "not TOML",
+        11 => "missing key",
+        12 => "wrong type",
+        13 => "out of range",
+        14 => "bad operation",
+        15 => "bad ports",
+        16 => "bad sources",
+        17 => "longer than 1048576 bytes",
+        18 => "two of one name",
+        19 => "a range of more than 65536 bytes",
         20 => "no such operation",
         21 => "size over the limit",
         22 => "no such master",

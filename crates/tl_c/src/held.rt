@@ -1,5 +1,6 @@
 //! What handles hold.
-use check_watch::Watch;
+use check_groups::Watch;
+use check_judge::Names;
 use std::marker::Model;
 use tl_model::Crossbar;
 use tl_script::System;
@@ -22,10 +23,12 @@ impl Model for Server {
     ghost view = { λ s. s.crossbar };
 }
 
-/// A judge of beats, with how many whole requests and replies it has seen, and the line of the last fault.
+/// A judge of beats, with the names of links, how many whole requests and replies it has seen, and the line of the last
+/// fault.
 #[derive(Drop)]
 pub struct Judge {
     pub watch: Watch,
+    pub names: Names,
     pub requests: u64,
     pub answered: u64,
     pub text: Vec<u8>,

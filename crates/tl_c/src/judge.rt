@@ -1,47 +1,29 @@
 //! Judges of beats.
 ghost use Rattle.std.specs.Prelude.{◌≡◌, ◌≢◌, ◌<◌, ◌≤◌, ◌↔◌, ◌&&◌, ◌⊎◌, ℕ, List, IfOk, IsSome, None, Some, vec_capacity};
-ghost use Rattle.tl_c.specs.Calls.{BeginsAs, BeginsBy, HoldsJudge, HoldsSystem, IsFaultOfBeat, IsJudge, IsLineOf, IsStep, IsSystem, KeepsAllButText, links_of, order_of};
+ghost use Rattle.tl_c.specs.Calls.{BeginsBy, HoldsJudge, IsFaultOfBeat, IsFileAnswer, IsJudge, IsLineOf, IsReadAs, IsStep, KeepsAllButText, links_of, order_of};
 ghost use Rattle.tl_c.specs.Text.{IsTextOf, IsWritten};
 ghost use Rattle.tl_c.specs.Wire.{shown_by};
 ghost use Rattle.tl_c.specs.declared.held.Judge.{Judge};
 ghost use Rattle.tl_c.specs.declared.held.Held.TheVariants as held;
 ghost use Rattle.check_judge.specs.Count.{ends_a_reply, ends_an_ask, is_counted, one_more};
 ghost use Rattle.check_link.specs.declared.beat.Sighting.{Sighting};
-ghost use Rattle.check_watch.specs.Plan.{HasLink, IsWatched, Plan};
-ghost use Rattle.check_watch.specs.View.{Keeps};
+ghost use Rattle.check_groups.specs.Plan.{HasLink, IsWatched, Plan};
+ghost use Rattle.check_groups.specs.View.{Keeps};
 
-use crate::fault::{BAD_ARGUMENT, EMPTY, FULL, MEMORY, NO_LINK, OK, beat_number};
+use crate::fault::{BAD_ARGUMENT, EMPTY, FULL, MEMORY, NO_LINK, OK, OTHER_VERSION, beat_number};
 use crate::handle::Handle;
 use crate::held::{Held, Judge};
-use crate::system::{hold, is_full, take, take_system};
+use crate::reading::read_judge;
+use crate::system::{hold, is_full, put_fault, take};
 use crate::text::put_text;
+use crate::version::VERSION;
 use crate::wire::{WireBeat, sighting_of};
 use check_capture::Row;
-use check_judge::{Names, Unlawful, count_end, push_unlawful};
+use check_crossbar::{Ended, Order, StepError};
+use check_groups::Links;
+use check_judge::{Names, Terms, Unlawful, count_end, push_unlawful};
 use check_link::{Link, Sighting};
-use check_watch::{Ended, Links, Order, Watch};
 use std::alloc::Global;
-use tl_script::{System, banks_of};
-use tl_types::Memory;
-
-/// The room that a judge reserves for the line of a fault.
-const LINE_ROOM: usize = 2048;
-
-/// The judge of a system, before any beat.
-fn judge_of(alloc: Global, system: System, links: Links, order: Order) -> Result<Judge, Memory>
-    ensures { IfOk result (BeginsBy links order system) }
-{
-    let crossbar = system.into_crossbar();
-    let banks = banks_of(alloc, &crossbar.devices)?;
-    let watch = Watch::new(alloc, links, order, crossbar.map, crossbar.sources, banks)?;
-    let text = Vec::with_capacity(alloc, LINE_ROOM)?;
-    Ok(Judge {
-        watch,
-        requests: 0,
-        answered: 0,
-        text,
-    })
-}
 
 /// The links of a number.
 fn links_of(number: u8) -> Option<Links>
@@ -53,6 +35,8 @@ fn links_of(number: u8) -> Option<Links>
         Some(Links::Masters)
     } else if number == 2 {
         Some(Links::Ports)
+    } else if number == 3 {
+        Some(Links::Each)
     } else {
         None
     }
@@ -71,38 +55,45 @@ fn order_of(number: u8) -> Option<Order>
     }
 }
 
-/// `tlx_judge_make_at` of the header: the judge of a system, before any beat.
+/// `tlx_judge_read_at` of the header: the judge of the system that a file describes, before any beat.
 #[unsafe(no_mangle)]
-pub extern "C" fn tlx_judge_make_at(
+pub extern "C" fn tlx_judge_read_at(
     alloc: Global,
     judge: &mut Handle,
-    system: &mut Handle,
+    file: &[u8],
     links: u8,
     order: u8,
+    version: u32,
+    room: &mut [u8],
+    written: &mut usize,
 ) -> u32
-    ensures bad_argument { result ≡ BAD_ARGUMENT ↔ ((links_of links ≡ None) ⊎ (order_of order ≡ None)) }
-    ensures full { result ≡ FULL ↔ (IsSome (links_of links) × IsSome (order_of order) × (judge.old.value ≢ None)) }
-    ensures empty { result ≡ EMPTY ↔ (IsSome (links_of links) × IsSome (order_of order) × (judge.old.value ≡ None)
-        × (IsSystem system.old.value → ⊥)) }
-    ensures ok { result ≡ OK → HoldsSystem (λ s. HoldsJudge (BeginsAs links order s) judge.new.value) system.old.value }
+    ensures version { result ≡ OTHER_VERSION ↔ (version ≢ VERSION) }
+    ensures bad_argument { result ≡ BAD_ARGUMENT
+        ↔ ((version ≡ VERSION) × ((links_of links ≡ None) ⊎ (order_of order ≡ None))) }
+    ensures full { result ≡ FULL
+        ↔ ((version ≡ VERSION) × IsSome (links_of links) × IsSome (order_of order) × (judge.old.value ≢ None)) }
+    ensures ok { result ≡ OK → HoldsJudge (IsReadAs links order file.now) judge.new.value }
+    ensures fault { IsFileAnswer file.now result }
     ensures err { result ≢ OK → judge.new.value ≡ judge.old.value }
-    ensures taken { (result ≡ OK) ⊎ (result ≡ MEMORY) → system.new.value ≡ None }
-    ensures kept { result ≢ OK → result ≢ MEMORY → system.new.value ≡ system.old.value }
-    ensures first { result ≢ OK → EMPTY ≤ result }
-    ensures last { result ≤ BAD_ARGUMENT }
+    ensures first { result ≢ OK → FULL ≤ result }
+    ensures written { IsWritten room.old room.new written.new }
 {
+    *written = put_text(room, b"");
+    if version != VERSION {
+        return OTHER_VERSION;
+    }
     let (Some(links), Some(order)) = (links_of(links), order_of(order)) else {
         return BAD_ARGUMENT;
     };
     if is_full(alloc, judge) {
         return FULL;
     }
-    let Some(made) = take_system(alloc, system) else {
-        return EMPTY;
-    };
-    match judge_of(alloc, made, links, order) {
+    match read_judge(alloc, file, Terms { links, order }) {
         Ok(made) => hold(alloc, judge, Held::Judge(made)),
-        Err(_) => MEMORY,
+        Err(fault) => {
+            *written = put_fault(alloc, room, &fault);
+            fault.number()
+        }
     }
 }
 
@@ -110,6 +101,7 @@ pub extern "C" fn tlx_judge_make_at(
 fn count(judge: &mut Judge, link: Link, end: Ended)
     ensures watch { judge.new.watch ≡ judge.old.watch }
     ensures text { judge.new.text ≡ judge.old.text }
+    ensures names { judge.new.names ≡ judge.old.names }
     ensures requests { judge.new.requests
         ≡ one_more (is_counted judge.old.watch.layout.links link && ends_an_ask end) judge.old.requests }
     ensures answered { judge.new.answered
@@ -120,25 +112,26 @@ fn count(judge: &mut Judge, link: Link, end: Ended)
 }
 
 /// Keeps the line of a fault. A text with room for it asks for no memory.
-fn keep_line(alloc: Global, text: &mut Vec<u8>, found: &Unlawful)
-    ensures line { IsLineOf found.now (vec_capacity text.old) text.new.items }
+fn keep_line(text: &mut Vec<u8>, names: &Names, found: &Unlawful)
+    ensures line { IsLineOf names.now found.now (vec_capacity text.old) text.new.items }
     ensures room { vec_capacity text.old ≤ vec_capacity text.new }
 {
     text.clear();
-    if push_unlawful(text, &Names::none(alloc), found).is_err() {
+    if push_unlawful(text, names, found).is_err() {
         text.clear();
     }
 }
 
 /// Judges one beat more, at a link that is watched, for its fault.
-fn judge_fault(alloc: Global, judge: &mut Judge, line: u64, time: u64, sighting: Sighting) -> u32
+fn judge_fault(judge: &mut Judge, line: u64, time: u64, sighting: Sighting) -> u32
     requires known { HasLink judge.old.watch.layout sighting.link }
     requires watched { IsWatched judge.old.watch.layout.links sighting.link }
     ensures step { (plan : Plan) (past : List Sighting) → Keeps plan past judge.old.watch
         → IsStep plan past sighting judge.old result judge.new }
     ensures fault { (plan : Plan) (past : List Sighting) → Keeps plan past judge.old.watch → NO_LINK < result
         → IsFaultOfBeat plan past sighting line time judge.old result judge.new }
-    ensures above { result ≢ OK → NO_LINK < result }
+    ensures above { result ≢ OK → result ≢ MEMORY → NO_LINK < result }
+    ensures unseen { result ≡ MEMORY → judge.new ≡ judge.old }
     ensures err { result ≢ OK → KeepsAllButText judge.old judge.new }
 {
     match judge.watch.step(&sighting) {
@@ -146,39 +139,43 @@ fn judge_fault(alloc: Global, judge: &mut Judge, line: u64, time: u64, sighting:
             count(judge, sighting.link, seen.ended());
             OK
         }
-        Err(fault) => {
+        Err(StepError::Memory) => MEMORY,
+        Err(StepError::Unlawful(fault)) => {
             let number = beat_number(&fault);
             let row = Row {
                 line,
                 time,
                 sighting,
             };
-            keep_line(alloc, &mut judge.text, &Unlawful { row, fault });
+            keep_line(&mut judge.text, &judge.names, &Unlawful { row, fault });
             number
         }
     }
 }
 
 /// Judges one beat more. Most are lawful, and no more is asked of them than what they end.
-fn step(alloc: Global, judge: &mut Judge, line: u64, time: u64, sighting: Sighting) -> u32
+fn step(judge: &mut Judge, line: u64, time: u64, sighting: Sighting) -> u32
     ensures step { (plan : Plan) (past : List Sighting) → Keeps plan past judge.old.watch → result ≢ NO_LINK
         → IsStep plan past sighting judge.old result judge.new }
     ensures fault { (plan : Plan) (past : List Sighting) → Keeps plan past judge.old.watch → NO_LINK < result
         → IsFaultOfBeat plan past sighting line time judge.old result judge.new }
     ensures link { result ≡ NO_LINK ↔ ((HasLink judge.old.watch.layout sighting.link
         × IsWatched judge.old.watch.layout.links sighting.link) → ⊥) }
-    ensures first { result ≢ OK → NO_LINK ≤ result }
+    ensures first { result ≢ OK → result ≢ MEMORY → NO_LINK ≤ result }
     ensures err { result ≢ OK → KeepsAllButText judge.old judge.new }
-    ensures unseen { result ≡ NO_LINK → judge.new ≡ judge.old }
+    ensures unseen { result ≢ OK → result ≤ NO_LINK → judge.new ≡ judge.old }
 {
     if !judge.watch.watches(sighting.link) {
         return NO_LINK;
     }
-    if let Some(end) = judge.watch.take(&sighting) {
-        count(judge, sighting.link, end);
-        return OK;
+    match judge.watch.take(&sighting) {
+        Ok(Some(end)) => {
+            count(judge, sighting.link, end);
+            OK
+        }
+        Ok(None) => judge_fault(judge, line, time, sighting),
+        Err(_) => MEMORY,
     }
-    judge_fault(alloc, judge, line, time, sighting)
 }
 
 /// `tlx_judge_step_at` of the header: judges one beat more.
@@ -193,7 +190,7 @@ pub extern "C" fn tlx_judge_step_at(alloc: Global, judge: &mut Handle, beat: &Wi
     ensures fault { (plan : Plan) (past : List Sighting) (j : Judge) (shown : Sighting) → judge.old.value ≡ Some (held.Judge j) → shown_by beat.now ≡ Some shown
         → Keeps plan past j.watch → NO_LINK < result
         → HoldsJudge (IsFaultOfBeat plan past shown beat.now.line beat.now.time j result) judge.new.value }
-    ensures first { result ≢ OK → result ≢ EMPTY → result ≢ BAD_ARGUMENT → NO_LINK ≤ result }
+    ensures first { result ≢ OK → result ≢ EMPTY → result ≢ BAD_ARGUMENT → result ≢ MEMORY → NO_LINK ≤ result }
     ensures err { result ≢ OK
         → HoldsJudge (λ old. HoldsJudge (KeepsAllButText old) judge.new.value) judge.old.value
         ⊎ (judge.new.value ≡ judge.old.value) }
@@ -206,7 +203,7 @@ pub extern "C" fn tlx_judge_step_at(alloc: Global, judge: &mut Handle, beat: &Wi
         return EMPTY;
     };
     let number = match &mut *held {
-        Held::Judge(held) => step(alloc, held, beat.line, beat.time, sighting),
+        Held::Judge(held) => step(held, beat.line, beat.time, sighting),
         Held::System(_) | Held::Model(_) => EMPTY,
     };
     *judge = Handle::of(held);

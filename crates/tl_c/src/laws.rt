@@ -1,7 +1,8 @@
 //! The numbers of the header, on functions that do nothing but carry the law.
 ghost use Rattle.std.specs.Prelude.{◌≡◌};
-ghost use Rattle.tl_c.specs.declared.fault.TheConstants.{OK, EMPTY, FULL, MEMORY, BAD_ARGUMENT, NO_OPERATION, SIZE, NO_BYTE, NO_LINK};
-ghost use Rattle.tl_c.specs.declared.judge.TheConstants.{LINE_ROOM};
+ghost use Rattle.tl_c.specs.declared.fault.TheConstants.{OK, EMPTY, FULL, MEMORY, BAD_ARGUMENT, OTHER_VERSION, NO_OPERATION, SIZE, NO_BYTE, NO_LINK};
+ghost use Rattle.tl_c.specs.declared.reading.TheConstants.{LINE_ROOM};
+ghost use Rattle.tl_c.specs.declared.version.TheConstants.{VERSION};
 ghost use Rattle.tl_c.specs.declared.wire.TheConstants.{ROOM};
 
 /// The faults in the numbers of `enum tlx_fault`; those that are told of scripts, requests and beats are in
@@ -12,6 +13,7 @@ pub fn faults_in_numbers()
     ensures full { FULL ≡ 3 }
     ensures memory { MEMORY ≡ 4 }
     ensures bad_argument { BAD_ARGUMENT ≡ 5 }
+    ensures other_version { OTHER_VERSION ≡ 6 }
     ensures no_operation { NO_OPERATION ≡ 20 }
     ensures size { SIZE ≡ 21 }
     ensures no_byte { NO_BYTE ≡ 25 }
@@ -23,4 +25,9 @@ pub fn faults_in_numbers()
 pub fn room_in_numbers()
     ensures bytes { ROOM ≡ 256 }
     ensures line { LINE_ROOM ≡ 2048 }
+{}
+
+/// The version of the header, `TLX_VERSION`.
+pub fn version_in_numbers()
+    ensures { VERSION ≡ 2 }
 {}

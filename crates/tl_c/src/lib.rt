@@ -1,4 +1,4 @@
-//! tlx as a library of C: systems, models and judges behind handles that the caller owns.
+//! tlx as a library of C: systems of scripts, models and judges behind handles that the caller owns.
 //!
 //! `include/tlx.h` is the interface, call by call; `docs/EMBEDDING.md` has a first use. Each export takes what a handle
 //! holds, has the public calls of the crates below do the work (most take one; a request that is served and a beat that
@@ -17,8 +17,10 @@ mod judge;
 pub mod laws;
 mod loose;
 mod model;
+mod reading;
 mod system;
 mod text;
+mod version;
 mod wire;
 
 /// `tlx_largest_size` of the header: the largest size of a message.

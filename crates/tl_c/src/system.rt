@@ -6,12 +6,14 @@ ghost use Rattle.tl_c.specs.Text.{IsWritten};
 ghost use Rattle.tl_c.specs.declared.held.Held.TheVariants as held;
 ghost use Rattle.tl_script.specs.Script.{Spells};
 
-use crate::fault::{FULL, MEMORY, OK, script_number};
+use crate::fault::{FULL, MEMORY, OK, OTHER_VERSION, script_number};
 use crate::handle::Handle;
 use crate::held::Held;
 use crate::text::put_text;
+use crate::version::VERSION;
 use std::alloc::Global;
-use tl_script::{ScriptFault, System, read_system};
+use std::fmt::Display;
+use tl_script::{System, read_system};
 
 /// What a handle holds, which is empty from then on.
 pub(crate) fn take(alloc: Global, handle: &mut Handle) -> Option<Box<Held>>
@@ -68,8 +70,8 @@ pub(crate) fn hold(alloc: Global, handle: &mut Handle, held: Held) -> u32
     }
 }
 
-/// Writes the line of a script's fault, or nothing if there is no memory for it.
-fn put_fault(alloc: Global, room: &mut [u8], fault: ScriptFault) -> usize
+/// Writes the line of a fault, or nothing if there is no memory for it.
+pub(crate) fn put_fault<F: Display>(alloc: Global, room: &mut [u8], fault: &F) -> usize
     ensures { IsWritten room.old room.new result }
 {
     match format!(in alloc; "{fault}") {
@@ -84,25 +86,30 @@ pub extern "C" fn tlx_system_read_at(
     alloc: Global,
     system: &mut Handle,
     script: &[u8],
+    version: u32,
     room: &mut [u8],
     written: &mut usize,
 ) -> u32
+    ensures version { result ≡ OTHER_VERSION ↔ (version ≢ VERSION) }
     ensures spelled { result ≡ OK → HoldsSystem (Spells script.now) system.new.value }
     ensures fault { IsScriptAnswer script.now result }
-    ensures full { result ≡ FULL ↔ (system.old.value ≢ None) }
+    ensures full { result ≡ FULL ↔ ((version ≡ VERSION) × (system.old.value ≢ None)) }
     ensures err { result ≢ OK → system.new.value ≡ system.old.value }
     ensures first { result ≢ OK → FULL ≤ result }
     ensures written { IsWritten room.old room.new written.new }
     ensures none { result ≤ FULL → written.new ≡ 0 }
 {
     *written = put_text(room, b"");
+    if version != VERSION {
+        return OTHER_VERSION;
+    }
     if is_full(alloc, system) {
         return FULL;
     }
     match read_system(alloc, script) {
         Ok(made) => hold(alloc, system, Held::System(made)),
         Err(fault) => {
-            *written = put_fault(alloc, room, fault);
+            *written = put_fault(alloc, room, &fault);
             script_number(fault)
         }
     }

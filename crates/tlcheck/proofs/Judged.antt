@@ -3,68 +3,68 @@ use Rattle.std.proofs.Common.{◌≡◌, ℕ, List, [], Option, Result, Ok, Err,
 use Rattle.check_judge.specs.View.{Judges, is_traced}
 use Rattle.check_judge.specs.declared.judge.Judge.{Judge}
 use Rattle.check_records.specs.Text.{start_of}
-use Rattle.tl_script.specs.System.{System}
-use Rattle.tl_streams.specs.Input.{GivesSystem}
+use Rattle.check_system.specs.System.{System}
+use Rattle.check_judge.specs.Start.{ByThePlan}
 use Rattle.check_verdict.specs.Capture.{IsFault, IsVerdict, IsWritten}
 use Rattle.check_verdict.specs.declared.fault.CaptureFault.{CaptureFault}
 use Rattle.check_verdict.specs.declared.fault.Verdict.{Verdict}
 use Rattle.check_verdict.specs.declared.rows.Sizes.{Sizes}
-use Rattle.check_watch.specs.Plan.{Plan}
-use Rattle.tlcheck.specs.declared.terms.Terms.{Terms}
-use Rattle.tlcheck.specs.Engine.{ByThePlan, HasVerdict, IsStopped, sizes_of}
+use Rattle.check_groups.specs.Plan.{Plan}
+use Rattle.tlcheck.specs.declared.asked.Asked.{Asked}
+use Rattle.tlcheck.specs.Engine.{GivesSystem, HasVerdict, IsStopped, sizes_of}
 
 -- a judge of a system, and of how many masters and ports it is
-pub record IsJudgeOf (terms : Terms) (system : System) (judge : Judge) (sizes : Sizes) : Type 0 where
-  pub judges : ByThePlan terms system (λ plan. Judges plan [] judge)
-  pub trace : is_traced judge ≡ terms.trace
+pub record IsJudgeOf (asked : Asked) (system : System) (judge : Judge) (sizes : Sizes) : Type 0 where
+  pub judges : ByThePlan asked.terms system (λ plan. Judges plan [] judge)
+  pub trace : is_traced judge ≡ asked.trace
   pub sized : sizes ≡ sizes_of system
 
-by_the_plan : (terms : Terms) (system : System) (judge : Judge) (sizes : Sizes) (Holds : Sizes → Plan → Type 0)
-    → IsJudgeOf terms system judge sizes
-    → ((plan : Plan) → Judges plan [] judge → Holds sizes plan) → ByThePlan terms system (Holds (sizes_of system))
-by_the_plan terms system judge sizes Holds of_it holds = record {
+by_the_plan : (asked : Asked) (system : System) (judge : Judge) (sizes : Sizes) (Holds : Sizes → Plan → Type 0)
+    → IsJudgeOf asked system judge sizes
+    → ((plan : Plan) → Judges plan [] judge → Holds sizes plan) → ByThePlan asked.terms system (Holds (sizes_of system))
+by_the_plan asked system judge sizes Holds of_it holds = record {
   some = of_it.judges.some;
   each = λ plan is. subst (λ s. Holds s plan) of_it.sized (holds plan (of_it.judges.each plan is));
 }
 
-by_the_traced_plan : (terms : Terms) (system : System) (judge : Judge) (sizes : Sizes)
+by_the_traced_plan : (asked : Asked) (system : System) (judge : Judge) (sizes : Sizes)
     (capture old new : Option (List ℕ)) (answer : Result Verdict CaptureFault)
-    → IsJudgeOf terms system judge sizes
+    → IsJudgeOf asked system judge sizes
     → ((plan : Plan) → Judges plan [] judge → IfSome capture
     (λ text. IsWritten (is_traced judge) plan sizes (start_of text) old new answer))
-    → ByThePlan terms system (λ plan. IfSome capture
-    (λ text. IsWritten terms.trace plan (sizes_of system) (start_of text) old new answer))
-by_the_traced_plan terms system judge sizes capture old new answer of_it tells =
-    subst (λ t. ByThePlan terms system (λ plan. IfSome capture
+    → ByThePlan asked.terms system (λ plan. IfSome capture
+    (λ text. IsWritten asked.trace plan (sizes_of system) (start_of text) old new answer))
+by_the_traced_plan asked system judge sizes capture old new answer of_it tells =
+    subst (λ t. ByThePlan asked.terms system (λ plan. IfSome capture
     (λ text. IsWritten t plan (sizes_of system) (start_of text) old new answer))) of_it.trace
-    (by_the_plan terms system judge sizes (λ s plan. IfSome capture
+    (by_the_plan asked system judge sizes (λ s plan. IfSome capture
     (λ text. IsWritten (is_traced judge) plan s (start_of text) old new answer)) of_it tells)
 
-pub has_verdict : (terms : Terms) (system : System) (judge : Judge) (sizes : Sizes)
+pub has_verdict : (asked : Asked) (system : System) (judge : Judge) (sizes : Sizes)
     (read_old read_new capture old told : Option (List ℕ)) (verdict : Verdict)
-    → IsJudgeOf terms system judge sizes → GivesSystem read_old read_new system
+    → IsJudgeOf asked system judge sizes → GivesSystem read_old read_new system
     → ((plan : Plan) → Judges plan [] judge → IfSome capture (λ text. IsVerdict plan sizes (start_of text) verdict))
     → ((plan : Plan) → Judges plan [] judge → IfSome capture
     (λ text. IsWritten (is_traced judge) plan sizes (start_of text) old told (Ok verdict)))
-    → HasVerdict terms read_old read_new capture old told system verdict
-has_verdict terms system judge sizes read_old read_new capture old told verdict of_it given found tells = record {
+    → HasVerdict asked read_old read_new capture old told system verdict
+has_verdict asked system judge sizes read_old read_new capture old told verdict of_it given found tells = record {
   given = given;
-  is = by_the_plan terms system judge sizes
+  is = by_the_plan asked system judge sizes
       (λ s plan. IfSome capture (λ text. IsVerdict plan s (start_of text) verdict)) of_it found;
-  tells = by_the_traced_plan terms system judge sizes capture old told (Ok verdict) of_it tells;
+  tells = by_the_traced_plan asked system judge sizes capture old told (Ok verdict) of_it tells;
 }
 
-pub is_stopped : (terms : Terms) (system : System) (judge : Judge) (sizes : Sizes)
+pub is_stopped : (asked : Asked) (system : System) (judge : Judge) (sizes : Sizes)
     (read_old read_new capture old new : Option (List ℕ)) (fault : CaptureFault)
-    → IsJudgeOf terms system judge sizes → GivesSystem read_old read_new system
+    → IsJudgeOf asked system judge sizes → GivesSystem read_old read_new system
     → ((plan : Plan) → Judges plan [] judge → IfSome capture (λ text. IsFault plan sizes (start_of text) fault))
     → ((plan : Plan) → Judges plan [] judge → IfSome capture
     (λ text. IsWritten (is_traced judge) plan sizes (start_of text) old new (Err fault)))
-    → IsStopped terms read_old read_new capture old new fault
-is_stopped terms system judge sizes read_old read_new capture old new fault of_it given found tells = record {
+    → IsStopped asked read_old read_new capture old new fault
+is_stopped asked system judge sizes read_old read_new capture old new fault of_it given found tells = record {
   system = system;
   given = given;
-  is = by_the_plan terms system judge sizes
+  is = by_the_plan asked system judge sizes
       (λ s plan. IfSome capture (λ text. IsFault plan s (start_of text) fault)) of_it found;
-  tells = by_the_traced_plan terms system judge sizes capture old new (Err fault) of_it tells;
+  tells = by_the_traced_plan asked system judge sizes capture old new (Err fault) of_it tells;
 }

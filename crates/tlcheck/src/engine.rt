@@ -2,14 +2,14 @@
 ghost use Rattle.std.specs.Prelude.{◌≡◌, IfOk};
 ghost use Rattle.tlcheck.specs.Engine.{IsChecked, is_lawful, line_of};
 
+use crate::asked::Asked;
 use crate::fault::CheckFault;
-use crate::judge::{judge_of, sizes_of};
-use crate::terms::Terms;
-use check_judge::{Names, push_lawful, push_unlawful};
+use crate::system::{read_whole_system, sizes_of};
+use check_judge::{Judge, Names, begin, push_lawful, push_unlawful};
 use check_verdict::{Verdict, judge_capture};
 use std::alloc::Global;
 use std::io::{Read, Write};
-use tl_streams::{LimitedReader, LimitedWriter, read_whole_system, write_all};
+use tl_streams::{LimitedReader, LimitedWriter, write_all};
 use tl_types::Memory;
 
 /// The line of a verdict, with these names of links.
@@ -39,14 +39,14 @@ pub fn check<S: Read, C: Read + Drop, W: Write>(
     system: &mut S,
     capture: C,
     writer: &mut W,
-    terms: Terms,
+    asked: Asked,
 ) -> Result<bool, CheckFault>
-    ensures { IsChecked terms (S.remaining system.old) (S.remaining system.new) (C.remaining capture)
+    ensures { IsChecked asked (S.remaining system.old) (S.remaining system.new) (C.remaining capture)
         (W.contents writer.old) (W.contents writer.new) result }
 {
     let mut system = LimitedReader::new(system);
     let mut writer = LimitedWriter::new(writer);
-    check_within(alloc, &mut system, capture, &mut writer, terms)
+    check_within(alloc, &mut system, capture, &mut writer, asked)
 }
 
 /// The same, through what limits the reads of the system and the retried writes.
@@ -55,19 +55,20 @@ fn check_within<S: Read, C: Read + Drop, W: Write>(
     reader: &mut LimitedReader<'_, S>,
     capture: C,
     writer: &mut LimitedWriter<'_, W>,
-    terms: Terms,
+    asked: Asked,
 ) -> Result<bool, CheckFault>
     ensures same_reader { reader.new.reader.ghost_name ≡ reader.old.reader.ghost_name }
     ensures same_writer { writer.new.writer.ghost_name ≡ writer.old.writer.ghost_name }
-    ensures checked { IsChecked terms (S.remaining reader.old.reader.now)
+    ensures checked { IsChecked asked (S.remaining reader.old.reader.now)
         (S.remaining reader.new.reader.now) (C.remaining capture)
         (W.contents writer.old.writer.now) (W.contents writer.new.writer.now) result }
 {
     let system = read_whole_system(alloc, reader)?;
     let sizes = sizes_of(&system);
-    let judge = judge_of(alloc, system, terms)?;
+    let begun = begin(alloc, system, asked.terms)?;
+    let judge = Judge::new(begun.watch, asked.trace);
     let verdict = judge_capture(alloc, capture, writer, judge, sizes)?;
-    let line = line_of(alloc, &Names::none(alloc), &verdict)?;
+    let line = line_of(alloc, &begun.names, &verdict)?;
     write_all(writer, &line)?;
     Ok(is_lawful(&verdict))
 }

@@ -1,12 +1,13 @@
 //! Why there is no verdict.
 ghost use Rattle.std.specs.Prelude.{◌≡◌};
-ghost use Rattle.tlcheck.specs.Fault.{of_capture, of_input, status_of};
+ghost use Rattle.tlcheck.specs.Fault.{of_capture, of_input, of_reset, status_of};
 ghost use Rattle.tlcheck.specs.declared.fault.CheckFault.TheVariants.{Write, Memory as WantOfMemory};
 
+use crate::system::InputFault;
+use check_system::{ResetFault, SystemFault};
 use check_verdict::CaptureFault;
 use thiserror::Error;
-use tl_script::ScriptFault;
-use tl_streams::{InputFault, WriteFault};
+use tl_streams::WriteFault;
 use tl_types::Memory;
 
 /// Why there is no verdict. The text of each is one line for standard error.
@@ -14,7 +15,10 @@ use tl_types::Memory;
 pub enum CheckFault {
     /// The first fault of SYSTEM, but for want of memory.
     #[error("{0}")]
-    Script(ScriptFault),
+    System(SystemFault),
+    /// Why the memories of SYSTEM can't be kept, but for want of memory.
+    #[error("{0}")]
+    Reset(ResetFault),
     /// CAPTURE is no capture: which line of it, and why.
     #[error("{0}")]
     Capture(CaptureFault),
@@ -35,7 +39,7 @@ impl CheckFault {
         ensures { result ≡ status_of self.now }
     {
         match self {
-            CheckFault::Script(_) | CheckFault::Capture(_) => 1,
+            CheckFault::System(_) | CheckFault::Reset(_) | CheckFault::Capture(_) => 1,
             CheckFault::Memory => 4,
             CheckFault::Read | CheckFault::Write => 5,
         }
@@ -47,9 +51,20 @@ impl From<InputFault> for CheckFault {
 
     fn from(fault: InputFault) -> CheckFault {
         match fault {
-            InputFault::Script(fault) => CheckFault::Script(fault),
+            InputFault::System(fault) => CheckFault::System(fault),
             InputFault::Read => CheckFault::Read,
             InputFault::Memory => CheckFault::Memory,
+        }
+    }
+}
+
+impl From<ResetFault> for CheckFault {
+    ghost from_gives = { λ fault e. e ≡ of_reset fault };
+
+    fn from(fault: ResetFault) -> CheckFault {
+        match fault {
+            ResetFault::TooLong(_) => CheckFault::Reset(fault),
+            ResetFault::Memory => CheckFault::Memory,
         }
     }
 }

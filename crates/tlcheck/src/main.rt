@@ -1,33 +1,34 @@
 //! tlcheck: judges whether a captured trace of a TileLink crossbar is lawful.
 //!
-//! SYSTEM is a script as `tlx` reads it, and says what the crossbar is; CAPTURE has a row for each beat that crossed
+//! SYSTEM is a system file, and says what the crossbar is; CAPTURE has a row for each beat that crossed
 //! one of its links. Standard output ends with one line, the verdict: lawful, with counts, or the first row that makes
 //! the capture unlawful, and why. It is all that is written, save that with `--trace` a line for each reply stands
 //! before it. A fault is one line on standard error; then nothing was written, save for those replies and where a write
 //! failed. A command line that is refused is told by clap's text.
 //!
 //! `check` (`engine`) carries the theorem, over the bytes of both files: lawful is written exactly where the rows that
-//! the capture spells are lawful for the system that SYSTEM spells. The crates `tl_streams` and `check_verdict` read
+//! the capture spells are lawful for the system that SYSTEM spells. The crates `check_system` and `check_verdict` read
 //! the two, `check_options` reads the command line. Read on in `docs/CAPTURE.md`.
 #![tactic(auto)]
 
+pub mod asked;
 pub mod engine;
 pub mod fault;
 pub mod file;
-pub mod judge;
-pub mod terms;
+pub mod system;
 #[cfg(test)]
 mod tests;
 
 ghost use Rattle.std.specs.Prelude.{◌≡◌, IfOk, IfErr};
 ghost use Rattle.std.specs.Process.{exit_status};
-ghost use Rattle.tlcheck.specs.Engine.{IsChecked, terms_of};
+ghost use Rattle.tlcheck.specs.Engine.{IsChecked, asked_of};
 ghost use Rattle.tlcheck.specs.Fault.{status_of, status_of_verdict};
 
+use crate::asked::Asked;
 use crate::engine::check;
 use crate::fault::CheckFault;
 use crate::file::NamedFile;
-use crate::terms::Terms;
+use check_judge::Terms;
 use check_options::{Options, read_options};
 use std::alloc::Global;
 use std::env;
@@ -69,7 +70,7 @@ fn run(rt: &HostRuntime, options: &Options<'_>) -> Result<bool, CheckFault> {
     }
 }
 
-/// Judges a capture by the terms of the command line.
+/// Judges a capture as the command line asks.
 fn check_as_asked<S: Read, C: Read + Drop, W: Write>(
     alloc: Global,
     system: &mut S,
@@ -77,15 +78,17 @@ fn check_as_asked<S: Read, C: Read + Drop, W: Write>(
     writer: &mut W,
     options: &Options<'_>,
 ) -> Result<bool, CheckFault>
-    ensures { IsChecked (terms_of options.now) (S.remaining system.old) (S.remaining system.new)
+    ensures { IsChecked (asked_of options.now) (S.remaining system.old) (S.remaining system.new)
         (C.remaining capture) (W.contents writer.old) (W.contents writer.new) result }
 {
-    let terms = Terms {
-        links: options.links,
-        order: options.order,
+    let asked = Asked {
+        terms: Terms {
+            links: options.links,
+            order: options.order,
+        },
         trace: options.trace,
     };
-    check(alloc, system, capture, writer, terms)
+    check(alloc, system, capture, writer, asked)
 }
 
 /// Ends the program after a verdict, or with the line and the status of a fault.

@@ -2,17 +2,19 @@
 //! system is judged before the capture is read.
 ghost use Rattle.std.specs.Prelude.{Some, ◌<◌};
 
+use crate::asked::Asked;
 use crate::engine::check;
 use crate::fault::CheckFault;
-use crate::terms::Terms;
 use check_capture::RowFault;
+use check_crossbar::Order;
+use check_groups::Links;
+use check_judge::Terms;
+use check_system::{ResetFault, SystemFault};
 use check_verdict::CaptureFault;
-use check_watch::{Links, Order};
 use std::alloc::Global;
 use std::io;
 use std::io::{ErrorKind, Read, Write};
 use std::process::Abort;
-use tl_script::ScriptFault;
 
 /// One master with one source, and 16 bytes of memory.
 const SYSTEM: &[u8] =
@@ -145,9 +147,11 @@ fn outcome_of(
         &mut reader,
         capture,
         &mut writer,
-        Terms {
-            links: Links::Both,
-            order: Order::Accept,
+        Asked {
+            terms: Terms {
+                links: Links::Both,
+                order: Order::Accept,
+            },
             trace,
         },
     );
@@ -224,12 +228,12 @@ fn expect_fault(
 #[test]
 fn no_system_and_no_capture(rt: HostRuntime) {
     let rows = [
-        (b"slots".as_slice(), LAWFUL, "script: not TOML"),
+        (b"slots".as_slice(), LAWFUL, "system: not TOML"),
         // the system is judged first
         (
             b"slots = 1",
             b"no header".as_slice(),
-            "script: missing master",
+            "system: missing master",
         ),
         (SYSTEM, b"", "capture: line 1: wrong header"),
         (SYSTEM, b"\n\ntime\n", "capture: line 3: wrong header"),
@@ -268,7 +272,7 @@ fn reads_that_are_interrupted_for_ever_are_read(rt: HostRuntime) {
     // the system is read to its end before the capture is touched
     let texts = (b"slots".as_slice(), LAWFUL);
     let trouble = (Trouble::Never, Trouble::Always(ErrorKind::BrokenPipe));
-    expect_fault(&rt, rt.alloc(), texts, trouble, "script: not TOML", 1);
+    expect_fault(&rt, rt.alloc(), texts, trouble, "system: not TOML", 1);
 }
 
 /// A writer with this trouble is a failed write, after so many bytes.
@@ -290,10 +294,15 @@ fn a_failed_write_is_write(rt: HostRuntime) {
 
 #[test]
 fn faults_have_their_lines_and_statuses(rt: HostRuntime) {
-    let rows: [(CheckFault, &str, u8); 6] = [
+    let rows: [(CheckFault, &str, u8); 7] = [
         (
-            CheckFault::Script(ScriptFault::TooLong),
-            "script: longer than 1048576 bytes",
+            CheckFault::System(SystemFault::TooLong),
+            "system: longer than 1048576 bytes",
+            1,
+        ),
+        (
+            CheckFault::Reset(ResetFault::TooLong(3)),
+            "system: port 3: a range of more than 65536 bytes",
             1,
         ),
         (

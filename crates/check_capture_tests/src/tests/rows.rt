@@ -3,11 +3,11 @@ ghost use Rattle.std.specs.Prelude.{◌≡◌};
 
 use check_capture::{Moment, Row, RowFault, read_row};
 use check_link::{Beat, Link, Sighting};
+use check_map::{MAX_MASTERS, MAX_PORTS};
 use csv::ByteRecord;
 use std::alloc::Global;
 use std::process::Abort;
 use tl_beats::{ABeat, DBeat};
-use tl_types::{MAX_MASTERS, MAX_PORTS};
 
 /// The row of a line without quotes, on line 7 of a capture of a system with two masters and three ports.
 fn read(rt: &impl Abort, alloc: Global, line: &str) -> Result<Row, RowFault> {

@@ -2,13 +2,14 @@
 //!
 //! Port 0 has 256 bytes of memory at 0x1000, all zero at reset, port 1 as many at 0x2000. Master 0 has the sources 0
 //! and 1, which are the wide sources 0 and 1, master 1 the sources 0 to 2, which are 4 to 6.
+use check_crossbar::{Fault, Order, Seen};
+use check_groups::{Links, Watch};
+use check_judge::{Terms, begin};
 use check_link::{Beat, Link, Sighting};
-use check_watch::{Fault, Links, Order, Seen, Watch};
+use check_system::read_system;
 use std::alloc::Global;
 use std::process::Abort;
 use tl_beats::{ABeat, DBeat};
-use tl_map::{Map, Range, Sources};
-use tl_ops::{Bank, Kind};
 
 const M0: Link = Link::Master(0);
 
@@ -18,31 +19,26 @@ const P0: Link = Link::Port(0);
 
 const P1: Link = Link::Port(1);
 
-const RANGES: [Range; 2] = [
-    Range {
-        base: 0x1000,
-        length: 256,
-    },
-    Range {
-        base: 0x2000,
-        length: 256,
-    },
-];
-
-fn bank_of(rt: &impl Abort, alloc: Global, kind: Kind, base: u64, reset: &[u8]) -> Bank {
-    Bank::new(alloc, kind, base, reset).expect(rt, "a bank")
-}
+const SYSTEM: &[u8] = b"
+[[port]]
+kind = 'ram'
+base = 0x1000
+length = 256
+[[port]]
+kind = 'ram'
+base = 0x2000
+length = 256
+[[master]]
+sources = 2
+[[master]]
+sources = 3
+";
 
 /// The judge of a capture at these links.
 fn watch_of(rt: &impl Abort, alloc: Global, links: Links, order: Order) -> Watch {
-    let first = bank_of(rt, alloc, Kind::Ram, 0x1000, &[0; 256]);
-    let second = bank_of(rt, alloc, Kind::Ram, 0x2000, &[0; 256]);
-    let none = bank_of(rt, alloc, Kind::NoDevice, 0, &[]);
-    let banks = Vec::from_array(alloc, [first, second, none]).expect(rt, "memory");
-    let map = Map::new(alloc, &RANGES).expect(rt, "a map");
-    let sources = Sources::new(alloc, &[2, 3]).expect(rt, "sources");
-    assert!(rt; banks.len() == map.ports());
-    Watch::new(alloc, links, order, map, sources, banks).expect(rt, "memory")
+    let system = read_system(alloc, SYSTEM).ok().expect(rt, "a system");
+    let begun = begin(alloc, system, Terms { links, order });
+    begun.ok().expect(rt, "a judge").watch
 }
 
 /// What a beat is one of.

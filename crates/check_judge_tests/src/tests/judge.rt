@@ -3,46 +3,44 @@
 //! Port 0 has 64 bytes of memory at 0x1000 that begin with 00 11 22 33, port 1 registers at 0x2000 with 01 02 03 04.
 //! Wide sources 0 to 3 are master 0's, 4 to 6 master 1's.
 use check_capture::{Row, RowFault, read_row};
-use check_judge::{Judge, Names, Refusal, Stop, Unlawful, push_lawful, push_unlawful};
+use check_crossbar::{Fault, Order};
+use check_groups::Links;
+use check_judge::{
+    Judge, Names, Refusal, Stop, Terms, Unlawful, begin, push_lawful, push_unlawful,
+};
 use check_link::{Beat, FormFault, Link, Sighting};
-use check_watch::{Fault, Links, Order, Watch};
+use check_map::{MAX_MASTERS, MAX_PORTS};
+use check_system::read_system;
 use csv::ByteRecord;
 use std::alloc::Global;
 use std::process::Abort;
 use tl_beats::DBeat;
-use tl_map::{Map, Range, Sources};
-use tl_ops::{Bank, Kind};
-use tl_types::{MAX_MASTERS, MAX_PORTS};
+
+const SYSTEM: &[u8] = b"
+[[port]]
+kind = 'ram'
+base = 0x1000
+length = 64
+reset = '00112233'
+[[port]]
+kind = 'regs'
+base = 0x2000
+length = 16
+reset = '01020304'
+[[master]]
+sources = 4
+[[master]]
+sources = 3
+";
 
 fn judge(rt: &impl Abort, alloc: Global, links: Links, trace: bool) -> Judge {
-    let ranges = [
-        Range {
-            base: 0x1000,
-            length: 64,
-        },
-        Range {
-            base: 0x2000,
-            length: 16,
-        },
-    ];
-    let mut ram = [0; 64];
-    ram[1] = 0x11;
-    ram[2] = 0x22;
-    ram[3] = 0x33;
-    let mut regs = [0; 16];
-    regs[..4].copy_from_slice(&[1, 2, 3, 4]);
-    let mut banks = Vec::new(alloc);
-    let bank = Bank::new(alloc, Kind::Ram, 0x1000, &ram).expect(rt, "a bank");
-    banks.push(bank).expect(rt, "memory");
-    let bank = Bank::new(alloc, Kind::Regs, 0x2000, &regs).expect(rt, "a bank");
-    banks.push(bank).expect(rt, "memory");
-    let bank = Bank::new(alloc, Kind::NoDevice, 0, &[]).expect(rt, "a bank");
-    banks.push(bank).expect(rt, "memory");
-    let map = Map::new(alloc, &ranges).expect(rt, "a map");
-    let sources = Sources::new(alloc, &[4, 3]).expect(rt, "sources");
-    assert!(rt; banks.len() == map.ports(), "a bank for each port");
-    let watch = Watch::new(alloc, links, Order::Accept, map, sources, banks);
-    Judge::new(watch.expect(rt, "memory"), trace)
+    let terms = Terms {
+        links,
+        order: Order::Accept,
+    };
+    let system = read_system(alloc, SYSTEM).ok().expect(rt, "a system");
+    let begun = begin(alloc, system, terms).ok().expect(rt, "a judge");
+    Judge::new(begun.watch, trace)
 }
 
 /// The row of this line, which has no quotes.

@@ -1,6 +1,7 @@
 //! The command line, row by row.
+use check_crossbar::Order;
+use check_groups::Links;
 use check_options::{Options, read_options};
-use check_watch::{Links, Order};
 use tl_streams::line_status;
 
 #[test]

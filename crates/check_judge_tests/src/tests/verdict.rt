@@ -4,15 +4,15 @@
 ghost use Rattle.std.specs.Prelude.{None};
 
 use check_capture::RowFault;
-use check_judge::Judge;
+use check_crossbar::Order;
+use check_groups::Links;
+use check_judge::{Judge, Terms, begin};
+use check_system::read_system;
 use check_verdict::{CaptureFault, Sizes, Verdict, judge_capture};
-use check_watch::{Links, Order, Watch};
 use std::alloc::Global;
 use std::io;
 use std::io::{ErrorKind, Read, Write};
 use std::process::Abort;
-use tl_map::{Map, Range, Sources};
-use tl_ops::{Bank, Kind};
 use tl_streams::LimitedWriter;
 
 const SIZES: Sizes = Sizes {
@@ -20,23 +20,24 @@ const SIZES: Sizes = Sizes {
     ports: 1,
 };
 
+const SYSTEM: &[u8] = b"
+[[port]]
+kind = 'ram'
+base = 0x1000
+length = 64
+reset = '0011'
+[[master]]
+sources = 4
+";
+
 fn judge(rt: &impl Abort, alloc: Global, trace: bool) -> Judge {
-    let mut ram = [0; 64];
-    ram[1] = 0x11;
-    let range = Range {
-        base: 0x1000,
-        length: 64,
+    let terms = Terms {
+        links: Links::Both,
+        order: Order::Accept,
     };
-    let mut banks = Vec::new(alloc);
-    let bank = Bank::new(alloc, Kind::Ram, 0x1000, &ram).expect(rt, "a bank");
-    banks.push(bank).expect(rt, "memory");
-    let bank = Bank::new(alloc, Kind::NoDevice, 0, &[]).expect(rt, "a bank");
-    banks.push(bank).expect(rt, "memory");
-    let map = Map::new(alloc, &[range]).expect(rt, "a map");
-    let sources = Sources::new(alloc, &[4]).expect(rt, "sources");
-    assert!(rt; banks.len() == map.ports(), "a bank for each port");
-    let watch = Watch::new(alloc, Links::Both, Order::Accept, map, sources, banks);
-    Judge::new(watch.expect(rt, "memory"), trace)
+    let system = read_system(alloc, SYSTEM).ok().expect(rt, "a system");
+    let begun = begin(alloc, system, terms).ok().expect(rt, "a judge");
+    Judge::new(begun.watch, trace)
 }
 
 const HEADER: &str =

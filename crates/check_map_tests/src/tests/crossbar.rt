@@ -4,6 +4,10 @@
 //! answers at 0x2000, 64 bytes, and its requests take effect as they are answered. All bytes are zero at reset. Three
 //! hosts have two sources each, with the host's number in the low two bits: host 2 has the wide sources 2 and 6. Nobody
 //! has 3 and 7.
+ghost use Rattle.std.specs.Prelude.{◌≡◌, map};
+ghost use Rattle.check_crossbar.specs.View.{stores_in};
+ghost use Rattle.check_map_tests.specs.Memory.{zero_memories, zeros_at};
+
 use super::map::{are_ranges, ports_of, range};
 use check_crossbar::{Change, Links, Order, Origin, Seen, StepError, Watch};
 use check_link::{Beat, Link, Sighting};
@@ -13,13 +17,13 @@ use std::process::Abort;
 use tl_beats::{ABeat, DBeat};
 use tl_ops::{Bank, Kind};
 
-const M0: Link = Link::Master(0);
+pub(crate) const M0: Link = Link::Master(0);
 
-const M2: Link = Link::Master(2);
+pub(crate) const M2: Link = Link::Master(2);
 
-const P0: Link = Link::Port(0);
+pub(crate) const P0: Link = Link::Port(0);
 
-const P1: Link = Link::Port(1);
+pub(crate) const P1: Link = Link::Port(1);
 
 /// A host with two sources, told by the low bits.
 const fn host(number: u16) -> Owner {
@@ -31,7 +35,9 @@ const fn host(number: u16) -> Owner {
 }
 
 /// A memory with 64 zero bytes in each of these places.
-fn memory_at(rt: &impl Abort, alloc: Global, bases: &[u64]) -> Vec<Bank> {
+fn memory_at(rt: &impl Abort, alloc: Global, bases: &[u64]) -> Vec<Bank>
+    ensures { result.items ≡ map zeros_at bases.now }
+{
     let mut banks = Vec::new(alloc);
     for base in bases {
         let bank = Bank::new(alloc, Kind::Ram, *base, &[0; 64]).expect(rt, "a bank");
@@ -40,7 +46,28 @@ fn memory_at(rt: &impl Abort, alloc: Global, bases: &[u64]) -> Vec<Bank> {
     banks
 }
 
-fn map_of(rt: &impl Abort, alloc: Global) -> Map {
+/// The memories of the ports, the error port's last.
+pub(crate) fn memories_of(rt: &impl Abort, alloc: Global) -> Vec<Vec<Bank>>
+    ensures { stores_in result.items ≡ zero_memories }
+{
+    let first = memory_at(rt, alloc, &[0x1000, 0x8000]);
+    let second = memory_at(rt, alloc, &[0x2000]);
+    let none = Vec::new(alloc);
+    Vec::from_array(alloc, [first, second, none]).expect(rt, "memory")
+}
+
+/// When requests of the ports take effect, the error port's last.
+pub(crate) fn orders_of(rt: &impl Abort, alloc: Global) -> Vec<Order> {
+    let orders = [Order::Accept, Order::Reply, Order::Accept];
+    Vec::from_array(alloc, orders).expect(rt, "memory")
+}
+
+/// The hosts' sources.
+pub(crate) fn sources_of(rt: &impl Abort, alloc: Global) -> Sources {
+    Sources::new(alloc, &[host(0), host(1), host(2)]).expect(rt, "sources")
+}
+
+pub(crate) fn map_of(rt: &impl Abort, alloc: Global) -> Map {
     let twice = [range(0x1000, 64), range(0x8000, 64)];
     let once = [range(0x2000, 64)];
     let ports = ports_of(rt, alloc, &[&twice, &once]);
@@ -50,13 +77,9 @@ fn map_of(rt: &impl Abort, alloc: Global) -> Map {
 
 /// The judge of a capture at these links.
 fn watch_of(rt: &impl Abort, alloc: Global, links: Links) -> Watch {
-    let orders = [Order::Accept, Order::Reply, Order::Accept];
-    let orders = Vec::from_array(alloc, orders).expect(rt, "memory");
-    let first = memory_at(rt, alloc, &[0x1000, 0x8000]);
-    let second = memory_at(rt, alloc, &[0x2000]);
-    let none = Vec::new(alloc);
-    let memories = Vec::from_array(alloc, [first, second, none]).expect(rt, "memory");
-    let sources = Sources::new(alloc, &[host(0), host(1), host(2)]).expect(rt, "sources");
+    let orders = orders_of(rt, alloc);
+    let memories = memories_of(rt, alloc);
+    let sources = sources_of(rt, alloc);
     let map = map_of(rt, alloc);
     assert!(rt; memories.len() == map.ports());
     Watch::new(alloc, links, orders, map, sources, memories).expect(rt, "memory")
@@ -64,7 +87,7 @@ fn watch_of(rt: &impl Abort, alloc: Global, links: Links) -> Watch {
 
 /// What a beat is one of.
 #[derive(Clone, Copy)]
-enum What {
+pub(crate) enum What {
     Put,
     Get,
     Ack,
@@ -73,9 +96,9 @@ enum What {
 }
 
 /// A beat of a message of 8 bytes: its link, what it is one of, source, address, and the byte on each of its lanes.
-type Row = (Link, What, u16, u64, u8);
+pub(crate) type Row = (Link, What, u16, u64, u8);
 
-fn sighting(row: &Row) -> Sighting {
+pub(crate) fn sighting(row: &Row) -> Sighting {
     let (link, what, source, address, byte) = *row;
     let ask = ABeat {
         opcode: if matches!(what, What::Get) { 4 } else { 0 },
@@ -123,7 +146,7 @@ fn see(rt: &impl Abort, alloc: Global, watch: &mut Watch, row: &Row, wanted: &st
 }
 
 /// The beats of a capture, and the text of the fault of its last beat; no text where the capture is lawful.
-type Capture = (&'static [Row], &'static str);
+pub(crate) type Capture = (&'static [Row], &'static str);
 
 /// A judge of these links says this of a capture.
 fn judge(rt: &impl Abort, alloc: Global, links: Links, capture: &Capture) {
@@ -141,7 +164,7 @@ fn judge_all(rt: &impl Abort, alloc: Global, links: Links, captures: &[Capture])
     }
 }
 
-const AT_PORTS: [Capture; 9] = [
+pub(crate) const AT_PORTS: [Capture; 9] = [
     // what is written at the second range is read back there, and not at the first
     (
         &[
@@ -202,7 +225,7 @@ const SENT: Row = (M2, What::Get, 1, 0x8008, 0);
 
 const TAKEN: Row = (P0, What::Get, 6, 0x8008, 0);
 
-const AT_BOTH: [Capture; 5] = [
+pub(crate) const AT_BOTH: [Capture; 5] = [
     (
         &[
             SENT,

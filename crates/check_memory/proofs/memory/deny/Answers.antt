@@ -4,7 +4,7 @@ use Rattle.tl_types.specs.declared.operation.ReplyOp.TheVariants.{AccessAck, Acc
 use Rattle.tl_types.specs.Operation.{reply_op_of, reply_byte_count}
 use Rattle.check_memory.specs.Known.{known}
 use Rattle.check_memory.specs.Pattern.{Pattern, shown_cells}
-use Rattle.check_memory.proofs.Lanes.{known_zeros}
+use Rattle.check_cells.proofs.Lanes.{known_zeros}
 use Rattle.check_memory.proofs.memory.deny.Goals as goal
 
 zeros_shown : (op : ReplyOp) (size : ℕ)

@@ -7,12 +7,13 @@ use Rattle.check_options.proofs.laws.lines_ask_for_options.Goals as goal
 pub returns : goal.returns
 unfolding clap_on_literals
 returns c = record {
-  alone = wherever (Asks _ _) (λ l a b c o d e. (refl, refl));
-  file = wherever (Asks _ _) (λ l a b c o d e. (refl, refl));
-  input = wherever (Asks _ _) (λ l a b c o d e. (refl, refl));
-  masters = wherever (Asks _ _) (λ l a b c o d e. (refl, refl));
-  ports = wherever (Asks _ _) (λ l a b c o d e. (refl, refl));
-  trace = wherever (Asks _ _) (λ l a b c o d e. (refl, refl));
-  trace_behind = wherever (Asks _ _) (λ l a b c o d e. (refl, refl));
-  defaults = wherever (Asks _ _) (λ l a b c o d e. (refl, refl));
+  alone = wherever (Asks _ _) (λ l a b c f o d e. (refl, refl));
+  file = wherever (Asks _ _) (λ l a b c f o d e. (refl, refl));
+  input = wherever (Asks _ _) (λ l a b c f o d e. (refl, refl));
+  masters = wherever (Asks _ _) (λ l a b c f o d e. (refl, refl));
+  ports = wherever (Asks _ _) (λ l a b c f o d e. (refl, refl));
+  each = wherever (Asks _ _) (λ l a b c f o d e. (refl, refl));
+  trace = wherever (Asks _ _) (λ l a b c f o d e. (refl, refl));
+  trace_behind = wherever (Asks _ _) (λ l a b c f o d e. (refl, refl));
+  defaults = wherever (Asks _ _) (λ l a b c f o d e. (refl, refl));
 }

@@ -2,7 +2,7 @@
 use Rattle.std.proofs.Common.{List, ℕ, [], IfSome, rules, subst}
 use Rattle.check_records.specs.Text.{start_of}
 use Rattle.check_judge.specs.View.{Judges, is_traced}
-use Rattle.check_watch.specs.Plan.{Plan}
+use Rattle.check_groups.specs.Plan.{Plan}
 use Rattle.check_verdict.specs.Out.{Finishes}
 use Rattle.check_verdict.proofs.Answering.{Says, says_fault, says_judged, says_verdict, says_written, told}
 use Rattle.check_verdict.proofs.capture.judge_capture.Goals as goal

@@ -12,10 +12,11 @@ pub returns-in_err-verdict-clause-checked : goal.returns-in_err-verdict-clause-c
 returns-in_err-verdict-clause-checked g c =
     let system = c.in_ok-system.system in
     let fault = c.in_err-verdict.field-0.0 in
-    let of_it : IsJudgeOf c.args.terms system c.in_ok-judge.judge c.sizes_of-sizes.result =
+    let begun = c.in_ok-begun.ensures.keeps in
+    let of_it : IsJudgeOf c.args.asked system c.new-judge.result c.sizes_of-sizes.result =
     record {
-      judges = c.in_ok-judge.ensures.judges;
-      trace = c.in_ok-judge.ensures.trace;
+      judges = record { some = begun.some; each = λ plan is. c.new-judge.ensures.judges plan (begun.each plan is) };
+      trace = c.new-judge.ensures.trace;
       sized = c.sizes_of-sizes.ensures.value;
     } in
     let stopped = is_stopped _ system _ _ _ _ _ _ _ fault of_it c.in_ok-system.ensures.ok c.in_err-verdict.ensures.fault c.in_err-verdict.ensures.told in
@@ -26,10 +27,11 @@ pub returns-in_err-line-clause-checked : goal.returns-in_err-line-clause-checked
 returns-in_err-line-clause-checked g c =
     let system = c.in_ok-system.system in
     let verdict = c.in_ok-verdict.verdict in
-    let of_it : IsJudgeOf c.args.terms system c.in_ok-judge.judge c.sizes_of-sizes.result =
+    let begun = c.in_ok-begun.ensures.keeps in
+    let of_it : IsJudgeOf c.args.asked system c.new-judge.result c.sizes_of-sizes.result =
     record {
-      judges = c.in_ok-judge.ensures.judges;
-      trace = c.in_ok-judge.ensures.trace;
+      judges = record { some = begun.some; each = λ plan is. c.new-judge.ensures.judges plan (begun.each plan is) };
+      trace = c.new-judge.ensures.trace;
       sized = c.sizes_of-sizes.ensures.value;
     } in
     let has = has_verdict _ system _ _ _ _ _ _ _ verdict of_it c.in_ok-system.ensures.ok c.in_ok-verdict.ensures.verdict c.in_ok-verdict.ensures.told in
@@ -41,10 +43,11 @@ returns-in_err-write_all-clause-checked g c =
     let system = c.in_ok-system.system in
     let verdict = c.in_ok-verdict.verdict in
     let front = c.in_err-write_all.ensures.front in
-    let of_it : IsJudgeOf c.args.terms system c.in_ok-judge.judge c.sizes_of-sizes.result =
+    let begun = c.in_ok-begun.ensures.keeps in
+    let of_it : IsJudgeOf c.args.asked system c.new-judge.result c.sizes_of-sizes.result =
     record {
-      judges = c.in_ok-judge.ensures.judges;
-      trace = c.in_ok-judge.ensures.trace;
+      judges = record { some = begun.some; each = λ plan is. c.new-judge.ensures.judges plan (begun.each plan is) };
+      trace = c.new-judge.ensures.trace;
       sized = c.sizes_of-sizes.ensures.value;
     } in
     let has = has_verdict _ system _ _ _ _ _ _ _ verdict of_it c.in_ok-system.ensures.ok c.in_ok-verdict.ensures.verdict c.in_ok-verdict.ensures.told in
@@ -54,7 +57,7 @@ returns-in_err-write_all-clause-checked g c =
       verdict = verdict;
       told = _;
       has = has;
-      line = rw (c.deref.ensures.value ∙ c.in_ok-line.ensures ∙ ap (λ n. line_of n verdict) c.none.ensures) at front;
+      line = rw (c.deref.ensures.value ∙ c.in_ok-line.ensures ∙ ap (λ n. line_of n verdict) c.in_ok-begun.ensures.names) at front;
     }))
 
 pub returns-clause-checked : goal.returns-clause-checked
@@ -62,10 +65,11 @@ returns-clause-checked g c =
     let system = c.in_ok-system.system in
     let verdict = c.in_ok-verdict.verdict in
     let bytes = c.in_ok-write_all.ensures.bytes in
-    let of_it : IsJudgeOf c.args.terms system c.in_ok-judge.judge c.sizes_of-sizes.result =
+    let begun = c.in_ok-begun.ensures.keeps in
+    let of_it : IsJudgeOf c.args.asked system c.new-judge.result c.sizes_of-sizes.result =
     record {
-      judges = c.in_ok-judge.ensures.judges;
-      trace = c.in_ok-judge.ensures.trace;
+      judges = record { some = begun.some; each = λ plan is. c.new-judge.ensures.judges plan (begun.each plan is) };
+      trace = c.new-judge.ensures.trace;
       sized = c.sizes_of-sizes.ensures.value;
     } in
     let has = has_verdict _ system _ _ _ _ _ _ _ verdict of_it c.in_ok-system.ensures.ok c.in_ok-verdict.ensures.verdict c.in_ok-verdict.ensures.told in
@@ -76,7 +80,7 @@ returns-clause-checked g c =
         told = _;
         has = has;
         answered = c.is_lawful.ensures;
-        written = rw (c.deref.ensures.value ∙ c.in_ok-line.ensures ∙ ap (λ n. line_of n verdict) c.none.ensures) at bytes;
+        written = rw (c.deref.ensures.value ∙ c.in_ok-line.ensures ∙ ap (λ n. line_of n verdict) c.in_ok-begun.ensures.names) at bytes;
       };
       fault = tt;
     }

@@ -3,6 +3,7 @@ use Rattle.check_crossbar.specs.declared.fault.Fault.{Fault}
 use Rattle.check_crossbar.specs.Faults.{IsFirstAskFault, fault_of}
 use Rattle.check_crossbar.specs.View.{flight_in}
 use Rattle.check_crossbar.proofs.Keeping.{carried, room_of, ask_step}
+use Rattle.check_crossbar.proofs.Sized.{ask_layout}
 use Rattle.check_crossbar.proofs.watch.Watch.admit_ask.Goals as goal
 
 pub returns-in-Err-clause-fault : goal.returns-in-Err-clause-fault
@@ -31,3 +32,13 @@ returns-else-take_ask-clause-keeps c plan past keeps =
     ask_step plan past view c.take_ask.new.self c.args.link c.args.known keeps c.args.beat.now place.wide place.port room c.in-Ok.ensures.wide
     (c.in-Ok.ensures.port plan (flight_in view c.args.link place.wide).turn keeps.suits) c.in-Ok.ensures.in_ports
     (c.in-Ok.ensures.allowed plan keeps.suits) c.take_ask.ensures.after
+
+pub returns-then-take_ask-clause-layout : goal.returns-then-take_ask-clause-layout
+returns-then-take_ask-clause-layout c =
+    ask_layout c.args.self.now c.take_ask.new.self c.args.link c.in-Ok.place.wide c.in-Ok.place.port c.args.beat.now
+    c.take_ask.ensures.after
+
+pub returns-else-take_ask-clause-layout : goal.returns-else-take_ask-clause-layout
+returns-else-take_ask-clause-layout c =
+    ask_layout c.args.self.now c.take_ask.new.self c.args.link c.in-Ok.place.wide c.in-Ok.place.port c.args.beat.now
+    c.take_ask.ensures.after

@@ -8,6 +8,7 @@ use Rattle.check_crossbar.specs.Scene.{ended, seen}
 use Rattle.check_crossbar.specs.View.{View, under_in, scene_in, with_part, with_end}
 use Rattle.check_crossbar.proofs.Replying.{tells_reply, tells_part}
 use Rattle.check_crossbar.proofs.Keeping.{carried, room_of, part_step, end_step}
+use Rattle.check_crossbar.proofs.Sized.{part_layout, end_layout}
 use Rattle.check_crossbar.proofs.watch.Watch.admit_reply.Goals as goal
 
 pub returns-then-not-ends-clause-keeps : goal.returns-then-not-ends-clause-keeps
@@ -69,3 +70,13 @@ returns-clause-ended c plan past keeps =
     (λ l s. ended (seen l link s (D beat)) ≡ ends.Reply)
     (tells_reply view.layout link (scene_in plan view link (D beat)) beat known
     (c.in-Some.ensures.allowed plan keeps.suits) last))
+
+pub returns-then-not-ends-clause-layout : goal.returns-then-not-ends-clause-layout
+returns-then-not-ends-clause-layout c =
+    part_layout c.serve_late.new.self c.take_part.new.self c.args.link c.args.beat.now c.take_part.ensures
+    ∙ c.serve_late.ensures.layout
+
+pub returns-clause-layout : goal.returns-clause-layout
+returns-clause-layout c =
+    end_layout c.serve_late.new.self c.take_end.new.self c.args.link c.in-Some.place.wide c.args.beat.now c.take_end.ensures
+    ∙ c.serve_late.ensures.layout

@@ -9,6 +9,7 @@ use Rattle.check_crossbar.specs.Scene.{answering, must_come, seen, seen_reply}
 use Rattle.check_crossbar.specs.View.{View, due_at, flight_in, scene_in, state_in, under_in, with_part, with_end}
 use Rattle.check_crossbar.proofs.Judging.{wide_is}
 use Rattle.check_crossbar.proofs.Keeping.{carried, room_of, part_step, end_step}
+use Rattle.check_crossbar.proofs.Sized.{part_layout, end_layout}
 use Rattle.check_crossbar.proofs.watch.Watch.step_reply.Goals as goal
 
 pub returns-then-not-ends_reply-clause-keeps : goal.returns-then-not-ends_reply-clause-keeps
@@ -58,3 +59,13 @@ returns-clause-seen c plan past keeps =
     carried plan past view x keeps (λ l s. told ≡ seen l link s (D beat))
     (subst by keeps.suits.layout at ∙ sym (ap (λ (b : Bool). if b then seen_reply scene.flight.turn
     (must_come view.layout link scene beat.source) else Part) last))
+
+pub returns-then-not-ends_reply-clause-layout : goal.returns-then-not-ends_reply-clause-layout
+returns-then-not-ends_reply-clause-layout c =
+    part_layout c.serve_late.new.self c.take_part.new.self c.args.link c.args.beat.now c.take_part.ensures
+    ∙ c.serve_late.ensures.layout
+
+pub returns-clause-layout : goal.returns-clause-layout
+returns-clause-layout c =
+    end_layout c.serve_late-2.new.self c.take_end.new.self c.args.link c.in-Ok.place.wide c.args.beat.now c.take_end.ensures
+    ∙ c.serve_late-2.ensures.layout

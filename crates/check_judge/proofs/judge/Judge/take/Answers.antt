@@ -1,7 +1,7 @@
 -- A row of the moment's time, one of a later time, and one that may not follow.
 use Rattle.std.proofs.Common.{sym, subst}
 use Rattle.check_capture.specs.Moment.{Moment, Takes}
-use Rattle.check_judge.specs.View.{HasTold}
+use Rattle.check_judge.specs.View.{HasTold, Judges}
 use Rattle.check_judge.proofs.Judging.{judges_now, fault_of, told_now}
 use Rattle.check_judge.proofs.judge.Judge.take.Goals as goal
 
@@ -50,3 +50,10 @@ returns-in-Ok-false-clause-stop_told c plan file so_far has =
 pub returns-in-Err-clause-stop : goal.returns-in-Err-clause-stop
 returns-in-Err-clause-stop c plan file judges =
     fault_of plan file c.args.row c.args.self.now c.in-Err.fault c.rows-rows.ensures.moment judges c.in-Err.ensures.fault
+
+pub returns-in-Ok-false-clause-memory : goal.returns-in-Ok-false-clause-memory
+returns-in-Ok-false-clause-memory c plan file judges =
+    let old = c.args.self.now in
+    let puts = rw c.in-Ok-false.field-0-test at c.in-Ok-false.ensures.ok in
+    let P : Moment → Type 0 = λ m. Judges plan file (record old { moment = m }) in
+    c.go_on.ensures.memory plan file (subst P (sym puts.1) judges)

@@ -1,6 +1,6 @@
 -- The rows so far are judged, and told.
 use Rattle.std.proofs.Common.{◌≡◌, List, ◌++◌, reverse, take}
-use Rattle.check_watch.specs.Plan.{Plan}
+use Rattle.check_groups.specs.Plan.{Plan}
 use Rattle.check_capture.specs.declared.row.Row.{Row}
 use Rattle.check_judge.specs.Order.{seen}
 use Rattle.check_judge.specs.Told.{AppendsTold}

@@ -1,6 +1,6 @@
 -- What is told of a row whose link is watched.
 use Rattle.std.proofs.Common.{◌≡◌, true, subst}
-use Rattle.check_watch.specs.Plan.{HasLink, IsWatched, Layout}
+use Rattle.check_groups.specs.Plan.{HasLink, IsWatched, Layout}
 use Rattle.check_judge.specs.Order.{is_watched, seen}
 use Rattle.check_judge.proofs.Telling.{tells_row, tells_step}
 use Rattle.check_judge.proofs.Watched.{watched_is}

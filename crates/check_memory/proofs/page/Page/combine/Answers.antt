@@ -11,7 +11,8 @@ use Rattle.std.proofs.lemmas.Bool.{cases_lt}
 use Rattle.tl_ops.specs.declared.kind.Kind.TheVariants.{Ram}
 use Rattle.check_memory.specs.Cells.{is_swap}
 use Rattle.tl_ops.specs.Number.{low_bytes}
-use Rattle.check_memory.proofs.PageCells.{atomic_shown, cell_shown, either, neither}
+use Rattle.check_memory.proofs.PageCells.{atomic_shown, either, neither}
+use Rattle.check_cells.proofs.Written.{cell_shown}
 use Rattle.check_memory.proofs.page.Page.combine.Goals as goal
 
 pub known_cell-mask-requires-clause-inside : goal.known_cell-mask-requires-clause-inside

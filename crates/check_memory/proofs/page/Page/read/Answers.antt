@@ -1,7 +1,7 @@
 use Rattle.std.proofs.Common.{◌∙◌, length, take, drop, ap, arith}
 use Rattle.tl_types.specs.Bytes.{bit_in}
 use Rattle.tl_types.proofs.Given.{length-given_in}
-use Rattle.check_memory.proofs.PageCells.{cell_shown}
+use Rattle.check_cells.proofs.Written.{cell_shown}
 use Rattle.check_memory.proofs.page.Page.read.Goals as goal
 
 pub known_cell-known-requires-clause-inside : goal.known_cell-known-requires-clause-inside

@@ -1,0 +1,10 @@
+pub mod Window
+pub mod Given
+pub mod Going
+pub mod Seen
+pub mod Returning
+pub mod Spelled
+pub mod ReplySpelled
+pub mod Ending
+pub mod Lit
+pub mod Past

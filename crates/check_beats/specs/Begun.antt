@@ -1,0 +1,29 @@
+-- What holds of messages under way. It is this project's own.
+use Rattle.std.specs.Prelude.{◌≡◌, ℕ, ◌*◌, ◌<◌, length, false, Option, Some, All, IsSome, IsTrue}
+use Rattle.check_beats.specs.Form.{IsFormed, IsFormedReply}
+use Rattle.check_beats.specs.Message.{ask_beats, reply_beats, op_of}
+use Rattle.tl_types.specs.Operation.{may_leave_unset}
+use Rattle.check_beats.specs.State.{AskBegun, ReplyBegun}
+
+-- the first beat is lawful alone, there are beats to come, each that has crossed has filled the bus, and bytes are left
+-- unset only where they may be
+pub record IsAskBegun (bus : ℕ) (begun : AskBegun) : Type 0 where
+  pub formed : IsFormed bus begun.first
+  pub some : 0 < begun.beats
+  pub unfinished : begun.beats < ask_beats bus begun.first
+  pub counted : length begun.bytes ≡ begun.beats * bus
+  pub whole : may_leave_unset (op_of begun.first.opcode begun.first.param) ≡ false → All (λ b. IsSome b) begun.bytes
+
+pub record IsAskKept (bus : ℕ) (begun : Option AskBegun) : Type 0 where
+  pub of : (b : AskBegun) → begun ≡ Some b → IsAskBegun bus b
+
+-- the same of a reply, whose bytes are zeros where it is denied
+pub record IsReplyBegun (bus : ℕ) (begun : ReplyBegun) : Type 0 where
+  pub formed : IsFormedReply begun.first
+  pub some : 0 < begun.beats
+  pub unfinished : begun.beats < reply_beats bus begun.first
+  pub counted : length begun.bytes ≡ begun.beats * bus
+  pub clean : IsTrue begun.first.denied → All (λ b. b ≡ Some 0) begun.bytes
+
+pub record IsReplyKept (bus : ℕ) (begun : Option ReplyBegun) : Type 0 where
+  pub of : (b : ReplyBegun) → begun ≡ Some b → IsReplyBegun bus b

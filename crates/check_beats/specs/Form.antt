@@ -1,0 +1,123 @@
+-- When a beat is one of a lawful message, after the first beat of the message that is under way on its channel: the
+-- chapter "Beats and bursts" of the TileLink specification. That lanes may be unknown, and which fault is named where
+-- several apply, is this project's own.
+use Rattle.std.specs.Prelude.{◌≡◌, ◌≢◌, ℕ, ◌<◌, ◌≤◌, Bool, true, false, Option, Some, bit_and, IsTrue}
+use Rattle.tl_types.specs.Fault.{IsFirstOf}
+use Rattle.tl_types.specs.Operation.{may_leave_unset, reply_carries_bytes}
+use Rattle.tl_types.specs.Wire.{IsCodeOf, reply_opcode_of}
+use Rattle.tl_types.specs.declared.operation.AskOp.{AskOp}
+use Rattle.tl_types.specs.declared.operation.ReplyOp.{ReplyOp}
+use Rattle.tl_types.specs.declared.limits.TheConstants.{MAX_SIZE}
+use Rattle.check_beats.specs.Bus.{active_mask}
+use Rattle.check_beats.specs.declared.beat.AskHead.{AskHead}
+use Rattle.check_beats.specs.declared.beat.ReplyHead.{ReplyHead}
+use Rattle.check_beats.specs.declared.fault.FormFault.{FormFault}
+use Rattle.check_beats.specs.declared.fault.FormFault.TheVariants.{Changed, Opcode, Size, Mask, CorruptFlag, UnknownData}
+
+-- the beat has the fields of the first beat of the message that is under way, if one is
+abbrev pub Continues : {B : Type 0} → (B → B → Type 0) → Option B → B → Type 0
+Continues {B} Same begun beat = (first : B) → begun ≡ Some first → Same first beat
+
+-- ---- requests
+
+-- a mask is lawful where it sets just the active lanes, or some of them where bytes may be left unset
+pub record IsLawfulMask (bus : ℕ) (op : AskOp) (size address mask : ℕ) : Type 0 where
+  pub whole : may_leave_unset op ≡ false → mask ≡ active_mask bus address size
+  pub part : may_leave_unset op ≡ true → bit_and mask (active_mask bus address size) ≡ mask
+
+-- two beats of requests have the same shared fields
+pub record SameFields (first beat : AskHead) : Type 0 where
+  pub opcode : beat.opcode ≡ first.opcode
+  pub param : beat.param ≡ first.param
+  pub size : beat.size ≡ first.size
+  pub source : beat.source ≡ first.source
+  pub address : beat.address ≡ first.address
+
+-- a beat of a request is lawful alone: its opcode and parameter name an operation, its size is within the limit, and
+-- its mask is that of a request of this operation, size and address
+pub record IsFormed (bus : ℕ) (beat : AskHead) : Type 0 where
+  pub op : AskOp
+  pub code : IsCodeOf op beat.opcode beat.param
+  pub in_limit : beat.size ≤ MAX_SIZE
+  pub mask : IsLawfulMask bus op beat.size beat.address beat.mask
+
+-- the beat is lawful alone, and is one of the request that is under way, if one is
+pub record FitsAsk (bus : ℕ) (begun : Option AskHead) (beat : AskHead) : Type 0 where
+  pub formed : IsFormed bus beat
+  pub same : Continues SameFields begun beat
+
+-- each lane that carries a byte is known, by the bits of `known`: opcodes 0 to 3 carry bytes, on the lanes of the mask
+abbrev pub IsKnown : AskHead → ℕ → Type 0
+IsKnown beat known = beat.opcode < 4 → bit_and beat.mask known ≡ beat.mask
+
+-- the beat has this fault as one of a request
+abbrev pub HasAskFormFault : ℕ → Option AskHead → AskHead → ℕ → FormFault → Type 0
+HasAskFormFault bus begun beat known Changed = Continues SameFields begun beat → ⊥
+HasAskFormFault bus begun beat known Opcode = (op : AskOp) → IsCodeOf op beat.opcode beat.param → ⊥
+HasAskFormFault bus begun beat known Size = MAX_SIZE < beat.size
+HasAskFormFault bus begun beat known Mask =
+    (op : AskOp) × IsCodeOf op beat.opcode beat.param × (IsLawfulMask bus op beat.size beat.address beat.mask → ⊥)
+HasAskFormFault bus begun beat known CorruptFlag = ⊥
+HasAskFormFault bus begun beat known UnknownData = (beat.opcode < 4) × (bit_and beat.mask known ≢ beat.mask)
+
+-- ---- replies
+
+-- `corrupt` is lawful where it is set only in a beat that carries bytes of a denied reply
+pub record IsLawfulFlag (op : ReplyOp) (denied corrupt : Bool) : Type 0 where
+  pub carries : IsTrue corrupt → IsTrue (reply_carries_bytes op)
+  pub of_denied : IsTrue corrupt → IsTrue denied
+
+-- two beats of replies have the same shared fields
+pub record SameReplyFields (first beat : ReplyHead) : Type 0 where
+  pub opcode : beat.opcode ≡ first.opcode
+  pub size : beat.size ≡ first.size
+  pub source : beat.source ≡ first.source
+  pub denied : beat.denied ≡ first.denied
+
+-- a beat of a reply is lawful alone, whatever the bus
+pub record IsFormedReply (beat : ReplyHead) : Type 0 where
+  pub op : ReplyOp
+  pub code : reply_opcode_of op ≡ beat.opcode
+  pub in_limit : beat.size ≤ MAX_SIZE
+  pub flag : IsLawfulFlag op beat.denied beat.corrupt
+
+pub record FitsReply (begun : Option ReplyHead) (beat : ReplyHead) : Type 0 where
+  pub formed : IsFormedReply beat
+  pub same : Continues SameReplyFields begun beat
+
+-- each lane that carries a byte of a reply to a request at the address is known: opcode 1 carries bytes, and of a
+-- denied reply no lane is looked at
+abbrev pub IsKnownReply : ℕ → ℕ → ReplyHead → ℕ → Type 0
+IsKnownReply bus address beat known =
+    beat.opcode ≡ 1 → beat.denied ≡ false
+    → bit_and (active_mask bus address beat.size) known ≡ active_mask bus address beat.size
+
+-- the beat has this fault as one of a reply; which of its lanes carry a byte is said by the request that it answers, and
+-- so not here
+abbrev pub HasReplyFormFault : Option ReplyHead → ReplyHead → FormFault → Type 0
+HasReplyFormFault begun beat Changed = Continues SameReplyFields begun beat → ⊥
+HasReplyFormFault begun beat Opcode = (op : ReplyOp) → reply_opcode_of op ≡ beat.opcode → ⊥
+HasReplyFormFault begun beat Size = MAX_SIZE < beat.size
+HasReplyFormFault begun beat Mask = ⊥
+HasReplyFormFault begun beat CorruptFlag =
+    (op : ReplyOp) × (reply_opcode_of op ≡ beat.opcode) × (IsLawfulFlag op beat.denied beat.corrupt → ⊥)
+HasReplyFormFault begun beat UnknownData = ⊥
+
+-- ---- the order of faults
+
+-- the place of a fault in the order in which faults are tried. A beat behind the first of its message is compared with
+-- that one before all else, and a first beat has none to be compared with.
+abbrev pub form_rank : FormFault → ℕ
+form_rank Changed = 1
+form_rank Opcode = 2
+form_rank Size = 3
+form_rank Mask = 4
+form_rank CorruptFlag = 5
+form_rank UnknownData = 6
+
+-- the fault is the first one, in that order, that the beat has
+abbrev pub IsFirstAskFormFault : ℕ → Option AskHead → AskHead → ℕ → FormFault → Type 0
+IsFirstAskFormFault bus begun beat known = IsFirstOf (HasAskFormFault bus begun beat known) form_rank
+
+abbrev pub IsFirstReplyFormFault : Option ReplyHead → ReplyHead → FormFault → Type 0
+IsFirstReplyFormFault begun beat = IsFirstOf (HasReplyFormFault begun beat) form_rank

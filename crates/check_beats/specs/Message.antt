@@ -1,0 +1,73 @@
+-- Messages beat by beat: what each beat says of the message that it is part of. Each beat of a message has all of the
+-- message's fields, so how many beats there are, and what they spell, is said by any of them.
+use Rattle.std.specs.Prelude.{ℕ, ◌+◌, ◌%◌, if◌then◌else◌, ◌==◌, nat_lt, min, Bool, List, map, Option, Some, None, slice_index}
+use Rattle.std.specs.Int.{bit_at}
+use Rattle.std.specs.List.{range_with_len}
+use Rattle.tl_types.specs.Operation.{byte_count, reply_byte_count}
+use Rattle.tl_types.specs.declared.operation.Arith.{Arith}
+use Rattle.tl_types.specs.declared.operation.Arith.TheVariants.{Min, Max, MinU, MaxU, Add}
+use Rattle.tl_types.specs.declared.operation.Logic.{Logic}
+use Rattle.tl_types.specs.declared.operation.Logic.TheVariants.{Xor, Or, And, Swap}
+use Rattle.tl_types.specs.declared.operation.Hint.TheVariants.{PrefetchRead, PrefetchWrite}
+use Rattle.tl_types.specs.declared.operation.AskOp.{AskOp}
+use Rattle.tl_types.specs.declared.operation.AskOp.TheVariants.{PutFull, PutPartial, Arithmetic, Logical, Get, Intent}
+use Rattle.tl_types.specs.declared.operation.ReplyOp.{ReplyOp}
+use Rattle.tl_types.specs.declared.operation.ReplyOp.TheVariants.{AccessAck, AccessAckData, HintAck}
+use Rattle.check_cells.specs.Pattern.{captured_bytes}
+use Rattle.check_beats.specs.Bus.{low, beat_count}
+use Rattle.check_beats.specs.declared.beat.AskHead.{AskHead}
+use Rattle.check_beats.specs.declared.beat.ReplyHead.{ReplyHead}
+
+-- how many beats the request has: opcodes 0 to 3 carry bytes
+abbrev pub ask_beats : ℕ → AskHead → ℕ
+ask_beats bus beat = beat_count bus (nat_lt beat.opcode 4) beat.size
+
+-- how many beats the reply has: AccessAckData, 1, carries bytes
+abbrev pub reply_beats : ℕ → ReplyHead → ℕ
+reply_beats bus beat = beat_count bus (beat.opcode == 1) beat.size
+
+abbrev pub arith_of : ℕ → Arith
+arith_of param =
+    if param == 0 then Min else if param == 1 then Max else if param == 2 then MinU else if param == 3 then MaxU else Add
+
+abbrev pub logic_of : ℕ → Logic
+logic_of param = if param == 0 then Xor else if param == 1 then Or else if param == 2 then And else Swap
+
+-- the operation that an opcode and a parameter stand for, where they stand for one
+abbrev pub op_of : ℕ → ℕ → AskOp
+op_of opcode param =
+    if opcode == 0 then PutFull
+    else if opcode == 1 then PutPartial
+    else if opcode == 2 then Arithmetic (arith_of param)
+    else if opcode == 3 then Logical (logic_of param)
+    else if opcode == 4 then Get
+    else Intent (if param == 0 then PrefetchRead else PrefetchWrite)
+
+-- the opcode that a number on channel D stands for, where it stands for one
+abbrev pub reply_op_of_number : ℕ → ReplyOp
+reply_op_of_number opcode = if opcode == 0 then AccessAck else if opcode == 1 then AccessAckData else HintAck
+
+-- the byte at a lane, where its bit is set: that of the mask in a request, that of the known lanes in a reply
+abbrev pub byte_at : ℕ → List ℕ → ℕ → Option ℕ
+byte_at mask lanes lane = if bit_at mask lane == 1 then Some (slice_index lanes lane) else None
+
+-- what stands at so many lanes from one on
+abbrev pub given_at : ℕ → List ℕ → ℕ → ℕ → List (Option ℕ)
+given_at mask lanes first count = map (λ k. byte_at mask lanes (first + k)) (range_with_len 0 count)
+
+-- the bytes of a request that a beat carries: those at its active lanes
+abbrev pub ask_part : ℕ → AskHead → List ℕ → List (Option ℕ)
+ask_part bus beat lanes =
+    given_at beat.mask lanes (low beat.address beat.size % bus)
+    (min bus (byte_count (op_of beat.opcode beat.param) beat.size))
+
+-- what is seen of the bytes at so many lanes from one on, by the bits of `known`: those of a denied reply are not looked
+-- at, and are zeros
+abbrev pub seen_at : Bool → ℕ → List ℕ → ℕ → ℕ → List (Option ℕ)
+seen_at denied known lanes first count = captured_bytes denied (given_at known lanes first count)
+
+-- the bytes of a reply to a request at the address that a beat carries
+abbrev pub reply_part : ℕ → ℕ → ReplyHead → ℕ → List ℕ → List (Option ℕ)
+reply_part bus address beat known lanes =
+    seen_at beat.denied known lanes (low address beat.size % bus)
+    (min bus (reply_byte_count (reply_op_of_number beat.opcode) beat.size))

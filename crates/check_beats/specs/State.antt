@@ -1,0 +1,127 @@
+-- What is kept of a message that is under way on a channel: its first beat, how many of its beats have crossed, and the
+-- bytes that they carried. The beats of a message cross one after the other, by the chapter "Beats and bursts" of the
+-- TileLink specification; what is known of a reply is this project's own.
+use Rattle.std.specs.Prelude.{ℕ, ◌+◌, Bool, if◌then◌else◌, ◌==◌, List, [], ◌++◌, Option, Some, None, unwrap_or}
+use Rattle.tl_types.specs.Request.{Request}
+use Rattle.check_cells.specs.Pattern.{Pattern}
+use Rattle.check_beats.specs.Message.{ask_beats, reply_beats, op_of, reply_op_of_number, ask_part, reply_part, seen_at}
+use Rattle.check_beats.specs.declared.beat.AskHead.{AskHead}
+use Rattle.check_beats.specs.declared.beat.ReplyHead.{ReplyHead}
+
+-- ---- requests
+
+-- a request that has begun and not ended
+pub record AskBegun : Type 0 where
+  pub first : AskHead
+  pub beats : ℕ
+  pub bytes : List (Option ℕ)
+
+-- channel A of a link: the bytes of its bus, and the request that is under way, if one is
+pub record AskChannel : Type 0 where
+  pub bus : ℕ
+  pub begun : Option AskBegun
+
+abbrev pub ask_begun : Option AskHead → ℕ → List (Option ℕ) → Option AskBegun
+ask_begun None beats bytes = None
+ask_begun (Some first) beats bytes = Some (record { first = first; beats = beats; bytes = bytes })
+
+abbrev pub first_ask : Option AskBegun → Option AskHead
+first_ask None = None
+first_ask (Some begun) = Some begun.first
+
+abbrev pub asked_beats : Option AskBegun → ℕ
+asked_beats None = 0
+asked_beats (Some begun) = begun.beats
+
+abbrev pub asked_bytes : Option AskBegun → List (Option ℕ)
+asked_bytes None = []
+asked_bytes (Some begun) = begun.bytes
+
+-- whether a beat of a request is its last, after what has crossed of it
+abbrev pub ends_ask : ℕ → Option AskBegun → AskHead → Bool
+ends_ask bus begun beat = asked_beats begun + 1 == ask_beats bus beat
+
+-- the request that a beat ends, after what has crossed of it
+abbrev pub ask_of : ℕ → Option AskBegun → AskHead → List ℕ → Request
+ask_of bus begun beat lanes = record {
+  op = op_of beat.opcode beat.param;
+  size = beat.size;
+  source = beat.source;
+  address = beat.address;
+  bytes = asked_bytes begun ++ ask_part bus beat lanes;
+}
+
+-- what has crossed of a request after one beat more: nothing is under way where that is its last
+abbrev pub ask_after : ℕ → Option AskBegun → AskHead → List ℕ → Option AskBegun
+ask_after bus begun beat lanes =
+    if ends_ask bus begun beat then None
+    else Some (record {
+      first = unwrap_or (first_ask begun) beat;
+      beats = asked_beats begun + 1;
+      bytes = asked_bytes begun ++ ask_part bus beat lanes;
+    })
+
+-- ---- replies
+
+-- a reply that has begun and not ended: what was seen of its bytes
+pub record ReplyBegun : Type 0 where
+  pub first : ReplyHead
+  pub beats : ℕ
+  pub bytes : List (Option ℕ)
+
+-- channel D of a link
+pub record ReplyChannel : Type 0 where
+  pub bus : ℕ
+  pub begun : Option ReplyBegun
+
+abbrev pub reply_begun : Option ReplyHead → ℕ → List (Option ℕ) → Option ReplyBegun
+reply_begun None beats bytes = None
+reply_begun (Some first) beats bytes = Some (record { first = first; beats = beats; bytes = bytes })
+
+abbrev pub first_reply : Option ReplyBegun → Option ReplyHead
+first_reply None = None
+first_reply (Some begun) = Some begun.first
+
+abbrev pub replied_beats : Option ReplyBegun → ℕ
+replied_beats None = 0
+replied_beats (Some begun) = begun.beats
+
+abbrev pub replied_bytes : Option ReplyBegun → List (Option ℕ)
+replied_bytes None = []
+replied_bytes (Some begun) = begun.bytes
+
+abbrev pub ends_reply : ℕ → Option ReplyBegun → ReplyHead → Bool
+ends_reply bus begun beat = replied_beats begun + 1 == reply_beats bus beat
+
+-- the reply to a request at the address that a beat ends, after what has crossed of it, as far as its lanes were known
+abbrev pub reply_of : ℕ → Option ReplyBegun → ℕ → ReplyHead → ℕ → List ℕ → Pattern
+reply_of bus begun address beat known lanes = record {
+  op = reply_op_of_number beat.opcode;
+  size = beat.size;
+  source = beat.source;
+  denied = Some beat.denied;
+  bytes = replied_bytes begun ++ reply_part bus address beat known lanes;
+}
+
+-- what has crossed of a reply after one beat more: a reply that goes on has bytes at all lanes, whatever the address of
+-- its request
+abbrev pub reply_after : ℕ → Option ReplyBegun → ReplyHead → ℕ → List ℕ → Option ReplyBegun
+reply_after bus begun beat known lanes =
+    if ends_reply bus begun beat then None
+    else Some (record {
+      first = unwrap_or (first_reply begun) beat;
+      beats = replied_beats begun + 1;
+      bytes = replied_bytes begun ++ seen_at beat.denied known lanes 0 bus;
+    })
+
+-- ---- both channels
+
+-- a link: the bytes of its bus, and the messages that are under way
+pub record Under : Type 0 where
+  pub bus : ℕ
+  pub asking : Option AskBegun
+  pub replying : Option ReplyBegun
+
+-- nothing is under way on a bus
+abbrev pub nothing_under : ℕ → Under
+nothing_under bus = record { bus = bus; asking = None; replying = None }

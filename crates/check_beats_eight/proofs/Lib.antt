@@ -1,0 +1,4 @@
+pub mod Alike
+pub mod SpelledAlike
+pub mod NamedAlike
+pub mod ReplyNamed

@@ -1,0 +1,5 @@
+mod faults;
+mod masks;
+mod replies;
+mod requests;
+mod scene;

@@ -1,0 +1,4 @@
+pub mod Known
+pub mod Bit
+pub mod Room
+pub mod Pattern

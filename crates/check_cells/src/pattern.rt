@@ -1,0 +1,181 @@
+//! Replies of which some parts may be unknown.
+ghost use Rattle.std.specs.Prelude.{◌≡◌, ◌↔◌, ℕ, ◌≤◌, Bool, [], length, false, IsTrue, Some};
+ghost use Rattle.tl_types.specs.Operation.{reply_op_of};
+ghost use Rattle.tl_types.specs.declared.operation.ReplyOp.TheVariants.{AccessAck};
+ghost use Rattle.check_cells.specs.Pattern.{Fits, captured_as, captured_bytes, device_pattern};
+
+use crate::cells::Cells;
+use std::marker::Model;
+use tl_types::{Ask, MAX_BYTES, ReplyOp};
+
+/// A reply of which the denied flag and some bytes may be unknown: the one that is expected, or that was captured.
+#[derive(Debug, Drop)]
+pub struct Pattern {
+    pub cells: Cells,
+    source: u16,
+    size: u8,
+    denied: Option<bool>,
+    op: ReplyOp,
+}
+
+impl Model for Pattern {
+    ghost use Rattle.check_cells.specs.Pattern.{Pattern as Expected};
+
+    ghost Value = { Expected };
+
+    ghost view = { λ p. record {
+      op = p.op;
+      size = p.size;
+      source = p.source;
+      denied = p.denied;
+      bytes = p.cells;
+    } };
+}
+
+impl Pattern {
+    /// An acknowledgement to source 0: room for patterns that are written one after the other.
+    pub fn blank() -> Pattern
+        ensures { result ≡ record {
+          op = AccessAck;
+          size = 0;
+          source = 0;
+          denied = Some false;
+          bytes = [];
+        } }
+    {
+        Pattern {
+            cells: Cells::new(),
+            source: 0,
+            size: 0,
+            denied: Some(false),
+            op: ReplyOp::AccessAck,
+        }
+    }
+
+    /// Puts a captured reply in the place of another. Of one that is denied the bytes are not looked at.
+    pub fn refill(&mut self, op: ReplyOp, size: u8, source: u16, denied: bool, bytes: &[Option<u8>])
+        requires { length bytes.now ≤ MAX_BYTES }
+        ensures { self.new ≡ captured_as op size source denied bytes.now }
+    {
+        put_captured(&mut self.cells, denied, bytes);
+        self.set_fields(op, size, source, Some(denied));
+    }
+
+    /// Puts these fields in the place of all but its bytes.
+    pub fn set_fields(&mut self, op: ReplyOp, size: u8, source: u16, denied: Option<bool>)
+        ensures { self.new ≡ record {
+          op = op;
+          size = size;
+          source = source;
+          denied = denied;
+          bytes = self.old.bytes;
+        } }
+    {
+        self.op = op;
+        self.size = size;
+        self.source = source;
+        self.denied = denied;
+    }
+
+    /// Puts a copy of another reply in the place of this one.
+    pub fn refill_from(&mut self, other: &Pattern)
+        ensures { self.new ≡ other.now }
+    {
+        self.cells.refill_from(&other.cells);
+        self.op = other.op;
+        self.size = other.size;
+        self.source = other.source;
+        self.denied = other.denied;
+    }
+
+    /// All but the bytes of the answer to a request.
+    pub fn head(&mut self, ask: &Ask, denied: Option<bool>)
+        ensures { self.new ≡ record {
+          op = reply_op_of ask.now.op;
+          size = ask.now.size;
+          source = ask.now.source;
+          denied = denied;
+          bytes = self.old.bytes;
+        } }
+    {
+        self.set_fields(ask.op().reply_op(), ask.size(), ask.source(), denied);
+    }
+
+    /// What is expected of a device: any reply of the right form.
+    pub fn expect_any(&mut self, ask: &Ask)
+        ensures { self.new ≡ device_pattern ask.now }
+    {
+        self.head(ask, None);
+        let count = ask.op().reply_op().byte_count(ask.size());
+        self.cells.fill(false, count);
+    }
+
+    /// Its opcode.
+    pub fn op(&self) -> ReplyOp
+        ensures { result ≡ self.now.op }
+    {
+        self.op
+    }
+
+    /// Its size, as the base-2 logarithm of a number of bytes.
+    pub fn size(&self) -> u8
+        ensures { result ≡ self.now.size }
+    {
+        self.size
+    }
+
+    /// Its source.
+    pub fn source(&self) -> u16
+        ensures { result ≡ self.now.source }
+    {
+        self.source
+    }
+
+    /// Whether it is denied, if that is known.
+    pub fn denied(&self) -> Option<bool>
+        ensures { result ≡ self.now.denied }
+    {
+        self.denied
+    }
+
+    /// Its bytes.
+    pub fn cells(&self) -> &Cells
+        ensures { result.now ≡ self.now.bytes }
+    {
+        &self.cells
+    }
+
+    /// Whether a captured reply fits this one, which is expected.
+    pub fn fits(&self, captured: &Pattern) -> bool
+        ensures { IsTrue result ↔ Fits self.now captured.now }
+    {
+        self.op == captured.op
+            && self.size == captured.size
+            && self.source == captured.source
+            && is_flag_kept(self.denied, captured.denied)
+            && self.cells.is_below(&captured.cells)
+    }
+}
+
+/// Puts the bytes of a captured reply in the place of others: zeros, where it is denied.
+fn put_captured(cells: &mut Cells, denied: bool, bytes: &[Option<u8>])
+    requires { length bytes.now ≤ MAX_BYTES }
+    ensures { cells.new ≡ captured_bytes denied bytes.now }
+{
+    if denied {
+        cells.fill(true, bytes.len());
+    } else {
+        cells.refill(bytes);
+    }
+}
+
+/// Whether a flag, where it is known, is known there too and is the same.
+fn is_flag_kept(less: Option<bool>, more: Option<bool>) -> bool
+    ensures { IsTrue result ↔ ((flag : Bool) → less ≡ Some flag → more ≡ Some flag) }
+{
+    match (less, more) {
+        (None, _) => true,
+        (Some(_), None) => false,
+        (Some(flag), Some(other)) => flag == other,
+    }
+}

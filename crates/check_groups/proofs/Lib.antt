@@ -1,0 +1,7 @@
+mod Puts
+mod Alone
+mod PortSteps
+pub mod Grouping
+mod Steps
+pub mod Fresh
+mod Changes

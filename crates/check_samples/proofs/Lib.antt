@@ -1,0 +1,3 @@
+pub mod ValueLemmas
+pub mod RowsLemmas
+pub mod TakeLemmas

@@ -1,0 +1,34 @@
+-- A value changes, or a time begins.
+use Rattle.std.proofs.Common.{◌≡◌, Ok, Err, false, true, sym, ◌∙◌}
+use Rattle.check_samples.specs.Rows.{Writes}
+use Rattle.check_samples.specs.Sampling.{is_at, rows_now}
+use Rattle.check_samples.proofs.TakeLemmas.{takes-none, takes-same, takes-time, takes-value}
+use Rattle.check_samples.proofs.sampler.Sampler.take.Goals as goal
+
+pub returns-in_ok-change-in-Change : goal.returns-in_ok-change-in-Change
+returns-in_ok-change-in-Change c = λ rest.
+    rw c.in-Change.is (takes-value c.args.text.now.items c.args.self.now c.change.new.self c.in-Change.slot
+    c.args.digits.now rest c.in_ok-change-in-Change.ensures)
+
+pub returns-in_ok-begin-in-Ok : goal.returns-in_ok-begin-in-Ok
+returns-in_ok-begin-in-Ok c = λ rest.
+    let old = c.args.self.now in
+    let not : is_at old c.in-Time.time ≡ false = sym c.is_at.ensures ∙ c.if-not-is_at.true in
+    let writes : Writes (Ok tt) c.args.text.now.items c.push_rows.new.text.items (rows_now old) =
+    rw c.in-Ok.is at c.push_rows.ensures in
+    rw c.in-Time.is (takes-time c.args.text.now.items c.push_rows.new.text.items old c.begin.new.self c.in-Time.time rest
+    not writes c.in_ok-begin-in-Ok.ensures)
+
+pub returns-in-Err : goal.returns-in-Err
+returns-in-Err c = λ rest.
+    let old = c.args.self.now in
+    let not : is_at old c.in-Time.time ≡ false = sym c.is_at.ensures ∙ c.if-not-is_at.true in
+    let writes : Writes (Err c.in-Err.fault) c.args.text.now.items c.push_rows.new.text.items (rows_now old) =
+    rw c.in-Err.is at c.push_rows.ensures in
+    rw c.in-Time.is (takes-none c.args.text.now.items c.push_rows.new.text.items old old c.in-Time.time rest
+    c.in-Err.fault not writes)
+
+pub returns-else-not-is_at : goal.returns-else-not-is_at
+returns-else-not-is_at c = λ rest.
+    let same : is_at c.args.self.now c.in-Time.time ≡ true = sym c.is_at.ensures ∙ c.if-not-is_at.false in
+    rw c.in-Time.is (takes-same c.args.text.now.items c.args.self.now c.in-Time.time rest same)

@@ -1,0 +1,97 @@
+-- The row of a beat, as the format of captures has it. This project's own.
+use Rattle.std.specs.Prelude.{ℕ, ◌==◌, ◌%◌, false, List, [], ◌∷◌, ◌++◌, length, take, drop, codes, Option, None, Some, Result, Ok, Err, if◌then◌else◌, ok_or}
+use Rattle.std.specs.Fmt.{decimal, digit_glyph, digits}
+use Rattle.tl_text.specs.Number.{number_of}
+use Rattle.check_link.specs.declared.beat.Link.{Link}
+use Rattle.check_link.specs.declared.beat.Link.TheVariants.{Master, Port}
+use Rattle.check_samples.specs.Digits.{bits_of}
+use Rattle.check_samples.specs.declared.channel.AskTaps.{AskTaps}
+use Rattle.check_samples.specs.declared.channel.ReplyTaps.{ReplyTaps}
+use Rattle.check_samples.specs.declared.row.AskCells.{AskCells}
+use Rattle.check_samples.specs.declared.row.ReplyCells.{ReplyCells}
+use Rattle.check_samples.specs.declared.row.TheConstants.{MAX_BITS}
+use Rattle.check_samples.specs.declared.signal.Signal.{Signal}
+use Rattle.check_samples.specs.declared.signal.Signal.TheVariants as signal
+
+infixl 10 ◌>>=◌
+-- the first, and if no bit of it is unknown, the second on what it gave
+abbrev pub ◌>>=◌ : {A B : Type 0} → Result A Signal → (A → Result B Signal) → Result B Signal
+(Ok x) >>= f = f x
+(Err e) >>= f = Err e
+
+-- the number that bits spell, the highest first, if each is known
+abbrev pub known : Signal → List ℕ → Result ℕ Signal
+known which bits = ok_or (number_of 2 MAX_BITS bits) which
+
+-- the hexadecimal digit of at most four bits; x where one is unknown
+abbrev pub digit_by : Option ℕ → ℕ
+digit_by None = 120
+digit_by (Some number) = digit_glyph false (number % 16)
+
+abbrev pub digit_of : List ℕ → ℕ
+digit_of bits = digit_by (number_of 2 4 bits)
+
+-- the digits of bits, of which there are four for each
+abbrev pub hexes : List ℕ → List ℕ
+hexes (a ∷ b ∷ c ∷ d ∷ bits) = digit_of (a ∷ b ∷ c ∷ d ∷ []) ∷ hexes bits
+hexes bits = []
+
+-- the digits of bits; where they are no multiple of four, the first has fewer
+abbrev pub hex_text : List ℕ → List ℕ
+hex_text bits =
+    let over = length bits % 4 in
+    if over == 0 then hexes bits else digit_of (take over bits) ∷ hexes (drop over bits)
+
+abbrev pub link_text : Link → List ℕ
+link_text (Master number) = 109 ∷ decimal number
+link_text (Port number) = 112 ∷ decimal number
+
+-- the numbers of a beat, or the first of its signals with an unknown bit
+abbrev pub cells_of_ask : List (List ℕ) → AskTaps → Result AskCells Signal
+cells_of_ask values taps = do
+  opcode ← known signal.AOpcode (bits_of values taps.opcode)
+  param ← known signal.AParam (bits_of values taps.param)
+  size ← known signal.ASize (bits_of values taps.size)
+  source ← known signal.ASource (bits_of values taps.source)
+  address ← known signal.AAddress (bits_of values taps.address)
+  _ ← known signal.AMask (bits_of values taps.mask)
+  Ok (record { opcode = opcode; param = param; size = size; source = source; address = address })
+
+abbrev pub cells_of_reply : List (List ℕ) → ReplyTaps → Result ReplyCells Signal
+cells_of_reply values taps = do
+  opcode ← known signal.DOpcode (bits_of values taps.opcode)
+  size ← known signal.DSize (bits_of values taps.size)
+  source ← known signal.DSource (bits_of values taps.source)
+  denied ← known signal.DDenied (bits_of values taps.denied)
+  corrupt ← known signal.DCorrupt (bits_of values taps.corrupt)
+  Ok (record { opcode = opcode; size = size; source = source; denied = denied; corrupt = corrupt })
+
+-- the columns up to the channel
+abbrev pub head_text : ℕ → Link → ℕ → List ℕ
+head_text time link channel = decimal time ++ (44 ∷ link_text link) ++ (44 ∷ channel ∷ [])
+
+-- a comma and a number
+abbrev pub cell : ℕ → List ℕ
+cell number = 44 ∷ decimal number
+
+-- the row of a beat of channel A, with the bits of its mask and of its data
+abbrev pub ask_numbers : AskCells → List ℕ
+ask_numbers cells = cell cells.opcode ++ cell cells.param ++ cell cells.size ++ cell cells.source
+
+abbrev pub ask_lanes : ℕ → List ℕ → List ℕ → List ℕ
+ask_lanes address mask lanes = (44 ∷ digits 16 false address) ++ (44 ∷ hex_text mask) ++ (44 ∷ hex_text lanes)
+
+unfoldable pub ask_text : ℕ → Link → AskCells → List ℕ → List ℕ → List ℕ
+ask_text time link cells mask lanes =
+    head_text time link 65 ++ ask_numbers cells ++ ask_lanes cells.address mask lanes ++ (44 ∷ 44 ∷ 10 ∷ [])
+
+-- the row of a beat of channel D, with the bits of its data
+abbrev pub reply_numbers : ReplyCells → List ℕ
+reply_numbers cells = cell cells.opcode ++ (44 ∷ []) ++ cell cells.size ++ cell cells.source
+
+abbrev pub reply_lanes : List ℕ → ReplyCells → List ℕ
+reply_lanes lanes cells = (44 ∷ 44 ∷ 44 ∷ hex_text lanes) ++ cell cells.denied ++ cell cells.corrupt
+
+unfoldable pub reply_text : ℕ → Link → ReplyCells → List ℕ → List ℕ
+reply_text time link cells lanes =
+    head_text time link 68 ++ reply_numbers cells ++ reply_lanes lanes cells ++ (10 ∷ [])

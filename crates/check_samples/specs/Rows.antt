@@ -1,0 +1,106 @@
+-- The rows of a time: those of the beats that cross at a rising edge of the clock. This project's own.
+use Rattle.std.specs.Prelude.{◌≡◌, ℕ, ◌&&◌, Bool, true, false, not, List, [], ◌∷◌, ◌++◌, codes, Option, None, Some, Result, Ok, Err, if◌then◌else◌}
+use Rattle.std.specs.Str.{bytes_eq}
+use Rattle.check_samples.specs.Digits.{bits_of}
+use Rattle.check_samples.specs.Row.{ask_text, cells_of_ask, cells_of_reply, ◌>>=◌, reply_text}
+use Rattle.check_samples.specs.declared.channel.BeatTaps.{BeatTaps}
+use Rattle.check_samples.specs.declared.channel.BeatTaps.TheVariants.{A, D}
+use Rattle.check_samples.specs.declared.channel.Channel.{Channel}
+use Rattle.check_samples.specs.declared.channel.UnknownBit.{UnknownBit}
+use Rattle.check_samples.specs.declared.sampler.Probes as code_probes
+use Rattle.check_samples.specs.declared.sampler.Reset.{Reset}
+use Rattle.check_samples.specs.declared.sampler.SampleFault.{SampleFault}
+use Rattle.check_samples.specs.declared.sampler.SampleFault.TheVariants.{Unknown, Memory}
+use Rattle.check_samples.specs.declared.signal.Signal.{Signal}
+use Rattle.check_samples.specs.declared.tap.Tap.{Tap}
+
+abbrev pub is_one : List ℕ → Bool
+is_one bits = bytes_eq bits (codes "1")
+
+abbrev pub is_zero : List ℕ → Bool
+is_zero bits = bytes_eq bits (codes "0")
+
+-- valid and ready are both 1
+abbrev pub crosses : List (List ℕ) → Channel → Bool
+crosses values channel = is_one (bits_of values channel.valid) && is_one (bits_of values channel.ready)
+
+-- the row of a channel's beat, or the first of its signals, data aside, with an unknown bit
+abbrev pub row_by : BeatTaps → ℕ → List (List ℕ) → Channel → Result (List ℕ) Signal
+row_by (A taps) time values channel =
+    cells_of_ask values taps
+    >>= (λ cells. Ok (ask_text time channel.link cells (bits_of values taps.mask) (bits_of values taps.data)))
+row_by (D taps) time values channel =
+    cells_of_reply values taps
+    >>= (λ cells. Ok (reply_text time channel.link cells (bits_of values taps.data)))
+
+abbrev pub row_at : ℕ → List (List ℕ) → Channel → Result (List ℕ) Signal
+row_at time values channel = row_by channel.beat time values channel
+
+-- rows, and the beat that is none, if there is one: it ends them
+pub record Rows : Type 0 where
+  pub text : List ℕ
+  pub fault : Option UnknownBit
+
+abbrev pub no_rows : Rows
+no_rows = record { text = []; fault = None }
+
+-- rows, and then others, unless the first have a beat that is none
+abbrev pub followed_by : Option UnknownBit → List ℕ → Rows → Rows
+followed_by None text others = record { text = text ++ others.text; fault = others.fault }
+followed_by (Some fault) text others = record { text = text; fault = Some fault }
+
+abbrev pub and_then : Rows → Rows → Rows
+and_then rows others = followed_by rows.fault rows.text others
+
+-- the row of a channel, if there is one
+abbrev pub row_alone : ℕ → Channel → Result (List ℕ) Signal → Rows
+row_alone time channel (Ok row) = record { text = row; fault = None }
+row_alone time channel (Err signal) =
+    record { text = []; fault = Some (record { time = time; link = channel.link; signal = signal }) }
+
+abbrev pub rows_at : ℕ → List (List ℕ) → Channel → Rows
+rows_at time values channel =
+    if crosses values channel then row_alone time channel (row_at time values channel) else no_rows
+
+-- the rows of the channels, in their order
+abbrev pub rows_of : ℕ → List (List ℕ) → List Channel → Rows
+rows_of time values [] = no_rows
+rows_of time values (channel ∷ channels) = and_then (rows_at time values channel) (rows_of time values channels)
+
+-- ---- the edges
+
+-- what is looked at: the clock, the reset, and the channels in the order in which their beats cross
+pub record Probes : Type 0 where
+  pub clock : Tap
+  pub reset : Option Reset
+  pub channels : List Channel
+
+-- a reset is active, by the bit that makes it so; one that is unknown is not
+abbrev pub is_active : List (List ℕ) → Option Reset → Bool
+is_active values None = false
+is_active values (Some reset) =
+    if reset.is_low then is_zero (bits_of values reset.tap) else is_one (bits_of values reset.tap)
+
+-- the clock was 0 before the present time and is 1, and there was no reset
+abbrev pub has_edge : List (List ℕ) → List (List ℕ) → Probes → Bool
+has_edge before now probes =
+    is_zero (bits_of before probes.clock) && is_one (bits_of now probes.clock)
+    && not (is_active before probes.reset)
+
+-- ---- what calls answer
+
+-- the row was appended, or there is none and nothing was
+abbrev pub Appended : List ℕ → List ℕ → Result (List ℕ) Signal → Option Signal → Type 0
+Appended old new (Ok row) None = new ≡ old ++ row
+Appended old new (Ok row) (Some signal) = ⊥
+Appended old new (Err first) None = ⊥
+Appended old new (Err first) (Some signal) = (new ≡ old) × (first ≡ signal)
+
+-- the rows were appended, up to the beat that is none; unless memory ran out
+abbrev pub Writes : Result Unit SampleFault → List ℕ → List ℕ → Rows → Type 0
+Writes (Ok done) old new rows = (new ≡ old ++ rows.text) × (rows.fault ≡ None)
+Writes (Err (Unknown fault)) old new rows = (new ≡ old ++ rows.text) × (rows.fault ≡ Some fault)
+Writes (Err Memory) old new rows = Unit {0}
+
+abbrev pub view_of : code_probes.Probes → Probes
+view_of probes = record { clock = probes.clock; reset = probes.reset; channels = probes.channels.items }

@@ -1,0 +1,63 @@
+-- The rows of what happens in a dump. This project's own.
+use Rattle.std.specs.Prelude.{◌≡◌, ℕ, ◌==◌, Bool, true, false, nat_lt, List, [], ◌∷◌, ◌++◌, length, Option, None, Some, Result, Ok, Err, if◌then◌else◌}
+use Rattle.check_vcd.specs.Body.{Happens, At, Sets, Wrong}
+use Rattle.check_samples.specs.Digits.{set_extended}
+use Rattle.check_samples.specs.declared.sampler.SampleFault.{SampleFault}
+use Rattle.check_samples.specs.declared.sampler.SampleFault.TheVariants.{Unknown, Memory}
+use Rattle.check_samples.specs.Rows.{Probes, Rows, and_then, has_edge, no_rows, rows_of}
+
+-- what is looked at; the values before the present time and at it, and how many bits each has; and the present time
+pub record Sampling : Type 0 where
+  pub probes : Probes
+  pub before : List (List ℕ)
+  pub now : List (List ℕ)
+  pub widths : List ℕ
+  pub time : Option ℕ
+
+-- ---- what happens, one after the other
+
+-- a value changes
+abbrev pub with_value : Sampling → ℕ → List ℕ → Sampling
+with_value s slot digits =
+    if nat_lt slot (length s.now) then record s { now = set_extended s.widths s.now slot digits } else s
+
+-- whether this is the present time
+abbrev pub is_time : Option ℕ → ℕ → Bool
+is_time None time = false
+is_time (Some last) time = last == time
+
+abbrev pub is_at : Sampling → ℕ → Bool
+is_at s time = is_time s.time time
+
+-- a time begins: what the values are, they were before it
+abbrev pub at_time : Sampling → ℕ → Sampling
+at_time s time = if is_at s time then s else record s { before = s.now; time = Some time }
+
+-- the rows of the present time, if the clock rises at it: with the values that were before it
+abbrev pub rows_when : Option ℕ → Sampling → Rows
+rows_when None s = no_rows
+rows_when (Some time) s =
+    if has_edge s.before s.now s.probes then rows_of time s.before s.probes.channels else no_rows
+
+abbrev pub rows_now : Sampling → Rows
+rows_now s = rows_when s.time s
+
+-- ---- whole dumps
+
+-- the rows that are left to come of what happens: those of each time, with what has changed by its end
+unfoldable pub rows_from : List Happens → Sampling → Rows
+rows_from [] s = rows_now s
+rows_from (At time ∷ happens) s =
+    if is_at s time then rows_from happens s
+    else and_then (rows_now s) (rows_from happens (at_time s time))
+rows_from (Sets slot digits ∷ happens) s = rows_from happens (with_value s slot digits)
+rows_from (Wrong line mistake ∷ happens) s = no_rows
+
+-- ---- what calls answer
+
+-- the rows that were to come are those that were appended and those that are left to come; or the first beat that is
+-- none was met, behind all rows before it; unless memory ran out
+abbrev pub Leads : Result Unit SampleFault → List ℕ → List ℕ → Rows → Rows → Type 0
+Leads (Ok done) old new before left = (new ++ left.text ≡ old ++ before.text) × (left.fault ≡ before.fault)
+Leads (Err (Unknown fault)) old new before left = (new ≡ old ++ before.text) × (before.fault ≡ Some fault)
+Leads (Err Memory) old new before left = Unit {0}

@@ -1,0 +1,25 @@
+//! Beats in the values of a dump: a row of a capture for each that crosses a link.
+//!
+//! A [`Sampler`] takes what happens in a dump (`Event` of `check_vcd`) by [`Sampler::take`]. A row is made for each
+//! [`Channel`] whose valid and ready are both 1 at a rising edge of the clock outside of reset, with the values that
+//! signals had before the time of the edge, in the order of the channels. [`Sampler::push_rows`] makes the rows of the
+//! last time. Both are pinned to one definition over the whole list of what happens, `rows_from`
+//! (`specs/Sampling.antt`); what a row says is in `specs/Row.antt`.
+//!
+//! A value is kept in a slot of [`Values`], and a [`Tap`] says which of its digits are a signal. Read on in
+//! `docs/CAPTURE.md`, "Your own design".
+#![tactic(auto)]
+
+mod channel;
+mod row;
+mod sampler;
+mod signal;
+mod slot;
+mod tap;
+mod values;
+
+pub use channel::{AskTaps, BeatTaps, Channel, ReplyTaps, UnknownBit};
+pub use sampler::{Probes, Reset, SampleFault, Sampler};
+pub use signal::Signal;
+pub use tap::Tap;
+pub use values::Values;

@@ -1,0 +1,231 @@
+//! The row of a beat.
+ghost use Rattle.std.specs.Prelude.{◌≡◌, ◌++◌, ◌∷◌, OnOk};
+ghost use Rattle.std.specs.Fmt.{decimal};
+ghost use Rattle.check_samples.specs.Values.{all_before};
+ghost use Rattle.check_samples.specs.Row.{ask_lanes, ask_numbers, ask_text, cells_of_ask, cells_of_reply, digit_of, head_text, hex_text, hexes, known, link_text, reply_lanes, reply_numbers, reply_text};
+
+use crate::channel::{AskTaps, ReplyTaps};
+use crate::signal::Signal;
+use crate::values::Values;
+use check_link::Link;
+use std::alloc::AllocError;
+use tl_text::{hex_digit, push_decimal, push_hex, read_number};
+
+/// The most bits of a signal that is read as a number.
+pub const MAX_BITS: usize = 64;
+
+/// The signals of a beat of channel A as numbers, save its data.
+#[derive(Debug, Clone, Copy, PartialEq, Eq)]
+pub(crate) struct AskCells {
+    opcode: u64,
+    param: u64,
+    size: u64,
+    source: u64,
+    address: u64,
+}
+
+/// The signals of a beat of channel D as numbers, save its data.
+#[derive(Debug, Clone, Copy, PartialEq, Eq)]
+pub(crate) struct ReplyCells {
+    opcode: u64,
+    size: u64,
+    source: u64,
+    denied: u64,
+    corrupt: u64,
+}
+
+/// The number that bits spell, if each is known.
+fn known(signal: Signal, bits: &[u8]) -> Result<u64, Signal>
+    ensures { result ≡ known signal bits.now }
+{
+    match read_number(bits, 2, MAX_BITS) {
+        Some(number) => Ok(number),
+        None => Err(signal),
+    }
+}
+
+/// The hexadecimal digit of at most four bits; `x` where one is unknown.
+fn digit_of(bits: &[u8]) -> u8
+    ensures { result ≡ digit_of bits.now }
+{
+    match read_number(bits, 2, 4) {
+        Some(number) => hex_digit((number % 16) as u8),
+        None => b'x',
+    }
+}
+
+/// Appends the hexadecimal digits of bits, of which there are four for each.
+fn push_hexes(text: &mut Vec<u8>, bits: &[u8]) -> Result<(), AllocError>
+    ensures { OnOk result (text.new.items ≡ text.old.items ++ hexes bits.now) }
+{
+    let mut rest = bits;
+    while let [a, b, c, d, more @ ..] = rest {
+        text.push(digit_of(&[*a, *b, *c, *d]))?;
+        rest = more;
+    }
+    Ok(())
+}
+
+/// Appends the hexadecimal digits of bits; where they are no multiple of four, the first digit has fewer.
+fn push_bits(text: &mut Vec<u8>, bits: &[u8]) -> Result<(), AllocError>
+    ensures { OnOk result (text.new.items ≡ text.old.items ++ hex_text bits.now) }
+{
+    let over = bits.len() % 4;
+    if over > 0 {
+        text.push(digit_of(&bits[..over]))?;
+    }
+    push_hexes(text, &bits[over..])
+}
+
+/// Appends the name of a link.
+fn push_link(text: &mut Vec<u8>, link: Link) -> Result<(), AllocError>
+    ensures { OnOk result (text.new.items ≡ text.old.items ++ link_text link) }
+{
+    match link {
+        Link::Master(number) => {
+            text.push(b'm')?;
+            push_decimal(text, number as u64)
+        }
+        Link::Port(number) => {
+            text.push(b'p')?;
+            push_decimal(text, number as u64)
+        }
+    }
+}
+
+/// Appends a comma and a number.
+fn push_number(text: &mut Vec<u8>, number: u64) -> Result<(), AllocError>
+    ensures { OnOk result (text.new.items ≡ text.old.items ++ (44 ∷ decimal number)) }
+{
+    text.push(b',')?;
+    push_decimal(text, number)
+}
+
+/// The numbers of a beat of channel A.
+pub(crate) fn ask_cells(values: &Values, taps: &AskTaps) -> Result<AskCells, Signal>
+    ensures { result ≡ cells_of_ask (all_before values.now) taps.now }
+{
+    let opcode = known(Signal::AOpcode, values.before(taps.opcode))?;
+    let param = known(Signal::AParam, values.before(taps.param))?;
+    let size = known(Signal::ASize, values.before(taps.size))?;
+    let source = known(Signal::ASource, values.before(taps.source))?;
+    let address = known(Signal::AAddress, values.before(taps.address))?;
+    known(Signal::AMask, values.before(taps.mask))?;
+    Ok(AskCells {
+        opcode,
+        param,
+        size,
+        source,
+        address,
+    })
+}
+
+/// The numbers of a beat of channel D.
+pub(crate) fn reply_cells(values: &Values, taps: &ReplyTaps) -> Result<ReplyCells, Signal>
+    ensures { result ≡ cells_of_reply (all_before values.now) taps.now }
+{
+    let opcode = known(Signal::DOpcode, values.before(taps.opcode))?;
+    let size = known(Signal::DSize, values.before(taps.size))?;
+    let source = known(Signal::DSource, values.before(taps.source))?;
+    let denied = known(Signal::DDenied, values.before(taps.denied))?;
+    let corrupt = known(Signal::DCorrupt, values.before(taps.corrupt))?;
+    Ok(ReplyCells {
+        opcode,
+        size,
+        source,
+        denied,
+        corrupt,
+    })
+}
+
+/// Appends the columns up to the channel.
+fn push_head(text: &mut Vec<u8>, time: u64, link: Link, channel: u8) -> Result<(), AllocError>
+    ensures { OnOk result (text.new.items ≡ text.old.items ++ head_text time link channel) }
+{
+    push_decimal(text, time)?;
+    text.push(b',')?;
+    push_link(text, link)?;
+    text.extend_from_slice(&[b',', channel])
+}
+
+/// Appends the columns of a beat of channel A that are decimal numbers.
+fn push_ask_numbers(text: &mut Vec<u8>, cells: AskCells) -> Result<(), AllocError>
+    ensures { OnOk result (text.new.items ≡ text.old.items ++ ask_numbers cells) }
+{
+    push_number(text, cells.opcode)?;
+    push_number(text, cells.param)?;
+    push_number(text, cells.size)?;
+    push_number(text, cells.source)
+}
+
+/// Appends an address, and the bits of a mask and of data.
+fn push_ask_lanes(
+    text: &mut Vec<u8>,
+    address: u64,
+    mask: &[u8],
+    lanes: &[u8],
+) -> Result<(), AllocError>
+    ensures { OnOk result (text.new.items ≡ text.old.items ++ ask_lanes address mask.now lanes.now) }
+{
+    text.push(b',')?;
+    push_hex(text, address)?;
+    text.push(b',')?;
+    push_bits(text, mask)?;
+    text.push(b',')?;
+    push_bits(text, lanes)
+}
+
+/// Appends the row of a beat of channel A.
+#[tactic(auto, unfolding(crate::specs::Row::ask_text))]
+pub(crate) fn push_ask(
+    text: &mut Vec<u8>,
+    time: u64,
+    link: Link,
+    cells: AskCells,
+    mask: &[u8],
+    lanes: &[u8],
+) -> Result<(), AllocError>
+    ensures { OnOk result (text.new.items ≡ text.old.items ++ ask_text time link cells mask.now lanes.now) }
+{
+    push_head(text, time, link, b'A')?;
+    push_ask_numbers(text, cells)?;
+    push_ask_lanes(text, cells.address, mask, lanes)?;
+    text.extend_from_slice(b",,\n")
+}
+
+/// Appends the columns of a beat of channel D up to its source.
+fn push_reply_numbers(text: &mut Vec<u8>, cells: ReplyCells) -> Result<(), AllocError>
+    ensures { OnOk result (text.new.items ≡ text.old.items ++ reply_numbers cells) }
+{
+    push_number(text, cells.opcode)?;
+    text.push(b',')?;
+    push_number(text, cells.size)?;
+    push_number(text, cells.source)
+}
+
+/// Appends the bits of data, and the flags of a beat of channel D.
+fn push_reply_lanes(text: &mut Vec<u8>, lanes: &[u8], cells: ReplyCells) -> Result<(), AllocError>
+    ensures { OnOk result (text.new.items ≡ text.old.items ++ reply_lanes lanes.now cells) }
+{
+    text.extend_from_slice(b",,,")?;
+    push_bits(text, lanes)?;
+    push_number(text, cells.denied)?;
+    push_number(text, cells.corrupt)
+}
+
+/// Appends the row of a beat of channel D.
+#[tactic(auto, unfolding(crate::specs::Row::reply_text))]
+pub(crate) fn push_reply(
+    text: &mut Vec<u8>,
+    time: u64,
+    link: Link,
+    cells: ReplyCells,
+    lanes: &[u8],
+) -> Result<(), AllocError>
+    ensures { OnOk result (text.new.items ≡ text.old.items ++ reply_text time link cells lanes.now) }
+{
+    push_head(text, time, link, b'D')?;
+    push_reply_numbers(text, cells)?;
+    push_reply_lanes(text, lanes, cells)?;
+    text.extend_from_slice(b"\n")
+}

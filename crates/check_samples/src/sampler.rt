@@ -1,0 +1,265 @@
+//! The beats that cross, edge by edge.
+ghost use Rattle.std.specs.Prelude.{◌≡◌, ◌∷◌, List, None, IfOk, OnOk};
+ghost use Rattle.check_samples.specs.Rows.{Appended, Writes, crosses, is_one, has_edge, is_active, is_zero, row_at, rows_at, rows_of, view_of};
+ghost use Rattle.check_samples.specs.Values.{all_before, all_now, all_widths};
+
+use crate::channel::{BeatTaps, Channel, UnknownBit};
+use crate::row::{ask_cells, push_ask, push_reply, reply_cells};
+use crate::signal::Signal;
+use crate::tap::Tap;
+use crate::values::Values;
+use check_vcd::Event;
+use std::alloc::AllocError;
+use std::marker::Model;
+
+/// Why no row was made.
+#[derive(Debug, Clone, Copy, PartialEq, Eq)]
+pub enum SampleFault {
+    Unknown(UnknownBit),
+    Memory,
+}
+
+impl From<AllocError> for SampleFault {
+    ghost use Rattle.check_samples.specs.declared.sampler.SampleFault.TheVariants.{Memory};
+
+    ghost from_gives = { λ _ fault. fault ≡ Memory };
+
+    fn from(_e: AllocError) -> SampleFault {
+        SampleFault::Memory
+    }
+}
+
+/// Appends the row of a channel's beat; answers the signal of it that is no data and has an unknown bit.
+fn push_row(
+    text: &mut Vec<u8>,
+    time: u64,
+    values: &Values,
+    channel: &Channel,
+) -> Result<Option<Signal>, AllocError>
+    ensures { IfOk result (Appended text.old.items text.new.items (row_at time (all_before values.now) channel.now)) }
+{
+    match &channel.beat {
+        BeatTaps::A(taps) => {
+            let cells = match ask_cells(values, taps) {
+                Ok(cells) => cells,
+                Err(signal) => return Ok(Some(signal)),
+            };
+            let mask = values.before(taps.mask);
+            let lanes = values.before(taps.data);
+            push_ask(text, time, channel.link, cells, mask, lanes)?;
+        }
+        BeatTaps::D(taps) => {
+            let cells = match reply_cells(values, taps) {
+                Ok(cells) => cells,
+                Err(signal) => return Ok(Some(signal)),
+            };
+            push_reply(text, time, channel.link, cells, values.before(taps.data))?;
+        }
+    }
+    Ok(None)
+}
+
+/// Whether valid and ready of a channel are both 1.
+fn crosses(values: &Values, channel: &Channel) -> bool
+    ensures { result ≡ crosses (all_before values.now) channel.now }
+{
+    is_one(values.before(channel.valid)) && is_one(values.before(channel.ready))
+}
+
+/// Whether this is one bit that is 1.
+fn is_one(bits: &[u8]) -> bool
+    ensures { result ≡ is_one bits.now }
+{
+    bits == b"1".as_slice()
+}
+
+/// Whether this is one bit that is 0.
+fn is_zero(bits: &[u8]) -> bool
+    ensures { result ≡ is_zero bits.now }
+{
+    bits == b"0".as_slice()
+}
+
+/// Appends the row of a channel, if a beat crosses.
+fn push_if_crosses(
+    text: &mut Vec<u8>,
+    time: u64,
+    values: &Values,
+    channel: &Channel,
+) -> Result<(), SampleFault>
+    ensures { Writes result text.old.items text.new.items (rows_at time (all_before values.now) channel.now) }
+{
+    if !crosses(values, channel) {
+        return Ok(());
+    }
+    match push_row(text, time, values, channel)? {
+        None => Ok(()),
+        Some(signal) => Err(SampleFault::Unknown(UnknownBit {
+            time,
+            link: channel.link,
+            signal,
+        })),
+    }
+}
+
+/// Appends the rows of an edge, up to the first beat that is none.
+fn push_rows(
+    text: &mut Vec<u8>,
+    time: u64,
+    values: &Values,
+    channels: &[Channel],
+) -> Result<(), SampleFault>
+    ensures { Writes result text.old.items text.new.items (rows_of time (all_before values.now) channels.now) }
+{
+    for channel in channels {
+        push_if_crosses(text, time, values, channel)?;
+    }
+    Ok(())
+}
+
+/// A reset: where it is, and the bit that makes it active.
+#[derive(Debug, Clone, Copy, PartialEq, Eq)]
+pub struct Reset {
+    pub tap: Tap,
+    pub is_low: bool,
+}
+
+/// What is looked at in a dump: the clock, the reset, and the channels in the order in which their beats cross.
+#[derive(Drop)]
+pub struct Probes {
+    pub clock: Tap,
+    pub reset: Option<Reset>,
+    pub channels: Vec<Channel>,
+}
+
+/// Whether a reset is active. One that is unknown is not.
+fn is_active(values: &Values, reset: Option<Reset>) -> bool
+    ensures { result ≡ is_active (all_before values.now) reset }
+{
+    match reset {
+        None => false,
+        Some(reset) if reset.is_low => is_zero(values.before(reset.tap)),
+        Some(reset) => is_one(values.before(reset.tap)),
+    }
+}
+
+/// Whether the clock rises at the present time, outside of reset.
+fn has_edge(values: &Values, probes: &Probes) -> bool
+    ensures { result ≡ has_edge (all_before values.now) (all_now values.now) (view_of probes.now) }
+{
+    is_zero(values.before(probes.clock))
+        && is_one(values.now(probes.clock))
+        && !is_active(values, probes.reset)
+}
+
+/// Makes rows of what happens in a dump: what is looked at, the values that are kept, and the present time.
+#[derive(Drop)]
+pub struct Sampler {
+    probes: Probes,
+    values: Values,
+    time: Option<u64>,
+}
+
+impl Model for Sampler {
+    ghost use Rattle.check_samples.specs.Sampling.{Sampling};
+
+    ghost Value = { Sampling };
+
+    ghost use Rattle.check_samples.specs.Rows.{view_of};
+    ghost use Rattle.check_samples.specs.Values.{all_before, all_now, all_widths};
+
+    ghost view = { λ s. record {
+      probes = view_of s.probes;
+      before = all_before s.values;
+      now = all_now s.values;
+      widths = all_widths s.values;
+      time = s.time;
+    } };
+}
+
+impl Sampler {
+    ghost use Rattle.check_vcd.specs.Body.{Happens, happens_of};
+    ghost use Rattle.check_samples.specs.Sampling.{Leads, at_time, is_at, rows_from, rows_now, with_value};
+
+    /// Before anything has happened: each value is unknown, save those that are given.
+    pub fn new(probes: Probes, values: Values) -> Sampler
+        ensures probes { result.probes ≡ view_of probes }
+        ensures before { result.before ≡ all_before values }
+        ensures now { result.now ≡ all_now values }
+        ensures widths { result.widths ≡ all_widths values }
+        ensures time { result.time ≡ None }
+    {
+        Sampler {
+            probes,
+            values,
+            time: None,
+        }
+    }
+
+    /// Changes the value in a slot; a slot that is not kept is left alone.
+    fn change(&mut self, slot: usize, digits: &[u8]) -> Result<(), AllocError>
+        ensures { OnOk result (self.new ≡ with_value self.old slot digits.now) }
+    {
+        if slot < self.values.count() {
+            self.values.change(slot, digits)?;
+        }
+        Ok(())
+    }
+
+    /// Appends the rows of the present time, up to the first beat that is none.
+    pub fn push_rows(&self, text: &mut Vec<u8>) -> Result<(), SampleFault>
+        ensures { Writes result text.old.items text.new.items (rows_now self.now) }
+    {
+        let Some(time) = self.time else {
+            return Ok(());
+        };
+        if !has_edge(&self.values, &self.probes) {
+            return Ok(());
+        }
+        push_rows(text, time, &self.values, &self.probes.channels)
+    }
+
+    /// A time begins; nothing is changed by the present one.
+    fn begin(&mut self, time: u64) -> Result<(), AllocError>
+        ensures { OnOk result (self.new ≡ at_time self.old time) }
+    {
+        if self.time == Some(time) {
+            return Ok(());
+        }
+        self.values.pass()?;
+        self.time = Some(time);
+        Ok(())
+    }
+
+    /// Takes what happens next in a dump, with the digits of a value that changes. If a time begins, the rows of the one
+    /// before are appended, up to the first beat that is none.
+    pub fn take(
+        &mut self,
+        text: &mut Vec<u8>,
+        event: Event,
+        digits: &[u8],
+    ) -> Result<(), SampleFault>
+        ensures { (rest : List Happens) → Leads result text.old.items text.new.items
+            (rows_from (happens_of event digits.now ∷ rest) self.old) (rows_from rest self.new) }
+    {
+        match event {
+            Event::Change(slot) => self.change(slot, digits)?,
+            Event::Time(time) => {
+                if !self.is_at(time) {
+                    match self.push_rows(text) {
+                        Ok(()) => self.begin(time)?,
+                        Err(fault) => return Err(fault),
+                    }
+                }
+            }
+        }
+        Ok(())
+    }
+
+    /// Whether this is the present time.
+    fn is_at(&self, time: u64) -> bool
+        ensures { result ≡ is_at self.now time }
+    {
+        self.time == Some(time)
+    }
+}

@@ -1,0 +1,4 @@
+pub mod Key
+pub mod Names
+pub mod Wanted
+pub mod Wires

@@ -1,0 +1,34 @@
+-- How many bits the signals of a link have, as the format of captures has its columns. This project's own.
+use Rattle.std.specs.Prelude.{ℕ, ◌*◌, ◌==◌, nat_le, Bool}
+use Rattle.check_samples.specs.declared.signal.Signal.{Signal}
+use Rattle.check_samples.specs.declared.signal.Signal.TheVariants as signal
+use Rattle.check_signals.specs.declared.wanted.Wanted.{Wanted}
+use Rattle.check_signals.specs.declared.wanted.Wanted.TheVariants.{Exactly, AtMost}
+
+abbrev pub bits_fit : Wanted → ℕ → Bool
+bits_fit (Exactly count) bits = bits == count
+bits_fit (AtMost count) bits = nat_le bits count
+
+abbrev pub count_of : Wanted → ℕ
+count_of (Exactly count) = count
+count_of (AtMost count) = count
+
+-- at a link whose bus has so many bytes
+abbrev pub wanted_of : Signal → ℕ → Wanted
+wanted_of signal.AValid bus = AtMost 1
+wanted_of signal.AReady bus = AtMost 1
+wanted_of signal.AOpcode bus = AtMost 8
+wanted_of signal.AParam bus = AtMost 8
+wanted_of signal.ASize bus = AtMost 8
+wanted_of signal.ASource bus = AtMost 16
+wanted_of signal.AAddress bus = AtMost 64
+wanted_of signal.AMask bus = Exactly bus
+wanted_of signal.AData bus = Exactly (8 * bus)
+wanted_of signal.DValid bus = AtMost 1
+wanted_of signal.DReady bus = AtMost 1
+wanted_of signal.DOpcode bus = AtMost 8
+wanted_of signal.DSize bus = AtMost 8
+wanted_of signal.DSource bus = AtMost 16
+wanted_of signal.DData bus = Exactly (8 * bus)
+wanted_of signal.DDenied bus = AtMost 1
+wanted_of signal.DCorrupt bus = AtMost 1

@@ -1,0 +1,76 @@
+//! Why it is not known where signals are.
+ghost use Rattle.std.specs.Prelude.{◌≡◌, Some};
+ghost use Rattle.check_signals.specs.Key.{key_name};
+ghost use Rattle.check_signals.specs.declared.fault.KeyFault.TheVariants.{Memory};
+
+use std::alloc::{AllocError, AllocFailed};
+use std::fmt;
+use thiserror::Error;
+
+/// A key of a system file that says where signals are.
+#[derive(Debug, Clone, Copy, PartialEq, Eq)]
+pub enum Key {
+    Port,
+    Master,
+    Clock,
+    Reset,
+    ResetActive,
+    Signals,
+    Wires,
+}
+
+impl Key {
+    /// The key, as a file has it.
+    pub fn name(self) -> &'static str
+        ensures { result.now ≡ key_name self }
+    {
+        match self {
+            Key::Port => "port",
+            Key::Master => "master",
+            Key::Clock => "clock",
+            Key::Reset => "reset",
+            Key::ResetActive => "reset_active",
+            Key::Signals => "signals",
+            Key::Wires => "wires",
+        }
+    }
+}
+
+impl fmt::Display for Key {
+    ghost output = { λ key. Some (key_name key) };
+
+    fn fmt<W: fmt::Write>(&self, f: &mut fmt::Formatter<W>) -> fmt::Result {
+        f.write_str(self.name())
+    }
+}
+
+/// Why a system file does not say where signals are.
+#[derive(Debug, Clone, Copy, PartialEq, Eq, Error)]
+pub enum KeyFault {
+    #[error("system: not TOML")]
+    NotToml,
+    #[error("system: missing {0}")]
+    Missing(Key),
+    #[error("system: wrong type of {0}")]
+    WrongType(Key),
+    #[error("system: {0} out of range")]
+    OutOfRange(Key),
+    #[error("memory refused")]
+    Memory,
+}
+
+impl From<AllocError> for KeyFault {
+    ghost from_gives = { λ _ fault. fault ≡ Memory };
+
+    fn from(_: AllocError) -> KeyFault {
+        KeyFault::Memory
+    }
+}
+
+impl<T: Drop> From<AllocFailed<T>> for KeyFault {
+    ghost from_gives = { λ _ fault. fault ≡ Memory };
+
+    fn from(_: AllocFailed<T>) -> KeyFault {
+        KeyFault::Memory
+    }
+}

@@ -1,0 +1,20 @@
+//! Where the signals of a crossbar are in a dump.
+//!
+//! [`read_names`] reads the names that a system file gives (`specs/Names.antt`): those of the clock and of the reset, and
+//! of the signals of each link. [`find_signals`] finds them among the signals that a dump declares, checks how many bits each
+//! has (`specs/Wanted.antt`), and answers what has to be looked at and kept.
+//!
+//! Read on in `docs/CAPTURE.md`, "Your own design".
+#![tactic(auto)]
+
+mod fault;
+mod keys;
+mod resolve;
+mod wanted;
+mod wires;
+
+pub use fault::{Key, KeyFault};
+pub use keys::{LinkNames, Names, SIGNALS, read_names};
+pub use resolve::{BUS, Owner, Resolved, SignalFault, find_signals};
+pub use wanted::{Wanted, wanted_of};
+pub use wires::{Places, places_in};

@@ -1,0 +1,54 @@
+//! How many bits the signals of a link have.
+ghost use Rattle.std.specs.Prelude.{◌≡◌};
+ghost use Rattle.check_signals.specs.Wanted.{bits_fit, wanted_of, count_of};
+
+use check_samples::Signal;
+
+/// How many bits a signal has.
+#[derive(Debug, Clone, Copy, PartialEq, Eq)]
+pub enum Wanted {
+    Exactly(u64),
+    AtMost(u64),
+}
+
+impl Wanted {
+    /// Whether so many bits are right.
+    pub fn fits(self, bits: u64) -> bool
+        ensures { result ≡ bits_fit self bits }
+    {
+        match self {
+            Wanted::Exactly(count) => bits == count,
+            Wanted::AtMost(count) => bits <= count,
+        }
+    }
+
+    /// The count of bits that it speaks of.
+    pub fn count(self) -> u64
+        ensures { result ≡ count_of self }
+    {
+        match self {
+            Wanted::Exactly(count) | Wanted::AtMost(count) => count,
+        }
+    }
+}
+
+/// How many bits a signal has at a link whose bus has so many bytes.
+pub fn wanted_of(signal: Signal, bus: u8) -> Wanted
+    ensures { result ≡ wanted_of signal bus }
+{
+    match signal {
+        Signal::AMask => Wanted::Exactly(u64::from(bus)),
+        Signal::AData | Signal::DData => Wanted::Exactly(8 * u64::from(bus)),
+        Signal::AOpcode | Signal::AParam | Signal::ASize | Signal::DOpcode | Signal::DSize => {
+            Wanted::AtMost(8)
+        }
+        Signal::ASource | Signal::DSource => Wanted::AtMost(16),
+        Signal::AAddress => Wanted::AtMost(64),
+        Signal::AValid
+        | Signal::AReady
+        | Signal::DValid
+        | Signal::DReady
+        | Signal::DDenied
+        | Signal::DCorrupt => Wanted::AtMost(1),
+    }
+}

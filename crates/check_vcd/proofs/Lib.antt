@@ -1,0 +1,6 @@
+pub mod WordLemmas
+pub mod HandLemmas
+pub mod ScannerLemmas
+pub mod LeftLemmas
+pub mod CodeLemmas
+pub mod DumpLemmas

@@ -1,0 +1,72 @@
+-- The bytes at hand are taken.
+use Rattle.std.proofs.Common.{◌≡◌, ℕ, ◌+◌, ◌<◌, ◌≤◌, Bool, true, false, nat_lt, List, ◌∷◌, ◌++◌, length, get_or, slice_range, Result, Ok, Err, refl, sym, ap, ap₂, ◌∙◌, arith, subst}
+use Rattle.std.proofs.lemmas.Bool.Decides.{nat_tests}
+use Rattle.std.specs.Result.{IfOk, OnOk}
+use Rattle.check_vcd.specs.Words.{Front, IsFront, Word, is_blank, line_after, nothing, with_byte, words_from}
+use Rattle.check_vcd.specs.Scanner.{HasMoved, Takes, at_hand, front, word_at_hand}
+use Rattle.check_vcd.specs.declared.fault.DumpFault.{DumpFault}
+use Rattle.check_vcd.specs.declared.scanner.Scanner.{Scanner}
+use Rattle.check_vcd.proofs.HandLemmas.{hand-first}
+use Rattle.check_vcd.proofs.WordLemmas.{words-ended, words-letter, words-skipped}
+
+-- a byte at hand
+pub record HasNext {R : Type 0} (old : Scanner R) (byte : ℕ) : Type 0 where
+  pub some : old.next < old.filled
+  pub inside : old.filled ≤ length old.chunk.items
+  pub is : get_or old.chunk.items old.next byte ≡ byte
+
+first : {R : Type 0} (old new : Scanner R) (byte : ℕ) → HasNext old byte → HasMoved old new
+    → at_hand old ≡ byte ∷ at_hand new
+first old new byte next moved =
+    let tail : at_hand new ≡ slice_range old.chunk.items (old.next + 1) old.filled =
+    rw (moved.chunk, moved.next, moved.filled) refl in
+    hand-first old.chunk.items old.next old.filled byte next.some next.inside
+    ∙ ap₂ (λ (b : ℕ) (hand : List ℕ). b ∷ hand) next.is (sym tail)
+
+pub took-letter : {R : Type 0} (old new : Scanner R) (byte : ℕ) → HasNext old byte → HasMoved old new
+    → is_blank byte ≡ false
+    → front new ≡ with_byte (front old) byte → new.next_line ≡ old.next_line → Takes old new false
+took-letter old new byte next moved not fronts lines = (
+  (λ rest.
+      ap (λ (hand : List ℕ). words_from old.next_line (front old) (hand ++ rest)) (first old new byte next moved)
+      ∙ words-letter old.next_line (front old) byte (at_hand new ++ rest) not
+      ∙ ap₂ (λ (line : ℕ) (f : Front). words_from line f (at_hand new ++ rest)) (sym lines) (sym fronts)),
+  (λ none. let size : new.size ≡ old.size + 1 = ap (λ (f : Front). f.size) fronts in
+      absurd (omega (arith, none, size))),
+)
+
+-- a blank, behind a front or before the first byte of a word
+blank : {R : Type 0} (old new : Scanner R) (byte : ℕ) (ended : Bool) → HasNext old byte → HasMoved old new
+    → is_blank byte ≡ true → IsFront (front old) → front new ≡ front old → new.line ≡ old.next_line
+    → new.next_line ≡ line_after old.next_line byte
+    → ended ≡ nat_lt 0 old.size → Takes old new ended
+blank old new byte true next moved is front_is fronts line lines test = λ rest.
+    let some : 0 < old.size = grind (arith, nat_tests) in
+    let word : word_at_hand new ≡ record { line = old.next_line; bytes = old.word.items; size = old.size } =
+    ap₂ (λ (l : ℕ) (f : Front). let w : Word = record { line = l; bytes = f.bytes; size = f.size } in w) line fronts in
+    ap (λ (hand : List ℕ). words_from old.next_line (front old) (hand ++ rest)) (first old new byte next moved)
+    ∙ words-ended old.next_line (front old) byte (at_hand new ++ rest) is some
+    ∙ ap₂ (λ (w : Word) (l : ℕ). w ∷ words_from l nothing (at_hand new ++ rest)) (sym word) (sym lines)
+blank old new byte false next moved is front_is fronts line lines test =
+    let none : old.size ≡ 0 = grind (arith, nat_tests) in (
+      (λ rest.
+          ap (λ (hand : List ℕ). words_from old.next_line (front old) (hand ++ rest)) (first old new byte next moved)
+          ∙ words-skipped old.next_line (front old) byte (at_hand new ++ rest) is none front_is
+          ∙ ap₂ (λ (l : ℕ) (f : Front). words_from l f (at_hand new ++ rest)) (sym lines) (sym fronts)),
+      subst IsFront (sym fronts) front_is,
+    )
+
+pub took-blank : {R : Type 0} (old new : Scanner R) (byte : ℕ) (r : Result Bool DumpFault) → HasNext old byte
+    → HasMoved old new
+    → is_blank byte ≡ true → IsFront (front old) → front new ≡ front old
+    → IfOk r (λ ended. ended ≡ nat_lt 0 old.size)
+    → OnOk r ((new.line ≡ old.next_line) × (new.next_line ≡ line_after old.next_line byte)) → IfOk r (Takes old new)
+took-blank old new byte (Err fault) next moved is front_is fronts test lines = tt
+took-blank old new byte (Ok ended) next moved is front_is fronts test lines =
+    blank old new byte ended next moved is front_is fronts lines.0 lines.1 test
+
+-- one byte more
+pub takes-more : {R : Type 0} (old mid new : Scanner R) (ended : Bool) → Takes old mid false → Takes mid new ended
+    → Takes old new ended
+takes-more old mid new true one two = λ rest. one.0 rest ∙ two rest
+takes-more old mid new false one two = ((λ rest. one.0 rest ∙ two.0 rest), two.1)

@@ -1,0 +1,6 @@
+-- A read that was interrupted took nothing.
+use Rattle.std.specs.Io.KnownBytes.{Keeps}
+use Rattle.check_vcd.proofs.scanner.read_some.Given as goal
+
+abbrev pub invariant-loop : goal.invariant-loop
+invariant-loop g l = Keeps (g.R.Read.remaining l.fn.reader) (g.R.Read.remaining l.reader)

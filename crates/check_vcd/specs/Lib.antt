@@ -1,0 +1,9 @@
+pub mod Words
+pub mod Scanner
+pub mod Fault
+pub mod Codes
+pub mod Token
+pub mod Body
+pub mod Range
+pub mod Header
+pub mod Dump

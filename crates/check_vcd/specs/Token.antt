@@ -1,0 +1,40 @@
+-- What a word of a dump's body begins. IEEE 1364, "Value change dump files".
+use Rattle.std.specs.Prelude.{ℕ, ◌==◌, ◌||◌, Bool, List, codes, if◌then◌else◌}
+use Rattle.std.specs.List.{list_all}
+use Rattle.std.specs.Str.{bytes_eq}
+use Rattle.check_vcd.specs.declared.token.Kind.{Kind}
+use Rattle.check_vcd.specs.declared.token.Kind.TheVariants.{Ignored, Comment, Time, Scalar, Vector, Other, Unknown}
+
+-- 0, 1, x or z
+abbrev pub is_bit : ℕ → Bool
+is_bit c = (c == 48) || (c == 49) || (c == 120) || (c == 88) || (c == 122) || (c == 90)
+
+abbrev pub are_bits : List ℕ → Bool
+are_bits digits = list_all is_bit digits
+
+-- b
+abbrev pub starts_vector : ℕ → Bool
+starts_vector c = (c == 98) || (c == 66)
+
+-- r or s: a real number or a text, which are no values of bits
+abbrev pub starts_other : ℕ → Bool
+starts_other c = (c == 114) || (c == 82) || (c == 115) || (c == 83)
+
+abbrev pub is_end : List ℕ → Bool
+is_end word = bytes_eq word (codes "$end")
+
+abbrev pub is_ignored : List ℕ → Bool
+is_ignored word =
+    is_end word || bytes_eq word (codes "$dumpvars") || bytes_eq word (codes "$dumpall")
+    || bytes_eq word (codes "$dumpon") || bytes_eq word (codes "$dumpoff")
+
+-- what a word with this first byte begins
+abbrev pub kind_of : ℕ → List ℕ → Kind
+kind_of first word =
+    if is_bit first then Scalar
+    else if starts_vector first then Vector
+    else if first == 35 then Time
+    else if starts_other first then Other
+    else if is_ignored word then Ignored
+    else if bytes_eq word (codes "$comment") then Comment
+    else Unknown

@@ -1,0 +1,182 @@
+//! The body of a dump: what happens, word by word.
+ghost use Rattle.std.specs.Prelude.{◌≡◌};
+ghost use Rattle.check_vcd.specs.Body.{Tells, begun, body_of, changed, passed, start, step_of, timed, with_bit, with_digits};
+ghost use Rattle.check_vcd.specs.Codes.{find_in};
+
+use crate::codes::Codes;
+use crate::fault::{Mistake, WordFault};
+use crate::token::{Kind, are_bits, is_end, kind_of};
+use std::alloc::Global;
+use tl_text::read_number;
+
+/// The most digits of a time.
+pub const TIME_DIGITS: usize = 20;
+
+/// Where a word of a dump's body stands.
+#[derive(Debug, Clone, Copy, PartialEq, Eq)]
+pub enum Place {
+    /// Where something new begins.
+    Plain,
+    InComment,
+    /// Behind a value of several bits.
+    BehindVector,
+    /// Behind a real number or a text.
+    BehindOther,
+}
+
+/// What happens in a dump.
+#[derive(Debug, Clone, Copy, PartialEq, Eq)]
+pub enum Event {
+    /// A time begins.
+    Time(u64),
+    /// The value that is kept in this slot changes.
+    Change(usize),
+}
+
+/// A dump's body while it is read: the identifiers, where the next word stands, the value at hand with its count of
+/// digits, of which a front alone may be kept, and the last time.
+#[derive(Drop)]
+pub(crate) struct Body {
+    pub(crate) codes: Codes,
+    place: Place,
+    pub(crate) value: Vec<u8>,
+    size: u64,
+    time: Option<u64>,
+}
+
+impl Body {
+    /// Before the first word of a body.
+    pub(crate) fn new(alloc: Global, codes: Codes) -> Body
+        ensures start { body_of result ≡ start }
+        ensures codes { result.codes ≡ codes }
+    {
+        Body {
+            codes,
+            place: Place::Plain,
+            value: Vec::new(alloc),
+            size: 0,
+            time: None,
+        }
+    }
+
+    /// Takes the identifier of the value at hand.
+    #[inline(always)]
+    fn change(&self, code: &[u8]) -> Result<Option<Event>, WordFault>
+        ensures { Tells result (changed (find_in self.now.codes) (body_of self.now) code.now) self.now }
+    {
+        let Some(coded) = self.codes.find(code) else {
+            return Err(WordFault::Wrong(Mistake::NoSuchIdentifier));
+        };
+        if coded.width < self.size {
+            return Err(WordFault::Wrong(Mistake::TooWide));
+        }
+        match coded.slot {
+            Some(slot) => Ok(Some(Event::Change(slot))),
+            None => Ok(None),
+        }
+    }
+
+    /// Takes the identifier of a value that is not of bits.
+    fn pass(&self, code: &[u8]) -> Result<Option<Event>, WordFault>
+        ensures { Tells result (passed (find_in self.now.codes) (body_of self.now) code.now) self.now }
+    {
+        match self.codes.find(code) {
+            Some(_) => Ok(None),
+            None => Err(WordFault::Wrong(Mistake::NoSuchIdentifier)),
+        }
+    }
+
+    /// Takes the digits of a time.
+    fn take_time(&mut self, digits: &[u8]) -> Result<Option<Event>, WordFault>
+        ensures told { Tells result (timed (body_of self.old) digits.now) self.new }
+        ensures codes { self.new.codes ≡ self.old.codes }
+    {
+        let Some(time) = read_number(digits, 10, TIME_DIGITS) else {
+            return Err(WordFault::Wrong(Mistake::NotADump));
+        };
+        if let Some(last) = self.time
+            && time < last
+        {
+            return Err(WordFault::Wrong(Mistake::TimeFalls));
+        }
+        self.time = Some(time);
+        Ok(Some(Event::Time(time)))
+    }
+
+    /// Takes a value of one bit, with its identifier.
+    #[inline(always)]
+    fn take_scalar(&mut self, digit: u8, code: &[u8]) -> Result<Option<Event>, WordFault>
+        ensures told { Tells result (changed (find_in self.old.codes) (with_bit (body_of self.old) digit) code.now)
+            self.new }
+        ensures codes { self.new.codes ≡ self.old.codes }
+    {
+        self.value.clear();
+        self.value.push(digit)?;
+        self.size = 1;
+        self.change(code)
+    }
+
+    /// Takes the digits of a value, of which there were so many.
+    fn take_vector(&mut self, digits: &[u8], size: u64) -> Result<Option<Event>, WordFault>
+        ensures told { Tells result (with_digits (body_of self.old) digits.now size) self.new }
+        ensures codes { self.new.codes ≡ self.old.codes }
+    {
+        if digits.is_empty() || !are_bits(digits) {
+            return Err(WordFault::Wrong(Mistake::BadValue));
+        }
+        self.value.clear();
+        self.value.extend_from_slice(digits)?;
+        self.size = size;
+        self.place = Place::BehindVector;
+        Ok(None)
+    }
+
+    /// Takes a word that begins something new.
+    fn begin(&mut self, word: &[u8], size: u64) -> Result<Option<Event>, WordFault>
+        ensures told { Tells result (begun (find_in self.old.codes) (body_of self.old) size word.now) self.new }
+        ensures codes { self.new.codes ≡ self.old.codes }
+    {
+        let [first, rest @ ..] = word else {
+            return Err(WordFault::Wrong(Mistake::NotADump));
+        };
+        match kind_of(*first, word) {
+            Kind::Scalar => self.take_scalar(*first, rest),
+            Kind::Vector => self.take_vector(rest, size.saturating_sub(1)),
+            Kind::Time => self.take_time(rest),
+            Kind::Other => {
+                self.place = Place::BehindOther;
+                Ok(None)
+            }
+            Kind::Comment => {
+                self.place = Place::InComment;
+                Ok(None)
+            }
+            Kind::Ignored => Ok(None),
+            Kind::Unknown => Err(WordFault::Wrong(Mistake::NotADump)),
+        }
+    }
+
+    /// Takes a word of so many bytes, and answers what happens with it.
+    pub(crate) fn take(&mut self, word: &[u8], size: u64) -> Result<Option<Event>, WordFault>
+        ensures told { Tells result (step_of (find_in self.old.codes) (body_of self.old) size word.now) self.new }
+        ensures codes { self.new.codes ≡ self.old.codes }
+    {
+        match self.place {
+            Place::Plain => self.begin(word, size),
+            Place::InComment => {
+                if is_end(word) {
+                    self.place = Place::Plain;
+                }
+                Ok(None)
+            }
+            Place::BehindVector => {
+                self.place = Place::Plain;
+                self.change(word)
+            }
+            Place::BehindOther => {
+                self.place = Place::Plain;
+                self.pass(word)
+            }
+        }
+    }
+}

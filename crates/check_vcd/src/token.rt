@@ -1,0 +1,84 @@
+//! What a word of a dump's body begins.
+ghost use Rattle.std.specs.Prelude.{◌≡◌};
+ghost use Rattle.check_vcd.specs.Token.{are_bits, is_bit, is_end, is_ignored, kind_of, starts_other, starts_vector};
+
+/// What a word of a dump's body begins.
+#[derive(Debug, Clone, Copy, PartialEq, Eq)]
+pub enum Kind {
+    /// A word that says nothing of values: `$dumpvars`, `$dumpon`, `$dumpoff`, `$dumpall` and the `$end` of one.
+    Ignored,
+    Comment,
+    Time,
+    /// A value of one bit, with its identifier behind it.
+    Scalar,
+    /// A value of several bits, whose identifier is the next word.
+    Vector,
+    /// A real number or a text, whose identifier is the next word.
+    Other,
+    Unknown,
+}
+
+/// Whether a digit stands for one bit of four values.
+#[inline(always)]
+pub fn is_bit(digit: u8) -> bool
+    ensures { result ≡ is_bit digit }
+{
+    matches!(digit, b'0' | b'1' | b'x' | b'X' | b'z' | b'Z')
+}
+
+/// Whether each of these does.
+pub fn are_bits(digits: &[u8]) -> bool
+    ensures { result ≡ are_bits digits.now }
+{
+    digits.iter().all(|digit| is_bit(*digit))
+}
+
+fn starts_vector(first: u8) -> bool
+    ensures { result ≡ starts_vector first }
+{
+    first == b'b' || first == b'B'
+}
+
+fn starts_other(first: u8) -> bool
+    ensures { result ≡ starts_other first }
+{
+    matches!(first, b'r' | b'R' | b's' | b'S')
+}
+
+/// Whether a word ends a command.
+pub fn is_end(word: &[u8]) -> bool
+    ensures { result ≡ is_end word.now }
+{
+    word == b"$end".as_slice()
+}
+
+fn is_ignored(word: &[u8]) -> bool
+    ensures { result ≡ is_ignored word.now }
+{
+    is_end(word)
+        || word == b"$dumpvars".as_slice()
+        || word == b"$dumpall".as_slice()
+        || word == b"$dumpon".as_slice()
+        || word == b"$dumpoff".as_slice()
+}
+
+/// What a word with this first byte begins.
+pub fn kind_of(first: u8, word: &[u8]) -> Kind
+    ensures { result ≡ kind_of first word.now }
+{
+    if is_bit(first) {
+        Kind::Scalar
+    } else if starts_vector(first) {
+        Kind::Vector
+    } else if first == b'#' {
+        Kind::Time
+    } else if starts_other(first) {
+        Kind::Other
+    } else if is_ignored(word) {
+        Kind::Ignored
+    } else if word == b"$comment".as_slice() {
+        Kind::Comment
+    } else {
+        Kind::Unknown
+    }
+}

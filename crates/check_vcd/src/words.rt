@@ -1,0 +1,68 @@
+//! The words of a text, one after the other.
+ghost use Rattle.std.specs.Prelude.{◌≡◌, IfErr, IfOk};
+ghost use Rattle.check_vcd.specs.Fault.{IsNoMistake};
+ghost use Rattle.check_vcd.specs.Words.{Answers, HasWordsOf};
+
+use crate::fault::DumpFault;
+use crate::scanner::Scanner;
+use std::alloc::Global;
+use std::io::Read;
+use std::marker::Model;
+
+/// Reads the words of a text.
+#[derive(Drop)]
+pub struct Words<R: Read + Drop> {
+    scanner: Scanner<R>,
+}
+
+impl<R: Read + Drop> Model for Words<R> {
+    ghost use Rattle.check_vcd.specs.Words.{Reading};
+
+    ghost Value = { Reading };
+
+    ghost use Rattle.check_vcd.specs.Words.{nothing};
+    ghost use Rattle.check_vcd.specs.Scanner.{left, word_at_hand};
+
+    ghost view = { λ w. record { left = left R.remaining w.scanner nothing; word = word_at_hand w.scanner } };
+}
+
+impl<R: Read + Drop> Words<R> {
+    /// The words of what a reader gives.
+    pub fn new(alloc: Global, reader: R) -> Result<Words<R>, DumpFault>
+        ensures ok { IfOk result (λ words. HasWordsOf (R.remaining reader) words.left) }
+        ensures fault { IfErr result IsNoMistake }
+    {
+        Ok(Words {
+            scanner: Scanner::new(alloc, reader)?,
+        })
+    }
+
+    /// Reads the next word; answers whether there was one. A last word that no blank ends is none, since it may be cut.
+    pub fn read(&mut self) -> Result<bool, DumpFault>
+        ensures ok { IfOk result (Answers self.old.left self.new.left self.new.word) }
+        ensures fault { IfErr result IsNoMistake }
+    {
+        self.scanner.read()
+    }
+
+    /// The bytes of the last word, of which the front alone is kept.
+    pub fn bytes(&self) -> &[u8]
+        ensures { result.now ≡ self.now.word.bytes }
+    {
+        self.scanner.word.as_slice()
+    }
+
+    /// How many bytes it had.
+    pub fn size(&self) -> u64
+        ensures { result ≡ self.now.word.size }
+    {
+        self.scanner.size
+    }
+
+    /// The line on which it stands, counted from 1 by line feeds.
+    pub fn line(&self) -> u64
+        ensures { result ≡ self.now.word.line }
+    {
+        self.scanner.line
+    }
+}

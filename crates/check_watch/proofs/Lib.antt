@@ -1,7 +1,0 @@
-pub mod Wides
-pub mod Judging
-pub mod Replying
-pub mod Keeping
-pub mod Beginning
-pub mod Earlier
-pub mod Served
