@@ -71,6 +71,7 @@ static const char *words_of(enum tlx_fault fault) {
     case TLX_FULL: return "full handle";
     case TLX_MEMORY: return "memory refused";
     case TLX_BAD_ARGUMENT: return "bad argument";
+    case TLX_OTHER_VERSION: return "header of another version";
     case TLX_NOT_TOML: return "not TOML";
     case TLX_MISSING: return "missing key";
     case TLX_WRONG_TYPE: return "wrong type";
