@@ -2,7 +2,7 @@
 //!
 //! Port 0 has 256 bytes of memory at 0x1000, all zero at reset, port 1 as many at 0x2000. Master 0 has the sources 0
 //! and 1, which are the wide sources 0 and 1, master 1 the sources 0 to 2, which are 4 to 6.
-use check_crossbar::{Fault, Order, Seen};
+use check_crossbar::{Order, Seen, StepError};
 use check_groups::{Links, Watch};
 use check_judge::{Terms, begin};
 use check_link::{Beat, Link, Sighting};
@@ -90,7 +90,7 @@ fn sighting(row: &Row) -> Sighting {
 }
 
 /// What the judge says of one beat more.
-fn step(rt: &impl Abort, watch: &mut Watch, row: &Row) -> Result<Seen, Fault> {
+fn step(rt: &impl Abort, watch: &mut Watch, row: &Row) -> Result<Seen, StepError> {
     let seen = sighting(row);
     assert!(rt; watch.watches(seen.link));
     watch.step(&seen)
