@@ -1,4 +1,4 @@
-# What the launchers of the programs share: ./tlx and ./tlcheck read this with `top` set to the repository's folder, and so do
+# What the launchers of the programs share: ./tlx, ./tlcheck and ./tlvcd read this with `top` set to the repository's folder, and so do
 # tools/install and tools/library.sh.
 #
 # Only a proved crate is built, so the first run of a program proves and builds it (tools/build); later runs start at once.
@@ -29,6 +29,8 @@ make_program() {
   is_fresh "$top/crates/$1/out/$1" && return
   command -v rt >/dev/null || fail "$1" 69 'the toolchain `rt` is not on this machine, and the program is not built yet'
   "$top/tools/build" "$1" || exit 70
+  # a build that finds nothing to change leaves the file as old as it was
+  touch "$top/crates/$1/out/$1"
 }
 
 # The same of the library of C.
@@ -36,6 +38,7 @@ make_library() {
   is_fresh "$top/crates/tl_c/out/libtl_c.a" && return
   command -v rt >/dev/null || fail tlx 69 'the toolchain `rt` is not on this machine, and the library is not built yet'
   (cd "$top/crates/tl_c" && rt lib) >&2 || exit 70
+  touch "$top/crates/tl_c/out/libtl_c.a"
 }
 
 # Runs a program before any proof: the name of the program, and its words, in which files stand by their full paths. The toolchain
