@@ -1,6 +1,7 @@
 pub mod TextLemmas
 pub mod DraftLemmas
 pub mod BareLemmas
+pub mod LineLemmas
 pub mod FeedLemmas
 pub mod KnownLemmas
 pub mod WithinLemmas

@@ -3,3 +3,4 @@ pub mod Text
 pub mod Draft
 pub mod Source
 pub mod Reading
+pub mod Bare

@@ -20,10 +20,11 @@ abbrev pub StopsLong : Left → ℕ → Type 0
 StopsLong old line = IfSome old.text (λ text. IsTooLong (record { line = old.line; text = text }) line)
 
 -- a reader of records: the text that is left, where the reader underneath tells its bytes; the last record that was
--- read; and the fault that stopped it
+-- read, and whether it was left on its line; and the fault that stopped it
 pub record Reading : Type 0 where
   pub left : Left
   pub row : Row
+  pub is_bare : Bool
   pub fault : Option RecordFault
 
 -- these records were read, one after the other

@@ -11,6 +11,10 @@ use Rattle.check_records.specs.declared.source.Source.{Source}
 abbrev pub at_hand : {R : Type 0} → Source R → List ℕ
 at_hand source = slice_range source.chunk.items source.next source.filled
 
+-- the last line without quotes that was taken whole
+abbrev pub bare_of : {R : Type 0} → Source R → List ℕ
+bare_of source = slice_range source.chunk.items source.bare_start source.bare_end
+
 -- the text that is left, where the reader tells its bytes
 abbrev pub left_of : {R : Type 0} → (R → Option (List ℕ)) → Source R → Option (List ℕ)
 left_of remaining source = prepend_known (at_hand source) (remaining source.reader)

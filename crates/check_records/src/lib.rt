@@ -13,6 +13,7 @@
 //! `docs/CAPTURE.md`, which has the format.
 #![tactic(auto)]
 
+mod bare;
 mod draft;
 mod fault;
 pub mod laws;

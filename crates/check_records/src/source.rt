@@ -26,9 +26,14 @@ pub(crate) struct Source<R> {
     next: usize,
     filled: usize,
     pub(crate) line: u64,
+    /// Where the last line without quotes stands that was taken whole, and where it ends.
+    bare_start: usize,
+    bare_end: usize,
     ghost in_order: { next ≤ filled },
     ghost inside: { filled ≤ vec_len chunk },
     ghost room: { vec_len chunk ≡ 65536 },
+    ghost bare_in_order: { bare_start ≤ bare_end },
+    ghost bare_inside: { bare_end ≤ 65536 },
 }
 
 /// What a text begins with.
@@ -94,7 +99,7 @@ fn read_over<R: Read>(reader: &mut R, chunk: &mut Vec<u8>) -> Result<usize, Reco
 }
 
 impl<R: Read + Drop> Source<R> {
-    ghost use Rattle.check_records.specs.Source.{Between, HasFirst, HasSameNext, at_hand, left, left_of};
+    ghost use Rattle.check_records.specs.Source.{Between, HasFirst, HasSameNext, at_hand, bare_of, left, left_of};
 
     /// A reader of which nothing was read.
     fn unread(alloc: Global, reader: R) -> Result<Source<R>, RecordFault>
@@ -110,6 +115,8 @@ impl<R: Read + Drop> Source<R> {
             next: 0,
             filled: 0,
             line: 1,
+            bare_start: 0,
+            bare_end: 0,
         })
     }
 
@@ -133,12 +140,33 @@ impl<R: Read + Drop> Source<R> {
         &all[self.next..self.filled]
     }
 
+    /// The last line without quotes that was taken whole, without what ended it.
+    pub(crate) fn bare(&self) -> &[u8]
+        ensures { result.now ≡ bare_of self.now }
+    {
+        let all = self.chunk.as_slice();
+        &all[self.bare_start..self.bare_end]
+    }
+
+    /// Notes that so many of the bytes at hand are a line without quotes.
+    pub(crate) fn note_bare(&mut self, count: usize)
+        requires { count ≤ length (at_hand self.old) }
+        ensures bare { bare_of self.new ≡ take count (at_hand self.old) }
+        ensures text { at_hand self.new ≡ at_hand self.old }
+        ensures line { self.new.line ≡ self.old.line }
+        ensures reader { self.new.reader ≡ self.old.reader }
+    {
+        self.bare_start = self.next;
+        self.bare_end = self.next + count;
+    }
+
     /// Takes so many of the bytes at hand, of which so many are line feeds. There is no line 2^64.
     pub(crate) fn advance(&mut self, count: usize, feeds: usize) -> Result<(), RecordFault>
         requires { count ≤ length (at_hand self.old) }
         ensures text { OnOk result (at_hand self.new ≡ drop count (at_hand self.old)) }
         ensures line { OnOk result (self.new.line ≡ self.old.line + feeds) }
         ensures reader { self.new.reader ≡ self.old.reader }
+        ensures bare { bare_of self.new ≡ bare_of self.old }
         ensures fault { (line : ℕ) → result ≡ Err (RecordFault.TooLong line) → ⊥ }
     {
         let line = self
