@@ -1,1 +1,2 @@
 pub mod MomentLemmas
+pub mod ColumnLemmas

@@ -1,7 +1,9 @@
 -- The columns of a capture, and its header. The format is this project's own.
-use Rattle.std.specs.Prelude.{ℕ, List, [], ◌∷◌, codes, map, Option, Some, None}
+use Rattle.std.specs.Prelude.{ℕ, ◌==◌, List, [], ◌∷◌, codes, map, Option, Some, None}
+use Rattle.std.specs.List.{slice_split}
 use Rattle.csv.specs.Records.{field_at}
 use Rattle.check_capture.specs.declared.column.Column.{Column}
+use Rattle.check_capture.specs.declared.column.Columns.{Columns}
 use Rattle.check_capture.specs.declared.column.Column.TheVariants.{Time, Link, Channel, Opcode, Param, Size, Source, Address, Mask, Data, Denied, Corrupt}
 
 -- every column, from the left
@@ -50,3 +52,11 @@ or_empty (Some word) = word
 -- what stands in a column of a row; nothing if the row has fewer
 abbrev pub column : List (List ℕ) → Column → List ℕ
 column columns which = or_empty (field_at columns (place_of which))
+
+-- what stands between the commas of a line
+abbrev pub parts_of : List ℕ → List (List ℕ)
+parts_of line = slice_split (λ byte. byte == 44) line
+
+-- what stands in the columns of a row
+abbrev pub words_of : Columns → List (List ℕ)
+words_of columns = map (λ word. word.now) columns.words

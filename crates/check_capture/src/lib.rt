@@ -1,6 +1,7 @@
 //! Captured traces: the rows of a file, each a beat that was seen at a link, in the order in which the beats cross.
 //!
-//! [`read_row`] answers the row that a record's columns spell, or the first fault that they have (`specs/Row.antt`). A
+//! [`read_row`] answers the row that a record's columns spell, or the first fault that they have (`specs/Row.antt`).
+//! [`read_bare_row`] does so for a line without quotes, which it cuts at the commas and does not copy. A
 //! [`Moment`] takes the rows of one time and has them in the order in which their beats cross; it refuses a row whose
 //! time falls, and a second beat of one channel of one link (`specs/Moment.antt`).
 //!
@@ -20,4 +21,4 @@ mod row;
 pub use column::{COLUMNS, column_name};
 pub use fault::RowFault;
 pub use moment::Moment;
-pub use row::{Row, read_row};
+pub use row::{Row, read_bare_row, read_row};

@@ -1,10 +1,11 @@
 //! The rows of a capture.
 ghost use Rattle.std.specs.Prelude.{◌≡◌, IfOk};
 ghost use Rattle.csv.specs.Records.{fields_of};
+ghost use Rattle.check_capture.specs.Column.{parts_of, words_of};
 ghost use Rattle.check_capture.specs.Columns.{IsLinkOf};
 ghost use Rattle.check_capture.specs.Row.{ask_of, beat_of, reply_of, row_of};
 
-use crate::column::{COLUMNS, Column};
+use crate::column::{Column, Columns, columns_of, cut_line};
 use crate::columns::{Channel, read_channel, read_flag, read_link, read_nothing};
 use crate::fault::RowFault;
 use crate::lanes::{bytes_of, known_of, read_lanes};
@@ -43,8 +44,8 @@ impl Default for Row {
 
 /// The beat of channel A that the columns spell, and which of its lanes are known.
 #[tactic(auto, unfolding(crate::specs::Row::ask_of))]
-fn read_ask(columns: &ByteRecord) -> Result<(Beat, u8), RowFault>
-    ensures { result ≡ ask_of (fields_of columns.now) }
+fn read_ask(columns: &Columns<'_>) -> Result<(Beat, u8), RowFault>
+    ensures { result ≡ ask_of (words_of columns.now) }
 {
     let opcode = read_decimal(Column::Opcode.of(columns), MAX_FIELD)?;
     let param = read_decimal(Column::Param.of(columns), MAX_FIELD)?;
@@ -69,8 +70,8 @@ fn read_ask(columns: &ByteRecord) -> Result<(Beat, u8), RowFault>
 
 /// The beat of channel D that the columns spell, and which of its lanes are known.
 #[tactic(auto, unfolding(crate::specs::Row::reply_of))]
-fn read_reply(columns: &ByteRecord) -> Result<(Beat, u8), RowFault>
-    ensures { result ≡ reply_of (fields_of columns.now) }
+fn read_reply(columns: &Columns<'_>) -> Result<(Beat, u8), RowFault>
+    ensures { result ≡ reply_of (words_of columns.now) }
 {
     let opcode = read_decimal(Column::Opcode.of(columns), MAX_FIELD)?;
     read_nothing(Column::Param.of(columns))?;
@@ -93,13 +94,36 @@ fn read_reply(columns: &ByteRecord) -> Result<(Beat, u8), RowFault>
 }
 
 /// The beat of this channel that the columns spell.
-fn read_beat(channel: Channel, columns: &ByteRecord) -> Result<(Beat, u8), RowFault>
-    ensures { result ≡ beat_of channel (fields_of columns.now) }
+fn read_beat(channel: Channel, columns: &Columns<'_>) -> Result<(Beat, u8), RowFault>
+    ensures { result ≡ beat_of channel (words_of columns.now) }
 {
     match channel {
         Channel::A => read_ask(columns),
         Channel::D => read_reply(columns),
     }
+}
+
+/// The row that columns spell, in a system with so many masters and ports, or the first fault that they have, from the
+/// left.
+#[tactic(auto, unfolding(crate::specs::Row::row_of))]
+fn read_columns(
+    masters: usize,
+    ports: usize,
+    line: u64,
+    columns: &Columns<'_>,
+) -> Result<Row, RowFault>
+    ensures value { result ≡ row_of masters ports line (words_of columns.now) }
+    ensures link { IfOk result (λ row. IsLinkOf masters ports row.sighting.link) }
+{
+    let time = read_decimal(Column::Time.of(columns), u64::MAX)?;
+    let link = read_link(masters, ports, Column::Link.of(columns))?;
+    let channel = read_channel(Column::Channel.of(columns))?;
+    let (beat, known) = read_beat(channel, columns)?;
+    Ok(Row {
+        line,
+        time,
+        sighting: Sighting { link, beat, known },
+    })
 }
 
 /// The row that the columns of a record spell, in a system with so many masters and ports, or the first fault that they
@@ -114,16 +138,25 @@ pub fn read_row(
     ensures value { result ≡ row_of masters ports line (fields_of columns.now) }
     ensures link { IfOk result (λ row. IsLinkOf masters ports row.sighting.link) }
 {
-    if columns.len() != COLUMNS {
-        return Err(RowFault::Columns);
+    match columns_of(columns) {
+        Some(columns) => read_columns(masters, ports, line, &columns),
+        None => Err(RowFault::Columns),
     }
-    let time = read_decimal(Column::Time.of(columns), u64::MAX)?;
-    let link = read_link(masters, ports, Column::Link.of(columns))?;
-    let channel = read_channel(Column::Channel.of(columns))?;
-    let (beat, known) = read_beat(channel, columns)?;
-    Ok(Row {
-        line,
-        time,
-        sighting: Sighting { link, beat, known },
-    })
+}
+
+/// The same of a line without quotes, between whose commas the columns stand.
+#[tactic(auto, unfolding(crate::specs::Row::row_of))]
+pub fn read_bare_row(
+    masters: usize,
+    ports: usize,
+    line: u64,
+    text: &[u8],
+) -> Result<Row, RowFault>
+    ensures value { result ≡ row_of masters ports line (parts_of text.now) }
+    ensures link { IfOk result (λ row. IsLinkOf masters ports row.sighting.link) }
+{
+    match cut_line(text) {
+        Some(columns) => read_columns(masters, ports, line, &columns),
+        None => Err(RowFault::Columns),
+    }
 }

@@ -1,5 +1,5 @@
 //! The judge of the rows of a file.
-ghost use Rattle.std.specs.Prelude.{◌≡◌, ◌+◌, ◌%◌, ◌^◌, ◌<◌, ◌↔◌, ℕ, true, List, [], ◌∷◌, ◌++◌, Err, IsOk, IfOk, OnOk, IfErr};
+ghost use Rattle.std.specs.Prelude.{◌≡◌, ◌+◌, ◌%◌, ◌^◌, ◌<◌, ◌↔◌, ℕ, true, false, List, [], ◌∷◌, ◌++◌, Err, IsOk, IfOk, OnOk, IfErr};
 ghost use Rattle.check_groups.specs.Plan.{Plan};
 ghost use Rattle.check_groups.specs.View.{Keeps};
 ghost use Rattle.check_capture.specs.Moment.{IsLink, IsMoment};
@@ -11,6 +11,7 @@ use crate::stop::{Counts, Refusal, Stop, stop_of};
 use crate::tally::Tally;
 use check_capture::{Moment, Row};
 use check_groups::Watch;
+use std::alloc::AllocError;
 
 /// The judge of the rows of a file, which it takes in the order in which they stand there.
 #[derive(Drop)]
@@ -107,6 +108,51 @@ impl Judge {
             }
             Ok(false) => self.go_on(row, text),
             Err(fault) => Err(Stop::Row(fault)),
+        }
+    }
+
+    /// Judges the row of the moment at hand, if it is alone and nothing is told of it, and goes on to the moment of this
+    /// row; answers whether it did. Nothing changes if it did not.
+    fn go_on_quietly(&mut self, row: &Row) -> Result<bool, AllocError>
+        requires link { IsLink row.now.sighting.link }
+        requires later { self.old.moment.time < row.now.time }
+        ensures trace { is_traced self.new ≡ is_traced self.old }
+        ensures told { (plan : Plan) (file : List Row) (so_far text : List ℕ) → HasTold plan file self.old so_far
+            → IfOk result (λ taken. taken ≡ true
+            → TellsOn plan (file ++ row.now ∷ []) self.new so_far text text) }
+        ensures left { IfOk result (λ taken. taken ≡ false → self.new ≡ self.old) }
+        ensures memory { (plan : Plan) (file : List Row) → Judges plan file self.old
+            → IfErr result (λ _. MayWantMemory (is_traced self.old) plan) }
+    {
+        if !self.tally.pass_rows(self.moment.rows())? {
+            return Ok(false);
+        }
+        self.moment.go_on(*row);
+        self.count_row();
+        Ok(true)
+    }
+
+    /// Takes the next row of the file, if that tells nothing, refuses nothing and judges one row at most; answers
+    /// whether it did. Nothing changes if it did not. It costs less than [`Judge::take`], which has room for a fault.
+    pub fn take_quietly(&mut self, row: &Row) -> Result<bool, AllocError>
+        requires { IsLink row.now.sighting.link }
+        ensures trace { is_traced self.new ≡ is_traced self.old }
+        ensures told { (plan : Plan) (file : List Row) (so_far text : List ℕ) → HasTold plan file self.old so_far
+            → IfOk result (λ taken. taken ≡ true
+            → TellsOn plan (file ++ row.now ∷ []) self.new so_far text text) }
+        ensures left { IfOk result (λ taken. taken ≡ false → self.new ≡ self.old) }
+        ensures memory { (plan : Plan) (file : List Row) → Judges plan file self.old
+            → IfErr result (λ _. MayWantMemory (is_traced self.old) plan) }
+    {
+        // asked for its clause that they are a moment
+        let _rows = self.moment.rows();
+        match self.moment.put(*row) {
+            Ok(true) => {
+                self.count_row();
+                Ok(true)
+            }
+            Ok(false) => self.go_on_quietly(row),
+            Err(_) => Ok(false),
         }
     }
 

@@ -1,5 +1,5 @@
 //! Beats judged in the order in which they cross, and what they end, counted.
-ghost use Rattle.std.specs.Prelude.{◌≡◌, ◌&&◌, false, true, List, ◌∷◌, ◌++◌, reverse, OnOk, IsOk, IfOk, IfErr};
+ghost use Rattle.std.specs.Prelude.{◌≡◌, ℕ, ◌&&◌, false, true, List, ◌∷◌, ◌++◌, reverse, OnOk, IsOk, IfOk, IfErr};
 ghost use Rattle.check_groups.specs.Plan.{Plan, HasLink, IsWatched};
 ghost use Rattle.check_crossbar.specs.Plan.{source_of};
 ghost use Rattle.check_groups.specs.Groups.{is_alone};
@@ -168,6 +168,45 @@ impl Tally {
             // it is judged again for its fault
             Ok(false) => self.tell_row(row, text),
             Err(AllocError) => Err(Refusal::Memory),
+        }
+    }
+
+    /// Takes the beat of a row behind those before it, if it is lawful or its link is not watched, and tells nothing:
+    /// whether it did.
+    fn pass_row(&mut self, row: &Row) -> Result<bool, AllocError>
+        ensures trace { self.new.trace ≡ self.old.trace }
+        ensures keeps { (plan : Plan) (before : List Row) → Kept plan before self.old
+            → IfOk result (λ passed. passed ≡ true → Kept plan (row.now ∷ before) self.new) }
+        ensures told { (plan : Plan) (before : List Row) (text : List ℕ) → Kept plan before self.old
+            → self.old.trace ≡ false → AppendsTold self.old.trace plan (seen plan.layout before)
+            (seen plan.layout (row.now ∷ before)) text text }
+        ensures refused { IfOk result (λ passed. passed ≡ false → self.new ≡ self.old) }
+        ensures memory { (plan : Plan) (before : List Row) → Kept plan before self.old
+            → IfErr result (λ _. MayWantMemory self.old.trace plan) }
+    {
+        if !self.watch.watches(row.sighting.link) {
+            return Ok(true);
+        }
+        self.take_row(row)
+    }
+
+    /// Takes the beats of rows that cross in this order behind those before them, if nothing is told of them, they are
+    /// lawful, and there is but one: whether it did. Nothing changes if it did not. It costs less than
+    /// [`Tally::judge_rows`], which has room for a fault.
+    pub fn pass_rows(&mut self, rows: &[Row]) -> Result<bool, AllocError>
+        ensures trace { self.new.trace ≡ self.old.trace }
+        ensures keeps { (plan : Plan) (before : List Row) → Kept plan before self.old
+            → IfOk result (λ passed. passed ≡ true → Kept plan (reverse rows.now ++ before) self.new) }
+        ensures told { (plan : Plan) (before : List Row) (text : List ℕ) → Kept plan before self.old
+            → IfOk result (λ passed. passed ≡ true → AppendsTold self.old.trace plan (seen plan.layout before)
+            (seen plan.layout (reverse rows.now ++ before)) text text) }
+        ensures refused { IfOk result (λ passed. passed ≡ false → self.new ≡ self.old) }
+        ensures memory { (plan : Plan) (before : List Row) → Kept plan before self.old
+            → IfErr result (λ _. MayWantMemory self.old.trace plan) }
+    {
+        match rows {
+            [row] if !self.trace => self.pass_row(row),
+            _ => Ok(false),
         }
     }
 

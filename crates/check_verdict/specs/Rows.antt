@@ -1,5 +1,6 @@
 -- One row of a capture after another, as a judge takes them. This project's own.
-use Rattle.std.specs.Prelude.{◌≡◌, ◌⊎◌, ℕ, List, [], ◌∷◌, ◌++◌, Option, Result, Ok, Err, ⊤, Bool, true, false, IfSome}
+use Rattle.std.specs.Prelude.{◌≡◌, ◌⊎◌, ℕ, List, [], ◌∷◌, ◌++◌, Option, None, Result, Ok, Err, ⊤, Bool, true, false, IfSome}
+use Rattle.check_capture.specs.Moment.{IsLink}
 use Rattle.check_capture.specs.Row.{row_of}
 use Rattle.check_capture.specs.declared.fault.RowFault.{RowFault}
 use Rattle.check_capture.specs.declared.row.Row.{Row}
@@ -9,11 +10,13 @@ use Rattle.check_judge.specs.View.{HasTold, Judges, TellsOn, is_traced}
 use Rattle.check_judge.specs.declared.judge.Judge.{Judge}
 use Rattle.check_judge.specs.declared.stop.Refusal.{Refusal}
 use Rattle.check_judge.specs.declared.stop.Refusal.TheVariants as refusal
+use Rattle.check_judge.specs.declared.stop.Stop.{Stop}
+use Rattle.check_judge.specs.declared.stop.Stop.TheVariants as stop
 use Rattle.check_judge.specs.declared.stop.Unlawful.{Unlawful}
 use Rattle.check_records.specs.Source.{Between, Left}
 use Rattle.check_records.specs.Text.{Ends, Gives, IsTooLong, Place, Reads}
 use Rattle.check_records.specs.Text.{Row as Record}
-use Rattle.check_records.specs.Reading.{StopsLong}
+use Rattle.check_records.specs.Reading.{Reading, StopsLong}
 use Rattle.check_groups.specs.Plan.{Plan}
 use Rattle.check_verdict.specs.declared.fault.CaptureFault.{CaptureFault}
 use Rattle.check_verdict.specs.declared.fault.CaptureFault.TheVariants as fault
@@ -22,6 +25,8 @@ use Rattle.check_verdict.specs.declared.fault.Verdict.{Verdict}
 use Rattle.check_verdict.specs.declared.fault.Verdict.TheVariants.{Lawful, Unlawful as NotLawful}
 use Rattle.check_verdict.specs.declared.rows.Halt.{Halt}
 use Rattle.check_verdict.specs.declared.rows.Halt.TheVariants as halt
+use Rattle.check_verdict.specs.declared.rows.Next.{Next}
+use Rattle.check_verdict.specs.declared.rows.Next.TheVariants as next
 use Rattle.check_verdict.specs.declared.rows.Sizes.{Sizes}
 
 -- a record spells a row
@@ -135,6 +140,28 @@ StopsAt sizes judge text grown old new (halt.Fault (fault.Header line)) = ⊥
 StopsAt sizes judge text grown old new (halt.Fault fault.Read) = grown ≡ text
 StopsAt sizes judge text grown old new (halt.Fault fault.Memory) = ⊤
 StopsAt sizes judge text grown old new (halt.Fault fault.Write) = ⊥
+
+-- what becomes of the next row, which this record spells, while nothing is told and no row is refused: the judge took it,
+-- it is left, there is none, or it stops the judge
+abbrev pub IsNext : Sizes → Judge → Judge → Left → Left → Record → Next → Type 0
+IsNext sizes old new from to r next.Taken =
+    Between from to (λ a b. Gives a r b) × ((row : Row) × Spells sizes r row × ((text : List ℕ) → Took old row new text text))
+IsNext sizes old new from to r (next.Left row) = Between from to (λ a b. Gives a r b) × Spells sizes r row × (new ≡ old)
+IsNext sizes old new from to r next.End = Between from to Ends × (new ≡ old)
+IsNext sizes old new from to r (next.Fault why) = (text : List ℕ) → StopsAt sizes old text text from to (halt.Fault why)
+
+-- the reader goes on behind a row that is no fault, and a row that is left is of a link that a system can have
+abbrev pub GoesOn : Reading → Next → Type 0
+GoesOn records next.Taken = records.fault ≡ None
+GoesOn records (next.Left row) = (records.fault ≡ None) × IsLink row.sighting.link
+GoesOn records next.End = ⊤
+GoesOn records (next.Fault why) = ⊤
+
+-- why the judge stops at a row on this line
+abbrev pub halt_of : ℕ → Stop → Halt
+halt_of line (stop.Row why) = halt.Fault (fault.Row line why)
+halt_of line (stop.Beat found) = halt.Unlawful found
+halt_of line stop.Memory = halt.Fault fault.Memory
 
 -- a judge of no rows took these, from one place to another; what it told was written, but for this text
 pub record TookRows (sizes : Sizes) (first now : Judge) (old new : Option (List ℕ)) (text : List ℕ)

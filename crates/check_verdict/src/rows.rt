@@ -1,14 +1,17 @@
 //! The rows of a capture, one after the other.
 ghost use Rattle.std.specs.Prelude.{◌≡◌, ◌≤◌, [], None, OnOk, IfOk, IfErr};
 ghost use Rattle.check_records.specs.Source.{Between};
-ghost use Rattle.check_verdict.specs.Rows.{AllTaken, IsJudged, StopsAt, TakesNext, answer_of, refused};
+ghost use Rattle.check_capture.specs.Moment.{IsLink};
+ghost use Rattle.check_capture.specs.Row.{row_of};
+ghost use Rattle.check_verdict.specs.Rows.{AllTaken, GoesOn, IsJudged, IsNext, answer_of, halt_of, refused};
 
 use crate::fault::{CaptureFault, Verdict};
 use crate::out::write_long;
-use check_capture::read_row;
+use check_capture::{Row, RowFault, read_bare_row, read_row};
 use check_judge::{Judge, Refusal, Stop, Unlawful};
 use check_map::{MAX_MASTERS, MAX_PORTS};
 use check_records::Records;
+use std::alloc::AllocError;
 use std::io::{Read, Write};
 use tl_streams::LimitedWriter;
 
@@ -26,37 +29,64 @@ pub enum Halt {
     Fault(CaptureFault),
 }
 
-/// Takes the next row, if there is one, and appends what is told by then.
-fn take_row<R: Read + Drop>(
-    records: &mut Records<R>,
-    judge: &mut Judge,
-    sizes: Sizes,
-    text: &mut Vec<u8>,
-) -> Result<bool, Halt>
+/// What becomes of the next row, while nothing is told and no row is refused.
+#[derive(Debug, Clone, Copy)]
+enum Next {
+    Taken,
+    /// It is read, and is still to be taken.
+    Left(Row),
+    /// There is none.
+    End,
+    /// It is not read, or no row, or there was no memory for it.
+    Fault(CaptureFault),
+}
+
+/// The row that the record spells that was read last.
+fn row_at_hand<R: Read + Drop>(records: &Records<R>, sizes: Sizes) -> Result<Row, RowFault>
+    requires masters { sizes.masters ≤ MAX_MASTERS }
+    requires ports { sizes.ports ≤ MAX_PORTS }
+    ensures value { result ≡ row_of sizes.masters sizes.ports records.now.row.line records.now.row.fields }
+    ensures link { IfOk result (λ row. IsLink row.sighting.link) }
+{
+    let line = records.line();
+    match records.bare() {
+        Some(text) => read_bare_row(sizes.masters, sizes.ports, line, text),
+        None => read_row(sizes.masters, sizes.ports, line, records.columns()),
+    }
+}
+
+/// Reads the next row, and takes it if that tells nothing and no row is refused.
+fn take_next<R: Read + Drop>(records: &mut Records<R>, judge: &mut Judge, sizes: Sizes) -> Next
     requires fresh { records.old.fault ≡ None }
     requires masters { sizes.masters ≤ MAX_MASTERS }
     requires ports { sizes.ports ≤ MAX_PORTS }
-    ensures ok { IfOk result (λ taken. Between records.old.left records.new.left
-        (TakesNext sizes judge.old judge.new text.old.items text.new.items taken)) }
-    ensures goes_on { OnOk result (records.new.fault ≡ None) }
-    ensures halt { IfErr result (StopsAt sizes judge.old text.old.items text.new.items
-        records.old.left records.new.left) }
+    ensures next { IsNext sizes judge.old judge.new records.old.left records.new.left records.new.row result }
+    ensures goes_on { GoesOn records.new result }
 {
-    match records.read() {
+    match records.read_in_place() {
         Ok(true) => {}
-        Ok(false) => return Ok(false),
-        Err(fault) => return Err(Halt::Fault(CaptureFault::from(fault))),
+        Ok(false) => return Next::End,
+        Err(fault) => return Next::Fault(CaptureFault::from(fault)),
     }
-    let line = records.line();
-    let row = match read_row(sizes.masters, sizes.ports, line, records.columns()) {
+    let row = match row_at_hand(records, sizes) {
         Ok(row) => row,
-        Err(fault) => return Err(Halt::Fault(CaptureFault::Row(line, fault))),
+        Err(fault) => return Next::Fault(CaptureFault::Row(records.line(), fault)),
     };
-    match judge.take(row, text) {
-        Ok(()) => Ok(true),
-        Err(Stop::Row(fault)) => Err(Halt::Fault(CaptureFault::Row(line, fault))),
-        Err(Stop::Beat(found)) => Err(Halt::Unlawful(found)),
-        Err(Stop::Memory) => Err(Halt::Fault(CaptureFault::Memory)),
+    match judge.take_quietly(&row) {
+        Ok(true) => Next::Taken,
+        Ok(false) => Next::Left(row),
+        Err(AllocError) => Next::Fault(CaptureFault::Memory),
+    }
+}
+
+/// Why a row on this line stops the judge.
+fn halt_of(line: u64, stop: Stop) -> Halt
+    ensures { result ≡ halt_of line stop }
+{
+    match stop {
+        Stop::Row(fault) => Halt::Fault(CaptureFault::Row(line, fault)),
+        Stop::Beat(found) => Halt::Unlawful(found),
+        Stop::Memory => Halt::Fault(CaptureFault::Memory),
     }
 }
 
@@ -81,13 +111,18 @@ fn take_rows<R: Read + Drop, W: Write>(
         records.old.left (answer_of halt)) }
 {
     for _ in 0..u64::MAX {
-        match take_row(records, judge, sizes, text) {
-            Ok(true) => {}
-            Ok(false) => return Ok(()),
-            Err(halt) => return Err(halt),
-        }
-        if let Err(fault) = write_long(writer, text) {
-            return Err(Halt::Fault(fault));
+        match take_next(records, judge, sizes) {
+            Next::Taken => {}
+            Next::End => return Ok(()),
+            Next::Fault(fault) => return Err(Halt::Fault(fault)),
+            Next::Left(row) => {
+                if let Err(stop) = judge.take(row, text) {
+                    return Err(halt_of(records.line(), stop));
+                }
+                if let Err(fault) = write_long(writer, text) {
+                    return Err(Halt::Fault(fault));
+                }
+            }
         }
     }
     Err(Halt::Fault(CaptureFault::Read))
