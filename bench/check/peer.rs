@@ -12,6 +12,7 @@ mod given;
 #[path = "../serial/peer.rs"]
 #[allow(dead_code)]
 mod plain;
+#[cfg_attr(expert, path = "expert.rs")]
 mod rows;
 
 use given::{Given, MAX_BYTES};

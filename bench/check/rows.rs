@@ -307,3 +307,36 @@ impl<R: Read> Records<R> {
         }
     }
 }
+
+/// What a reader of whole lines asks for (expert.rs).
+#[allow(dead_code)]
+impl<R: Read> Records<R> {
+    pub fn chunk(&self) -> &[u8] {
+        &self.chunk
+    }
+
+    /// The bytes that were read and not taken, and where they begin.
+    pub fn at_hand(&self) -> (usize, &[u8]) {
+        (self.next, &self.chunk[self.next..self.filled])
+    }
+
+    /// Takes the ends of lines at hand.
+    pub fn skip_line_ends(&mut self) {
+        while self.next < self.filled && matches!(self.chunk[self.next], b'\n' | b'\r') {
+            self.feeds += u64::from(self.chunk[self.next] == b'\n');
+            self.next += 1;
+        }
+    }
+
+    /// Takes a line of so many bytes, and the byte that ends it.
+    pub fn take_line(&mut self, length: usize) {
+        self.line = 1 + self.feeds;
+        self.next += length + 1;
+        self.feeds += u64::from(self.chunk[self.next - 1] == b'\n');
+    }
+
+    pub fn row_of_line(&self, line: &[u8], masters: usize, ports: usize) -> Spelled<Row> {
+        let columns: Vec<&[u8]> = line.split(|byte| *byte == b',').collect();
+        row_of(columns.len(), |place| columns[place], self.line, masters, ports)
+    }
+}

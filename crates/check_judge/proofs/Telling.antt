@@ -146,6 +146,16 @@ tells_no_row trace plan before row text watched =
     (sym (seen_other plan.layout row before watched))
     (tells_nothing trace plan (seen plan.layout before) text)
 
+-- the same, whether its link is watched or not
+pub tells_none : (plan : Plan) (before : List Row) (row : Row) (text : List ℕ)
+    → AppendsTold false plan (seen plan.layout before) (seen plan.layout (row ∷ before)) text text
+tells_none plan before row text = go (is_watched plan.layout row.sighting.link) refl
+  where
+    go : (watched : Bool) → is_watched plan.layout row.sighting.link ≡ watched
+        → AppendsTold false plan (seen plan.layout before) (seen plan.layout (row ∷ before)) text text
+    go true is = tells_quietly plan before row text is
+    go false is = tells_no_row false plan before row text is
+
 -- ---- one text is told
 
 one_line : (owners : List Owner) → AreLawfulOwners owners → (link : Link) (source : ℕ) (entry : Entry)

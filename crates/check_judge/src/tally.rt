@@ -177,17 +177,15 @@ impl Tally {
         ensures trace { self.new.trace ≡ self.old.trace }
         ensures keeps { (plan : Plan) (before : List Row) → Kept plan before self.old
             → IfOk result (λ passed. passed ≡ true → Kept plan (row.now ∷ before) self.new) }
-        ensures told { (plan : Plan) (before : List Row) (text : List ℕ) → Kept plan before self.old
-            → self.old.trace ≡ false → AppendsTold self.old.trace plan (seen plan.layout before)
-            (seen plan.layout (row.now ∷ before)) text text }
         ensures refused { IfOk result (λ passed. passed ≡ false → self.new ≡ self.old) }
         ensures memory { (plan : Plan) (before : List Row) → Kept plan before self.old
             → IfErr result (λ _. MayWantMemory self.old.trace plan) }
     {
-        if !self.watch.watches(row.sighting.link) {
-            return Ok(true);
+        if self.watch.watches(row.sighting.link) {
+            self.take_row(row)
+        } else {
+            Ok(true)
         }
-        self.take_row(row)
     }
 
     /// Takes the beats of rows that cross in this order behind those before them, if nothing is told of them, they are

@@ -158,8 +158,8 @@ impl<R: Read + Drop> Records<R> {
             return Err(fault);
         }
         let answer = read_in_place(&mut self.source, &mut self.draft, &mut self.is_bare);
-        if let Err(fault) = answer {
-            self.fault = Some(fault);
+        if let Err(why) = answer {
+            self.fault = Some(why);
         }
         answer
     }

@@ -1,23 +1,30 @@
 -- One row after another, and what they come to.
+use Rattle.std.proofs.KnownBytes.{Appends-nil}
 use Rattle.std.proofs.Common.{◌≡◌, ◌∙◌, ℕ, inl, inr, true, false, List, [], ◌∷◌, ◌++◌, Option, Some, None, Err, IfSome, refl, sym, subst}
 use Rattle.check_capture.specs.declared.row.Row.{Row}
 use Rattle.check_capture.specs.Row.{row_of}
 use Rattle.check_capture.specs.declared.fault.RowFault.{RowFault}
 use Rattle.check_judge.specs.Order.{HasRowFault, IsLater}
-use Rattle.check_judge.specs.Verdict.{IsFirstUnlawful, IsToldBefore, IsToldEarlier, IsToldPart}
-use Rattle.check_judge.specs.View.{HasTold, Judges, is_traced}
+use Rattle.check_judge.specs.Verdict.{IsFirstUnlawful, IsStop, IsToldBefore, IsToldEarlier, IsToldPart}
+use Rattle.check_judge.specs.View.{HasTold, Judges, TellsStop, is_traced}
 use Rattle.check_judge.specs.declared.judge.Judge.{Judge}
+use Rattle.check_judge.specs.declared.stop.Stop.{Stop}
+use Rattle.check_judge.specs.declared.stop.Stop.TheVariants as stop
 use Rattle.check_judge.specs.declared.stop.Unlawful.{Unlawful}
 use Rattle.check_judge.proofs.Judging.{told_earlier, told_none}
+use Rattle.check_records.specs.Reading.{StopsLong}
 use Rattle.check_records.specs.Source.{Between, Left}
 use Rattle.check_records.specs.Text.{Gives, IsTooLong, Place, Reads}
 use Rattle.check_records.specs.Text.{Row as Record}
+use Rattle.check_records.specs.declared.fault.RecordFault.{RecordFault}
+use Rattle.check_records.specs.declared.fault.RecordFault.TheVariants as record_fault
 use Rattle.check_records.proofs.Chain.{reads-more}
 use Rattle.check_records.proofs.KnownLemmas.{between-trans}
 use Rattle.tl_streams.specs.Streams.{AppendsPart}
 use Rattle.check_groups.specs.Plan.{Plan}
+use Rattle.check_verdict.specs.Fault.{of_record}
 use Rattle.check_verdict.specs.Out.{Moves, WritesFront}
-use Rattle.check_verdict.specs.Rows.{AllTaken, GivesRow, HasNoRow, HasRows, IsJudged, IsJudgedAt, IsUnlawfulBefore, SpellAll, Spells, StopsAt, TakesNext, TellsBefore, Took, TookRows, answer_of}
+use Rattle.check_verdict.specs.Rows.{AllTaken, GivesRow, HasNoRow, HasRows, IsJudged, IsJudgedAt, IsUnlawfulBefore, SpellAll, Spells, StopsAt, TakesNext, TellsBefore, Took, TookRows, answer_of, halt_of}
 use Rattle.check_verdict.specs.declared.fault.CaptureFault.TheVariants as fault
 use Rattle.check_verdict.specs.declared.rows.Halt.{Halt}
 use Rattle.check_verdict.specs.declared.rows.Halt.TheVariants as halt
@@ -136,6 +143,15 @@ module _ (sizes : Sizes) (r : Record) (row : Row) (spells : Spells sizes r row) 
         is.1,
       )) gives
 
+  -- the judge refuses it
+  pub row_stops : (judge : Judge) (text grown : List ℕ) (why : Stop)
+      → ((plan : Plan) (rows : List Row) (so_far : List ℕ) → HasTold plan rows judge so_far
+      → IsStop plan rows row why × TellsStop (is_traced judge) plan rows so_far text grown why)
+      → StopsAt sizes judge text grown a b (halt_of r.line why)
+  row_stops judge text grown (stop.Row kind) stops = row_refused judge text grown kind stops
+  row_stops judge text grown (stop.Beat found) stops = row_unlawful judge text grown found stops
+  row_stops judge text grown stop.Memory stops = tt
+
 -- a record that spells no row
 pub no_row : (sizes : Sizes) (r : Record) (why : RowFault) (a b : Left) (judge : Judge) (text : List ℕ)
     → Between a b (λ from to. Gives from r to)
@@ -146,6 +162,14 @@ no_row sizes r why a b judge text gives is =
     (λ from to. (plan : Plan) (rows : List Row) (so_far : List ℕ) → HasTold plan rows judge so_far
     → HasNoRow sizes rows r.line why from to × (text ≡ text))
     (λ x y g plan rows so_far has. (record { next = r; gives = g; on_line = refl; no_row = inl is }, refl)) gives
+
+-- a record that is not read
+pub read_stops : (sizes : Sizes) (judge : Judge) (text : List ℕ) (a b : Left) (why : RecordFault)
+    → ((line : ℕ) → why ≡ record_fault.TooLong line → StopsLong a line)
+    → StopsAt sizes judge text text a b (halt.Fault (of_record why))
+read_stops sizes judge text a b (record_fault.TooLong line) long = (long line refl, refl)
+read_stops sizes judge text a b record_fault.Read long = refl
+read_stops sizes judge text a b record_fault.Memory long = tt
 
 -- ---- the loop
 
@@ -177,6 +201,14 @@ module _ (sizes : Sizes) (first : Judge) (old : Option (List ℕ)) where
             (HasTold plan (took.rows ++ more.0 ∷ []) next) on.more grown on.grown on.told)
             new left moves;
       }) so_far one
+
+  -- a row more, of which nothing is told
+  pub took_quietly : (now next : Judge) (mid : Option (List ℕ)) (text : List ℕ) (a b c : Left) (r : Record) (row : Row)
+      → Between a b (TookRows sizes first now old mid text) → Between b c (λ from to. Gives from r to)
+      → Spells sizes r row → Took now row next text text → Between a c (TookRows sizes first next old mid text)
+  took_quietly now next mid text a b c r row so_far gives spells took =
+      took_more now next mid mid text text text a b c so_far (row_taken sizes r row spells b c gives now next text text took)
+      (record { front = []; is = refl; written = Appends-nil mid })
 
   pub took_all : (now next : Judge) (mid : Option (List ℕ)) (text grown : List ℕ) (a b c : Left)
       → Between a b (TookRows sizes first now old mid text)

@@ -82,6 +82,41 @@ where
     Ok(text)
 }
 
+/// Writes a line without quotes as a record behind a text: its number, and what stands between its commas.
+fn push_line(rt: &impl Abort, alloc: Global, text: &mut String, number: u64, line: &[u8]) {
+    let number = format!(in alloc; "{number}:").expect(rt, "memory");
+    text.push_str(number.as_str()).expect(rt, "memory");
+    for part in line.split(|byte| *byte == b',') {
+        text.push('|').expect(rt, "memory");
+        text.push_str(str::from_utf8(part).unwrap_or("?"))
+            .expect(rt, "memory");
+    }
+    text.push('\n').expect(rt, "memory");
+}
+
+/// The records of a text, each left in place where that can be.
+fn listed_in_place<R: Read>(
+    rt: &impl Abort,
+    alloc: Global,
+    reader: R,
+) -> Result<String, RecordFault>
+where
+    R: Drop,
+{
+    let mut text = String::new(alloc);
+    let mut records = Records::new(alloc, reader)?;
+    for _ in 0..1000 {
+        if !records.read_in_place()? {
+            return Ok(text);
+        }
+        match records.bare() {
+            Some(line) => push_line(rt, alloc, &mut text, records.line(), line),
+            None => push_record(rt, alloc, &mut text, &records),
+        }
+    }
+    Ok(text)
+}
+
 /// Texts, and their records as `listed` writes them.
 const TEXTS: [(&[u8], &str); 22] = [
     (b"", ""),
@@ -116,7 +151,11 @@ fn has_records(rt: &impl Abort, alloc: Global, text: &[u8], records: &str) {
     for step in 1..text.len() {
         let partwise = listed(rt, alloc, reader_of(text, step, 0, 0)).expect(rt, "in parts");
         assert_eq!(rt; partwise.as_str(), records);
+        let in_place = listed_in_place(rt, alloc, reader_of(text, step, 0, 0));
+        assert_eq!(rt; in_place.expect(rt, "in place").as_str(), records);
     }
+    let in_place = listed_in_place(rt, alloc, text).expect(rt, "a text in memory");
+    assert_eq!(rt; in_place.as_str(), records);
     let bitwise = listed(rt, alloc, reader_of(text, 1, 2, 0)).expect(rt, "byte by byte");
     assert_eq!(rt; bitwise.as_str(), records);
 }
@@ -193,6 +232,25 @@ fn comma_text(rt: &impl Abort, alloc: Global, count: usize) -> Vec<u8> {
     }
     text.push(b'\n').expect(rt, "memory");
     text
+}
+
+/// The record on line 3 has so many bytes, and is left in place.
+fn is_left(rt: &impl Abort, alloc: Global, text: &[u8], size: usize) {
+    let mut records = behind_the_first(rt, alloc, text);
+    assert!(rt; records.read_in_place() == Ok(true));
+    assert_eq!(rt; records.line(), 3);
+    assert_eq!(rt; records.bare().map(<[u8]>::len), Some(size));
+    assert!(rt; records.read_in_place() == Ok(false));
+}
+
+#[test]
+fn lines_of_4096_bytes_are_left_in_place(rt: HostRuntime) {
+    let text = long_text(&rt, rt.alloc(), false, 4096);
+    is_left(&rt, rt.alloc(), &text, 4096);
+    let longer = long_text(&rt, rt.alloc(), false, 4097);
+    let mut records = behind_the_first(&rt, rt.alloc(), &longer);
+    assert!(&rt; records.read_in_place() == Err(RecordFault::TooLong(3)));
+    assert!(&rt; records.read() == Err(RecordFault::TooLong(3)));
 }
 
 #[test]

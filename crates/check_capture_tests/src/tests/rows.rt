@@ -1,7 +1,7 @@
 //! Rows as the format's page spells them: the values are worked out by hand.
 ghost use Rattle.std.specs.Prelude.{◌≡◌};
 
-use check_capture::{Moment, Row, RowFault, read_row};
+use check_capture::{Moment, Row, RowFault, read_bare_row, read_row};
 use check_link::{Beat, Link, Sighting};
 use check_map::{MAX_MASTERS, MAX_PORTS};
 use csv::ByteRecord;
@@ -15,7 +15,9 @@ fn read(rt: &impl Abort, alloc: Global, line: &str) -> Result<Row, RowFault> {
     for word in line.split(',') {
         columns.push_field(word.as_bytes()).expect(rt, "memory");
     }
-    read_row(2, 3, 7, &columns)
+    let row = read_row(2, 3, 7, &columns);
+    assert!(rt; read_bare_row(2, 3, 7, line.as_bytes()) == row, "{line}");
+    row
 }
 
 /// A line, with the row that it spells: time, link, beat and the lanes that are known.

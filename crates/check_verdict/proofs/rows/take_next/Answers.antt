@@ -1,0 +1,51 @@
+-- The next row, and what becomes of it.
+use Rattle.std.proofs.Common.{◌≡◌, refl, sym, ap}
+use Rattle.check_records.specs.Source.{Between}
+use Rattle.check_records.specs.Text.{Ends, Gives}
+use Rattle.check_verdict.specs.Rows.{Spells}
+use Rattle.check_verdict.proofs.Taking.{no_row, read_stops}
+use Rattle.check_verdict.proofs.rows.take_next.Goals as goal
+
+pub returns-in-Ok-false-clause-next : goal.returns-in-Ok-false-clause-next
+returns-in-Ok-false-clause-next g c = (rw c.in-Ok-false.field-0-test at c.in-Ok-false.ensures.ok, refl)
+
+pub returns-in-Err-clause-next : goal.returns-in-Err-clause-next
+returns-in-Err-clause-next g c = λ text. ?
+
+pub returns-in-Err-row_at_hand-clause-next : goal.returns-in-Err-row_at_hand-clause-next
+returns-in-Err-row_at_hand-clause-next g c = λ text.
+    let r = c.read_in_place.new.self.row in
+    let old = c.args.records.now.left in
+    let new = c.read_in_place.new.self.left in
+    let gives : Between old new (λ from to. Gives from r to) =
+    rw c.in-Ok-true.field-0-test at c.in-Ok-true.ensures.ok in
+    rw c.line.ensures
+    (no_row c.args.sizes r c.in-Err-row_at_hand.fault old new c.args.judge.now text gives
+    (sym c.in-Err-row_at_hand.ensures.value))
+
+pub returns-in-Ok-true-take_quietly-clause-next : goal.returns-in-Ok-true-take_quietly-clause-next
+returns-in-Ok-true-take_quietly-clause-next g c =
+    let r = c.read_in_place.new.self.row in
+    let old = c.args.records.now.left in
+    let new = c.read_in_place.new.self.left in
+    let gives : Between old new (λ from to. Gives from r to) =
+    rw c.in-Ok-true.field-0-test at c.in-Ok-true.ensures.ok in
+    let spells : Spells c.args.sizes r c.in-Ok.row = sym c.in-Ok.ensures.value in (
+      gives,
+      c.in-Ok.row,
+      spells,
+      λ text. record {
+        traced = c.in-Ok-true-take_quietly.ensures.trace;
+        tells = λ plan rows so_far has.
+            c.in-Ok-true-take_quietly.ensures.told plan rows so_far text has c.in-Ok-true-take_quietly.field-0-test;
+      },
+    )
+
+pub returns-in-Ok-false-take_quietly-clause-next : goal.returns-in-Ok-false-take_quietly-clause-next
+returns-in-Ok-false-take_quietly-clause-next g c =
+    let r = c.read_in_place.new.self.row in
+    let old = c.args.records.now.left in
+    let new = c.read_in_place.new.self.left in
+    let gives : Between old new (λ from to. Gives from r to) =
+    rw c.in-Ok-true.field-0-test at c.in-Ok-true.ensures.ok in
+    (gives, sym c.in-Ok.ensures.value, c.in-Ok-false-take_quietly.ensures.left c.in-Ok-false-take_quietly.field-0-test)
