@@ -18,3 +18,17 @@ returns-in-Ok-true-clause-told c plan file so_far text has = λ _.
       moment = c.count_row.ensures.moment;
       rows = c.count_row.ensures.rows;
     })
+
+pub returns-in-Ok-false-clause-told : goal.returns-in-Ok-false-clause-told
+returns-in-Ok-false-clause-told c plan file so_far text has =
+    let old = c.args.self.now in
+    let puts = rw c.in-Ok-false.field-0-test at c.in-Ok-false.ensures.ok in
+    let P : Moment → Type 0 = λ m. HasTold plan file (record old { moment = m }) so_far in
+    c.go_on_quietly.ensures.told plan file so_far text (subst P (sym puts.1) has)
+
+pub returns-in-Ok-false-clause-memory : goal.returns-in-Ok-false-clause-memory
+returns-in-Ok-false-clause-memory c plan file judges =
+    let old = c.args.self.now in
+    let puts = rw c.in-Ok-false.field-0-test at c.in-Ok-false.ensures.ok in
+    let P : Moment → Type 0 = λ m. Judges plan file (record old { moment = m }) in
+    c.go_on_quietly.ensures.memory plan file (subst P (sym puts.1) judges)
