@@ -1,7 +1,7 @@
 -- The next row, and what becomes of it.
-use Rattle.std.proofs.Common.{◌≡◌, refl, sym, ap}
+use Rattle.std.proofs.Common.{Err, refl, sym, ap}
 use Rattle.check_records.specs.Source.{Between}
-use Rattle.check_records.specs.Text.{Ends, Gives}
+use Rattle.check_records.specs.Text.{Gives}
 use Rattle.check_verdict.specs.Rows.{Spells}
 use Rattle.check_verdict.proofs.Taking.{no_row, read_stops}
 use Rattle.check_verdict.proofs.rows.take_next.Goals as goal
@@ -10,7 +10,9 @@ pub returns-in-Ok-false-clause-next : goal.returns-in-Ok-false-clause-next
 returns-in-Ok-false-clause-next g c = (rw c.in-Ok-false.field-0-test at c.in-Ok-false.ensures.ok, refl)
 
 pub returns-in-Err-clause-next : goal.returns-in-Err-clause-next
-returns-in-Err-clause-next g c = λ text. ?
+returns-in-Err-clause-next g c = λ text.
+    rw c.from.ensures (read_stops c.args.sizes c.args.judge.now text c.args.records.now.left c.read_in_place.new.self.left c.in-Err.fault
+    (λ line is. c.in-Err.ensures.long line (ap Err is) c.requires.fresh))
 
 pub returns-in-Err-row_at_hand-clause-next : goal.returns-in-Err-row_at_hand-clause-next
 returns-in-Err-row_at_hand-clause-next g c = λ text.
@@ -32,13 +34,15 @@ returns-in-Ok-true-take_quietly-clause-next g c =
     rw c.in-Ok-true.field-0-test at c.in-Ok-true.ensures.ok in
     let spells : Spells c.args.sizes r c.in-Ok.row = sym c.in-Ok.ensures.value in (
       gives,
-      c.in-Ok.row,
-      spells,
-      λ text. record {
-        traced = c.in-Ok-true-take_quietly.ensures.trace;
-        tells = λ plan rows so_far has.
-            c.in-Ok-true-take_quietly.ensures.told plan rows so_far text has c.in-Ok-true-take_quietly.field-0-test;
-      },
+      (
+        c.in-Ok.row,
+        spells,
+        λ text. record {
+          traced = c.in-Ok-true-take_quietly.ensures.trace;
+          tells = λ plan rows so_far has.
+              c.in-Ok-true-take_quietly.ensures.told plan rows so_far text has c.in-Ok-true-take_quietly.field-0-test;
+        },
+      ),
     )
 
 pub returns-in-Ok-false-take_quietly-clause-next : goal.returns-in-Ok-false-take_quietly-clause-next

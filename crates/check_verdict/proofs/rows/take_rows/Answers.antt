@@ -1,8 +1,10 @@
 use Rattle.std.proofs.Common.{◌≡◌, ◌∙◌, List, ℕ, refl, sym, subst}
 use Rattle.check_records.specs.Source.{Between}
 use Rattle.check_judge.specs.declared.judge.Judge.{Judge}
-use Rattle.check_verdict.specs.Rows.{StopsAt, TookRows}
-use Rattle.check_verdict.proofs.Taking.{fails, halts, read_fails, row_stops, row_taken, took_all, took_more, took_none, took_quietly}
+use Rattle.check_verdict.specs.Rows.{StopsAt, Took, TookRows, halt_of}
+use Rattle.check_verdict.proofs.Taking.{fails, halts, read_fails, row_stops, row_taken, took_more, took_none, took_quietly}
+use Rattle.check_verdict.specs.declared.rows.Halt.TheVariants as halt
+use Rattle.check_verdict.proofs.rows.take_rows.Goals.{in-Taken, in-Left+in_default+in_default-write_long}
 use Rattle.check_verdict.proofs.rows.take_rows.Goals as goal
 
 pub loop-init : goal.loop-init
@@ -23,3 +25,87 @@ returns-clause-halt g c =
     read_fails c.args.sizes c.args.judge.now (contents c.args.writer.now.writer.now) c.loop.judge
     (contents c.loop.writer.writer.now)
     c.loop.text.items c.loop.text.items c.args.records.now.left c.loop.records.left c.loop.invariant.taken refl
+
+pub returns-in-Fault-clause-halt : goal.returns-in-Fault-clause-halt
+returns-in-Fault-clause-halt g c =
+    let contents = g.W.Write.contents in
+    let text = c.loop.text.items in
+    halts c.args.sizes c.args.judge.now (contents c.args.writer.now.writer.now) c.loop.judge
+    (contents c.loop.writer.writer.now)
+    text text c.args.records.now.left c.loop.records.left c.take_next.new.records.left (halt.Fault c.in-Fault.fault)
+    c.loop.invariant.taken (c.in-Fault.ensures.next text)
+
+pub returns-in-Err-clause-halt : goal.returns-in-Err-clause-halt
+returns-in-Err-clause-halt g c =
+    let contents = g.W.Write.contents in
+    let r = c.take_next.new.records.row in
+    let at = c.loop.records.left in
+    let to = c.take_next.new.records.left in
+    let text = c.loop.text.items in
+    let grown = c.take.new.text.items in
+    let next = c.in-Left.ensures.next in
+    let S : Judge → Type 0 = λ judge. StopsAt c.args.sizes judge text grown at to (halt_of r.line c.in-Err.stop) in
+    rw (c.halt_of.ensures, c.line.ensures)
+    (halts c.args.sizes c.args.judge.now (contents c.args.writer.now.writer.now) c.loop.judge
+    (contents c.loop.writer.writer.now)
+    text grown c.args.records.now.left at to (halt_of r.line c.in-Err.stop) c.loop.invariant.taken
+    (subst S next.2 (row_stops c.args.sizes r c.in-Left.row next.1 at to next.0 c.take_next.new.judge text grown c.in-Err.stop
+    (λ plan rows so_far has. (
+      c.in-Err.ensures.stop plan rows has.judges,
+      c.in-Err.ensures.stop_told plan rows so_far has,
+    )))))
+
+pub returns-in-Err-write_long-clause-halt : goal.returns-in-Err-write_long-clause-halt
+returns-in-Err-write_long-clause-halt g c =
+    let contents = g.W.Write.contents in
+    let r = c.take_next.new.records.row in
+    let at = c.loop.records.left in
+    let to = c.take_next.new.records.left in
+    let text = c.loop.text.items in
+    let grown = c.take.new.text.items in
+    let next = c.in-Left.ensures.next in
+    let T : Judge → Type 0 = λ judge. Took judge c.in-Left.row c.take.new.self text grown in
+    rw c.in-Err-write_long.ensures.fault
+    (fails c.args.sizes c.args.judge.now (contents c.args.writer.now.writer.now) c.loop.judge c.take.new.self
+    (contents c.loop.writer.writer.now) (contents c.write_long.new.writer.writer.now)
+    text grown c.write_long.new.text.items c.args.records.now.left at to c.loop.invariant.taken
+    (row_taken c.args.sizes r c.in-Left.row next.1 at to next.0 c.loop.judge c.take.new.self text grown
+    (subst T next.2 (record {
+      traced = c.in_default.ensures.trace;
+      tells = λ plan rows so_far has. c.in_default.ensures.told plan rows so_far has;
+    }))) c.in-Err-write_long.ensures.front)
+
+pub loop-preserved : goal.loop-preserved
+loop-preserved g c =
+    let contents = g.W.Write.contents in
+    let r = c.take_next.new.records.row in
+    let at = c.loop.records.left in
+    let to = c.take_next.new.records.left in
+    let text = c.loop.text.items in
+    elim c.match-take_next.branch [
+      in-Taken w ↦
+          let next = w.in-Taken.ensures.next in
+          rw (w.judge-is, w.writer-is, w.text-is) (record {
+            fresh = w.in-Taken.ensures.goes_on;
+            same = c.loop.invariant.same;
+            taken = took_quietly c.args.sizes c.args.judge.now (contents c.args.writer.now.writer.now) c.loop.judge c.take_next.new.judge
+                (contents c.loop.writer.writer.now) text c.args.records.now.left at to r next.1.0 c.loop.invariant.taken next.0 next.1.1
+                (next.1.2 text);
+          })
+    | in-Left+in_default+in_default-write_long w ↦
+          let next = w.in-Left.ensures.next in
+          let grown = w.take.new.text.items in
+          let T : Judge → Type 0 = λ judge. Took judge w.in-Left.row w.take.new.self text grown in
+          rw (w.judge-is, w.writer-is, w.text-is) (record {
+            fresh = w.in-Left.ensures.goes_on.0;
+            same = w.in_default-write_long.ensures.same ∙ c.loop.invariant.same;
+            taken = took_more c.args.sizes c.args.judge.now (contents c.args.writer.now.writer.now) c.loop.judge w.take.new.self
+                (contents c.loop.writer.writer.now) (contents w.write_long.new.writer.writer.now)
+                text grown w.write_long.new.text.items c.args.records.now.left at to c.loop.invariant.taken
+                (row_taken c.args.sizes r w.in-Left.row next.1 at to next.0 c.loop.judge w.take.new.self text grown
+                (subst T next.2 (record {
+                  traced = w.in_default.ensures.trace;
+                  tells = λ plan rows so_far has. w.in_default.ensures.told plan rows so_far has;
+                }))) w.in_default-write_long.ensures.moves;
+          })
+    ]
