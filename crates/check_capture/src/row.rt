@@ -146,12 +146,7 @@ pub fn read_row(
 
 /// The same of a line without quotes, between whose commas the columns stand.
 #[tactic(auto, unfolding(crate::specs::Row::row_of))]
-pub fn read_bare_row(
-    masters: usize,
-    ports: usize,
-    line: u64,
-    text: &[u8],
-) -> Result<Row, RowFault>
+pub fn read_bare_row(masters: usize, ports: usize, line: u64, text: &[u8]) -> Result<Row, RowFault>
     ensures value { result ≡ row_of masters ports line (parts_of text.now) }
     ensures link { IfOk result (λ row. IsLinkOf masters ports row.sighting.link) }
 {

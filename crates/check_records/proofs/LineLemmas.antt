@@ -1,5 +1,5 @@
 -- A record on a line without quotes has the parts of the line between its commas.
-use Rattle.std.proofs.Common.{◌≡◌, ℕ, zero, suc, ◌+◌, ◌<◌, ◌≤◌, ◌==◌, Bool, true, false, cond, List, [], ◌∷◌, ◌++◌, Option, Some, take, length, get_or, refl, sym, ap, ◌∙◌, subst, arith, append_assoc, length-take}
+use Rattle.std.proofs.Common.{◌≡◌, ℕ, zero, suc, ◌+◌, ◌<◌, ◌==◌, Bool, true, false, cond, List, [], ◌∷◌, ◌++◌, Some, take, length, get_or, refl, sym, ap, ◌∙◌, arith, append_assoc, length-take}
 use Rattle.std.specs.List.{All, onto_first}
 use Rattle.std.proofs.lemmas.Bool.{false≢true, or_parts, ne_eqb}
 use Rattle.std.proofs.lemmas.List.{append-nil, take_more}
@@ -9,7 +9,6 @@ use Rattle.csv.specs.Machine.{next_record, step}
 use Rattle.csv.specs.Reading.{default_config}
 use Rattle.csv.specs.declared.parser.State.{State}
 use Rattle.csv.specs.declared.parser.State.TheVariants as st
-use Rattle.csv.specs.declared.parser.Action.{Action}
 use Rattle.csv.specs.declared.parser.Action.TheVariants as act
 use Rattle.check_records.specs.Bare.{IsBareLine, parts_of, stops_bare}
 use Rattle.check_records.specs.Draft.{EndsWith}
@@ -82,6 +81,7 @@ line-reads (byte ∷ line) rest end state fields field opens plain ends =
   where
     here : stops_bare byte ≡ false
     here = All-head (λ c. stops_bare c ≡ false) byte line plain
+
     go : (comma : Bool) → (byte == 44) ≡ comma
         → ((next : State) (all : List (List ℕ)) (at_hand : List ℕ) → IsOpen next
         → next_record default_config next all at_hand (line ++ end ∷ rest)
@@ -122,6 +122,7 @@ line-bytes (byte ∷ line) rest end state opens plain ends =
   where
     here : stops_bare byte ≡ false
     here = All-head (λ c. stops_bare c ≡ false) byte line plain
+
     go : (comma : Bool) → (byte == 44) ≡ comma
         → ((next : State) → IsOpen next → bytes_from next (line ++ end ∷ rest) ≡ line)
         → bytes_from state (byte ∷ (line ++ end ∷ rest)) ≡ byte ∷ line

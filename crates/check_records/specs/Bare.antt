@@ -1,8 +1,8 @@
 -- A record that stands on a line without quotes. This project's own.
 use Rattle.std.specs.Prelude.{◌≡◌, ℕ, ◌<◌, ◌≤◌, ◌==◌, ◌||◌, Bool, true, false, List, length, get_or}
 use Rattle.std.specs.List.{slice_split}
-use Rattle.check_records.specs.Source.{Between, Left, bare_of}
-use Rattle.check_records.specs.Text.{Ends, Gives, Row, is_line_end}
+use Rattle.check_records.specs.Source.{bare_of}
+use Rattle.check_records.specs.Text.{Row, is_line_end}
 use Rattle.check_records.specs.Reading.{row_of}
 use Rattle.check_records.specs.declared.draft.Draft.{Draft}
 use Rattle.check_records.specs.declared.draft.TheConstants.{MAX_ROW}

@@ -96,10 +96,10 @@ impl<R: Read + Drop> Model for Records<R> {
     ghost use Rattle.check_records.specs.Source.{left};
 
     ghost view = { λ r. record {
-        left = left R.remaining r.source;
-        row = row_in r.source r.draft r.is_bare;
-        is_bare = r.is_bare;
-        fault = r.fault;
+      left = left R.remaining r.source;
+      row = row_in r.source r.draft r.is_bare;
+      is_bare = r.is_bare;
+      fault = r.fault;
     } };
 }
 

@@ -1,5 +1,5 @@
 -- As many parts as there are columns, or not.
-use Rattle.std.proofs.Common.{◌≡◌, ◌∙◌, ◌++◌, ◌∷◌, ◌+◌, [], List, ℕ, length, map, take, sym, ap, arith, length-append}
+use Rattle.std.proofs.Common.{◌≡◌, ◌∙◌, ◌++◌, ◌∷◌, [], List, ℕ, length, map, take, sym, ap, arith, length-append}
 use Rattle.check_capture.specs.Column.{parts_of}
 use Rattle.check_capture.proofs.ColumnLemmas.{length-words, some-part, words-all}
 use Rattle.check_capture.proofs.column.cut_line.Goals as goal

@@ -1,7 +1,6 @@
 -- The line that was taken is the record.
-use Rattle.std.proofs.Common.{◌≡◌, ◌+◌, ◌∙◌, sym, ap, take, drop, arith}
+use Rattle.std.proofs.Common.{◌+◌, ◌∙◌, ap, take, drop, arith}
 use Rattle.check_records.specs.Source.{at_hand, left}
-use Rattle.check_records.specs.Text.{line_feeds}
 use Rattle.check_records.specs.Bare.{parts_of}
 use Rattle.check_records.proofs.LineLemmas.{bare-ends, bare-feeds}
 use Rattle.check_records.proofs.SourceLemmas.{IsAdvance, gives-advance, within-first}

@@ -1,4 +1,4 @@
-use Rattle.std.proofs.Common.{◌≡◌, ◌∙◌, List, ℕ, refl, sym, subst}
+use Rattle.std.proofs.Common.{◌∙◌, List, ℕ, refl, sym, subst}
 use Rattle.check_records.specs.Source.{Between}
 use Rattle.check_judge.specs.declared.judge.Judge.{Judge}
 use Rattle.check_verdict.specs.Rows.{StopsAt, Took, TookRows, halt_of}
@@ -83,7 +83,7 @@ loop-preserved g c =
     let to = c.take_next.new.records.left in
     let text = c.loop.text.items in
     elim c.match-take_next.branch [
-      in-Taken w ↦
+      | in-Taken w ↦
           let next = w.in-Taken.ensures.next in
           rw (w.judge-is, w.writer-is, w.text-is) (record {
             fresh = w.in-Taken.ensures.goes_on;
@@ -92,7 +92,7 @@ loop-preserved g c =
                 (contents c.loop.writer.writer.now) text c.args.records.now.left at to r next.1.0 c.loop.invariant.taken next.0 next.1.1
                 (next.1.2 text);
           })
-    | in-Left+in_default+in_default-write_long w ↦
+      | in-Left+in_default+in_default-write_long w ↦
           let next = w.in-Left.ensures.next in
           let grown = w.take.new.text.items in
           let T : Judge → Type 0 = λ judge. Took judge w.in-Left.row w.take.new.self text grown in

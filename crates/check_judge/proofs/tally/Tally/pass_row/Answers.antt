@@ -1,6 +1,6 @@
 -- What is kept after a row whose link is not watched.
-use Rattle.std.proofs.Common.{◌≡◌, ◌∙◌, ◌∷◌, false, ap, sym, subst}
-use Rattle.check_judge.specs.Order.{is_watched, seen}
+use Rattle.std.proofs.Common.{◌≡◌, ◌∙◌, false, ap, sym, subst}
+use Rattle.check_judge.specs.Order.{is_watched}
 use Rattle.check_groups.specs.View.{Keeps}
 use Rattle.check_judge.specs.Count.{answered, asked}
 use Rattle.check_judge.proofs.Watched.{seen_other, watches_by}
