@@ -1,3 +1,4 @@
 pub mod ValueLemmas
 pub mod RowsLemmas
 pub mod TakeLemmas
+pub mod LeftLemmas

@@ -1,6 +1,6 @@
 -- Rows, and then others.
-use Rattle.std.proofs.Common.{◌≡◌, ℕ, List, ◌++◌, Option, None, Some, refl, sym, ap, ◌∙◌, append_assoc, subst}
-use Rattle.check_samples.specs.Rows.{Rows, and_then, followed_by}
+use Rattle.std.proofs.Common.{◌≡◌, ℕ, List, ◌++◌, Option, None, Some, sym, ap, ◌∙◌, append_assoc}
+use Rattle.check_samples.specs.Rows.{Rows, and_then}
 use Rattle.check_samples.specs.declared.channel.UnknownBit.{UnknownBit}
 
 -- all of the first are rows

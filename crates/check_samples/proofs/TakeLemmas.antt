@@ -1,9 +1,8 @@
 -- What happens, and the rows that are left to come.
-use Rattle.std.proofs.Common.{◌≡◌, ℕ, Bool, true, false, List, ◌∷◌, ◌++◌, Option, None, Some, Result, Ok, Err, refl, sym, ap, ◌∙◌, append_assoc, subst}
+use Rattle.std.proofs.Common.{◌≡◌, ℕ, true, false, List, ◌∷◌, ◌++◌, Some, Ok, Err, refl, ap, ◌∙◌, append_assoc}
 use Rattle.check_vcd.specs.Body.{Happens, At, Sets}
-use Rattle.check_samples.specs.Rows.{Rows, Writes, and_then, rows_of}
+use Rattle.check_samples.specs.Rows.{Writes, and_then}
 use Rattle.check_samples.specs.Sampling.{Leads, Sampling, at_time, is_at, rows_from, rows_now, with_value}
-use Rattle.check_samples.specs.declared.channel.UnknownBit.{UnknownBit}
 use Rattle.check_samples.specs.declared.sampler.SampleFault.{SampleFault}
 use Rattle.check_samples.specs.declared.sampler.SampleFault.TheVariants.{Unknown, Memory}
 

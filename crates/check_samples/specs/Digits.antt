@@ -1,6 +1,6 @@
 -- The values that are kept of a dump, digit by digit, the highest bit's first. That a value with fewer digits than its
 -- signal is extended so is the rule of IEEE 1364 ("Value change dump files").
-use Rattle.std.specs.Prelude.{ℕ, ◌-◌, ◌==◌, ◌||◌, ◌&&◌, nat_le, List, [], ◌∷◌, ◌++◌, length, map, replicate, slice_range, get_or, set, Option, None, Some, slice_get, if◌then◌else◌}
+use Rattle.std.specs.Prelude.{ℕ, ◌-◌, ◌==◌, ◌||◌, ◌&&◌, nat_le, List, [], ◌∷◌, ◌++◌, length, replicate, slice_range, get_or, set, Option, None, Some, slice_get, if◌then◌else◌}
 use Rattle.check_samples.specs.declared.tap.Tap.{Tap}
 
 -- before 0 and 1 stands 0; before x stands x, and before z stands z

@@ -5,3 +5,5 @@ pub mod Values
 pub mod Row
 pub mod Rows
 pub mod Sampling
+pub mod Left
+pub mod Faults

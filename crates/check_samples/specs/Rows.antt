@@ -1,5 +1,5 @@
 -- The rows of a time: those of the beats that cross at a rising edge of the clock. This project's own.
-use Rattle.std.specs.Prelude.{◌≡◌, ℕ, ◌&&◌, Bool, true, false, not, List, [], ◌∷◌, ◌++◌, codes, Option, None, Some, Result, Ok, Err, if◌then◌else◌}
+use Rattle.std.specs.Prelude.{◌≡◌, ℕ, ◌&&◌, Bool, false, not, List, [], ◌∷◌, ◌++◌, codes, Option, None, Some, Result, Ok, Err, if◌then◌else◌}
 use Rattle.std.specs.Str.{bytes_eq}
 use Rattle.check_samples.specs.Digits.{bits_of}
 use Rattle.check_samples.specs.Row.{ask_text, cells_of_ask, cells_of_reply, ◌>>=◌, reply_text}
@@ -81,11 +81,13 @@ is_active values None = false
 is_active values (Some reset) =
     if reset.is_low then is_zero (bits_of values reset.tap) else is_one (bits_of values reset.tap)
 
--- the clock was 0 before the present time and is 1, and there was no reset
+-- the clock was 0 before the present time and is 1
+abbrev pub rises : List (List ℕ) → List (List ℕ) → Tap → Bool
+rises before now clock = is_zero (bits_of before clock) && is_one (bits_of now clock)
+
+-- the clock rises, and there was no reset
 abbrev pub has_edge : List (List ℕ) → List (List ℕ) → Probes → Bool
-has_edge before now probes =
-    is_zero (bits_of before probes.clock) && is_one (bits_of now probes.clock)
-    && not (is_active before probes.reset)
+has_edge before now probes = rises before now probes.clock && not (is_active before probes.reset)
 
 -- ---- what calls answer
 

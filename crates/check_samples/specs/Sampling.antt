@@ -1,5 +1,5 @@
 -- The rows of what happens in a dump. This project's own.
-use Rattle.std.specs.Prelude.{◌≡◌, ℕ, ◌==◌, Bool, true, false, nat_lt, List, [], ◌∷◌, ◌++◌, length, Option, None, Some, Result, Ok, Err, if◌then◌else◌}
+use Rattle.std.specs.Prelude.{◌≡◌, ℕ, ◌==◌, Bool, false, nat_lt, List, [], ◌∷◌, ◌++◌, length, Option, None, Some, Result, Ok, Err, if◌then◌else◌}
 use Rattle.check_vcd.specs.Body.{Happens, At, Sets, Wrong}
 use Rattle.check_samples.specs.Digits.{set_extended}
 use Rattle.check_samples.specs.declared.sampler.SampleFault.{SampleFault}

@@ -1,6 +1,6 @@
 //! The beats that cross, edge by edge.
 ghost use Rattle.std.specs.Prelude.{◌≡◌, ◌∷◌, List, None, IfOk, OnOk};
-ghost use Rattle.check_samples.specs.Rows.{Appended, Writes, crosses, is_one, has_edge, is_active, is_zero, row_at, rows_at, rows_of, view_of};
+ghost use Rattle.check_samples.specs.Rows.{Appended, Writes, crosses, is_one, has_edge, is_active, is_zero, rises, row_at, rows_at, rows_of, view_of};
 ghost use Rattle.check_samples.specs.Values.{all_before, all_now, all_widths};
 
 use crate::channel::{BeatTaps, Channel, UnknownBit};
@@ -143,13 +143,18 @@ fn is_active(values: &Values, reset: Option<Reset>) -> bool
     }
 }
 
+/// Whether the clock rises at the present time.
+fn rises(values: &Values, clock: Tap) -> bool
+    ensures { result ≡ rises (all_before values.now) (all_now values.now) clock }
+{
+    is_zero(values.before(clock)) && is_one(values.now(clock))
+}
+
 /// Whether the clock rises at the present time, outside of reset.
 fn has_edge(values: &Values, probes: &Probes) -> bool
     ensures { result ≡ has_edge (all_before values.now) (all_now values.now) (view_of probes.now) }
 {
-    is_zero(values.before(probes.clock))
-        && is_one(values.now(probes.clock))
-        && !is_active(values, probes.reset)
+    rises(values, probes.clock) && !is_active(values, probes.reset)
 }
 
 /// Makes rows of what happens in a dump: what is looked at, the values that are kept, and the present time.
@@ -256,8 +261,15 @@ impl Sampler {
         Ok(())
     }
 
+    /// Whether the clock rises at the present time.
+    pub fn rises(&self) -> bool
+        ensures { result ≡ rises self.now.before self.now.now self.now.probes.clock }
+    {
+        rises(&self.values, self.probes.clock)
+    }
+
     /// Whether this is the present time.
-    fn is_at(&self, time: u64) -> bool
+    pub(crate) fn is_at(&self, time: u64) -> bool
         ensures { result ≡ is_at self.now time }
     {
         self.time == Some(time)

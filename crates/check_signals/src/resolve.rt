@@ -1,7 +1,7 @@
 //! Finds the signals that a system file names among those that a dump declares.
 use crate::keys::{LinkNames, Names, SIGNALS};
 use crate::wanted::{Wanted, wanted_of};
-use crate::wires::{Wire, find_wire, nearest};
+use crate::wires::{Wire, find_wire, is_ambiguous, nearest};
 use check_link::Link;
 use check_samples::{AskTaps, BeatTaps, Channel, Probes, ReplyTaps, Reset, Tap, Values};
 use check_vcd::{MAX_WORD, Var};
@@ -27,6 +27,8 @@ pub enum Owner {
 pub enum SignalFault {
     /// No signal has this name; the nearest that there is.
     NoSignal(Owner, Vec<u8>, Option<Vec<u8>>),
+    /// Two signals have this name, and identifiers of their own.
+    Twice(Owner, Vec<u8>),
     /// The signal of this name has so many bits; how many were wanted.
     Width(Owner, Vec<u8>, u64, u64),
     Memory,
@@ -72,6 +74,10 @@ impl fmt::Display for SignalFault {
                     }
                     None => Ok(()),
                 }
+            }
+            SignalFault::Twice(owner, name) => {
+                let name = text_of(name);
+                write!(f, "{owner}two signals are called {name}")
             }
             SignalFault::Width(owner, name, bits, wanted) => {
                 let name = text_of(name);
@@ -158,6 +164,14 @@ impl<'a> Resolver<'a> {
         Ok(SignalFault::NoSignal(owner, name, near))
     }
 
+    /// That two signals have a name.
+    fn twice(&self, owner: Owner, name: &[u8]) -> SignalFault {
+        match Vec::from_slice(self.alloc, name) {
+            Ok(name) => SignalFault::Twice(owner, name),
+            Err(_) => SignalFault::Memory,
+        }
+    }
+
     /// That a signal has another width than is wanted.
     fn wrong_width(&self, owner: Owner, name: &[u8], bits: u64, wanted: u64) -> SignalFault {
         match Vec::from_slice(self.alloc, name) {
@@ -198,6 +212,9 @@ impl<'a> Resolver<'a> {
         let Some(wire) = find_wire(self.vars, name) else {
             return Err(self.missing(owner, name));
         };
+        if is_ambiguous(self.vars, name, &wire) {
+            return Err(self.twice(owner, name));
+        }
         let bits = wire.places.to.saturating_sub(wire.places.from);
         if !wanted.fits(bits) {
             return Err(self.wrong_width(owner, name, bits, wanted.count()));

@@ -74,6 +74,31 @@ pub(crate) fn find_wire<'a>(vars: &'a [Var], name: &[u8]) -> Option<Wire<'a>> {
     find_part(vars, base, part)
 }
 
+/// Whether a signal has these bits, where some are asked for.
+fn has_part(var: &Var, part: Option<Span>) -> bool {
+    match (var.span, part) {
+        (_, None) => true,
+        (None, Some(_)) => false,
+        (Some(span), Some(part)) => places_in(span, part).is_some(),
+    }
+}
+
+/// Whether a name that means a wire could mean another signal as well, by another identifier.
+pub(crate) fn is_ambiguous(vars: &[Var], name: &[u8], wire: &Wire<'_>) -> bool {
+    let found = wire.var.name.as_slice();
+    let part = match split_range(name) {
+        Some((_, part)) if found != name => Some(part),
+        _ => None,
+    };
+    for var in vars {
+        let is_other = var.code.as_slice() != wire.var.code.as_slice();
+        if is_other && var.name.as_slice() == found && has_part(var, part) {
+            return true;
+        }
+    }
+    false
+}
+
 /// The declared name that is nearest to a name: by the count of bytes to be changed, put in or left out.
 pub(crate) fn nearest<'a>(
     alloc: Global,

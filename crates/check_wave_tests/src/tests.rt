@@ -1,5 +1,5 @@
 //! Dumps, and the rows that they hold.
-use check_samples::{SampleFault, Sampler, Signal};
+use check_samples::{Rows, RowsFault, Sampler, Signal, UnknownBit};
 use check_signals::{SignalFault, find_signals, read_names};
 use check_vcd::{Dump, DumpFault, Mistake};
 use std::alloc::Global;
@@ -44,32 +44,31 @@ fn reader_of(text: &[u8], step: usize) -> Trickle<'_> {
     }
 }
 
-/// What becomes of a dump.
+/// What becomes of a dump: its rows, and whether the clock rose; the rows before a beat that is none; or a fault.
 #[derive(Drop)]
 enum Outcome {
-    Rows(Vec<u8>),
-    Unknown(Vec<u8>, SampleFault),
+    Rows(Vec<u8>, bool),
+    Unknown(Vec<u8>, UnknownBit),
     Dump(DumpFault),
     Signal(SignalFault),
 }
 
-/// The rows of a dump behind its header, or its fault.
-fn rows_of(mut dump: Dump<Trickle<'_>>, mut sampler: Sampler, alloc: Global) -> Outcome {
+/// The rows that are to come of a dump, or its fault.
+fn outcome_of_rows(mut rows: Rows<Trickle<'_>>, alloc: Global) -> Outcome {
     let mut text = Vec::new(alloc);
     for _ in 0..u32::MAX {
-        let event = match dump.read() {
-            Err(fault) => return Outcome::Dump(fault),
-            Ok(None) => break,
-            Ok(Some(event)) => event,
-        };
-        if let Err(fault) = sampler.take(&mut text, event, dump.value()) {
-            return Outcome::Unknown(text, fault);
+        match rows.read(&mut text) {
+            Ok(true) => {}
+            Ok(false) => return Outcome::Rows(text, rows.has_risen()),
+            Err(RowsFault::Unknown(unknown)) => return Outcome::Unknown(text, unknown),
+            Err(RowsFault::Dump(line, mistake)) => {
+                return Outcome::Dump(DumpFault::At(line, mistake));
+            }
+            Err(RowsFault::Read) => return Outcome::Dump(DumpFault::Read),
+            Err(RowsFault::Memory) => return Outcome::Dump(DumpFault::Memory),
         }
     }
-    match sampler.push_rows(&mut text) {
-        Ok(()) => Outcome::Rows(text),
-        Err(fault) => Outcome::Unknown(text, fault),
-    }
+    Outcome::Dump(DumpFault::Read)
 }
 
 /// What becomes of the dump that a reader gives, for a system.
@@ -87,7 +86,7 @@ fn outcome_of(rt: &impl Abort, alloc: Global, system: &[u8], reader: Trickle<'_>
         assert!(rt; dump.keep(alloc, code, slot).is_ok());
     }
     let sampler = Sampler::new(resolved.probes, resolved.values);
-    rows_of(dump, sampler, alloc)
+    outcome_of_rows(Rows::new(dump, sampler), alloc)
 }
 
 /// A clock, a reset that is active at 0, and the link of a master with constants for most signals.
@@ -111,7 +110,7 @@ fn expect_rows(rt: &impl Abort, alloc: Global, body: &[u8], rows: &[u8]) {
     let text = joined(rt, alloc, HEAD, body);
     for step in [1, 2, 7, 100_000] {
         match outcome_of(rt, alloc, SYSTEM, reader_of(&text, step)) {
-            Outcome::Rows(found) => assert_eq!(rt; found.as_slice(), rows),
+            Outcome::Rows(found, _) => assert_eq!(rt; found.as_slice(), rows),
             _ => panic!(rt; "another outcome"),
         }
     }
@@ -214,7 +213,7 @@ fn a_dump_that_is_cut_has_a_front_of_the_rows(rt: HostRuntime) {
     );
     for len in HEAD.len()..text.len() {
         match outcome_of(&rt, alloc, SYSTEM, reader_of(&text[..len], 64)) {
-            Outcome::Rows(found) => {
+            Outcome::Rows(found, _) => {
                 assert!(&rt; found.is_empty() || found.as_slice() == ROW_AT_5)
             }
             _ => panic!(&rt; "another outcome"),
@@ -233,23 +232,39 @@ fn an_unknown_bit_is_told_behind_the_rows_before_it(rt: HostRuntime) {
     );
     let (found, fault) = unknown_of(&rt, outcome_of(&rt, alloc, SYSTEM, reader_of(&text, 9)));
     assert!(&rt; found.as_slice() == ROW_AT_5);
-    assert!(&rt; is_size_at_7(fault));
+    assert!(&rt; fault.time == 7 && fault.signal == Signal::ASize);
 }
 
 /// The rows before a beat that is none, and why it is none.
-fn unknown_of(rt: &impl Abort, outcome: Outcome) -> (Vec<u8>, SampleFault) {
+fn unknown_of(rt: &impl Abort, outcome: Outcome) -> (Vec<u8>, UnknownBit) {
     match outcome {
         Outcome::Unknown(found, fault) => (found, fault),
         _ => panic!(rt; "another outcome"),
     }
 }
 
-/// Whether a size is unknown at time 7.
-fn is_size_at_7(fault: SampleFault) -> bool {
-    match fault {
-        SampleFault::Unknown(unknown) => unknown.time == 7 && unknown.signal == Signal::ASize,
-        SampleFault::Memory => false,
+/// Whether the clock of a dump with this body rises.
+fn has_risen(rt: &impl Abort, alloc: Global, body: &[u8]) -> bool {
+    let text = joined(rt, alloc, HEAD, body);
+    match outcome_of(rt, alloc, SYSTEM, reader_of(&text, 64)) {
+        Outcome::Rows(_, has_risen) => has_risen,
+        _ => panic!(rt; "another outcome"),
     }
+}
+
+#[test]
+fn a_clock_that_never_rises(rt: HostRuntime) {
+    let alloc = rt.alloc();
+    assert!(&rt; has_risen(&rt, alloc, b"0! #5 1! #6 0! #9\n"));
+    assert!(&rt; has_risen(&rt, alloc, b"0! #5 1!\n"));
+    // in reset too
+    assert!(&rt; has_risen(&rt, alloc, b"0! 0\" #5 1! #6 0!\n"));
+    assert!(&rt; !has_risen(&rt, alloc, b""));
+    assert!(&rt; !has_risen(&rt, alloc, b"0! #5 #6\n"));
+    assert!(&rt; !has_risen(&rt, alloc, b"1! #5 0! #6\n"));
+    // from x, and within a time
+    assert!(&rt; !has_risen(&rt, alloc, b"x! #5 1! #6\n"));
+    assert!(&rt; !has_risen(&rt, alloc, b"0! #5 1! #5 0! #6\n"));
 }
 
 #[test]
@@ -266,7 +281,12 @@ fn a_read_that_fails_is_the_fault(rt: HostRuntime) {
 
 /// A wire that is not found, or has a wrong width.
 fn expect_signal_fault(rt: &impl Abort, alloc: Global, system: &[u8], line: &str) {
-    match outcome_of(rt, alloc, system, reader_of(HEAD, 64)) {
+    expect_signal_fault_of(rt, alloc, HEAD, system, line);
+}
+
+/// The same of a dump with this header.
+fn expect_signal_fault_of(rt: &impl Abort, alloc: Global, head: &[u8], system: &[u8], line: &str) {
+    match outcome_of(rt, alloc, system, reader_of(head, 64)) {
         Outcome::Signal(fault) => {
             let text = format!(in alloc; "{fault}").expect(rt, "a text");
             assert_eq!(rt; text.as_str(), line);
@@ -309,4 +329,36 @@ fn signals_that_are_not_there(rt: HostRuntime) {
         b"clock = 'c'\n[[master]]\nwires = { a_valid = '1', a_ready = '1', a_opcode = '1', a_param = '0', a_size = '0', a_source = '0', a_address = '0', a_mask = 's.n' }\n",
         "master 0: s.n has 4 bits, 8 wanted",
     );
+}
+
+/// A header with two signals of one name, two bits of one vector that have identifiers of their own, and a signal that
+/// is declared twice.
+const TWICE: &[u8] =
+    b"$var wire 1 ! c $end $var wire 1 \" r $end $var wire 1 # r $end\n$var wire 1 $ b [0] $end $var wire 1 % b [1] $end\n$var wire 1 ! d $end $var wire 1 ! d $end\n$enddefinitions $end\n";
+
+#[test]
+fn two_signals_of_one_name(rt: HostRuntime) {
+    let alloc = rt.alloc();
+    let twice: &[u8] = TWICE;
+    expect_signal_fault_of(
+        &rt,
+        alloc,
+        twice,
+        b"clock = 'r'\n",
+        "two signals are called r",
+    );
+    expect_signal_fault_of(
+        &rt,
+        alloc,
+        twice,
+        b"clock = 'c'\nreset = 'b'\n",
+        "two signals are called b",
+    );
+    let outcome = outcome_of(
+        &rt,
+        alloc,
+        b"clock = 'd'\nreset = 'b[1]'\n",
+        reader_of(twice, 64),
+    );
+    assert!(&rt; matches!(outcome, Outcome::Rows(_, false)));
 }

@@ -1,0 +1,2 @@
+pub mod OutLemmas
+pub mod OpenLemmas

@@ -1,1 +1,3 @@
 pub mod Fault
+pub mod Out
+pub mod Capture

@@ -1,13 +1,17 @@
 //! The engine: from the bytes of a system and of a dump to the rows of a capture.
+ghost use Rattle.std.specs.Prelude.{◌≡◌, ℕ, List, map, IfOk, IfErr, IfSome, OnOk, OnErr};
+ghost use Rattle.check_vcd.specs.Codes.{find_in};
+ghost use Rattle.tlvcd.specs.Capture.{IsCapture, IsOfSystem, IsOpened, IsUnopened, kept};
+ghost use Rattle.tlvcd.specs.Out.{AppendsFront, Finishes, IsEnded, IsOut, IsPushed, Moves, capture_of, is_cut};
+
 use crate::fault::WaveFault;
-use crate::input::read_up_to;
-use check_samples::Sampler;
+use check_samples::{Rows, Sampler};
 use check_signals::{Names, find_signals, read_names};
 use check_system::{MAX_SYSTEM, read_system};
 use check_vcd::Dump;
 use std::alloc::{AllocError, Global};
 use std::io::{Read, Write};
-use tl_streams::{LimitedReader, LimitedWriter, write_all};
+use tl_streams::{LimitedReader, LimitedWriter, read_up_to, write_all};
 
 /// The first row of a capture.
 const HEADER: &[u8] =
@@ -17,56 +21,142 @@ const HEADER: &[u8] =
 const ROOM: usize = 32_768;
 
 /// The names of signals that a system file gives. The file has to describe a system.
-fn names_of<S: Read>(alloc: Global, system: &mut S) -> Result<Names, WaveFault> {
-    let mut reader = LimitedReader::new(system);
-    let bytes = read_up_to(alloc, &mut reader, MAX_SYSTEM + 1)?;
+fn names_of<S: Read>(alloc: Global, reader: &mut LimitedReader<'_, S>) -> Result<Names, WaveFault>
+    ensures same { reader.new.reader.ghost_name ≡ reader.old.reader.ghost_name }
+    ensures fault { IfErr result IsOfSystem }
+{
+    let bytes = read_up_to(alloc, reader, MAX_SYSTEM + 1)?;
     let _system = read_system(alloc, &bytes)?;
     Ok(read_names(alloc, &bytes)?)
 }
 
-/// Keeps the values of these identifiers, each in its own slot.
+/// Keeps the values of these identifiers, each in the slot of its place.
 fn keep_all<D: Read + Drop>(
     alloc: Global,
     dump: &mut Dump<D>,
     codes: &[Vec<u8>],
-) -> Result<(), AllocError> {
+) -> Result<(), AllocError>
+    ensures kept { OnOk result ((other : List ℕ) → find_in dump.new.codes other
+        ≡ kept (map (λ code. code.items) codes.now) 0 (find_in dump.old.codes) other) }
+    ensures words { dump.new.words ≡ dump.old.words }
+    ensures body { dump.new.body ≡ dump.old.body }
+{
     for (slot, code) in codes.iter().enumerate() {
         dump.keep(alloc, code, slot)?;
     }
     Ok(())
 }
 
-/// Opens a dump; answers it with what makes rows of it.
-fn open<D: Read + Drop>(
-    alloc: Global,
-    reader: D,
-    names: &Names,
-) -> Result<(Dump<D>, Sampler), WaveFault> {
+/// Opens a dump; answers the rows that are to come of it.
+fn open<D: Read + Drop>(alloc: Global, reader: D, names: &Names) -> Result<Rows<D>, WaveFault>
+    ensures ok { IfOk result (λ rows. IfSome (D.remaining reader) (IsOpened rows)) }
+    ensures fault { IfErr result (λ fault. IfSome (D.remaining reader) (IsUnopened fault)) }
+{
     let (vars, mut dump) = Dump::open(alloc, reader)?;
     let resolved = find_signals(alloc, names, &vars)?;
     keep_all(alloc, &mut dump, &resolved.codes)?;
     let sampler = Sampler::new(resolved.probes, resolved.values);
-    Ok((dump, sampler))
+    Ok(Rows::new(dump, sampler))
 }
 
-/// Appends the rows of a dump to a text, which is written whenever it is long.
-fn push_all<D: Read + Drop, W: Write>(
-    dump: &mut Dump<D>,
-    sampler: &mut Sampler,
-    text: &mut Vec<u8>,
+/// Writes a text and clears it, if it is long.
+fn write_long<W: Write>(
     writer: &mut LimitedWriter<'_, W>,
-) -> Result<(), WaveFault> {
-    for _ in 0..u64::MAX {
-        let Some(event) = dump.read()? else {
-            return Ok(sampler.push_rows(text)?);
-        };
-        sampler.take(text, event, dump.value())?;
-        if text.len() >= ROOM {
-            write_all(writer, text)?;
+    text: &mut Vec<u8>,
+) -> Result<(), WaveFault>
+    ensures same { writer.new.writer.ghost_name ≡ writer.old.writer.ghost_name }
+    ensures moves { OnOk result (Moves (W.contents writer.old.writer.now)
+        (W.contents writer.new.writer.now) text.old.items text.new.items) }
+    ensures front { OnErr result (AppendsFront (W.contents writer.old.writer.now)
+        (W.contents writer.new.writer.now) text.old.items) }
+    ensures fault { IfErr result (λ fault. fault ≡ WaveFault.Write) }
+{
+    if text.len() < ROOM {
+        return Ok(());
+    }
+    match write_all(writer, text) {
+        Ok(()) => {
             text.clear();
+            Ok(())
+        }
+        Err(_) => Err(WaveFault::Write),
+    }
+}
+
+/// What is answered at the end of a dump: its clock has to rise.
+fn ended<D: Read + Drop>(rows: &Rows<D>) -> Result<(), WaveFault>
+    ensures { IsEnded result }
+{
+    if rows.has_risen() {
+        Ok(())
+    } else {
+        Err(WaveFault::NoEdge)
+    }
+}
+
+/// Appends the rows that are left to a text, and writes that whenever it is long.
+fn push_rows<D: Read + Drop, W: Write>(
+    rows: &mut Rows<D>,
+    writer: &mut LimitedWriter<'_, W>,
+    text: &mut Vec<u8>,
+) -> Result<(), WaveFault>
+    ensures same { writer.new.writer.ghost_name ≡ writer.old.writer.ghost_name }
+    ensures pushed { IfSome rows.old (λ left. IsPushed result left text.old.items text.new.items
+        (W.contents writer.old.writer.now) (W.contents writer.new.writer.now)) }
+{
+    for _ in 0..u64::MAX {
+        match rows.read(text) {
+            Ok(true) => {}
+            Ok(false) => return ended(rows),
+            Err(fault) => return Err(WaveFault::from(fault)),
+        }
+        if let Err(fault) = write_long(writer, text) {
+            return Err(fault);
         }
     }
     Err(WaveFault::Read)
+}
+
+/// Whether an answer was given in the midst of a row.
+fn is_cut(answer: &Result<(), WaveFault>) -> bool
+    ensures { result ≡ is_cut answer.now }
+{
+    matches!(answer, Err(WaveFault::Memory | WaveFault::Write))
+}
+
+/// Writes what is left of a text before an answer. Of a row that was cut short nothing is written.
+fn finish<W: Write>(
+    writer: &mut LimitedWriter<'_, W>,
+    text: &[u8],
+    answer: Result<(), WaveFault>,
+) -> Result<(), WaveFault>
+    ensures same { writer.new.writer.ghost_name ≡ writer.old.writer.ghost_name }
+    ensures finishes { Finishes (W.contents writer.old.writer.now)
+        (W.contents writer.new.writer.now) text.now answer result }
+{
+    if is_cut(&answer) {
+        return answer;
+    }
+    match write_all(writer, text) {
+        Ok(()) => answer,
+        Err(_) => Err(WaveFault::Write),
+    }
+}
+
+/// Writes the header of a capture and the rows that are left of a dump.
+fn write_rows<D: Read + Drop, W: Write>(
+    alloc: Global,
+    mut rows: Rows<D>,
+    writer: &mut LimitedWriter<'_, W>,
+) -> Result<(), WaveFault>
+    ensures same { writer.new.writer.ghost_name ≡ writer.old.writer.ghost_name }
+    ensures written { IfSome rows (λ left. IsOut result (capture_of left)
+        (W.contents writer.old.writer.now) (W.contents writer.new.writer.now)) }
+{
+    let mut text = Vec::with_capacity(alloc, 2 * ROOM)?;
+    text.extend_from_slice(HEADER)?;
+    let answer = push_rows(&mut rows, writer, &mut text);
+    finish(writer, &text, answer)
 }
 
 /// Reads a system and then a dump, each to its end or first fault, and writes the capture: the header, and a row for
@@ -76,18 +166,28 @@ pub fn write_capture<S: Read, D: Read + Drop, W: Write>(
     system: &mut S,
     dump: D,
     writer: &mut W,
-) -> Result<(), WaveFault> {
-    let names = names_of(alloc, system)?;
-    let (mut dump, mut sampler) = open(alloc, dump, &names)?;
+) -> Result<(), WaveFault>
+    ensures { IfSome (D.remaining dump) (λ text. IsCapture result text
+        (W.contents writer.old) (W.contents writer.new)) }
+{
+    let mut reader = LimitedReader::new(system);
     let mut writer = LimitedWriter::new(writer);
-    let mut text = Vec::with_capacity(alloc, 2 * ROOM)?;
-    text.extend_from_slice(HEADER)?;
-    match push_all(&mut dump, &mut sampler, &mut text, &mut writer) {
-        Ok(()) => Ok(write_all(&mut writer, &text)?),
-        Err(WaveFault::Write) => Err(WaveFault::Write),
-        Err(fault) => {
-            write_all(&mut writer, &text)?;
-            Err(fault)
-        }
-    }
+    write_within(alloc, &mut reader, dump, &mut writer)
+}
+
+/// The same, through what limits the reads of the system and the retried writes.
+fn write_within<S: Read, D: Read + Drop, W: Write>(
+    alloc: Global,
+    reader: &mut LimitedReader<'_, S>,
+    dump: D,
+    writer: &mut LimitedWriter<'_, W>,
+) -> Result<(), WaveFault>
+    ensures same_reader { reader.new.reader.ghost_name ≡ reader.old.reader.ghost_name }
+    ensures same_writer { writer.new.writer.ghost_name ≡ writer.old.writer.ghost_name }
+    ensures written { IfSome (D.remaining dump) (λ text. IsCapture result text
+        (W.contents writer.old.writer.now) (W.contents writer.new.writer.now)) }
+{
+    let names = names_of(alloc, reader)?;
+    let rows = open(alloc, dump, &names)?;
+    write_rows(alloc, rows, writer)
 }

@@ -1,10 +1,10 @@
 //! Why not all rows were written.
 ghost use Rattle.std.specs.Prelude.{◌≡◌};
-ghost use Rattle.tlvcd.specs.Fault.{of_dump, of_keys, of_read, of_sample, of_system, status_of};
+ghost use Rattle.tlvcd.specs.Fault.{of_dump, of_keys, of_read, of_rows, of_signal, of_system, status_of};
 ghost use Rattle.tlvcd.specs.declared.fault.WaveFault.TheVariants.{Write, Memory};
 
 use check_link::Link;
-use check_samples::{SampleFault, UnknownBit};
+use check_samples::{RowsFault, UnknownBit};
 use check_signals::{KeyFault, SignalFault};
 use check_system::SystemFault;
 use check_vcd::{DumpFault, Mistake};
@@ -25,6 +25,8 @@ pub enum WaveFault {
     Dump(u64, Mistake),
     /// A beat has an unknown bit.
     Unknown(UnknownBit),
+    /// The clock never rises.
+    NoEdge,
     /// A file could not be opened or read.
     Read,
     /// Nothing is said of how much went out.
@@ -75,6 +77,7 @@ impl fmt::Display for WaveFault {
             WaveFault::Signal(fault) => write!(f, "tlvcd: {fault}"),
             WaveFault::Dump(line, mistake) => write!(f, "tlvcd: line {line}: {mistake}"),
             WaveFault::Unknown(unknown) => write_beat(f, unknown),
+            WaveFault::NoEdge => f.write_str("tlvcd: the clock never rises"),
             WaveFault::Read => f.write_str("read failed"),
             WaveFault::Write => f.write_str("write failed"),
             WaveFault::Memory => f.write_str("memory refused"),
@@ -105,6 +108,8 @@ impl From<KeyFault> for WaveFault {
 }
 
 impl From<SignalFault> for WaveFault {
+    ghost from_gives = { λ from fault. fault ≡ of_signal from };
+
     fn from(fault: SignalFault) -> WaveFault {
         match fault {
             SignalFault::Memory => WaveFault::Memory,
@@ -125,13 +130,15 @@ impl From<DumpFault> for WaveFault {
     }
 }
 
-impl From<SampleFault> for WaveFault {
-    ghost from_gives = { λ from fault. fault ≡ of_sample from };
+impl From<RowsFault> for WaveFault {
+    ghost from_gives = { λ from fault. fault ≡ of_rows from };
 
-    fn from(fault: SampleFault) -> WaveFault {
+    fn from(fault: RowsFault) -> WaveFault {
         match fault {
-            SampleFault::Unknown(unknown) => WaveFault::Unknown(unknown),
-            SampleFault::Memory => WaveFault::Memory,
+            RowsFault::Unknown(unknown) => WaveFault::Unknown(unknown),
+            RowsFault::Dump(line, mistake) => WaveFault::Dump(line, mistake),
+            RowsFault::Read => WaveFault::Read,
+            RowsFault::Memory => WaveFault::Memory,
         }
     }
 }

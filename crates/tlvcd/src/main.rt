@@ -11,7 +11,6 @@
 pub mod engine;
 pub mod fault;
 pub mod file;
-pub mod input;
 pub mod options;
 
 ghost use Rattle.std.specs.Prelude.{◌≡◌, IfErr, OnOk};

@@ -1,0 +1,32 @@
+-- What happens next is taken, or is the end of the rows.
+use Rattle.std.specs.Option.{IfSome}
+use Rattle.check_vcd.specs.Dump.{happens_in}
+use Rattle.check_samples.specs.Faults.{of_sample}
+use Rattle.check_samples.specs.Left.{Stops}
+use Rattle.check_samples.proofs.LeftLemmas.{ends, fails-by, stops-ending, stops-reading}
+use Rattle.check_samples.proofs.rows.Rows.read.Goals as goal
+
+pub returns-in_err-push_rows-in-Ok-None-clause-fault : goal.returns-in_err-push_rows-in-Ok-None-clause-fault
+returns-in_err-push_rows-in-Ok-None-clause-fault g c =
+    let fault = c.in_err-push_rows-in-Ok-None.field-0.0 in
+    let inside = c.self.inside in
+    let old = c.args.text.now.items in
+    let new = c.push_rows.new.text.items in
+    fails-by c.from_residual-in_err-push_rows-in-Ok-None.result (of_sample fault)
+    (λ f. IfSome c.args.self.now (Stops f old new)) c.from_residual-in_err-push_rows-in-Ok-None.ensures.1
+    (rw (← c.self.view_is) (stops-ending (happens_in inside.dump) (happens_in c.read.new.self) inside.sampler old new fault
+    (rw c.in-Ok-None.field-0-is at c.in-Ok-None.ensures.ok) c.in_err-push_rows-in-Ok-None.ensures))
+
+pub returns-in_ok-push_rows-in-Ok-None-clause-ok : goal.returns-in_ok-push_rows-in-Ok-None-clause-ok
+returns-in_ok-push_rows-in-Ok-None-clause-ok g c =
+    let inside = c.self.inside in
+    rw (← c.self.view_is) (ends (happens_in inside.dump) (happens_in c.read.new.self) inside.sampler c.args.text.now.items
+    c.push_rows.new.text.items tt (rw c.in-Ok-None.field-0-is at c.in-Ok-None.ensures.ok)
+    c.in_ok-push_rows-in-Ok-None.ensures)
+
+pub returns-in-Err-clause-fault : goal.returns-in-Err-clause-fault
+returns-in-Err-clause-fault g c =
+    let inside = c.self.inside in
+    let fault = c.in-Err.fault in
+    rw (← c.self.view_is, c.from.ensures) (stops-reading (happens_in inside.dump) inside.sampler c.args.text.now.items fault
+    (λ line mistake is. c.in-Err.ensures.wrong line mistake (cc)))

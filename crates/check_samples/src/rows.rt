@@ -1,0 +1,113 @@
+//! The rows of a dump, one thing that happens in it after the other.
+ghost use Rattle.std.specs.Prelude.{◌≡◌, IfErr, IfOk, IfSome, Some};
+ghost use Rattle.check_vcd.specs.Words.{Both};
+ghost use Rattle.check_samples.specs.Left.{GoesOn, Stops, left_in};
+
+use crate::channel::UnknownBit;
+use crate::sampler::{SampleFault, Sampler};
+use check_vcd::{Dump, DumpFault, Event, Mistake};
+use std::io::Read;
+use std::marker::Model;
+
+/// Why no more rows were made.
+#[derive(Debug, Clone, Copy, PartialEq, Eq)]
+pub enum RowsFault {
+    /// A beat has an unknown bit.
+    Unknown(UnknownBit),
+    /// The dump is wrong: on which line, and why.
+    Dump(u64, Mistake),
+    Read,
+    Memory,
+}
+
+impl From<SampleFault> for RowsFault {
+    ghost use Rattle.check_samples.specs.Faults.{of_sample};
+
+    ghost from_gives = { λ from fault. fault ≡ of_sample from };
+
+    fn from(fault: SampleFault) -> RowsFault {
+        match fault {
+            SampleFault::Unknown(unknown) => RowsFault::Unknown(unknown),
+            SampleFault::Memory => RowsFault::Memory,
+        }
+    }
+}
+
+impl From<DumpFault> for RowsFault {
+    ghost use Rattle.check_samples.specs.Faults.{of_dump};
+
+    ghost from_gives = { λ from fault. fault ≡ of_dump from };
+
+    fn from(fault: DumpFault) -> RowsFault {
+        match fault {
+            DumpFault::At(line, mistake) => RowsFault::Dump(line, mistake),
+            DumpFault::Read => RowsFault::Read,
+            DumpFault::Memory => RowsFault::Memory,
+        }
+    }
+}
+
+/// The rows of a dump that are left to come, and what they end with; and whether the clock rose at a time that is over.
+#[derive(Drop)]
+pub struct Rows<R: Read + Drop> {
+    dump: Dump<R>,
+    sampler: Sampler,
+    has_risen: bool,
+}
+
+impl<R: Read + Drop> Model for Rows<R> {
+    ghost use Rattle.std.specs.Prelude.{Option};
+    ghost use Rattle.check_samples.specs.Left.{Left, left_in};
+
+    ghost Value = { Option Left };
+
+    ghost view = { λ rows. left_in rows.dump rows.sampler };
+}
+
+/// Whether what happens ends a time at which the clock rises.
+fn ends_edge(sampler: &Sampler, event: Event) -> bool {
+    match event {
+        Event::Time(time) => !sampler.is_at(time) && sampler.rises(),
+        Event::Change(_) => false,
+    }
+}
+
+impl<R: Read + Drop> Rows<R> {
+    /// Those of a dump behind its header, by a sampler that has taken nothing.
+    pub fn new(dump: Dump<R>, sampler: Sampler) -> Rows<R>
+        ensures { result ≡ left_in dump sampler }
+    {
+        Rows {
+            dump,
+            sampler,
+            has_risen: false,
+        }
+    }
+
+    /// Whether the clock rose so far.
+    pub fn has_risen(&self) -> bool {
+        self.has_risen || self.sampler.rises()
+    }
+
+    /// Reads on to what happens next, and appends the rows that are then due; answers whether more may be to come. After
+    /// the end or a fault it is called no more.
+    pub fn read(&mut self, text: &mut Vec<u8>) -> Result<bool, RowsFault>
+        ensures ok { IfOk result (λ more. Both self.old self.new (GoesOn more text.old.items text.new.items)) }
+        ensures fault { IfErr result (λ fault. IfSome self.old (Stops fault text.old.items text.new.items)) }
+    {
+        match self.dump.read() {
+            Ok(Some(event)) => {
+                if ends_edge(&self.sampler, event) {
+                    self.has_risen = true;
+                }
+                self.sampler.take(text, event, self.dump.value())?;
+                Ok(true)
+            }
+            Ok(None) => {
+                self.sampler.push_rows(text)?;
+                Ok(false)
+            }
+            Err(fault) => Err(RowsFault::from(fault)),
+        }
+    }
+}

@@ -1,0 +1,23 @@
+-- The rows are those of what happens behind the header.
+use Rattle.std.proofs.Common.{map}
+use Rattle.std.specs.Option.{IfSome}
+use Rattle.check_vcd.specs.Header.{var_view}
+use Rattle.tlvcd.specs.Capture.{IsUnopened}
+use Rattle.tlvcd.specs.Fault.{of_dump}
+use Rattle.tlvcd.proofs.OpenLemmas.{fails-by, opened-rows, unopened-dump}
+use Rattle.tlvcd.proofs.engine.open.Goals as goal
+
+pub returns-in_err-vars-clause-fault : goal.returns-in_err-vars-clause-fault
+returns-in_err-vars-clause-fault g c =
+    let text = g.D.Read.remaining c.args.reader in
+    let fault = c.in_err-vars.field-0.0 in
+    fails-by c.from_residual.result (of_dump fault) (λ f. IfSome text (IsUnopened f))
+    c.from_residual.ensures.1
+    (unopened-dump text fault (λ line mistake is. c.open.ensures.wrong line mistake (cc (c.in_err-vars.was, is))))
+
+pub returns-clause-ok : goal.returns-clause-ok
+returns-clause-ok g c =
+    rw c.new.ensures (opened-rows (g.D.Read.remaining c.args.reader) (map var_view c.in_ok-vars.vars.items)
+    c.in_ok-vars.dump c.keep_all.new.dump (map (λ code. code.items) c.deref-2.result.now) c.new-sampler.result
+    c.in_ok-vars.ensures.ok c.in_ok-keep_all.ensures.words c.in_ok-keep_all.ensures.body c.in_ok-keep_all.ensures.kept
+    c.new-sampler.ensures.time)
