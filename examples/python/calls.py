@@ -15,6 +15,7 @@ import sys
 
 import tlx
 from tally import Tally
+from tlx import _library
 
 SYSTEM = """
 slots = 1
@@ -153,6 +154,8 @@ def check_judge(tally):
     tally.tell("a closed judge", (judge.requests, judge.answered, judge.in_flight) == (0, 0, 0))
     tally.raises("a beat of a closed judge", ValueError, judge.step, get_beat())
     tally.raises("beats of a closed judge", ValueError, judge.steps, tlx.Beats([get_beat()]))
+    if not hasattr(_library._library, "tlx_judge_end"):
+        tally.raises("an end that the library does not have", NotImplementedError, judge.end)
 
 
 def check_refused_beats(tally, judge):

@@ -134,8 +134,8 @@ def judge_text(handle: JudgeHandle) -> str:
     return text.value.decode().rstrip("\n")
 
 
-class _FaultStruct(ctypes.Structure):
-    """`struct tlx_fault`."""
+class _Left(ctypes.Structure):
+    """What tlx_judge_end says of the oldest request that is left."""
 
     _fields_ = [("line", ctypes.c_uint64), ("time", ctypes.c_uint64), ("text", ctypes.c_char * TEXT_ROOM)]
 
@@ -146,6 +146,6 @@ def judge_end(handle: JudgeHandle) -> tuple[int, int, int, str]:
         call = _call("tlx_judge_end", _U32, _AT, _AT)
     except AttributeError:
         raise NotImplementedError("this libtlx.so has no tlx_judge_end, which Judge.end calls") from None
-    found = _FaultStruct()
+    found = _Left()
     fault = call(ctypes.byref(handle), ctypes.byref(found))
     return fault, found.line, found.time, found.text.decode().rstrip("\n")

@@ -95,7 +95,7 @@ class Judge:
         if fault == Fault.EMPTY:
             raise fault_of(fault)
         if fault:
-            raise Incomplete(fault, line, time, text)
+            raise Incomplete(Fault(fault), line, time, text)
 
     @property
     def requests(self) -> int:
