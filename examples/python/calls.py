@@ -205,6 +205,12 @@ def check_arrays(tally):
     for name, kind, given in (("none", TypeError, None), ("a list", TypeError, pair), ("a text", TypeError, "a" * 56), ("a number", TypeError, 56),
                               ("a byte too few", ValueError, bytes(55)), ("every other byte", ValueError, memoryview(bytes(112))[::2])):
         tally.raises(f"an array of {name}", kind, judge.steps, given)
+    grown = tlx.Beats([reply])
+    try:
+        judge.steps(grown)
+    except tlx.Unlawful:
+        grown.append(reply)
+    tally.tell("an array that grows while its verdict is handled", len(grown) == 2)
     beats.clear()
     beats.append(reply)
     tally.tell("an array that grows after it was judged", len(beats) == 1)

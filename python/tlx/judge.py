@@ -12,6 +12,8 @@ LINKS = ("both", "masters", "ports", "each")
 ORDERS = ("accept", "reply")
 # How many beats a call of the library judges, after which the interpreter looks for signals.
 _TURN = 1 << 16
+# bound once, since `step` is called for each beat
+_pack, _step = BEAT.pack_into, _library.judge_step
 
 
 def _place(name: str, word: object, words: tuple[str, ...]) -> int:
@@ -41,7 +43,7 @@ class Judge:
         self._beat = ctypes.create_string_buffer(BEAT.size)
         self._beat_at = ctypes.addressof(self._beat)
 
-    def step(self, beat: Beat, _step=_library.judge_step, _pack=BEAT.pack_into, _values=values_of) -> None:
+    def step(self, beat: Beat) -> None:
         """Judges one beat more. Of one clock cycle give channel A of the masters' links first, then A of the ports', D of the ports'
         and D of the masters'.
 
@@ -50,7 +52,7 @@ class Judge:
         them the judge is as it was.
         """
         try:
-            _pack(self._beat, 0, *_values(beat))
+            _pack(self._beat, 0, *values_of(beat))
         except (struct.error, AttributeError, TypeError, OverflowError):
             check_beat(beat)
             raise
@@ -64,19 +66,26 @@ class Judge:
         beats: Beats, or anything with the buffer protocol whose bytes are those of Beats, as a NumPy array. TypeError if it is
         neither, ValueError if its bytes are no whole number of beats; else as of `step`. The beats before `index` were judged.
         """
-        memory = memoryview(beats.memory if isinstance(beats, Beats) else beats)
-        if not memory.c_contiguous or memory.nbytes % BEAT.size:
-            raise ValueError(f"an array of beats has {BEAT.size} bytes for each, one after the other")
-        array = bytearray(memory) if memory.readonly else memory
-        at, count = 0, memory.nbytes // BEAT.size
+        with memoryview(beats.memory if isinstance(beats, Beats) else beats) as memory:
+            if not memory.c_contiguous or memory.nbytes % BEAT.size:
+                raise ValueError(f"an array of beats has {BEAT.size} bytes for each, one after the other")
+            array = bytearray(memory) if memory.readonly else memory
+            fault, index = self._judge_array(array, memory.nbytes // BEAT.size)
+            beat = beat_at(array, index) if fault else None
+        # the array may grow again before the exception is handled
+        if fault:
+            raise self._refusal(fault, beat, index)
+
+    def _judge_array(self, array: bytearray | memoryview, count: int) -> tuple[int, int]:
+        """The fault of the first beat that is refused with its place, or no fault and the count."""
+        if not count:
+            return 0, 0
         # while this is alive the array keeps its place
-        pinned = ctypes.c_char.from_buffer(array) if count else None
-        fault = ctypes.c_uint32()
-        while at < count:
-            begin = ctypes.addressof(pinned) + at * BEAT.size
-            at += _library.judge_steps(self._at, begin, min(count - at, _TURN), ctypes.addressof(fault))
-            if fault.value:
-                raise self._refusal(fault.value, beat_at(array, at), at)
+        pinned = ctypes.c_char.from_buffer(array)
+        begin, fault, at = ctypes.addressof(pinned), ctypes.c_uint32(), 0
+        while at < count and not fault.value:
+            at += _library.judge_steps(self._at, begin + at * BEAT.size, min(count - at, _TURN), ctypes.addressof(fault))
+        return fault.value, at
 
     def _refusal(self, fault: int, beat: Beat, index: int = 0) -> Exception:
         """What is raised for a beat."""
