@@ -63,8 +63,8 @@ class Judge:
     def steps(self, beats: Beats | bytes | bytearray | memoryview) -> None:
         """Judges the beats of an array in turn, up to the first that is refused: `index` of the exception is its place in the array.
 
-        beats: Beats, or anything with the buffer protocol whose bytes are those of Beats, as a NumPy array. TypeError if it is
-        neither, ValueError if its bytes are no whole number of beats; else as of `step`. The beats before `index` were judged.
+        beats: Beats, or anything with the buffer protocol whose bytes are those of Beats. TypeError if it is neither, ValueError if its
+        bytes are no whole number of beats; else as of `step`. The beats before `index` were judged.
         """
         with memoryview(beats.memory if isinstance(beats, Beats) else beats) as memory:
             if not memory.c_contiguous or memory.nbytes % BEAT.size:
