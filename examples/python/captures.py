@@ -1,0 +1,88 @@
+#!/usr/bin/env python3
+"""Judges the captures of examples/captures and examples/systems by calls: captures.py FOLDER of the examples.
+
+Each must have its verdict, beat by beat and as one array. A capture whose verdict is about its text, which has no beats, is left out.
+"""
+
+import csv
+import pathlib
+import sys
+
+import tlx
+from tally import Tally
+
+CROSSING = {("A", "m"): 0, ("A", "p"): 1, ("D", "p"): 2, ("D", "m"): 3}
+
+
+def lanes_of(word):
+    """The data and the known lanes that sixteen digits spell; no digits are eight known zeros."""
+    pairs = [word[at:at + 2].lower() for at in range(0, len(word), 2)]
+    is_known = [not set(pair) & set("xz") for pair in pairs]
+    data = int("".join(pair if known else "00" for pair, known in zip(pairs, is_known)) or "0", 16)
+    return data, sum(known << lane for lane, known in enumerate(reversed(is_known))) if word else 0xFF
+
+
+def rows_of(path):
+    """The beats of a capture in the order in which they cross, with the line of each."""
+    with open(path, encoding="utf-8-sig", newline="") as file:
+        reader = csv.reader(file)
+        next(reader)
+        rows = []
+        # lines end in LF, CR LF or CR here, and no field of these captures has a line end
+        for row in reader:
+            if row:
+                rows.append((reader.line_num, row))
+    rows.sort(key=lambda found: (int(found[1][0]), CROSSING[found[1][2], found[1][1][0]], int(found[1][1][1:])))
+    return [beat_of(line, row) for line, row in rows]
+
+
+def beat_of(line, row):
+    time, link, channel, opcode, param, size, source, address, mask, data, denied, corrupt = row
+    number, known = lanes_of(data)
+    side, link_number = tlx.link_of(link)
+    return tlx.Beat(side, link_number, tlx.Channel[channel], int(opcode), int(size), int(source), int(address or "0", 16), int(mask or "0", 16),
+                    number, int(param or 0), denied == "1", corrupt == "1", known, line, int(time))
+
+
+def verdict_of(judge, beats, is_array):
+    """The line that tlcheck prints of these beats; those of links that are not watched are counted alone."""
+    watched = [beat for beat in beats if judge.links in ("both", "each") or (judge.links == "masters") == (beat.side == tlx.Side.MASTER)]
+    try:
+        if is_array:
+            judge.steps(tlx.Beats(watched))
+        else:
+            for beat in watched:
+                judge.step(beat)
+    except tlx.Unlawful as found:
+        is_beat = (found.line, found.time) in {(beat.line, beat.time) for beat in beats}
+        return (found.text if is_beat else f"of another beat: {found.text}"), found
+    return f"lawful: {len(beats)} rows, {judge.requests} requests, {judge.answered} answered", None
+
+
+def option(words, name, default):
+    return words[words.index(name) + 1] if name in words else default
+
+
+def main():
+    tally, met = Tally("captures"), set()
+    folder = pathlib.Path(sys.argv[1])
+    for path in sorted([*folder.glob("captures/*.verdict"), *folder.glob("systems/*/*.verdict")]):
+        wanted = path.read_text().splitlines()[-1]
+        if wanted.startswith("capture:"):
+            continue
+        words = path.with_suffix(".args").read_text().split() if path.with_suffix(".args").exists() else []
+        system = tlx.System.read(path.with_name("system.toml"))
+        beats = rows_of(path.with_suffix(".csv"))
+        for is_array in (False, True):
+            with tlx.Judge(system, option(words, "--links", "both"), option(words, "--order", "accept")) as judge:
+                verdict, found = verdict_of(judge, beats, is_array)
+            tally.tell(f"{path.stem}: {verdict!r}, and not {wanted!r}", verdict == wanted)
+            if found:
+                met.add(found.fault)
+                tally.tell(f"the words of {found.fault.name}", f": {found.fault.words}" in found.text)
+    tally.tell("each fault of a beat", met == {fault for fault in tlx.Fault if fault > tlx.Fault.NO_LINK})
+    return tally.end()
+
+
+if __name__ == "__main__":
+    sys.exit(main())

@@ -1,0 +1,151 @@
+"""The shared object libtlx.so and its calls, by ctypes alone. What `include/tlx.h` says of each call holds here.
+
+The object is the file that the environment variable TLX_LIBRARY names, else libtlx.so beside this file: `tools/install` and
+`tools/shared_library` put it there. A call keeps the interpreter's lock, so two threads never use a handle at once.
+"""
+
+import ctypes
+import os
+import struct
+
+# The version of the header that the structs below are those of.
+HEADER_VERSION = 2
+# The room for a message's bytes, and for the longest text.
+ROOM = 256
+TEXT_ROOM = 2048
+
+
+class _Handle(ctypes.Structure):
+    """A handle of the library; all zero, it holds nothing. What it holds is given back by `close`, or when the handle is dropped."""
+
+    _fields_ = [("at", ctypes.c_void_p), ("live", ctypes.c_uint8)]
+    _free_ = None
+
+    def close(self, byref=ctypes.byref) -> None:
+        self._free_(byref(self))
+
+    # also where an exception ended the call that filled the handle
+    __del__ = close
+
+
+class SystemHandle(_Handle):
+    """`struct tlx_system`."""
+
+
+class ModelHandle(_Handle):
+    """`struct tlx_model`."""
+
+
+class JudgeHandle(_Handle):
+    """`struct tlx_judge`."""
+
+
+class RequestStruct(ctypes.Structure):
+    """`struct tlx_request`."""
+
+    _fields_ = [("address", ctypes.c_uint64), ("source", ctypes.c_uint16), ("opcode", ctypes.c_uint8), ("param", ctypes.c_uint8),
+                ("size", ctypes.c_uint8), ("bytes", ctypes.c_uint8 * ROOM), ("set", ctypes.c_uint8 * ROOM)]
+
+
+class AnswerStruct(ctypes.Structure):
+    """`struct tlx_answer`."""
+
+    _fields_ = [("port", ctypes.c_uint64), ("place", ctypes.c_uint64), ("count", ctypes.c_uint64), ("source", ctypes.c_uint16),
+                ("opcode", ctypes.c_uint8), ("size", ctypes.c_uint8), ("denied", ctypes.c_uint8), ("bytes", ctypes.c_uint8 * ROOM)]
+
+
+# `struct tlx_beat`: line, time, number, address, source, side, channel, opcode, param, size, mask, denied, corrupt and known, and the lanes
+# as one little-endian number.
+BEAT = struct.Struct("<QQQQHBBBBBBBBBQ5x")
+
+_LAYOUT = (HEADER_VERSION, ctypes.sizeof(_Handle), _Handle.live.offset, ctypes.sizeof(RequestStruct), RequestStruct.set.offset,
+           ctypes.sizeof(AnswerStruct), AnswerStruct.bytes.offset, BEAT.size, struct.calcsize("<QQQQHBBBBBBBBB"))
+
+
+def _open() -> ctypes.PyDLL:
+    """The shared object, if it is one for this package."""
+    path = os.environ.get("TLX_LIBRARY") or os.path.join(os.path.dirname(os.path.abspath(__file__)), "libtlx.so")
+    try:
+        library = ctypes.PyDLL(path)
+        layout = tuple((ctypes.c_uint32 * len(_LAYOUT)).in_dll(library, "tlx_layout"))
+    except (OSError, ValueError) as error:
+        raise ImportError(f"{error} (tools/shared_library builds libtlx.so, and TLX_LIBRARY names another place)") from None
+    if layout != _LAYOUT or library.tlx_version() != HEADER_VERSION:
+        raise ImportError(f"{path} was built for another version of tlx.h than this package")
+    return library
+
+
+_library = _open()
+
+
+def _call(name: str, result, *arguments):
+    """A call of the library with its types. A pointer is passed by `byref`, or as bytes, or by its number."""
+    call = getattr(_library, name)
+    call.restype = result
+    call.argtypes = arguments
+    return call
+
+
+_AT, _U8, _U32, _U64, _SIZE = ctypes.c_void_p, ctypes.c_uint8, ctypes.c_uint32, ctypes.c_uint64, ctypes.c_size_t
+_fault_text = _call("tlx_fault_text_at", _SIZE, _U32, _AT, _SIZE)
+_system_read = _call("tlx_system_read_at", _U32, _AT, _AT, _SIZE, _U32, _AT, _SIZE, _AT)
+_judge_read = _call("tlx_judge_read_at", _U32, _AT, _AT, _SIZE, _U8, _U8, _U32, _AT, _SIZE, _AT)
+_judge_text = _call("tlx_judge_text_at", _SIZE, _AT, _AT, _SIZE)
+model_make = _call("tlx_model_make_at", _U32, _AT, _AT)
+model_serve = _call("tlx_model_serve_at", _U32, _AT, _U64, _AT, _AT)
+model_byte = _call("tlx_model_byte_at", _U32, _AT, _U64, _AT)
+model_masters = _call("tlx_model_masters_at", _U64, _AT)
+model_ports = _call("tlx_model_ports_at", _U64, _AT)
+judge_step = _call("tlx_judge_step_at", _U32, _AT, _AT)
+judge_steps = _call("tlx_judge_steps", _SIZE, _AT, _AT, _SIZE, _AT)
+judge_requests = _call("tlx_judge_requests_at", _U64, _AT)
+judge_answered = _call("tlx_judge_answered_at", _U64, _AT)
+largest_size = _call("tlx_largest_size", _U8)()
+SystemHandle._free_ = _call("tlx_system_free_at", None, _AT)
+ModelHandle._free_ = _call("tlx_model_free_at", None, _AT)
+JudgeHandle._free_ = _call("tlx_judge_free_at", None, _AT)
+
+
+def words_of(number: int) -> str:
+    """The words of a fault's number."""
+    text = ctypes.create_string_buffer(TEXT_ROOM)
+    _fault_text(number, text, TEXT_ROOM)
+    return text.value.decode()
+
+
+def read_system(text: bytes) -> tuple[SystemHandle, int, str]:
+    """The system of a script, for a model; a fault, and its text."""
+    handle, why, written = SystemHandle(), ctypes.create_string_buffer(TEXT_ROOM), ctypes.c_size_t()
+    fault = _system_read(ctypes.byref(handle), text, len(text), HEADER_VERSION, why, TEXT_ROOM, ctypes.byref(written))
+    return handle, fault, why.value.decode()
+
+
+def read_judge(text: bytes, links: int, order: int) -> tuple[JudgeHandle, int, str]:
+    """The judge of a system file; a fault, and its text."""
+    handle, why, written = JudgeHandle(), ctypes.create_string_buffer(TEXT_ROOM), ctypes.c_size_t()
+    fault = _judge_read(ctypes.byref(handle), text, len(text), links, order, HEADER_VERSION, why, TEXT_ROOM, ctypes.byref(written))
+    return handle, fault, why.value.decode()
+
+
+def judge_text(handle: JudgeHandle) -> str:
+    """The line of the last fault of a beat, without its line end."""
+    text = ctypes.create_string_buffer(TEXT_ROOM)
+    _judge_text(ctypes.byref(handle), text, TEXT_ROOM)
+    return text.value.decode().rstrip("\n")
+
+
+class _Left(ctypes.Structure):
+    """What tlx_judge_end says of the oldest request that is left."""
+
+    _fields_ = [("line", ctypes.c_uint64), ("time", ctypes.c_uint64), ("text", ctypes.c_char * TEXT_ROOM)]
+
+
+def judge_end(handle: JudgeHandle) -> tuple[int, int, int, str]:
+    """Whether everything that began has ended: 0 if so, else the fault with the line, the time and the text of the oldest request."""
+    try:
+        call = _call("tlx_judge_end", _U32, _AT, _AT)
+    except AttributeError:
+        raise NotImplementedError("this libtlx.so has no tlx_judge_end, which Judge.end calls") from None
+    found = _Left()
+    fault = call(ctypes.byref(handle), ctypes.byref(found))
+    return fault, found.line, found.time, found.text.decode().rstrip("\n")

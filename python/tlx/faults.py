@@ -1,0 +1,116 @@
+"""The faults of the library by their numbers, and what is raised for them."""
+
+import enum
+
+from ._library import words_of
+
+
+class Fault(enum.IntEnum):
+    """A fault by its number in `include/tlx.h`, which says of each when it is answered."""
+
+    OK = 0
+    NULL = 1
+    EMPTY = 2
+    FULL = 3
+    MEMORY = 4
+    BAD_ARGUMENT = 5
+    OTHER_VERSION = 6
+    NOT_TOML = 10
+    MISSING = 11
+    WRONG_TYPE = 12
+    OUT_OF_RANGE = 13
+    BAD_OPERATION = 14
+    BAD_PORTS = 15
+    BAD_SOURCES = 16
+    TOO_LONG = 17
+    TWO_CALLED = 18
+    LONG_RANGE = 19
+    NO_OPERATION = 20
+    SIZE = 21
+    NO_MASTER = 22
+    NO_SOURCE = 23
+    UNCOUNTABLE = 24
+    NO_BYTE = 25
+    NO_LINK = 30
+    FIELD_CHANGED = 31
+    UNKNOWN_OPCODE = 32
+    SIZE_OUT_OF_RANGE = 33
+    WRONG_MASK = 34
+    WRONG_CORRUPT_FLAG = 35
+    UNKNOWN_LANES = 36
+    NO_SUCH_SOURCE = 37
+    SOURCE_IN_FLIGHT = 38
+    WRONG_PORT = 39
+    NO_REQUEST = 40
+    EARLY_REPLY = 41
+    WRONG_SIZE = 42
+    WRONG_OPCODE = 43
+    UNKNOWN_DATA = 44
+    NOT_SENT = 45
+    NOT_GIVEN = 46
+    WRONG_REPLY = 47
+
+    @property
+    def words(self) -> str:
+        """The words of the fault, as `tlx` and `tlcheck` say them: `wrong mask`."""
+        return words_of(self)
+
+
+class Refused(ValueError):
+    """A call that the library did not do, and that changed nothing: an argument has no meaning there.
+
+    `fault` says why: a link that there is not or that is not watched, an opcode that names no operation, a master, a source or a
+    byte that there is not, a flag that is neither 0 nor 1. `index` is the place of the beat in the array of `Judge.steps`.
+    """
+
+    index = 0
+
+    def __init__(self, fault: Fault, text: str = "") -> None:
+        super().__init__(text or fault.words)
+        self.fault = fault
+
+
+class InvalidSystem(Refused):
+    """A text that is no system file, or no script where a model is made of it: `system: missing master`."""
+
+
+class _OfABeat(Exception):
+    """What is said of a beat: its own `line` and `time`, the `fault`, and the `text` as `tlcheck` prints it, without its line end.
+
+    `index` is its place in the array of `Judge.steps`, and 0 of another call.
+    """
+
+    index = 0
+
+    def __init__(self, fault: Fault, line: int, time: int, text: str) -> None:
+        super().__init__(text)
+        self.fault = fault
+        self.line = line
+        self.time = time
+        self.text = text
+
+    def __reduce__(self):
+        return type(self), (self.fault, self.line, self.time, self.text)
+
+
+class Unlawful(_OfABeat):
+    """The first beat that no lawful crossbar could have shown.
+
+    `fault` is one of FIELD_CHANGED to WRONG_REPLY, `line` and `time` are those of the beat, and `text` is the line of `tlcheck`:
+    `unlawful: line 4, time 12, p0 D: wrong reply: expected AccessAckData aa, captured AccessAckData 00`. The judge stays as it was
+    before that beat.
+    """
+
+
+class Incomplete(_OfABeat):
+    """Something that began has not ended: `line` and `time` are those of the first beat of the oldest request in flight."""
+
+
+def fault_of(number: int, text: str = "") -> Exception:
+    """The exception for a fault of a call that is neither a text's nor an unlawful beat's."""
+    fault = Fault(number)
+    if fault is Fault.MEMORY:
+        return MemoryError(fault.words)
+    if fault is Fault.EMPTY:
+        return ValueError("it is closed")
+    return Refused(fault, text)

@@ -1,0 +1,135 @@
+"""The judge of what crosses the links of a crossbar."""
+
+import ctypes
+import struct
+
+from . import _library
+from .faults import Fault, Incomplete, Unlawful, fault_of
+from .messages import BEAT, Beat, Beats, beat_at, check_beat, values_of
+from .model import System, check_system, read
+
+LINKS = ("both", "masters", "ports", "each")
+ORDERS = ("accept", "reply")
+# How many beats a call of the library judges, after which the interpreter looks for signals.
+_TURN = 1 << 16
+# bound once, since `step` is called for each beat
+_pack, _step = BEAT.pack_into, _library.judge_step
+
+
+def _place(name: str, word: object, words: tuple[str, ...]) -> int:
+    """The number of an option's word."""
+    if not isinstance(word, str):
+        raise TypeError(f"{name} is a str, and not {type(word).__name__}")
+    if word not in words:
+        raise ValueError(f"{name} is {', '.join(words[:-1])} or {words[-1]}, and not {word!r}")
+    return words.index(word)
+
+
+class Judge:
+    """The judge of a crossbar that a system describes, before any beat. A context manager, which gives its memory back.
+
+    links: the links that are watched, "both" sides', the "masters"', the "ports"', or "each" side by itself. order: when a request
+    takes effect at a port for which the system does not say it, with its last beat ("accept") or its reply's first ("reply").
+    InvalidSystem as of System; TypeError and ValueError of other words. One thread at a time uses a judge.
+    """
+
+    def __init__(self, system: System, links: str = "both", order: str = "accept") -> None:
+        text = check_system(system).text
+        self._handle = read(_library.read_judge, text, _place("links", links, LINKS), _place("order", order, ORDERS))
+        self.links = links
+        self.order = order
+        # numbers are the fastest pointers; what they point to lives as long as the judge
+        self._at = ctypes.addressof(self._handle)
+        self._beat = ctypes.create_string_buffer(BEAT.size)
+        self._beat_at = ctypes.addressof(self._beat)
+
+    def step(self, beat: Beat) -> None:
+        """Judges one beat more. Of one clock cycle give channel A of the masters' links first, then A of the ports', D of the ports'
+        and D of the masters'.
+
+        Unlawful if no lawful crossbar could have shown it; Refused, a ValueError, with NO_LINK if there is no such link or it is not
+        watched; TypeError, OverflowError and ValueError of a field's value; MemoryError, of a judge of "each" alone. After each of
+        them the judge is as it was.
+        """
+        try:
+            _pack(self._beat, 0, *values_of(beat))
+        except (struct.error, AttributeError, TypeError, OverflowError):
+            check_beat(beat)
+            raise
+        fault = _step(self._at, self._beat_at)
+        if fault:
+            raise self._refusal(fault, beat)
+
+    def steps(self, beats: Beats | bytes | bytearray | memoryview) -> None:
+        """Judges the beats of an array in turn, up to the first that is refused: `index` of the exception is its place in the array.
+
+        beats: Beats, or anything with the buffer protocol whose bytes are those of Beats. TypeError if it is neither, ValueError if its
+        bytes are no whole number of beats; else as of `step`. The beats before `index` were judged.
+        """
+        with memoryview(beats.memory if isinstance(beats, Beats) else beats) as memory:
+            if not memory.c_contiguous or memory.nbytes % BEAT.size:
+                raise ValueError(f"an array of beats has {BEAT.size} bytes for each, one after the other")
+            array = bytearray(memory) if memory.readonly else memory
+            fault, index = self._judge_array(array, memory.nbytes // BEAT.size)
+            beat = beat_at(array, index) if fault else None
+        # the array may grow again before the exception is handled
+        if fault:
+            raise self._refusal(fault, beat, index)
+
+    def _judge_array(self, array: bytearray | memoryview, count: int) -> tuple[int, int]:
+        """The fault of the first beat that is refused with its place, or no fault and the count."""
+        if not count:
+            return 0, 0
+        # while this is alive the array keeps its place
+        pinned = ctypes.c_char.from_buffer(array)
+        begin, fault, at = ctypes.addressof(pinned), ctypes.c_uint32(), 0
+        while at < count and not fault.value:
+            at += _library.judge_steps(self._at, begin + at * BEAT.size, min(count - at, _TURN), ctypes.addressof(fault))
+        return fault.value, at
+
+    def _refusal(self, fault: int, beat: Beat, index: int = 0) -> Exception:
+        """What is raised for a beat."""
+        if fault > Fault.NO_LINK:
+            made = Unlawful(Fault(fault), beat.line, beat.time, _library.judge_text(self._handle))
+        else:
+            made = fault_of(fault)
+        made.index = index
+        return made
+
+    def end(self) -> None:
+        """Asks whether everything that began has ended. Incomplete, if a request is in flight or a message under way; it names the
+        oldest request. The judge stays as it is and may go on.
+        """
+        fault, line, time, text = _library.judge_end(self._handle)
+        if fault == Fault.EMPTY:
+            raise fault_of(fault)
+        if fault:
+            raise Incomplete(Fault(fault), line, time, text)
+
+    @property
+    def requests(self) -> int:
+        """How many whole requests were seen, at the masters' links if these are watched, and else at the ports'; 0 after `close`."""
+        return _library.judge_requests(self._at)
+
+    @property
+    def answered(self) -> int:
+        """How many whole replies were seen, at the same links."""
+        return _library.judge_answered(self._at)
+
+    @property
+    def in_flight(self) -> int:
+        """How many whole requests have no whole reply yet."""
+        return self.requests - self.answered
+
+    def close(self) -> None:
+        """Gives the memory back; a second time does nothing."""
+        self._handle.close()
+
+    def __enter__(self) -> "Judge":
+        return self
+
+    def __exit__(self, *_: object) -> None:
+        self.close()
+
+    def __reduce__(self):
+        raise TypeError("a tlx.Judge can't be copied or pickled")

@@ -1,0 +1,34 @@
+"""The text of scripts, as tools/stimulate and tools/shrink write them: the system, and the operations of each master."""
+
+import json
+
+# The keys of a system file and of a script, in the order in which they are written.
+PORT_KEYS = ("name", "kind", "base", "length", "ranges", "reset", "order")
+MASTER_KEYS = ("name", "sources", "first", "stride")
+
+
+def value_of(key, value):
+    """A value as TOML has it: addresses in hexadecimal."""
+    if key == "base":
+        return f"{value:#x}"
+    if key == "ranges":
+        return "[" + ", ".join(f"[{base:#x}, {length}]" for base, length in value) + "]"
+    # a string of JSON in ASCII is one of TOML
+    return json.dumps(value)
+
+
+def table_of(name, keys, values):
+    """The lines of a table, without an empty reset."""
+    return [f"[[{name}]]"] + [f"{key} = {value_of(key, values[key])}" for key in keys if key in values and values[key] != ""]
+
+
+def text_of(system):
+    """The text of a script; `slots` and the `ops` of a master are left out where the system has none."""
+    lines = [f"slots = {system['slots']}"] if "slots" in system else []
+    for port in system.get("port", []):
+        lines += ["", *table_of("port", PORT_KEYS, port)]
+    for master in system["master"]:
+        lines += ["", *table_of("master", MASTER_KEYS, master)]
+        if "ops" in master:
+            lines += ["ops = [", *(f"  {json.dumps(line)}," for line in master["ops"]), "]"]
+    return "\n".join(lines).lstrip("\n") + "\n"
