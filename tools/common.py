@@ -14,6 +14,10 @@ MAX_SIZE = 8
 KINDS = ("ram", "rom", "regs", "w1c")
 # The keys of a script: of the document, of a port and of a master.
 KEYS = {"": ("slots", "port", "master"), "port": ("kind", "base", "length", "reset"), "master": ("sources", "ops")}
+# The keys of a system file; those of a script that it may have too; and those that say where signals are (docs/CAPTURE.md).
+SYSTEM_KEYS = {"": ("port", "master", "slots", "clock", "reset", "reset_active"),
+               "port": ("name", "kind", "base", "length", "ranges", "reset", "order", "signals", "wires"),
+               "master": ("name", "sources", "first", "stride", "ops", "signals", "wires")}
 
 # The opcode and the parameter of each operation on channel A, and the opcode of each reply on channel D.
 OPERATIONS = {"putfull": (0, 0), "putpart": (1, 0), "min": (2, 0), "max": (2, 1), "minu": (2, 2), "maxu": (2, 3), "add": (2, 4),

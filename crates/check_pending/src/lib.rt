@@ -1,12 +1,12 @@
 //! The requests that have no whole reply yet, each with the row of its first beat.
 //!
-//! [`Pending`] is told of each row that was judged what its beat does to the requests in flight (`Watch::change` of
+//! [`Pending`] notes of each row that was judged what its beat did to the requests in flight (`Watch::change` of
 //! `check_groups`). [`Pending::left`] says what is left when no more rows come: `None` exactly if no request is in flight
 //! at the links that are judged together; else how many there are, and the oldest. Requests are counted at the masters'
 //! links; if none is in flight there, at the ports' (`specs/Began.antt`).
 //!
-//! A message that is under way is one of a request in flight, so it is left too. Read on in `docs/CAPTURE.md`, "The end of
-//! a capture".
+//! A message that is under way is one of a request in flight, so it is left too. Read on in `docs/MODEL.md`, "Requests that
+//! are left".
 #![tactic(auto)]
 
 mod left;
