@@ -134,6 +134,9 @@ def check_judge(tally):
     tally.tell("what it says", (found.fault, found.line, found.time, found.text, str(found), found.index) == (
         tlx.Fault.SOURCE_IN_FLIGHT, 3, 12, *["unlawful: line 3, time 12, m0 A: source in flight"] * 2, 0))
     tally.tell("a verdict that was pickled", pickle.loads(pickle.dumps(found)).text == found.text)
+    left = tally.raises("an end with a request in flight", tlx.Incomplete, judge.end)
+    tally.tell("what it says of the end", (left.requests, str(left), pickle.loads(pickle.dumps(left)).requests) == (
+        1, "incomplete: 1 requests without reply", 1))
     reply = tlx.Beat.reply("m0", tlx.Reply.ACCESS_ACK_DATA, 2, 1, 0x33221100)
     found = tally.raises("a wrong reply", tlx.Unlawful, judge.step, changed(reply, data=0, line=(1 << 64) - 1))
     tally.tell("its text", found.text == "unlawful: line 18446744073709551615, time 0, m0 D: wrong reply: expected AccessAckData 00112233, "
@@ -142,6 +145,7 @@ def check_judge(tally):
     tally.tell("its fault", unknown.fault is tlx.Fault.UNKNOWN_DATA)
     judge.step(changed(reply, known=0x0F))
     tally.tell("the right reply after them", (judge.requests, judge.answered, judge.in_flight) == (1, 1, 0))
+    tally.tell("an end with nothing left", judge.end() is None)
     tally.raises("an order by its number", TypeError, tlx.Judge, tlx.System(SYSTEM), "both", 0)
     tally.raises("no links", TypeError, tlx.Judge, tlx.System(SYSTEM), None)
     tally.raises("other links", ValueError, tlx.Judge, tlx.System(SYSTEM), "all")
@@ -154,8 +158,7 @@ def check_judge(tally):
     tally.tell("a closed judge", (judge.requests, judge.answered, judge.in_flight) == (0, 0, 0))
     tally.raises("a beat of a closed judge", ValueError, judge.step, get_beat())
     tally.raises("beats of a closed judge", ValueError, judge.steps, tlx.Beats([get_beat()]))
-    if not hasattr(_library._library, "tlx_judge_end"):
-        tally.raises("an end that the library does not have", NotImplementedError, judge.end)
+    tally.raises("the end of a closed judge", ValueError, judge.end)
 
 
 def check_refused_beats(tally, judge):

@@ -132,20 +132,3 @@ def judge_text(handle: JudgeHandle) -> str:
     text = ctypes.create_string_buffer(TEXT_ROOM)
     _judge_text(ctypes.byref(handle), text, TEXT_ROOM)
     return text.value.decode().rstrip("\n")
-
-
-class _Left(ctypes.Structure):
-    """What tlx_judge_end says of the oldest request that is left."""
-
-    _fields_ = [("line", ctypes.c_uint64), ("time", ctypes.c_uint64), ("text", ctypes.c_char * TEXT_ROOM)]
-
-
-def judge_end(handle: JudgeHandle) -> tuple[int, int, int, str]:
-    """Whether everything that began has ended: 0 if so, else the fault with the line, the time and the text of the oldest request."""
-    try:
-        call = _call("tlx_judge_end", _U32, _AT, _AT)
-    except AttributeError:
-        raise NotImplementedError("this libtlx.so has no tlx_judge_end, which Judge.end calls") from None
-    found = _Left()
-    fault = call(ctypes.byref(handle), ctypes.byref(found))
-    return fault, found.line, found.time, found.text.decode().rstrip("\n")

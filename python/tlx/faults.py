@@ -74,10 +74,12 @@ class InvalidSystem(Refused):
     """A text that is no system file, or no script where a model is made of it: `system: missing master`."""
 
 
-class _OfABeat(Exception):
-    """What is said of a beat: its own `line` and `time`, the `fault`, and the `text` as `tlcheck` prints it, without its line end.
+class Unlawful(Exception):
+    """The first beat that no lawful crossbar could have shown.
 
-    `index` is its place in the array of `Judge.steps`, and 0 of another call.
+    `fault` is one of FIELD_CHANGED to WRONG_REPLY, `line` and `time` are those of the beat, and `text` is the line of `tlcheck`, without its
+    line end: `unlawful: line 4, time 12, p0 D: wrong reply: expected AccessAckData aa, captured AccessAckData 00`. `index` is the place of the
+    beat in the array of `Judge.steps`, and 0 of another call. The judge stays as it was before that beat.
     """
 
     index = 0
@@ -93,17 +95,15 @@ class _OfABeat(Exception):
         return type(self), (self.fault, self.line, self.time, self.text)
 
 
-class Unlawful(_OfABeat):
-    """The first beat that no lawful crossbar could have shown.
+class Incomplete(Exception):
+    """Requests are left at the end: `requests` says how many whole ones have no whole reply."""
 
-    `fault` is one of FIELD_CHANGED to WRONG_REPLY, `line` and `time` are those of the beat, and `text` is the line of `tlcheck`:
-    `unlawful: line 4, time 12, p0 D: wrong reply: expected AccessAckData aa, captured AccessAckData 00`. The judge stays as it was
-    before that beat.
-    """
+    def __init__(self, requests: int) -> None:
+        super().__init__(f"incomplete: {requests} requests without reply")
+        self.requests = requests
 
-
-class Incomplete(_OfABeat):
-    """Something that began has not ended: `line` and `time` are those of the first beat of the oldest request in flight."""
+    def __reduce__(self):
+        return type(self), (self.requests,)
 
 
 def fault_of(number: int, text: str = "") -> Exception:

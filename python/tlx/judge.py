@@ -38,6 +38,7 @@ class Judge:
         self._handle = read(_library.read_judge, text, _place("links", links, LINKS), _place("order", order, ORDERS))
         self.links = links
         self.order = order
+        self._is_closed = False
         # numbers are the fastest pointers; what they point to lives as long as the judge
         self._at = ctypes.addressof(self._handle)
         self._beat = ctypes.create_string_buffer(BEAT.size)
@@ -97,14 +98,13 @@ class Judge:
         return made
 
     def end(self) -> None:
-        """Asks whether everything that began has ended. Incomplete, if a request is in flight or a message under way; it names the
-        oldest request. The judge stays as it is and may go on.
+        """Asks whether each whole request has a whole reply. Incomplete, if `in_flight` is not 0. A message of which a beat is still to
+        come does not count. The judge stays as it is and may go on. ValueError after `close`.
         """
-        fault, line, time, text = _library.judge_end(self._handle)
-        if fault == Fault.EMPTY:
-            raise fault_of(fault)
-        if fault:
-            raise Incomplete(Fault(fault), line, time, text)
+        if self._is_closed:
+            raise fault_of(Fault.EMPTY)
+        if self.in_flight:
+            raise Incomplete(self.in_flight)
 
     @property
     def requests(self) -> int:
@@ -123,6 +123,7 @@ class Judge:
 
     def close(self) -> None:
         """Gives the memory back; a second time does nothing."""
+        self._is_closed = True
         self._handle.close()
 
     def __enter__(self) -> "Judge":
