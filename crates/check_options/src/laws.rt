@@ -12,6 +12,7 @@ pub fn lines_ask_for_options()
       links = Both;
       order = Accept;
       trace = false;
+      complete = false;
       system = codes "s.toml";
       capture = None;
     })
@@ -20,6 +21,7 @@ pub fn lines_ask_for_options()
       links = Both;
       order = Accept;
       trace = false;
+      complete = false;
       system = codes "s.toml";
       capture = Some (codes "c.csv");
     })
@@ -28,6 +30,7 @@ pub fn lines_ask_for_options()
       links = Both;
       order = Accept;
       trace = false;
+      complete = false;
       system = codes "s.toml";
       capture = None;
     })
@@ -36,6 +39,7 @@ pub fn lines_ask_for_options()
       links = Masters;
       order = Accept;
       trace = false;
+      complete = false;
       system = codes "s.toml";
       capture = None;
     })
@@ -44,6 +48,7 @@ pub fn lines_ask_for_options()
       links = Ports;
       order = Reply;
       trace = false;
+      complete = false;
       system = codes "s.toml";
       capture = Some (codes "c.csv");
     })
@@ -53,6 +58,7 @@ pub fn lines_ask_for_options()
       links = Each;
       order = Reply;
       trace = false;
+      complete = false;
       system = codes "s.toml";
       capture = Some (codes "c.csv");
     })
@@ -62,15 +68,36 @@ pub fn lines_ask_for_options()
       links = Masters;
       order = Accept;
       trace = true;
+      complete = false;
       system = codes "s.toml";
       capture = None;
     })
         (codes "tlcheck" ∷ codes "--links" ∷ codes "masters" ∷ codes "--trace"
         ∷ codes "s.toml" ∷ []) }
+    ensures complete { AskFor (record {
+      links = Both;
+      order = Accept;
+      trace = false;
+      complete = true;
+      system = codes "s.toml";
+      capture = Some (codes "c.csv");
+    })
+        (codes "tlcheck" ∷ codes "--complete" ∷ codes "s.toml" ∷ codes "c.csv" ∷ []) }
+    ensures complete_behind { AskFor (record {
+      links = Masters;
+      order = Accept;
+      trace = true;
+      complete = true;
+      system = codes "s.toml";
+      capture = None;
+    })
+        (codes "tlcheck" ∷ codes "--trace" ∷ codes "s.toml" ∷ codes "--complete" ∷ codes "--links"
+        ∷ codes "masters" ∷ []) }
     ensures trace_behind { AskFor (record {
       links = Both;
       order = Accept;
       trace = true;
+      complete = false;
       system = codes "s.toml";
       capture = Some (codes "c.csv");
     })
@@ -79,6 +106,7 @@ pub fn lines_ask_for_options()
       links = Both;
       order = Accept;
       trace = false;
+      complete = false;
       system = codes "s.toml";
       capture = None;
     })

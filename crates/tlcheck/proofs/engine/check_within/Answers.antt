@@ -15,8 +15,13 @@ returns-in_err-verdict-clause-checked g c =
     let begun = c.in_ok-begun.ensures.keeps in
     let of_it : IsJudgeOf c.args.asked system c.new-judge.result c.sizes_of-sizes.result =
     record {
-      judges = record { some = begun.some; each = λ plan is. c.new-judge.ensures.judges plan (begun.each plan is) };
+      judges = record {
+        some = begun.some;
+        each = λ plan is. let keeps = begun.each plan is in
+            c.new-judge.ensures.judges plan keeps (c.in_ok-pending.ensures.none_yet plan keeps);
+      };
       trace = c.new-judge.ensures.trace;
+      complete = c.new-judge.ensures.asked ∙ c.in_ok-pending.ensures.asked;
       sized = c.sizes_of-sizes.ensures.value;
     } in
     let stopped = is_stopped _ system _ _ _ _ _ _ _ fault of_it c.in_ok-system.ensures.ok c.in_err-verdict.ensures.fault c.in_err-verdict.ensures.told in
@@ -30,8 +35,13 @@ returns-in_err-line-clause-checked g c =
     let begun = c.in_ok-begun.ensures.keeps in
     let of_it : IsJudgeOf c.args.asked system c.new-judge.result c.sizes_of-sizes.result =
     record {
-      judges = record { some = begun.some; each = λ plan is. c.new-judge.ensures.judges plan (begun.each plan is) };
+      judges = record {
+        some = begun.some;
+        each = λ plan is. let keeps = begun.each plan is in
+            c.new-judge.ensures.judges plan keeps (c.in_ok-pending.ensures.none_yet plan keeps);
+      };
       trace = c.new-judge.ensures.trace;
+      complete = c.new-judge.ensures.asked ∙ c.in_ok-pending.ensures.asked;
       sized = c.sizes_of-sizes.ensures.value;
     } in
     let has = has_verdict _ system _ _ _ _ _ _ _ verdict of_it c.in_ok-system.ensures.ok c.in_ok-verdict.ensures.verdict c.in_ok-verdict.ensures.told in
@@ -46,8 +56,13 @@ returns-in_err-write_all-clause-checked g c =
     let begun = c.in_ok-begun.ensures.keeps in
     let of_it : IsJudgeOf c.args.asked system c.new-judge.result c.sizes_of-sizes.result =
     record {
-      judges = record { some = begun.some; each = λ plan is. c.new-judge.ensures.judges plan (begun.each plan is) };
+      judges = record {
+        some = begun.some;
+        each = λ plan is. let keeps = begun.each plan is in
+            c.new-judge.ensures.judges plan keeps (c.in_ok-pending.ensures.none_yet plan keeps);
+      };
       trace = c.new-judge.ensures.trace;
+      complete = c.new-judge.ensures.asked ∙ c.in_ok-pending.ensures.asked;
       sized = c.sizes_of-sizes.ensures.value;
     } in
     let has = has_verdict _ system _ _ _ _ _ _ _ verdict of_it c.in_ok-system.ensures.ok c.in_ok-verdict.ensures.verdict c.in_ok-verdict.ensures.told in
@@ -68,8 +83,13 @@ returns-clause-checked g c =
     let begun = c.in_ok-begun.ensures.keeps in
     let of_it : IsJudgeOf c.args.asked system c.new-judge.result c.sizes_of-sizes.result =
     record {
-      judges = record { some = begun.some; each = λ plan is. c.new-judge.ensures.judges plan (begun.each plan is) };
+      judges = record {
+        some = begun.some;
+        each = λ plan is. let keeps = begun.each plan is in
+            c.new-judge.ensures.judges plan keeps (c.in_ok-pending.ensures.none_yet plan keeps);
+      };
       trace = c.new-judge.ensures.trace;
+      complete = c.new-judge.ensures.asked ∙ c.in_ok-pending.ensures.asked;
       sized = c.sizes_of-sizes.ensures.value;
     } in
     let has = has_verdict _ system _ _ _ _ _ _ _ verdict of_it c.in_ok-system.ensures.ok c.in_ok-verdict.ensures.verdict c.in_ok-verdict.ensures.told in
