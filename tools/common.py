@@ -1,4 +1,4 @@
-"""What the tools share: where the programs lie, the limits and words of scripts, the codes of messages, and the columns of a capture."""
+"""What the tools share: the paths of the programs, the limits and words of scripts, the codes of messages, and the columns of a capture."""
 
 import os
 

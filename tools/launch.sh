@@ -2,8 +2,8 @@
 # tools/install and tools/library.sh.
 #
 # Only a proved crate is built, so the first run of a program proves and builds it (tools/build); later runs start at once.
-# A launcher has statuses beside the program's own 0 to 5: 66 where FILE can't be read, 69 where the toolchain `rt` is missing, 70
-# where a crate could not be built.
+# A launcher has statuses beside the program's own 0 to 5: 66 if FILE can't be read, 69 if the toolchain `rt` is missing, 70
+# if a crate could not be built.
 
 # The name of a program, a status, and why it was not started.
 fail() {

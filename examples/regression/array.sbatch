@@ -1,7 +1,7 @@
 #!/usr/bin/env bash
 #SBATCH --job-name=regression
 #SBATCH --output=/dev/null
-# An array of jobs under Slurm, submitted from this folder: sbatch --array=1-200 array.sbatch DIRECTORY, where all nodes see DIRECTORY. The number
+# An array of jobs under Slurm, submitted from this folder: sbatch --array=1-200 array.sbatch DIRECTORY. All nodes must see DIRECTORY. The number
 # of a task is the seed. DIRECTORY/SEED/line is its line of a job log; `cat log_header DIRECTORY/*/line` is one that junit reads.
 began=$(date +%s.%3N)
 "$SLURM_SUBMIT_DIR/job" "$SLURM_ARRAY_TASK_ID" "$1"

@@ -10,6 +10,7 @@ use Rattle.tl_text.specs.Name.{all_operations, word_of}
 use Rattle.check_judge.specs.Text.{has_codes, name_text}
 
 own_name : (op : AskOp) → word_of op ≡ name_text (opcode_of op) (param_of op)
+unfolding name_text
 own_name Get = refl
 own_name PutFull = refl
 own_name PutPartial = refl
@@ -36,13 +37,13 @@ both false b is = cc
 
 filtered : (opcode param : ℕ) (op : AskOp) (rest : List AskOp) → (IsCodeOf op opcode param → ⊥)
     → filter (has_codes opcode param) rest ≡ [] → filter (has_codes opcode param) (op ∷ rest) ≡ []
-filtered opcode param op rest no none = go (has_codes opcode param op) refl
+filtered opcode param op rest never none = go (has_codes opcode param op) refl
   where
     go : (has : Bool) → has_codes opcode param op ≡ has
         → (if has then op ∷ filter (has_codes opcode param) rest else filter (has_codes opcode param) rest) ≡ []
     go true is =
         let two = both (opcode_of op == opcode) (param_of op == param) is in
-        absurd (no (record {
+        absurd (never (record {
           opcode_is = eqb-true (opcode_of op) opcode two.0;
           param_is = eqb-true (param_of op) param two.1;
         }))
@@ -50,10 +51,11 @@ filtered opcode param op rest no none = go (has_codes opcode param op) refl
 
 none_of : (opcode param : ℕ) (ops : List AskOp) → ((op : AskOp) → IsCodeOf op opcode param → ⊥)
     → filter (has_codes opcode param) ops ≡ []
-none_of opcode param [] no = refl
-none_of opcode param (op ∷ ops) no = filtered opcode param op ops (no op) (none_of opcode param ops no)
+none_of opcode param [] never = refl
+none_of opcode param (op ∷ ops) never = filtered opcode param op ops (never op) (none_of opcode param ops never)
 
 pub unnamed : (opcode param : ℕ) → ((op : AskOp) → IsCodeOf op opcode param → ⊥) → [] ≡ name_text opcode param
-unnamed opcode param no =
+unfolding name_text
+unnamed opcode param never =
     let P : List AskOp → Type 0 = λ ops. [] ≡ flat_map word_of ops in
-    subst P (sym (none_of opcode param all_operations no)) refl
+    subst P (sym (none_of opcode param all_operations never)) refl

@@ -7,6 +7,7 @@ use Rattle.tl_types.specs.Wire.{opcode_of, param_of}
 use Rattle.tl_types.specs.declared.operation.AskOp.{AskOp}
 use Rattle.tl_text.specs.Name.{all_operations, word_of}
 use Rattle.tl_types.specs.Response.{Response}
+use Rattle.tl_beats.specs.declared.beat.ABeat.{ABeat}
 use Rattle.check_link.specs.declared.beat.Beat.{Beat}
 use Rattle.check_link.specs.declared.beat.Beat.TheVariants.{A, D}
 use Rattle.check_link.specs.declared.beat.Link.{Link}
@@ -78,14 +79,17 @@ abbrev pub has_codes : ℕ → ℕ → AskOp → Bool
 has_codes opcode param op = (opcode_of op == opcode) && (param_of op == param)
 
 -- the word of the operation that an opcode and a parameter stand for; no word if they stand for none
-abbrev pub name_text : ℕ → ℕ → List ℕ
+unfoldable pub name_text : ℕ → ℕ → List ℕ
 name_text opcode param = flat_map word_of (filter (has_codes opcode param) all_operations)
 
--- what the first beat of a request asks for, after a space
-unfoldable pub target_text : Beat → List ℕ
-target_text (A ask) =
+-- what a beat of a request asks for, after a space
+unfoldable pub ask_target_text : ABeat → List ℕ
+ask_target_text ask =
     codes " " ++ name_text ask.opcode ask.param ++ codes " 0x" ++ digits 16 false ask.address ++ codes " "
     ++ decimal ask.size
+
+abbrev pub target_text : Beat → List ℕ
+target_text (A ask) = ask_target_text ask
 target_text (D reply) = []
 
 unfoldable pub incomplete_line : Left → List ℕ

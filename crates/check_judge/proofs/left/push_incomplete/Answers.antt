@@ -8,10 +8,8 @@ returns-clause-ok c =
     rw (
       c.in_ok-push.ensures.items,
       c.in_ok-push_target.ensures.ok,
-      c.in_ok-push_field-5.ensures.ok,
-      c.in_ok-push_field-4.ensures.ok,
-      c.in_ok-push_field-3.ensures.ok,
-      c.in_ok-push_field-2.ensures.ok,
+      c.in_ok-push_origin.ensures.ok,
+      c.in_ok-push_place.ensures.ok,
       c.in_ok-push_field.ensures.ok,
     )
     (simp append_assoc)
