@@ -64,6 +64,20 @@ pub fn lines_ask_for_options()
     })
         (codes "tlcheck" ∷ codes "--links=each" ∷ codes "s.toml" ∷ codes "c.csv"
         ∷ codes "--order" ∷ codes "reply" ∷ []) }
+    ensures defaults { AskFor (record {
+      links = Both;
+      order = Accept;
+      trace = false;
+      complete = false;
+      system = codes "s.toml";
+      capture = None;
+    })
+        (codes "tlcheck" ∷ codes "--links" ∷ codes "both" ∷ codes "--order=accept"
+        ∷ codes "s.toml" ∷ []) }
+{}
+
+/// The lines that are taken with a flag: before SYSTEM, after it, and with another flag.
+pub fn lines_ask_for_flags()
     ensures trace { AskFor (record {
       links = Masters;
       order = Accept;
@@ -102,16 +116,6 @@ pub fn lines_ask_for_options()
       capture = Some (codes "c.csv");
     })
         (codes "tlcheck" ∷ codes "s.toml" ∷ codes "c.csv" ∷ codes "--trace" ∷ []) }
-    ensures defaults { AskFor (record {
-      links = Both;
-      order = Accept;
-      trace = false;
-      complete = false;
-      system = codes "s.toml";
-      capture = None;
-    })
-        (codes "tlcheck" ∷ codes "--links" ∷ codes "both" ∷ codes "--order=accept"
-        ∷ codes "s.toml" ∷ []) }
 {}
 
 /// The lines that ask for help or the version, and mistakes.

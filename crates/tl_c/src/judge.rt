@@ -14,7 +14,9 @@ ghost use Rattle.check_capture.specs.declared.row.Row.{Row};
 ghost use Rattle.check_pending.specs.Began.{IsComplete, beats_of};
 ghost use Rattle.check_pending.specs.View.{Holds};
 
-use crate::fault::{BAD_ARGUMENT, EMPTY, FULL, INCOMPLETE, MEMORY, NO_LINK, OK, OTHER_VERSION, beat_number};
+use crate::fault::{
+    BAD_ARGUMENT, EMPTY, FULL, INCOMPLETE, MEMORY, NO_LINK, OK, OTHER_VERSION, beat_number,
+};
 use crate::handle::Handle;
 use crate::held::{Held, Judge};
 use crate::reading::read_judge;

@@ -7,7 +7,13 @@ use tl_streams::line_status;
 #[test]
 fn words_give_options(rt: HostRuntime) {
     let rows: [(&[&str], Links, Order, [bool; 2], Option<&str>); 9] = [
-        (&["tlcheck", "s"], Links::Both, Order::Accept, [false, false], None),
+        (
+            &["tlcheck", "s"],
+            Links::Both,
+            Order::Accept,
+            [false, false],
+            None,
+        ),
         (
             &["tlcheck", "s", "c"],
             Links::Both,

@@ -263,9 +263,12 @@ const PORT_ALONE: &str = "10,p0,A,4,0,2,3,1000,0f,,,\n";
 
 #[test]
 fn requests_that_are_left_are_named(rt: HostRuntime) {
-    let one = "incomplete: 1 requests without reply, the first: line 2, time 10, m0 s3 get 0x1000 2\n";
-    let two = "incomplete: 2 requests without reply, the first: line 2, time 10, m0 s3 get 0x1000 2\n";
-    let half = "incomplete: 1 requests without reply, the first: line 2, time 11, m0 s2 putfull 0x1010 4\n";
+    let one =
+        "incomplete: 1 requests without reply, the first: line 2, time 10, m0 s3 get 0x1000 2\n";
+    let two =
+        "incomplete: 2 requests without reply, the first: line 2, time 10, m0 s3 get 0x1000 2\n";
+    let half =
+        "incomplete: 1 requests without reply, the first: line 2, time 11, m0 s2 putfull 0x1010 4\n";
     let rows: [(Links, &[&str], Option<&str>); 8] = [
         (Links::Both, &[], None),
         (Links::Both, &[ASKED, GIVEN, READ], None),

@@ -13,9 +13,5 @@ returns c = record {
   masters = wherever (Asks _ _) (λ l a b c f o d e. (refl, refl));
   ports = wherever (Asks _ _) (λ l a b c f o d e. (refl, refl));
   each = wherever (Asks _ _) (λ l a b c f o d e. (refl, refl));
-  trace = wherever (Asks _ _) (λ l a b c f o d e. (refl, refl));
-  complete = wherever (Asks _ _) (λ l a b c f o d e. (refl, refl));
-  complete_behind = wherever (Asks _ _) (λ l a b c f o d e. (refl, refl));
-  trace_behind = wherever (Asks _ _) (λ l a b c f o d e. (refl, refl));
   defaults = wherever (Asks _ _) (λ l a b c f o d e. (refl, refl));
 }
