@@ -50,15 +50,20 @@ order_rule names = record (new_rule (codes "order")) {
   defaults = codes "accept" ∷ [];
 }
 
--- a flag of this name: `--trace`, `--complete`
-abbrev pub flag_rule : Text → Rule
-flag_rule name = record (new_rule name) { long = Some name; action = Some SetTrue; parser = Some values.Bool }
-
+-- `--trace` and `--complete`, flags
 abbrev pub trace_rule : Rule
-trace_rule = flag_rule (codes "trace")
+trace_rule = record (new_rule (codes "trace")) {
+  long = Some (codes "trace");
+  action = Some SetTrue;
+  parser = Some values.Bool;
+}
 
 abbrev pub complete_rule : Rule
-complete_rule = flag_rule (codes "complete")
+complete_rule = record (new_rule (codes "complete")) {
+  long = Some (codes "complete");
+  action = Some SetTrue;
+  parser = Some values.Bool;
+}
 
 -- SYSTEM, a word that there must be
 abbrev pub system_rule : Rule
@@ -75,8 +80,8 @@ program = let plain = new_app (codes "tlcheck") in record plain { top = record p
 -- these six, and `--help` and `--version`, which clap adds
 abbrev pub with_rules : Names → Names → App
 with_rules links orders =
-    let words = with_rule (with_rule program (links_rule links)) (order_rule orders) in
-    let options = with_rule (with_rule words trace_rule) complete_rule in
+    let options = with_rule (with_rule (with_rule (with_rule program (links_rule links)) (order_rule orders)) trace_rule)
+    complete_rule in
     with_rule (with_rule options system_rule) capture_rule
 
 -- the rule is that of `--links`, or of `--order`, wherever its list of words lies

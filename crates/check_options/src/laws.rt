@@ -1,13 +1,13 @@
 //! Laws of the command line, each on a function that does nothing but carry it: what lines that the documents name ask
-//! for, or are refused as.
+//! for, or are refused as. A function has two lines at most: what clap's rules say of a line is computed.
 ghost use Rattle.std.specs.Prelude.{[], ◌∷◌, codes, true, false, Some, None};
 ghost use Rattle.clap.specs.declared.error.ErrorKind.TheVariants.{DisplayHelp, DisplayVersion, InvalidValue, MissingRequiredArgument, TooManyValues, UnknownArgument};
 ghost use Rattle.check_groups.specs.declared.links.Links.TheVariants.{Both, Masters, Ports, Each};
 ghost use Rattle.check_crossbar.specs.declared.order.Order.TheVariants.{Accept, Reply};
 ghost use Rattle.check_options.specs.Options.{AskFor, AreRefusedAs};
 
-/// The lines that are taken. The first word is the program's name.
-pub fn lines_ask_for_options()
+/// The lines that name SYSTEM, and SYSTEM and CAPTURE. The first word is the program's name.
+pub fn lines_ask_for_files()
     ensures alone { AskFor (record {
       links = Both;
       order = Accept;
@@ -26,6 +26,10 @@ pub fn lines_ask_for_options()
       capture = Some (codes "c.csv");
     })
         (codes "tlcheck" ∷ codes "s.toml" ∷ codes "c.csv" ∷ []) }
+{}
+
+/// The lines that name standard input, and the defaults.
+pub fn lines_ask_for_defaults()
     ensures input { AskFor (record {
       links = Both;
       order = Accept;
@@ -35,6 +39,20 @@ pub fn lines_ask_for_options()
       capture = None;
     })
         (codes "tlcheck" ∷ codes "s.toml" ∷ codes "-" ∷ []) }
+    ensures defaults { AskFor (record {
+      links = Both;
+      order = Accept;
+      trace = false;
+      complete = false;
+      system = codes "s.toml";
+      capture = None;
+    })
+        (codes "tlcheck" ∷ codes "--links" ∷ codes "both" ∷ codes "--order=accept"
+        ∷ codes "s.toml" ∷ []) }
+{}
+
+/// The lines with `--links`, alone and with `--order`.
+pub fn lines_ask_for_links()
     ensures masters { AskFor (record {
       links = Masters;
       order = Accept;
@@ -54,6 +72,10 @@ pub fn lines_ask_for_options()
     })
         (codes "tlcheck" ∷ codes "--links=ports" ∷ codes "s.toml" ∷ codes "c.csv"
         ∷ codes "--order" ∷ codes "reply" ∷ []) }
+{}
+
+/// A line with `--links=each` and `--order`.
+pub fn lines_ask_for_each()
     ensures each { AskFor (record {
       links = Each;
       order = Reply;
@@ -64,20 +86,10 @@ pub fn lines_ask_for_options()
     })
         (codes "tlcheck" ∷ codes "--links=each" ∷ codes "s.toml" ∷ codes "c.csv"
         ∷ codes "--order" ∷ codes "reply" ∷ []) }
-    ensures defaults { AskFor (record {
-      links = Both;
-      order = Accept;
-      trace = false;
-      complete = false;
-      system = codes "s.toml";
-      capture = None;
-    })
-        (codes "tlcheck" ∷ codes "--links" ∷ codes "both" ∷ codes "--order=accept"
-        ∷ codes "s.toml" ∷ []) }
 {}
 
-/// The lines that are taken with a flag: before SYSTEM, after it, and with another flag.
-pub fn lines_ask_for_flags()
+/// The lines with `--trace`, before SYSTEM and after CAPTURE.
+pub fn lines_ask_for_trace()
     ensures trace { AskFor (record {
       links = Masters;
       order = Accept;
@@ -88,6 +100,19 @@ pub fn lines_ask_for_flags()
     })
         (codes "tlcheck" ∷ codes "--links" ∷ codes "masters" ∷ codes "--trace"
         ∷ codes "s.toml" ∷ []) }
+    ensures trace_behind { AskFor (record {
+      links = Both;
+      order = Accept;
+      trace = true;
+      complete = false;
+      system = codes "s.toml";
+      capture = Some (codes "c.csv");
+    })
+        (codes "tlcheck" ∷ codes "s.toml" ∷ codes "c.csv" ∷ codes "--trace" ∷ []) }
+{}
+
+/// The lines with `--complete`, before SYSTEM, and after it with other options.
+pub fn lines_ask_for_complete()
     ensures complete { AskFor (record {
       links = Both;
       order = Accept;
@@ -107,15 +132,6 @@ pub fn lines_ask_for_flags()
     })
         (codes "tlcheck" ∷ codes "--trace" ∷ codes "s.toml" ∷ codes "--complete" ∷ codes "--links"
         ∷ codes "masters" ∷ []) }
-    ensures trace_behind { AskFor (record {
-      links = Both;
-      order = Accept;
-      trace = true;
-      complete = false;
-      system = codes "s.toml";
-      capture = Some (codes "c.csv");
-    })
-        (codes "tlcheck" ∷ codes "s.toml" ∷ codes "c.csv" ∷ codes "--trace" ∷ []) }
 {}
 
 /// The lines that ask for help or the version, and mistakes.
