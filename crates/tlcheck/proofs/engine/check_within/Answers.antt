@@ -1,5 +1,5 @@
 -- The verdict or the fault is that of the system, and what was written is what is told with it.
-use Rattle.std.proofs.Common.{◌∙◌, ap, inr}
+use Rattle.std.proofs.Common.{◌∙◌, ap, inl, inr}
 use Rattle.std.proofs.KnownBytes.{Keeps-refl}
 use Rattle.tlcheck.proofs.Failing.{checked_by, of_stopped}
 use Rattle.tlcheck.proofs.Judged.{IsJudgeOf, has_verdict, is_stopped}
@@ -7,6 +7,10 @@ use Rattle.tlcheck.specs.Engine.{line_of}
 use Rattle.tlcheck.specs.Fault.{of_capture}
 use Rattle.tlcheck.specs.declared.fault.CheckFault.TheVariants as check
 use Rattle.tlcheck.proofs.engine.check_within.Goals as goal
+
+pub returns-in_err-pending-clause-checked : goal.returns-in_err-pending-clause-checked
+returns-in_err-pending-clause-checked g c =
+    checked_by _ _ _ _ _ _ _ check.Memory c.from_residual-in_err-pending.ensures.1 (inl (Keeps-refl _))
 
 pub returns-in_err-verdict-clause-checked : goal.returns-in_err-verdict-clause-checked
 returns-in_err-verdict-clause-checked g c =
