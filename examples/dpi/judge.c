@@ -174,11 +174,13 @@ const char *tl_judge_text(int judge) {
   return watch ? watch->text : "judge: there is no such judge\n";
 }
 
-/* Judges what is left, and gives back what the judge holds. */
-void tl_judge_close(int judge) {
+/* Judges what is left, and gives back what the judge holds. If `complete` is not zero, a request without its reply is wrong too. */
+void tl_judge_close(int judge, unsigned char complete) {
   struct watch *watch = watch_of(judge);
   if (!watch) return;
-  if (!tl_judge_cycle(judge))
+  if (!tl_judge_cycle(judge) && complete && tlx_judge_end(&watch->judge) == TLX_INCOMPLETE)
+    tlx_judge_text(&watch->judge, watch->text, MAX_TEXT);
+  if (!watch->text[0])
     snprintf(watch->text, MAX_TEXT, "lawful: %" PRIu64 " beats, %" PRIu64 " requests, %" PRIu64 " answered\n", watch->count,
              tlx_judge_requests(&watch->judge), tlx_judge_answered(&watch->judge));
   tlx_judge_free(&watch->judge);
