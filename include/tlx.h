@@ -28,7 +28,7 @@ extern "C" {
 
 /* The version of this header. It rises when a struct, a number or a call changes; a call that reads a text answers TLX_OTHER_VERSION if the
  * library was built for another one. */
-#define TLX_VERSION 2
+#define TLX_VERSION 3
 
 /* The room of a message's bytes in the structs below. The largest size that a call takes is the library's own: tlx_largest_size. */
 #define TLX_ROOM 256
@@ -81,7 +81,9 @@ enum tlx_fault {
   TLX_UNKNOWN_DATA = 44,
   TLX_NOT_SENT = 45,
   TLX_NOT_GIVEN = 46,
-  TLX_WRONG_REPLY = 47
+  TLX_WRONG_REPLY = 47,
+  /* of the end (tlx_judge_end) */
+  TLX_INCOMPLETE = 48     /* requests are left without a whole reply */
 };
 
 enum tlx_side { TLX_MASTER = 0, TLX_PORT = 1 };
@@ -154,6 +156,7 @@ uint32_t tlx_judge_read_at(struct tlx_judge *judge, const uint8_t *file, size_t 
                            char *text, size_t room, size_t *written);
 void tlx_judge_free_at(struct tlx_judge *judge);
 uint32_t tlx_judge_step_at(struct tlx_judge *judge, const struct tlx_beat *beat);
+uint32_t tlx_judge_end_at(struct tlx_judge *judge);
 size_t tlx_judge_text_at(struct tlx_judge *judge, char *text, size_t room);
 uint64_t tlx_judge_requests_at(struct tlx_judge *judge);
 uint64_t tlx_judge_answered_at(struct tlx_judge *judge);
@@ -243,9 +246,15 @@ static inline uint32_t tlx_judge_step(struct tlx_judge *judge, const struct tlx_
   return judge && beat ? tlx_judge_step_at(judge, beat) : (uint32_t)TLX_NULL;
 }
 
-/* The line of the last fault of a beat (TLX_FIELD_CHANGED to TLX_WRONG_REPLY), as tlcheck says it of a capture, with its line end and with
- * the `line` and the `time` of the struct: `unlawful: line 4, time 12, p0 D: wrong reply: expected .., captured ..`. Empty before the first;
- * a lawful beat leaves it as it was. */
+/* Asks whether every request that began has its whole reply, at the masters' links if these are watched and else at the ports':
+ * TLX_OK, or TLX_INCOMPLETE. Then the text is the line that names the oldest request, with the `line` and the `time` of its first beat:
+ * `incomplete: 2 requests without reply, the first: line 4, time 12, m0 s3 get 0x1000 2`. Nothing else changes, and more beats may be judged.
+ * Faults: TLX_NULL, TLX_EMPTY, TLX_INCOMPLETE. */
+static inline uint32_t tlx_judge_end(struct tlx_judge *judge) { return judge ? tlx_judge_end_at(judge) : (uint32_t)TLX_NULL; }
+
+/* The line of the last fault of a beat (TLX_FIELD_CHANGED to TLX_WRONG_REPLY) or of the end, as tlcheck says it of a capture, with its line
+ * end and with the `line` and the `time` of the struct: `unlawful: line 4, time 12, p0 D: wrong reply: expected .., captured ..`. Empty before
+ * the first; a lawful beat leaves it as it was. */
 static inline size_t tlx_judge_text(struct tlx_judge *judge, char *text, size_t room) {
   return judge && text && room ? tlx_judge_text_at(judge, text, room) : 0;
 }

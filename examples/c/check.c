@@ -456,6 +456,9 @@ static void check_steps(struct tlx_judge *judge) {
   beat.time = 12;
   tell("a source in flight", tlx_judge_step(judge, &beat) == TLX_SOURCE_IN_FLIGHT && tlx_judge_text(judge, text, sizeof text) == 50 &&
        !strcmp(text, "unlawful: line 3, time 12, m0 A: source in flight\n") && tlx_judge_in_flight(judge) == 1);
+  tell("an end with a request left", tlx_judge_end(judge) == TLX_INCOMPLETE && tlx_judge_text(judge, text, sizeof text) > 0 &&
+       !strcmp(text, "incomplete: 1 requests without reply, the first: line 0, time 0, m0 s1 get 0x1000 2\n") &&
+       tlx_judge_in_flight(judge) == 1);
   beat.channel = TLX_D;
   beat.opcode = 1;
   beat.known = 0xff;
@@ -466,6 +469,7 @@ static void check_steps(struct tlx_judge *judge) {
        !strcmp(text, "unlawful: line 3, time 12, m0 D: wrong reply: expected AccessAckData 00112233, captured AccessAckData 00000000\n"));
   memcpy(beat.lanes, "\x00\x11\x22\x33", 4);
   tell("the right reply after it", tlx_judge_step(judge, &beat) == TLX_OK && tlx_judge_answered(judge) == 1 && tlx_judge_in_flight(judge) == 0);
+  tell("an end with nothing left", tlx_judge_end(judge) == TLX_OK && tlx_judge_end(0) == TLX_NULL);
   tell("a reply more", tlx_judge_step(judge, &beat) == TLX_NO_REQUEST);
   tell("null beats", tlx_judge_step(judge, 0) == TLX_NULL && tlx_judge_step(0, &beat) == TLX_NULL && tlx_judge_text(judge, 0, 1) == 0);
   tell("a judge in use takes no memory", requests == before);
@@ -541,7 +545,7 @@ static void check_judges(void) {
   memset(text, 'a', sizeof text);
   tell("a judge of no file", tlx_judge_read(&judge, 0, 0, 0, 0, text, sizeof text) == TLX_NULL && !text[0] && text[1] == 'a');
   tell("no judge", tlx_judge_read(0, SYSTEM, strlen(SYSTEM), 0, 0, 0, 9) == TLX_NULL);
-  tell("an empty judge", tlx_judge_step(&judge, &beat) == TLX_EMPTY && tlx_judge_requests(&judge) == 0 && tlx_judge_answered(&judge) == 0);
+  tell("an empty judge", tlx_judge_step(&judge, &beat) == TLX_EMPTY && tlx_judge_end(&judge) == TLX_EMPTY && tlx_judge_requests(&judge) == 0 && tlx_judge_answered(&judge) == 0);
   tell("links that there are not", tlx_judge_read(&judge, SYSTEM, strlen(SYSTEM), 9, 0, 0, 0) == TLX_BAD_ARGUMENT);
   tell("an order that there is not", tlx_judge_read(&judge, SYSTEM, strlen(SYSTEM), 0, 9, 0, 0) == TLX_BAD_ARGUMENT);
   tell("a judge", read_file_of(&judge, SYSTEM, text, sizeof text) == TLX_OK && !text[0]);

@@ -135,8 +135,8 @@ def check_judge(tally):
         tlx.Fault.SOURCE_IN_FLIGHT, 3, 12, *["unlawful: line 3, time 12, m0 A: source in flight"] * 2, 0))
     tally.tell("a verdict that was pickled", pickle.loads(pickle.dumps(found)).text == found.text)
     left = tally.raises("an end with a request in flight", tlx.Incomplete, judge.end)
-    tally.tell("what it says of the end", (left.requests, str(left), pickle.loads(pickle.dumps(left)).requests) == (
-        1, "incomplete: 1 requests without reply", 1))
+    line = "incomplete: 1 requests without reply, the first: line 0, time 0, m0 s1 get 0x1000 2"
+    tally.tell("what it says of the end", (left.requests, left.text, str(left), pickle.loads(pickle.dumps(left)).text) == (1, line, line, line))
     reply = tlx.Beat.reply("m0", tlx.Reply.ACCESS_ACK_DATA, 2, 1, 0x33221100)
     found = tally.raises("a wrong reply", tlx.Unlawful, judge.step, changed(reply, data=0, line=(1 << 64) - 1))
     tally.tell("its text", found.text == "unlawful: line 18446744073709551615, time 0, m0 D: wrong reply: expected AccessAckData 00112233, "

@@ -9,7 +9,7 @@ import os
 import struct
 
 # The version of the header that the structs below are those of.
-HEADER_VERSION = 2
+HEADER_VERSION = 3
 # The room for a message's bytes, and for the longest text.
 ROOM = 256
 TEXT_ROOM = 2048
@@ -98,6 +98,7 @@ model_masters = _call("tlx_model_masters_at", _U64, _AT)
 model_ports = _call("tlx_model_ports_at", _U64, _AT)
 judge_step = _call("tlx_judge_step_at", _U32, _AT, _AT)
 judge_steps = _call("tlx_judge_steps", _SIZE, _AT, _AT, _SIZE, _AT)
+judge_end = _call("tlx_judge_end_at", _U32, _AT)
 judge_requests = _call("tlx_judge_requests_at", _U64, _AT)
 judge_answered = _call("tlx_judge_answered_at", _U64, _AT)
 largest_size = _call("tlx_largest_size", _U8)()
@@ -128,7 +129,7 @@ def read_judge(text: bytes, links: int, order: int) -> tuple[JudgeHandle, int, s
 
 
 def judge_text(handle: JudgeHandle) -> str:
-    """The line of the last fault of a beat, without its line end."""
+    """The line of the last fault of a beat, or of the end, without its line end."""
     text = ctypes.create_string_buffer(TEXT_ROOM)
     _judge_text(ctypes.byref(handle), text, TEXT_ROOM)
     return text.value.decode().rstrip("\n")

@@ -49,6 +49,7 @@ class Fault(enum.IntEnum):
     NOT_SENT = 45
     NOT_GIVEN = 46
     WRONG_REPLY = 47
+    INCOMPLETE = 48
 
     @property
     def words(self) -> str:
@@ -96,14 +97,19 @@ class Unlawful(Exception):
 
 
 class Incomplete(Exception):
-    """Requests are left at the end: `requests` says how many whole ones have no whole reply."""
+    """Requests are left at the end.
 
-    def __init__(self, requests: int) -> None:
-        super().__init__(f"incomplete: {requests} requests without reply")
-        self.requests = requests
+    `text` is the line of `tlcheck --complete`, without its line end, which names the oldest: `incomplete: 2 requests without reply, the first:
+    line 4, time 12, m0 s3 get 0x1000 2`. `requests` says how many are left.
+    """
+
+    def __init__(self, text: str) -> None:
+        super().__init__(text)
+        self.text = text
+        self.requests = int(text.split()[1])
 
     def __reduce__(self):
-        return type(self), (self.requests,)
+        return type(self), (self.text,)
 
 
 def fault_of(number: int, text: str = "") -> Exception:

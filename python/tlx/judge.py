@@ -98,13 +98,15 @@ class Judge:
         return made
 
     def end(self) -> None:
-        """Asks whether each whole request has a whole reply. Incomplete, if `in_flight` is not 0. A message of which a beat is still to
-        come does not count. The judge stays as it is and may go on. ValueError after `close`.
+        """Asks whether each request that began has its whole reply. Incomplete, if one has not. The judge stays as it is and may go on.
+        ValueError after `close`, MemoryError if there was no memory for the text.
         """
-        if self._is_closed:
-            raise fault_of(Fault.EMPTY)
-        if self.in_flight:
-            raise Incomplete(self.in_flight)
+        fault = _library.judge_end(self._at)
+        if fault == Fault.INCOMPLETE:
+            text = _library.judge_text(self._handle)
+            raise Incomplete(text) if text else fault_of(Fault.MEMORY)
+        if fault:
+            raise fault_of(fault)
 
     @property
     def requests(self) -> int:

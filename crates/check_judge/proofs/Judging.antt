@@ -1,5 +1,5 @@
 -- One row of a file more.
-use Rattle.std.proofs.Common.{◌≡◌, ◌∙◌, ℕ, inl, append-nil, append_assoc, length-append, ◌+◌, ◌-◌, ◌%◌, ◌^◌, ◌<◌, ◌≤◌, List, [], ◌∷◌, ◌++◌, Bool, reverse, length, All, Contains, refl, sym, ap, subst, arith}
+use Rattle.std.proofs.Common.{◌≡◌, ◌∙◌, ℕ, inl, append-nil, append_assoc, length-append, IfSome, ◌+◌, ◌-◌, ◌%◌, ◌^◌, ◌<◌, ◌≤◌, List, [], ◌∷◌, ◌++◌, Bool, reverse, length, All, Contains, refl, sym, ap, subst, arith}
 use Rattle.std.specs.List.{AllByRecursion}
 use Rattle.std.specs.List.Sorted.{IsPermutation}
 use Rattle.std.proofs.lemmas.List.{length_push}
@@ -12,6 +12,7 @@ use Rattle.check_capture.specs.Moment.{Moment, IsMoment, Takes, HasFault}
 use Rattle.check_capture.specs.declared.fault.RowFault.{RowFault}
 use Rattle.check_capture.specs.declared.fault.RowFault.TheVariants as fault
 use Rattle.check_capture.specs.declared.row.Row.{Row}
+use Rattle.check_pending.specs.View.{Holds}
 use Rattle.check_judge.specs.declared.judge.Judge.{Judge}
 use Rattle.check_judge.specs.declared.stop.Refusal.{Refusal}
 use Rattle.check_judge.specs.declared.stop.Refusal.TheVariants as refusal
@@ -28,8 +29,9 @@ use Rattle.check_judge.proofs.Unique.{crossing_is_unique}
 -- ---- none yet
 
 pub judges_none : (plan : Plan) (judge : Judge) → judge.moment ≡ record { time = 0; rows = [] } → judge.rows ≡ 0
-    → judge.tally.requests ≡ 0 → judge.tally.answered ≡ 0 → Keeps plan [] judge.tally.watch → Judges plan [] judge
-judges_none plan judge fresh rows requests answered keeps =
+    → judge.tally.requests ≡ 0 → judge.tally.answered ≡ 0 → Keeps plan [] judge.tally.watch
+    → IfSome judge.tally.pending (Holds plan []) → Judges plan [] judge
+judges_none plan judge fresh rows requests answered keeps pending =
     let none : judge.moment.rows ≡ [] = ap (λ (m : Moment). m.rows) fresh in
     let P : List Row → Type 0 = λ l. IsCrossing [] (reverse l ++ []) in
     record {
@@ -40,7 +42,10 @@ judges_none plan judge fresh rows requests answered keeps =
       earlier = tt;
       begun = λ is. ap (λ (m : Moment). m.time) fresh;
       never_falls = IsNonDecreasingBy-short (λ (row : Row). row.time) [] (omega arith);
-      kept = record { keeps = keeps; requests = requests; answered = answered };
+      kept = record {
+        tallied = record { keeps = keeps; requests = requests; answered = answered };
+        pending = pending;
+      };
       rows = rows;
     }
 
@@ -345,7 +350,7 @@ told_file plan file judge tally so_far now next has kept told = (
     lawful = record {
       crossed = reverse judge.moment.rows ++ has.judges.before;
       crossing = has.judges.crossing;
-      lawful = kept.keeps.lawful;
+      lawful = kept.tallied.keeps.lawful;
     };
     told = told.told so_far has.told;
   },
@@ -393,7 +398,7 @@ told_earlier plan file judge text has = record {
     after = reverse judge.moment.rows;
     before = has.judges.before;
     crossing = has.judges.crossing;
-    lawful = has.judges.kept.keeps.lawful;
+    lawful = has.judges.kept.tallied.keeps.lawful;
     told = has.told;
   };
   now = all_turned (λ row. row.time ≡ judge.moment.time) judge.moment.rows has.judges.now;

@@ -3,4 +3,6 @@ pub mod Ordered
 pub mod Unique
 pub mod Telling
 pub mod Keeping
+pub mod Leaving
+pub mod Naming
 pub mod Judging

@@ -8,7 +8,7 @@ use Rattle.check_groups.specs.declared.links.Links.TheVariants.{Both, Masters, P
 use Rattle.check_groups.specs.Plan.{Layout, Plan, HasLink, IsWatched}
 use Rattle.check_groups.specs.Lawful.{IsLawful}
 use Rattle.check_capture.specs.declared.row.Row.{Row}
-use Rattle.check_judge.specs.Order.{are_masters_watched, are_ports_watched, is_watched, seen}
+use Rattle.check_judge.specs.Order.{are_masters_watched, are_ports_watched, is_watched, seen, watched}
 
 below : (m count : ℕ) → IsTrue (nat_lt m count) → m < count
 below m count is = grind (arith, nat_tests)
@@ -53,6 +53,14 @@ seen_one layout row before is = rw is refl
 pub seen_other : (layout : Layout) (row : Row) (before : List Row) → is_watched layout row.sighting.link ≡ false
     → seen layout (row ∷ before) ≡ seen layout before
 seen_other layout row before is = rw is refl
+
+pub watched_one : (layout : Layout) (row : Row) (before : List Row) → is_watched layout row.sighting.link ≡ true
+    → watched layout (row ∷ before) ≡ row ∷ watched layout before
+watched_one layout row before is = rw is refl
+
+pub watched_other : (layout : Layout) (row : Row) (before : List Row) → is_watched layout row.sighting.link ≡ false
+    → watched layout (row ∷ before) ≡ watched layout before
+watched_other layout row before is = rw is refl
 
 -- ---- a beginning of what is lawful is lawful
 

@@ -68,6 +68,10 @@ abbrev pub is_watched : Layout → Link → Bool
 is_watched layout (Master m) = are_masters_watched layout.links && nat_lt m (length layout.owners)
 is_watched layout (Port p) = are_ports_watched layout.links && nat_lt p (length layout.ports)
 
--- the sightings of rows, those at links that are watched
+-- the rows at links that are watched
+abbrev pub watched : Layout → List Row → List Row
+watched layout crossed = filter (λ row. is_watched layout row.sighting.link) crossed
+
+-- their sightings
 abbrev pub seen : Layout → List Row → List Sighting
-seen layout crossed = map (λ row. row.sighting) (filter (λ row. is_watched layout row.sighting.link) crossed)
+seen layout crossed = map (λ row. row.sighting) (watched layout crossed)

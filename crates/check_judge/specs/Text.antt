@@ -1,8 +1,13 @@
--- The lines of verdicts: `lawful: ROWS rows, ASKED requests, ANSWERED answered` and `unlawful: line N, time T, LINK
--- CHANNEL: FAULT`. This project's own.
-use Rattle.std.specs.Prelude.{ℕ, List, [], ◌∷◌, ◌++◌, codes, unwrap_or}
-use Rattle.std.specs.Fmt.{decimal}
+-- The lines of verdicts: `lawful: ROWS rows, ASKED requests, ANSWERED answered`, `unlawful: line N, time T, LINK
+-- CHANNEL: FAULT` and `incomplete: COUNT requests without reply, the first: line N, time T, mM sS NAME ADDRESS SIZE`.
+-- This project's own.
+use Rattle.std.specs.Prelude.{ℕ, Bool, false, ◌==◌, ◌&&◌, List, [], ◌∷◌, ◌++◌, codes, filter, flat_map, unwrap_or}
+use Rattle.std.specs.Fmt.{decimal, digits}
+use Rattle.tl_types.specs.Wire.{opcode_of, param_of}
+use Rattle.tl_types.specs.declared.operation.AskOp.{AskOp}
+use Rattle.tl_text.specs.Name.{all_operations, word_of}
 use Rattle.tl_types.specs.Response.{Response}
+use Rattle.tl_beats.specs.declared.beat.ABeat.{ABeat}
 use Rattle.check_link.specs.declared.beat.Beat.{Beat}
 use Rattle.check_link.specs.declared.beat.Beat.TheVariants.{A, D}
 use Rattle.check_link.specs.declared.beat.Link.{Link}
@@ -12,6 +17,7 @@ use Rattle.check_link.specs.declared.fault.FormFault.TheVariants as form
 use Rattle.check_crossbar.specs.declared.fault.Fault.{Fault}
 use Rattle.check_crossbar.specs.declared.fault.Fault.TheVariants.{Form, NoSuchSource, SourceBusy, WrongPort, NoRequest, EarlyReply, WrongSize, WrongOpcode, UnknownData, NotSent, NotGiven, WrongReply}
 use Rattle.tl_script.specs.Trace.{reply_text}
+use Rattle.check_pending.specs.declared.request.Left.{Left}
 use Rattle.check_judge.specs.Names.{NamesView, name_of}
 use Rattle.check_judge.specs.declared.stop.Counts.{Counts}
 use Rattle.check_judge.specs.declared.stop.Unlawful.{Unlawful}
@@ -67,3 +73,28 @@ unlawful_line names found =
     codes "unlawful: line " ++ decimal found.row.line ++ codes ", time " ++ decimal found.row.time ++ codes ", "
     ++ link_text names found.row.sighting.link
     ++ channel_text found.row.sighting.beat ++ fault_text found.fault ++ 10 ∷ []
+
+-- the operation has this opcode and this parameter
+abbrev pub has_codes : ℕ → ℕ → AskOp → Bool
+has_codes opcode param op = (opcode_of op == opcode) && (param_of op == param)
+
+-- the word of the operation that an opcode and a parameter stand for; no word if they stand for none
+unfoldable pub name_text : ℕ → ℕ → List ℕ
+name_text opcode param = flat_map word_of (filter (has_codes opcode param) all_operations)
+
+-- what a beat of a request asks for, after a space
+unfoldable pub ask_target_text : ABeat → List ℕ
+ask_target_text ask =
+    codes " " ++ name_text ask.opcode ask.param ++ codes " 0x" ++ digits 16 false ask.address ++ codes " "
+    ++ decimal ask.size
+
+abbrev pub target_text : Beat → List ℕ
+target_text (A ask) = ask_target_text ask
+target_text (D reply) = []
+
+unfoldable pub incomplete_line : Left → List ℕ
+incomplete_line left =
+    codes "incomplete: " ++ decimal left.requests ++ codes " requests without reply, the first: line "
+    ++ decimal left.first.began.row.line ++ codes ", time " ++ decimal left.first.began.row.time
+    ++ codes ", m" ++ decimal left.first.origin.master ++ codes " s" ++ decimal left.first.origin.source
+    ++ target_text left.first.began.row.sighting.beat ++ 10 ∷ []

@@ -1,16 +1,18 @@
 -- The verdict over the rows of a capture. Lists of what crossed have the latest first. This project's own.
-use Rattle.std.specs.Prelude.{◌≡◌, ℕ, ◌%◌, ◌^◌, ◌<◌, Bool, List, [], ◌∷◌, ◌++◌, IsTrue, length, reverse}
+use Rattle.std.specs.Prelude.{◌≡◌, ℕ, ◌%◌, ◌^◌, ◌<◌, Bool, true, false, List, [], ◌∷◌, ◌++◌, Option, Some, None, IsTrue, length, reverse}
 use Rattle.std.specs.List.{AllByRecursion}
 use Rattle.check_groups.specs.Plan.{Plan}
 use Rattle.check_groups.specs.Lawful.{IsLawful, IsFirstFault}
 use Rattle.check_capture.specs.declared.row.Row.{Row}
+use Rattle.check_pending.specs.Began.{IsComplete, IsLeft}
+use Rattle.check_pending.specs.declared.request.Left.{Left}
 use Rattle.check_judge.specs.declared.stop.Counts.{Counts}
 use Rattle.check_judge.specs.declared.stop.Refusal.{Refusal}
 use Rattle.check_judge.specs.declared.stop.Refusal.TheVariants as refusal
 use Rattle.check_judge.specs.declared.stop.Stop.{Stop}
 use Rattle.check_judge.specs.declared.stop.Stop.TheVariants as stop
 use Rattle.check_judge.specs.declared.stop.Unlawful.{Unlawful}
-use Rattle.check_judge.specs.Order.{IsCrossing, IsLater, HasRowFault, is_watched, seen}
+use Rattle.check_judge.specs.Order.{IsCrossing, IsLater, HasRowFault, is_watched, seen, watched}
 use Rattle.check_judge.specs.Count.{asked, answered}
 use Rattle.check_judge.specs.Told.{AppendsTold, IsTold}
 
@@ -27,6 +29,19 @@ pub record HasCounts (plan : Plan) (file : List Row) (counts : Counts) : Type 0 
   pub rows : counts.rows ≡ length file % 2 ^ 64
   pub requests : counts.requests ≡ asked plan (seen plan.layout crossed)
   pub answered : counts.answered ≡ answered plan (seen plan.layout crossed)
+
+-- what is answered of the requests that are left after some rows: nothing unless that is asked for; else that none is, or
+-- how many there are and the oldest
+abbrev pub IsWhatIsLeft : Bool → Plan → List Row → Option Left → Type 0
+IsWhatIsLeft false plan rows left = left ≡ None
+IsWhatIsLeft true plan rows None = IsComplete plan rows
+IsWhatIsLeft true plan rows (Some left) = IsLeft plan rows left
+
+-- the same after the rows of a file, in the order in which their beats cross, at the links that are watched
+pub record HasLeft (asked : Bool) (plan : Plan) (file : List Row) (left : Option Left) : Type 0 where
+  pub crossed : List Row
+  pub crossing : IsCrossing file crossed
+  pub is : IsWhatIsLeft asked plan (watched plan.layout crossed) left
 
 -- the rows before are lawful, and this one is not, behind them: it has this first fault
 pub record IsUnlawfulAfter (plan : Plan) (before : List Row) (found : Unlawful) : Type 0 where

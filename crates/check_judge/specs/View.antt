@@ -1,24 +1,30 @@
 -- What a judge knows of the rows that it has taken. Lists of what crossed have the latest first. This project's own.
-use Rattle.std.specs.Prelude.{◌≡◌, ◌⊎◌, true, ℕ, ◌<◌, ◌%◌, ◌^◌, Bool, List, [], ◌++◌, reverse, length}
+use Rattle.std.specs.Prelude.{◌≡◌, ◌⊎◌, true, ℕ, ◌<◌, ◌%◌, ◌^◌, Bool, List, [], ◌++◌, reverse, length, is_some, IfSome}
 use Rattle.std.specs.List.{AllByRecursion}
 use Rattle.check_groups.specs.Plan.{Plan}
 use Rattle.check_groups.specs.View.{Keeps}
 use Rattle.check_groups.specs.declared.links.Links.TheVariants.{Each}
 use Rattle.check_capture.specs.declared.row.Row.{Row}
+use Rattle.check_pending.specs.View.{Holds}
 use Rattle.check_judge.specs.declared.judge.Judge.{Judge}
 use Rattle.check_judge.specs.declared.tally.Tally.{Tally}
 use Rattle.check_judge.specs.declared.stop.Stop.{Stop}
 use Rattle.check_judge.specs.declared.stop.Stop.TheVariants as stop
-use Rattle.check_judge.specs.Order.{IsCrossing, NeverFalls, seen}
+use Rattle.check_judge.specs.Order.{IsCrossing, NeverFalls, seen, watched}
 use Rattle.check_judge.specs.Count.{asked, answered}
 use Rattle.check_judge.specs.Told.{IsTold}
 use Rattle.check_judge.specs.Verdict.{IsToldBefore}
 
 -- the rows that crossed are lawful, and this is kept and counted of them
-pub record Kept (plan : Plan) (crossed : List Row) (tally : Tally) : Type 0 where
+pub record Tallied (plan : Plan) (crossed : List Row) (tally : Tally) : Type 0 where
   pub keeps : Keeps plan (seen plan.layout crossed) tally.watch
   pub requests : tally.requests ≡ asked plan (seen plan.layout crossed)
   pub answered : tally.answered ≡ answered plan (seen plan.layout crossed)
+
+-- and these of their requests are in flight, if it is asked which are left
+pub record Kept (plan : Plan) (crossed : List Row) (tally : Tally) : Type 0 where
+  pub tallied : Tallied plan crossed tally
+  pub pending : IfSome tally.pending (Holds plan (watched plan.layout crossed))
 
 -- memory can be refused: for what is told, or for what is kept of a port's link that is judged by itself
 abbrev pub MayWantMemory : Bool → Plan → Type 0
@@ -34,6 +40,10 @@ pub record Judges (plan : Plan) (file : List Row) (judge : Judge) : Type 0 where
   pub never_falls : NeverFalls file
   pub kept : Kept plan before judge.tally
   pub rows : judge.rows ≡ length file % 2 ^ 64
+
+-- the judge is to say which requests are left
+abbrev pub is_asked : Judge → Bool
+is_asked judge = is_some judge.tally.pending
 
 -- ---- what is told
 

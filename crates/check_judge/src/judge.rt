@@ -1,16 +1,18 @@
 //! The judge of the rows of a file.
-ghost use Rattle.std.specs.Prelude.{◌≡◌, ◌+◌, ◌%◌, ◌^◌, ◌<◌, ◌↔◌, ℕ, true, false, List, [], ◌∷◌, ◌++◌, Err, IsOk, IfOk, OnOk, IfErr};
+ghost use Rattle.std.specs.Prelude.{◌≡◌, ◌+◌, ◌%◌, ◌^◌, ◌<◌, ◌↔◌, ℕ, true, false, List, [], ◌∷◌, ◌++◌, Err, is_some, IsOk, IfOk, OnOk, IfErr, IfSome};
 ghost use Rattle.check_groups.specs.Plan.{Plan};
 ghost use Rattle.check_groups.specs.View.{Keeps};
 ghost use Rattle.check_capture.specs.Moment.{IsLink, IsMoment};
 ghost use Rattle.check_capture.specs.declared.row.Row.{Row};
-ghost use Rattle.check_judge.specs.View.{HasTold, Judges, MayWantMemory, TellsOn, TellsStop, is_traced};
-ghost use Rattle.check_judge.specs.Verdict.{HasCounts, IsFirstUnlawful, IsLawfulFile, IsStop, IsToldBefore, IsToldFile, OfUnlawful};
+ghost use Rattle.check_pending.specs.View.{Holds};
+ghost use Rattle.check_judge.specs.View.{HasTold, Judges, MayWantMemory, TellsOn, TellsStop, is_asked, is_traced};
+ghost use Rattle.check_judge.specs.Verdict.{HasCounts, HasLeft, IsFirstUnlawful, IsLawfulFile, IsStop, IsToldBefore, IsToldFile, OfUnlawful};
 
-use crate::stop::{Counts, Refusal, Stop, stop_of};
+use crate::stop::{Counts, Ending, Refusal, Stop, stop_of};
 use crate::tally::Tally;
 use check_capture::{Moment, Row};
 use check_groups::Watch;
+use check_pending::Pending;
 use std::alloc::AllocError;
 
 /// The judge of the rows of a file, which it takes in the order in which they stand there.
@@ -22,15 +24,18 @@ pub struct Judge {
 }
 
 impl Judge {
-    /// The judge of a capture, with a judge of beats that has seen none; it tells replies if they are traced.
-    pub fn new(watch: Watch, trace: bool) -> Judge
-        ensures judges { (plan : Plan) → Keeps plan [] watch → Judges plan [] result }
+    /// The judge of a capture, with a judge of beats that has seen none; it tells replies if they are traced. If it is
+    /// given the requests in flight, which are none yet, it says at the end which are left.
+    pub fn new(watch: Watch, trace: bool, pending: Option<Pending>) -> Judge
+        ensures judges { (plan : Plan) → Keeps plan [] watch → IfSome pending (Holds plan []) → Judges plan [] result }
         ensures trace { is_traced result ≡ trace }
+        ensures asked { is_asked result ≡ is_some pending }
     {
         Judge {
             tally: Tally {
                 watch,
                 trace,
+                pending,
                 requests: 0,
                 answered: 0,
             },
@@ -56,6 +61,7 @@ impl Judge {
         requires link { IsLink row.sighting.link }
         requires later { self.old.moment.time < row.time }
         ensures trace { is_traced self.new ≡ is_traced self.old }
+        ensures asked { is_asked self.new ≡ is_asked self.old }
         ensures keeps { (plan : Plan) (file : List Row) → Judges plan file self.old
             → OnOk result (Judges plan (file ++ row ∷ []) self.new) }
         ensures told { (plan : Plan) (file : List Row) (so_far : List ℕ)
@@ -84,6 +90,7 @@ impl Judge {
     pub fn take(&mut self, row: Row, text: &mut Vec<u8>) -> Result<(), Stop>
         requires { IsLink row.sighting.link }
         ensures trace { is_traced self.new ≡ is_traced self.old }
+        ensures asked { is_asked self.new ≡ is_asked self.old }
         ensures keeps { (plan : Plan) (file : List Row) → Judges plan file self.old
             → OnOk result (Judges plan (file ++ row ∷ []) self.new) }
         ensures told { (plan : Plan) (file : List Row) (so_far : List ℕ)
@@ -117,6 +124,7 @@ impl Judge {
         requires link { IsLink row.now.sighting.link }
         requires later { self.old.moment.time < row.now.time }
         ensures trace { is_traced self.new ≡ is_traced self.old }
+        ensures asked { is_asked self.new ≡ is_asked self.old }
         ensures told { (plan : Plan) (file : List Row) (so_far text : List ℕ) → HasTold plan file self.old so_far
             → IfOk result (λ taken. taken ≡ true
             → TellsOn plan (file ++ row.now ∷ []) self.new so_far text text) }
@@ -137,6 +145,7 @@ impl Judge {
     pub fn take_quietly(&mut self, row: &Row) -> Result<bool, AllocError>
         requires { IsLink row.now.sighting.link }
         ensures trace { is_traced self.new ≡ is_traced self.old }
+        ensures asked { is_asked self.new ≡ is_asked self.old }
         ensures told { (plan : Plan) (file : List Row) (so_far text : List ℕ) → HasTold plan file self.old so_far
             → IfOk result (λ taken. taken ≡ true
             → TellsOn plan (file ++ row.now ∷ []) self.new so_far text text) }
@@ -156,12 +165,15 @@ impl Judge {
         }
     }
 
-    /// Judges the last rows, and appends what is told of them: the counts of the file, if it is lawful.
-    pub fn end(mut self, text: &mut Vec<u8>) -> Result<Counts, Refusal>
+    /// Judges the last rows, and appends what is told of them: the counts of the file and what is left of its requests,
+    /// if it is lawful.
+    pub fn end(mut self, text: &mut Vec<u8>) -> Result<Ending, Refusal>
         ensures lawful { (plan : Plan) (file : List Row) → Judges plan file self
             → (result ≡ Err Refusal.Memory → ⊥) → IsOk result ↔ IsLawfulFile plan file }
         ensures counts { (plan : Plan) (file : List Row) → Judges plan file self
-            → IfOk result (HasCounts plan file) }
+            → IfOk result (λ ending. HasCounts plan file ending.counts) }
+        ensures left { (plan : Plan) (file : List Row) → Judges plan file self
+            → IfOk result (λ ending. HasLeft (is_asked self) plan file ending.left) }
         ensures fault { (plan : Plan) (file : List Row) → Judges plan file self
             → IfErr result (OfUnlawful (IsFirstUnlawful plan file)) }
         ensures told { (plan : Plan) (file : List Row) (so_far : List ℕ) → HasTold plan file self so_far
@@ -178,10 +190,14 @@ impl Judge {
         if let Err(refusal) = self.tally.judge_rows(self.moment.rows(), text) {
             return Err(refusal);
         }
-        Ok(Counts {
+        let counts = Counts {
             rows: self.rows,
             requests: self.tally.requests,
             answered: self.tally.answered,
+        };
+        Ok(Ending {
+            counts,
+            left: self.tally.left(),
         })
     }
 }

@@ -8,6 +8,9 @@
 //! at the links that are watched, or [`Unlawful`] is the first one that makes them unlawful, with its first fault. Of a
 //! judge that has answered an error nothing is promised: it must not be used again.
 //!
+//! A judge that is given the requests in flight ([`check_pending::Pending`]) says at the end of a lawful file which of
+//! them are left: how many requests have no whole reply, and the oldest.
+//!
 //! If replies are traced, what is told of rows is appended to a text as they are judged: a line for each whole reply
 //! that is counted, in the order in which the replies end (`specs/Told.antt`).
 //!
@@ -16,6 +19,7 @@
 
 mod judge;
 pub mod laws;
+mod left;
 mod names;
 mod start;
 mod stop;
@@ -24,8 +28,9 @@ mod text;
 mod trace;
 
 pub use judge::Judge;
+pub use left::push_incomplete;
 pub use names::Names;
-pub use start::{Beginning, Terms, begin};
-pub use stop::{Counts, Refusal, Stop, Unlawful};
+pub use start::{Beginning, Terms, begin, pending_of};
+pub use stop::{Counts, Ending, Refusal, Stop, Unlawful};
 pub use tally::count_end;
 pub use text::{push_lawful, push_unlawful};

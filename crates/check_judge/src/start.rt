@@ -1,6 +1,8 @@
 //! The judge of a system's beats, before any.
 ghost use Rattle.std.specs.Prelude.{◌≡◌, ◌≢◌, [], map, option_map, string_bytes, IfOk, IfErr};
+ghost use Rattle.check_groups.specs.Plan.{Plan};
 ghost use Rattle.check_groups.specs.View.{Keeps};
+ghost use Rattle.check_pending.specs.View.{Holds};
 ghost use Rattle.check_system.specs.Master.{master_view};
 ghost use Rattle.check_system.specs.Port.{port_view};
 ghost use Rattle.check_system.specs.Reset.{IsFirstResetFault, resets_of, stores_in};
@@ -10,6 +12,7 @@ ghost use Rattle.check_judge.specs.Start.{ByThePlan, layout_of, names_of, order_
 use crate::names::Names;
 use check_crossbar::Order;
 use check_groups::{Links, Watch};
+use check_pending::Pending;
 use check_system::{Master, Order as SaidOrder, Port, ResetFault, System, memories_of};
 use std::alloc::{AllocError, Global};
 use tl_ops::Bank;
@@ -138,4 +141,11 @@ pub fn begin(alloc: Global, system: System, terms: Terms) -> Result<Beginning, R
         own,
     )?;
     Ok(Beginning { watch, names })
+}
+
+/// The requests in flight of a judge that has seen no beat: none yet.
+pub fn pending_of(alloc: Global, watch: &Watch) -> Result<Pending, AllocError>
+    ensures { IfOk result (λ pending. (plan : Plan) → Keeps plan [] watch.now → Holds plan [] pending) }
+{
+    Pending::new(alloc, watch.sources())
 }

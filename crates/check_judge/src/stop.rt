@@ -4,6 +4,7 @@ ghost use Rattle.check_judge.specs.Verdict.{stop_of};
 
 use check_capture::{Row, RowFault};
 use check_crossbar::Fault;
+use check_pending::Left;
 
 /// How many rows there are, and how many whole requests and replies were seen, each modulo 2^64.
 #[derive(Debug, Clone, Copy, PartialEq, Eq)]
@@ -11,6 +12,13 @@ pub struct Counts {
     pub rows: u64,
     pub requests: u64,
     pub answered: u64,
+}
+
+/// How a lawful capture ends: its counts, and what is left of its requests, if that is asked for and there are any.
+#[derive(Debug, Clone, Copy, PartialEq, Eq)]
+pub struct Ending {
+    pub counts: Counts,
+    pub left: Option<Left>,
 }
 
 /// The first row that makes a capture unlawful, and the first fault of its beat.

@@ -1,21 +1,28 @@
 //! Beats judged in the order in which they cross, and what they end, counted.
-ghost use Rattle.std.specs.Prelude.{◌≡◌, ℕ, ◌&&◌, false, true, List, ◌∷◌, ◌++◌, reverse, OnOk, IsOk, IfOk, IfErr};
+ghost use Rattle.std.specs.Prelude.{◌≡◌, ℕ, ◌&&◌, false, true, List, ◌∷◌, ◌++◌, reverse, is_some, OnOk, IsOk, IfOk, IfErr, IfSome};
 ghost use Rattle.check_groups.specs.Plan.{Plan, HasLink, IsWatched};
 ghost use Rattle.check_crossbar.specs.Plan.{source_of};
 ghost use Rattle.check_groups.specs.Groups.{is_alone};
+ghost use Rattle.check_groups.specs.Lawful.{IsLawful};
+ghost use Rattle.check_groups.specs.Pending.{IsChange};
+ghost use Rattle.check_groups.specs.View.{Keeps};
 ghost use Rattle.check_capture.specs.declared.row.Row.{Row};
+ghost use Rattle.check_pending.specs.Began.{beats_of};
+ghost use Rattle.check_pending.specs.View.{Holds};
+ghost use Rattle.check_link.specs.declared.beat.Sighting.{Sighting};
 ghost use Rattle.check_judge.specs.Count.{ends_a_reply, ends_an_ask, is_counted, one_more};
 ghost use Rattle.check_judge.specs.Order.{seen};
 ghost use Rattle.check_judge.specs.Told.{AppendsTold, AppendsToldOf, IsCountedOfOwner};
-ghost use Rattle.check_judge.specs.View.{Kept, MayWantMemory};
-ghost use Rattle.check_judge.specs.Verdict.{IsUnlawfulAfter, OfUnlawful, StopsTelling};
+ghost use Rattle.check_judge.specs.View.{Kept, MayWantMemory, Tallied};
+ghost use Rattle.check_judge.specs.Verdict.{IsUnlawfulAfter, IsWhatIsLeft, OfUnlawful, StopsTelling};
 
 use crate::stop::{Refusal, Unlawful};
 use crate::trace::{push_answer, source_of};
 use check_capture::Row;
 use check_crossbar::{Ended, Seen, StepError};
-use check_groups::{Links, Watch};
+use check_groups::{Change, Links, Watch};
 use check_link::{Link, Sighting};
+use check_pending::{Left, Pending};
 use std::alloc::AllocError;
 
 /// Whether messages are counted at a link: at the masters' where these are watched, else at the ports'.
@@ -49,6 +56,8 @@ pub struct Tally {
     pub watch: Watch,
     /// Whether replies are told.
     pub trace: bool,
+    /// The requests in flight, if it is asked which are left at the end.
+    pub pending: Option<Pending>,
     pub requests: u64,
     pub answered: u64,
 }
@@ -58,6 +67,7 @@ impl Tally {
     fn count(&mut self, link: Link, end: Ended)
         ensures watch { self.new.watch ≡ self.old.watch }
         ensures trace { self.new.trace ≡ self.old.trace }
+        ensures pending { self.new.pending ≡ self.old.pending }
         ensures requests { self.new.requests
             ≡ one_more (is_counted self.old.watch.layout.links link && ends_an_ask end)
             self.old.requests }
@@ -92,13 +102,14 @@ impl Tally {
     }
 
     /// Takes the beat of a row behind those before it, if it is lawful, and tells nothing: whether it is. Most beats of
-    /// a file are, and where nothing is told of them nobody asks for their replies.
+    /// a file are, and if nothing is told of them nobody asks for their replies.
     fn take_row(&mut self, row: &Row) -> Result<bool, AllocError>
         requires known { HasLink self.old.watch.layout row.now.sighting.link }
         requires watched { IsWatched self.old.watch.layout.links row.now.sighting.link }
         ensures trace { self.new.trace ≡ self.old.trace }
-        ensures keeps { (plan : Plan) (before : List Row) → Kept plan before self.old
-            → IfOk result (λ taken. taken ≡ true → Kept plan (row.now ∷ before) self.new) }
+        ensures pending { self.new.pending ≡ self.old.pending }
+        ensures keeps { (plan : Plan) (before : List Row) → Tallied plan before self.old
+            → IfOk result (λ taken. taken ≡ true → Tallied plan (row.now ∷ before) self.new) }
         ensures refused { IfOk result (λ taken. taken ≡ false → self.new ≡ self.old) }
         ensures ready { is_alone self.old.watch.layout.links row.now.sighting.link ≡ false → IsOk result }
     {
@@ -116,16 +127,17 @@ impl Tally {
         requires known { HasLink self.old.watch.layout row.now.sighting.link }
         requires watched { IsWatched self.old.watch.layout.links row.now.sighting.link }
         ensures trace { self.new.trace ≡ self.old.trace }
-        ensures keeps { (plan : Plan) (before : List Row) → Kept plan before self.old
-            → OnOk result (Kept plan (row.now ∷ before) self.new) }
-        ensures told { (plan : Plan) (before : List Row) → Kept plan before self.old
+        ensures pending { self.new.pending ≡ self.old.pending }
+        ensures keeps { (plan : Plan) (before : List Row) → Tallied plan before self.old
+            → OnOk result (Tallied plan (row.now ∷ before) self.new) }
+        ensures told { (plan : Plan) (before : List Row) → Tallied plan before self.old
             → OnOk result (AppendsTold self.old.trace plan (seen plan.layout before)
             (seen plan.layout (row.now ∷ before)) text.old.items text.new.items) }
-        ensures fault { (plan : Plan) (before : List Row) → Kept plan before self.old
+        ensures fault { (plan : Plan) (before : List Row) → Tallied plan before self.old
             → IfErr result (OfUnlawful (IsUnlawfulAfter plan before)) }
         ensures row { IfErr result (OfUnlawful (λ found. found.row ≡ row.now)) }
         ensures quiet { IfErr result (OfUnlawful (λ _. text.new.items ≡ text.old.items)) }
-        ensures memory { (plan : Plan) (before : List Row) → Kept plan before self.old
+        ensures memory { (plan : Plan) (before : List Row) → Tallied plan before self.old
             → IfErr result (λ why. why ≡ Refusal.Memory → MayWantMemory self.old.trace plan) }
     {
         let seen = match self.watch.step(&row.sighting) {
@@ -142,9 +154,80 @@ impl Tally {
         }
     }
 
+    /// Judges the beat of a row, whose link is watched, behind those before it, and appends what is told of it. Most rows
+    /// are lawful, and are judged without room for a fault if nothing is told of them.
+    fn step_row(&mut self, row: &Row, text: &mut Vec<u8>) -> Result<(), Refusal>
+        requires known { HasLink self.old.watch.layout row.now.sighting.link }
+        requires watched { IsWatched self.old.watch.layout.links row.now.sighting.link }
+        ensures trace { self.new.trace ≡ self.old.trace }
+        ensures pending { self.new.pending ≡ self.old.pending }
+        ensures keeps { (plan : Plan) (before : List Row) → Tallied plan before self.old
+            → OnOk result (Tallied plan (row.now ∷ before) self.new) }
+        ensures told { (plan : Plan) (before : List Row) → Tallied plan before self.old
+            → OnOk result (AppendsTold self.old.trace plan (seen plan.layout before)
+            (seen plan.layout (row.now ∷ before)) text.old.items text.new.items) }
+        ensures fault { (plan : Plan) (before : List Row) → Tallied plan before self.old
+            → IfErr result (OfUnlawful (IsUnlawfulAfter plan before)) }
+        ensures row { IfErr result (OfUnlawful (λ found. found.row ≡ row.now)) }
+        ensures quiet { IfErr result (OfUnlawful (λ _. text.new.items ≡ text.old.items)) }
+        ensures memory { (plan : Plan) (before : List Row) → Tallied plan before self.old
+            → IfErr result (λ why. why ≡ Refusal.Memory → MayWantMemory self.old.trace plan) }
+    {
+        if self.trace {
+            return self.tell_row(row, text);
+        }
+        match self.take_row(row) {
+            Ok(true) => Ok(()),
+            // it is judged again for its fault
+            Ok(false) => self.tell_row(row, text),
+            Err(AllocError) => Err(Refusal::Memory),
+        }
+    }
+
+    /// What the next beat does to the requests in flight, if these are asked for.
+    fn change(&self, row: &Row) -> Option<Change>
+        requires { HasLink self.now.watch.layout row.now.sighting.link }
+        ensures asked { is_some result ≡ is_some self.now.pending }
+        ensures change { (plan : Plan) (past : List Sighting) → Keeps plan past self.now.watch
+            → IsLawful plan (row.now.sighting ∷ past) → IfSome result (IsChange plan past row.now.sighting) }
+    {
+        match self.pending {
+            Some(_) => Some(self.watch.change(&row.sighting)),
+            None => None,
+        }
+    }
+
+    /// Notes what the beat of a row that was judged did to the requests in flight, if these are asked for.
+    fn note(&mut self, change: Option<Change>, row: &Row)
+        ensures trace { self.new.trace ≡ self.old.trace }
+        ensures tallied { (plan : Plan) (before : List Row) → Tallied plan before self.old → Tallied plan before self.new }
+        ensures asked { is_some self.new.pending ≡ is_some self.old.pending }
+        ensures holds { (plan : Plan) (rows : List Row) → IfSome self.old.pending (Holds plan rows)
+            → is_some change ≡ is_some self.old.pending
+            → IfSome change (IsChange plan (beats_of rows) row.now.sighting)
+            → IfSome self.new.pending (Holds plan (row.now ∷ rows)) }
+    {
+        match (&mut self.pending, change) {
+            (Some(pending), Some(change)) => pending.note(change, row),
+            (Some(_), None) | (None, _) => {}
+        }
+    }
+
+    /// What is left of the requests when no more rows come, if that is asked for.
+    pub fn left(&self) -> Option<Left>
+        ensures { (plan : Plan) (rows : List Row) → IfSome self.now.pending (Holds plan rows)
+            → IsWhatIsLeft (is_some self.now.pending) plan rows result }
+    {
+        match &self.pending {
+            Some(pending) => pending.left(),
+            None => None,
+        }
+    }
+
     /// Judges the beat of a row behind those before it, if its link is watched, and appends what is told of it.
     fn judge_row(&mut self, row: &Row, text: &mut Vec<u8>) -> Result<(), Refusal>
         ensures trace { self.new.trace ≡ self.old.trace }
+        ensures asked { is_some self.new.pending ≡ is_some self.old.pending }
         ensures keeps { (plan : Plan) (before : List Row) → Kept plan before self.old
             → OnOk result (Kept plan (row.now ∷ before) self.new) }
         ensures told { (plan : Plan) (before : List Row) → Kept plan before self.old
@@ -160,21 +243,20 @@ impl Tally {
         if !self.watch.watches(row.sighting.link) {
             return Ok(());
         }
-        if self.trace {
-            return self.tell_row(row, text);
+        let change = self.change(row);
+        if let Err(refusal) = self.step_row(row, text) {
+            return Err(refusal);
         }
-        match self.take_row(row) {
-            Ok(true) => Ok(()),
-            // it is judged again for its fault
-            Ok(false) => self.tell_row(row, text),
-            Err(AllocError) => Err(Refusal::Memory),
-        }
+        self.note(change, row);
+        Ok(())
     }
 
-    /// Takes the beat of a row behind those before it, if it is lawful or its link is not watched, and tells nothing:
-    /// whether it did.
+    /// Takes the beat of a row behind those before it, if it is lawful or its link is not watched, and tells and notes
+    /// nothing: whether it did.
     fn pass_row(&mut self, row: &Row) -> Result<bool, AllocError>
+        requires { is_some self.old.pending ≡ false }
         ensures trace { self.new.trace ≡ self.old.trace }
+        ensures pending { self.new.pending ≡ self.old.pending }
         ensures keeps { (plan : Plan) (before : List Row) → Kept plan before self.old
             → IfOk result (λ passed. passed ≡ true → Kept plan (row.now ∷ before) self.new) }
         ensures refused { IfOk result (λ passed. passed ≡ false → self.new ≡ self.old) }
@@ -188,11 +270,12 @@ impl Tally {
         }
     }
 
-    /// Takes the beats of rows that cross in this order behind those before them, if nothing is told of them, they are
-    /// lawful, and there is but one: whether it did. Nothing changes if it did not. It costs less than
+    /// Takes the beats of rows that cross in this order behind those before them, if nothing is told or noted of them,
+    /// they are lawful, and there is but one: whether it did. Nothing changes if it did not. It costs less than
     /// [`Tally::judge_rows`], which has room for a fault.
     pub fn pass_rows(&mut self, rows: &[Row]) -> Result<bool, AllocError>
         ensures trace { self.new.trace ≡ self.old.trace }
+        ensures asked { is_some self.new.pending ≡ is_some self.old.pending }
         ensures keeps { (plan : Plan) (before : List Row) → Kept plan before self.old
             → IfOk result (λ passed. passed ≡ true → Kept plan (reverse rows.now ++ before) self.new) }
         ensures told { (plan : Plan) (before : List Row) (text : List ℕ) → Kept plan before self.old
@@ -203,7 +286,7 @@ impl Tally {
             → IfErr result (λ _. MayWantMemory self.old.trace plan) }
     {
         match rows {
-            [row] if !self.trace => self.pass_row(row),
+            [row] if !self.trace && self.pending.is_none() => self.pass_row(row),
             _ => Ok(false),
         }
     }
@@ -212,6 +295,7 @@ impl Tally {
     /// and appends what is told of them.
     pub fn judge_rows(&mut self, rows: &[Row], text: &mut Vec<u8>) -> Result<(), Refusal>
         ensures trace { self.new.trace ≡ self.old.trace }
+        ensures asked { is_some self.new.pending ≡ is_some self.old.pending }
         ensures keeps { (plan : Plan) (before : List Row) → Kept plan before self.old
             → OnOk result (Kept plan (reverse rows.now ++ before) self.new) }
         ensures told { (plan : Plan) (before : List Row) → Kept plan before self.old

@@ -50,10 +50,17 @@ order_rule names = record (new_rule (codes "order")) {
   defaults = codes "accept" ∷ [];
 }
 
--- `--trace`, a flag
+-- `--trace` and `--complete`, flags
 abbrev pub trace_rule : Rule
 trace_rule = record (new_rule (codes "trace")) {
   long = Some (codes "trace");
+  action = Some SetTrue;
+  parser = Some values.Bool;
+}
+
+abbrev pub complete_rule : Rule
+complete_rule = record (new_rule (codes "complete")) {
+  long = Some (codes "complete");
   action = Some SetTrue;
   parser = Some values.Bool;
 }
@@ -70,10 +77,11 @@ capture_rule = record (new_rule (codes "capture")) { action = Some Set; value_na
 abbrev pub program : App
 program = let plain = new_app (codes "tlcheck") in record plain { top = record plain.top { has_version = true } }
 
--- these five, and `--help` and `--version`, which clap adds
+-- these six, and `--help` and `--version`, which clap adds
 abbrev pub with_rules : Names → Names → App
 with_rules links orders =
-    let options = with_rule (with_rule (with_rule program (links_rule links)) (order_rule orders)) trace_rule in
+    let options = with_rule (with_rule (with_rule (with_rule program (links_rule links)) (order_rule orders)) trace_rule)
+    complete_rule in
     with_rule (with_rule options system_rule) capture_rule
 
 -- the rule is that of `--links`, or of `--order`, wherever its list of words lies
@@ -102,6 +110,7 @@ pub record Asked : Type 0 where
   pub links : Links
   pub order : Order
   pub trace : Bool
+  pub complete : Bool
   pub system : Text
   pub capture : Option Text
 
@@ -110,6 +119,7 @@ asked_of options = record {
   links = options.links;
   order = options.order;
   trace = options.trace;
+  complete = options.complete;
   system = options.system.now;
   capture = option_map (λ name. name.now) options.capture;
 }
@@ -142,6 +152,7 @@ asked_in app words = record {
   links = links_of (value_in app words (codes "links"));
   order = order_of (value_in app words (codes "order"));
   trace = flag_of (value_in app words (codes "trace"));
+  complete = flag_of (value_in app words (codes "complete"));
   system = value_in app words (codes "system");
   capture = file_of (first_of (codes "capture") (matches_of app words));
 }

@@ -1,17 +1,18 @@
 //! Laws of the command line, each on a function that does nothing but carry it: what lines that the documents name ask
-//! for, or are refused as.
+//! for, or are refused as. A function has two lines at most: what clap's rules say of a line is computed.
 ghost use Rattle.std.specs.Prelude.{[], ◌∷◌, codes, true, false, Some, None};
 ghost use Rattle.clap.specs.declared.error.ErrorKind.TheVariants.{DisplayHelp, DisplayVersion, InvalidValue, MissingRequiredArgument, TooManyValues, UnknownArgument};
 ghost use Rattle.check_groups.specs.declared.links.Links.TheVariants.{Both, Masters, Ports, Each};
 ghost use Rattle.check_crossbar.specs.declared.order.Order.TheVariants.{Accept, Reply};
 ghost use Rattle.check_options.specs.Options.{AskFor, AreRefusedAs};
 
-/// The lines that are taken. The first word is the program's name.
-pub fn lines_ask_for_options()
+/// The lines that name SYSTEM, and SYSTEM and CAPTURE. The first word is the program's name.
+pub fn lines_ask_for_files()
     ensures alone { AskFor (record {
       links = Both;
       order = Accept;
       trace = false;
+      complete = false;
       system = codes "s.toml";
       capture = None;
     })
@@ -20,22 +21,43 @@ pub fn lines_ask_for_options()
       links = Both;
       order = Accept;
       trace = false;
+      complete = false;
       system = codes "s.toml";
       capture = Some (codes "c.csv");
     })
         (codes "tlcheck" ∷ codes "s.toml" ∷ codes "c.csv" ∷ []) }
+{}
+
+/// The lines that name standard input, and the defaults.
+pub fn lines_ask_for_defaults()
     ensures input { AskFor (record {
       links = Both;
       order = Accept;
       trace = false;
+      complete = false;
       system = codes "s.toml";
       capture = None;
     })
         (codes "tlcheck" ∷ codes "s.toml" ∷ codes "-" ∷ []) }
+    ensures defaults { AskFor (record {
+      links = Both;
+      order = Accept;
+      trace = false;
+      complete = false;
+      system = codes "s.toml";
+      capture = None;
+    })
+        (codes "tlcheck" ∷ codes "--links" ∷ codes "both" ∷ codes "--order=accept"
+        ∷ codes "s.toml" ∷ []) }
+{}
+
+/// The lines with `--links`, alone and with `--order`.
+pub fn lines_ask_for_links()
     ensures masters { AskFor (record {
       links = Masters;
       order = Accept;
       trace = false;
+      complete = false;
       system = codes "s.toml";
       capture = None;
     })
@@ -44,24 +66,35 @@ pub fn lines_ask_for_options()
       links = Ports;
       order = Reply;
       trace = false;
+      complete = false;
       system = codes "s.toml";
       capture = Some (codes "c.csv");
     })
         (codes "tlcheck" ∷ codes "--links=ports" ∷ codes "s.toml" ∷ codes "c.csv"
         ∷ codes "--order" ∷ codes "reply" ∷ []) }
+{}
+
+/// A line with `--links=each` and `--order`.
+pub fn lines_ask_for_each()
     ensures each { AskFor (record {
       links = Each;
       order = Reply;
       trace = false;
+      complete = false;
       system = codes "s.toml";
       capture = Some (codes "c.csv");
     })
         (codes "tlcheck" ∷ codes "--links=each" ∷ codes "s.toml" ∷ codes "c.csv"
         ∷ codes "--order" ∷ codes "reply" ∷ []) }
+{}
+
+/// The lines with `--trace`, before SYSTEM and after CAPTURE.
+pub fn lines_ask_for_trace()
     ensures trace { AskFor (record {
       links = Masters;
       order = Accept;
       trace = true;
+      complete = false;
       system = codes "s.toml";
       capture = None;
     })
@@ -71,19 +104,34 @@ pub fn lines_ask_for_options()
       links = Both;
       order = Accept;
       trace = true;
+      complete = false;
       system = codes "s.toml";
       capture = Some (codes "c.csv");
     })
         (codes "tlcheck" ∷ codes "s.toml" ∷ codes "c.csv" ∷ codes "--trace" ∷ []) }
-    ensures defaults { AskFor (record {
+{}
+
+/// The lines with `--complete`, before SYSTEM, and after it with other options.
+pub fn lines_ask_for_complete()
+    ensures complete { AskFor (record {
       links = Both;
       order = Accept;
       trace = false;
+      complete = true;
+      system = codes "s.toml";
+      capture = Some (codes "c.csv");
+    })
+        (codes "tlcheck" ∷ codes "--complete" ∷ codes "s.toml" ∷ codes "c.csv" ∷ []) }
+    ensures complete_behind { AskFor (record {
+      links = Masters;
+      order = Accept;
+      trace = true;
+      complete = true;
       system = codes "s.toml";
       capture = None;
     })
-        (codes "tlcheck" ∷ codes "--links" ∷ codes "both" ∷ codes "--order=accept"
-        ∷ codes "s.toml" ∷ []) }
+        (codes "tlcheck" ∷ codes "--trace" ∷ codes "s.toml" ∷ codes "--complete" ∷ codes "--links"
+        ∷ codes "masters" ∷ []) }
 {}
 
 /// The lines that ask for help or the version, and mistakes.

@@ -1,7 +1,7 @@
-//! The command line: `tlcheck [--links both|masters|ports|each] [--order accept|reply] [--trace] SYSTEM [CAPTURE]`.
+//! The command line: `tlcheck [--links both|masters|ports|each] [--order accept|reply] [--trace] [--complete] SYSTEM [CAPTURE]`.
 ghost use Rattle.std.specs.Prelude.{◌≡◌, IfOk, [], map, false, option_map, unwrap_or};
 ghost use Rattle.clap.specs.Words.{app_of, first_value, found_of, rule_of};
-ghost use Rattle.check_options.specs.Options.{Answers, IsCommandLine, IsLinksRule, IsOrderRule, capture_rule, file_of, flag_of, links_of, order_of, program, system_rule, trace_rule};
+ghost use Rattle.check_options.specs.Options.{Answers, IsCommandLine, IsLinksRule, IsOrderRule, capture_rule, complete_rule, file_of, flag_of, links_of, order_of, program, system_rule, trace_rule};
 
 use check_crossbar::Order;
 use check_groups::Links;
@@ -16,8 +16,8 @@ SYSTEM describes the ports and masters. CAPTURE has a row for each beat that cro
   10,m0,A,4,0,2,3,1000,0f,,,
   12,p0,D,1,,2,3,,,xxxxxxxx33221100,0,0
 
-Status: 0 lawful, 1 a fault of the system or the capture, 2 of the command line, 3 unlawful, 4 memory refused, 5 a file
-could not be opened, read or written.";
+Status: 0 lawful, 1 a fault of the system or the capture, 2 of the command line, 3 unlawful or incomplete, 4 memory
+refused, 5 a file could not be opened, read or written.";
 
 /// What the command line asks for.
 #[derive(Clone, Copy, Debug, PartialEq, Eq)]
@@ -28,6 +28,8 @@ pub struct Options<'a> {
     pub order: Order,
     /// Whether a line is printed for each request that was answered.
     pub trace: bool,
+    /// Whether a capture at whose end requests are left is not lawful but incomplete.
+    pub complete: bool,
     /// The file with the system.
     pub system: &'a str,
     /// The file with the capture; where there is none it comes on standard input.
@@ -47,6 +49,7 @@ pub fn read_options<'a>(alloc: Global, words: &'a [&'a str]) -> Result<Options<'
         links: read_links(value(&matches, "links")),
         order: read_order(value(&matches, "order")),
         trace: read_flag(value(&matches, "trace")),
+        complete: read_flag(value(&matches, "complete")),
         system: value(&matches, "system"),
         capture: read_file(matches.get_str("capture")),
     })
@@ -151,6 +154,18 @@ fn trace_flag<'a>(alloc: Global) -> Arg<'a>
         .help("Print a line for each request that was answered")
 }
 
+/// `--complete`.
+fn complete_flag<'a>(alloc: Global) -> Arg<'a>
+    ensures rule { rule_of result ≡ complete_rule }
+    ensures local { result.global ≡ false }
+{
+    Arg::new(alloc, "complete")
+        .long("complete")
+        .action(ArgAction::SetTrue)
+        .value_parser(value_parser!(bool))
+        .help("Ask for a reply to each request: else the capture is incomplete")
+}
+
 /// SYSTEM.
 fn system_word<'a>(alloc: Global) -> Arg<'a>
     ensures rule { rule_of result ≡ system_rule }
@@ -182,6 +197,7 @@ fn command<'a>(alloc: Global) -> Result<Command<'a>, AllocError>
         .arg(links_option(alloc))?
         .arg(order_option(alloc))?
         .arg(trace_flag(alloc))?
+        .arg(complete_flag(alloc))?
         .arg(system_word(alloc))?
         .arg(capture_word(alloc))
 }

@@ -4,20 +4,21 @@ use Rattle.std.specs.Prelude.{Result, IfErr, IfOk}
 use Rattle.std.specs.Io.KnownBytes.{Appends, Keeps}
 use Rattle.csv.specs.Reading.{strip_bom}
 use Rattle.check_capture.specs.declared.row.Row.{Row}
-use Rattle.check_judge.specs.Verdict.{HasCounts, IsFirstUnlawful, IsLawfulFile, IsToldBefore, IsToldEarlier, IsToldFile, IsToldPart, OfUnlawful}
-use Rattle.check_judge.specs.View.{HasTold, Judges, is_traced}
+use Rattle.check_judge.specs.Verdict.{HasCounts, HasLeft, IsFirstUnlawful, IsLawfulFile, IsToldBefore, IsToldEarlier, IsToldFile, IsToldPart, OfUnlawful}
+use Rattle.check_judge.specs.View.{HasTold, Judges, is_asked, is_traced}
 use Rattle.check_judge.specs.declared.judge.Judge.{Judge}
 use Rattle.check_judge.specs.declared.stop.Counts.{Counts}
 use Rattle.check_judge.specs.declared.stop.Refusal.{Refusal}
 use Rattle.check_judge.specs.declared.stop.Refusal.TheVariants as refusal
 use Rattle.check_judge.proofs.Judging.{part_before, part_of_file, told_earlier}
 use Rattle.check_records.specs.Source.{Between, Left}
-use Rattle.check_records.specs.Text.{Place, start_of}
+use Rattle.check_records.specs.Text.{Ends, Place, start_of}
 use Rattle.tl_streams.specs.Streams.{AppendsPart}
 use Rattle.check_groups.specs.Plan.{Plan}
+use Rattle.check_pending.specs.declared.request.Left.{Left as LeftOver}
 use Rattle.check_verdict.specs.Capture.{HasHeader, IsFault, IsVerdict, IsWritten, IsWrittenOf}
 use Rattle.check_verdict.specs.Out.{Finishes, WritesPart, is_cut}
-use Rattle.check_verdict.specs.Rows.{AllTaken, IsJudged, IsJudgedAt, IsOut, IsToldBy, WroteBy, refused}
+use Rattle.check_verdict.specs.Rows.{AllTaken, IsAnswer, IsJudged, IsJudgedAt, IsOut, IsToldBy, WroteBy, ended_with, refused}
 use Rattle.check_verdict.specs.declared.fault.CaptureFault.{CaptureFault}
 use Rattle.check_verdict.specs.declared.fault.CaptureFault.TheVariants as fault
 use Rattle.check_verdict.specs.declared.fault.Verdict.{Verdict}
@@ -33,29 +34,46 @@ abbrev TellsFile : Bool → Plan → List Row → List ℕ → List ℕ → List
 TellsFile trace plan rows so_far text grown =
     (more : List ℕ) × (grown ≡ text ++ more) × IsToldFile trace plan rows (so_far ++ more)
 
+-- what is said of lawful rows, and what is told of them, whether requests are left or not
+answers_end : (asked : Bool) (plan : Plan) (sizes : Sizes) (rows : List Row) (at end : Place) (counts : Counts)
+    (left : Option LeftOver) → Ends at end → IsLawfulFile plan rows → HasCounts plan rows counts
+    → HasLeft asked plan rows left → IsAnswer asked plan sizes (Ok (ended_with counts left)) rows at
+answers_end asked plan sizes rows at end counts None ends lawful has left = ((end, ends), lawful, has, left)
+answers_end asked plan sizes rows at end counts (Some over) ends lawful has left = ((end, ends), lawful, left)
+
+told_end : (trace : Bool) (plan : Plan) (rows : List Row) (text : List ℕ) (counts : Counts) (left : Option LeftOver)
+    → IsToldFile trace plan rows text → IsToldBy trace plan (ended_with counts left) rows text
+told_end trace plan rows text counts None told = told
+told_end trace plan rows text counts (Some over) told = told
+
 module _ (sizes : Sizes) (first now : Judge) (old mid : Option (List ℕ)) (text grown : List ℕ) (a b : Left)
     (all : Between a b (AllTaken sizes first now old mid text)) where
-  pub ends_lawful : (counts : Counts)
-      → ((plan : Plan) (rows : List Row) → Judges plan rows now → IsLawfulFile plan rows × HasCounts plan rows counts)
+  pub ends_lawful : (counts : Counts) (left : Option LeftOver)
+      → ((plan : Plan) (rows : List Row) → Judges plan rows now
+      → IsLawfulFile plan rows × HasCounts plan rows counts × HasLeft (is_asked now) plan rows left)
       → ((plan : Plan) (rows : List Row) (so_far : List ℕ) → HasTold plan rows now so_far
       → TellsFile (is_traced now) plan rows so_far text grown)
-      → IsJudged sizes first old mid grown a (Ok (verdict.Lawful counts))
-  ends_lawful counts lawful tells =
-      at_start a b (IsJudgedAt sizes first old mid grown (Ok (verdict.Lawful counts)))
+      → IsJudged sizes first old mid grown a (Ok (ended_with counts left))
+  ends_lawful counts left lawful tells =
+      let v : Verdict = ended_with counts left in
+      at_start a b (IsJudgedAt sizes first old mid grown (Ok v))
       (between_map a b (AllTaken sizes first now old mid text)
-      (λ from to. IsJudgedAt sizes first old mid grown (Ok (verdict.Lawful counts)) from) (λ x y taken.
+      (λ from to. IsJudgedAt sizes first old mid grown (Ok v) from) (λ x y taken.
       let took = taken.1 in record {
         rows = took.rows;
         last = taken.0;
         has = took.has;
         answers = λ plan start. let wrote = took.told plan start in
-            let is = lawful plan took.rows wrote.holds.judges in ((y, taken.2), is.0, is.1);
+            let is = lawful plan took.rows wrote.holds.judges in
+            answers_end (is_asked first) plan sizes took.rows taken.0 y counts left taken.2 is.0 is.1
+            (subst (λ asked. HasLeft asked plan took.rows left) took.asked is.2);
         told = λ plan start.
             let wrote = took.told plan start in
             let on = tells plan took.rows wrote.told wrote.holds in
             wrote_more (HasTold plan took.rows now) old mid text wrote
-            (IsToldFile (is_traced first) plan took.rows) on.0 grown on.1
-            (subst (λ t. IsToldFile t plan took.rows (wrote.told ++ on.0)) took.traced on.2);
+            (IsToldBy (is_traced first) plan v took.rows) on.0 grown on.1
+            (told_end (is_traced first) plan took.rows (wrote.told ++ on.0) counts left
+            (subst (λ t. IsToldFile t plan took.rows (wrote.told ++ on.0)) took.traced on.2));
       }) all)
 
   pub ends_refused : (why : Refusal)
@@ -103,6 +121,7 @@ module _ (sizes : Sizes) (first now : Judge) (old mid : Option (List ℕ)) (text
 part_told : (trace : Bool) (plan : Plan) (rows : List Row) (text : List ℕ) (v : Verdict)
     → IsToldBy trace plan v rows text → IsToldPart trace plan rows text
 part_told trace plan rows text (verdict.Lawful counts) told = part_of_file trace plan rows text told
+part_told trace plan rows text (verdict.Incomplete left) told = part_of_file trace plan rows text told
 part_told trace plan rows text (verdict.Unlawful found) told = part_before trace plan rows text found told
 
 -- where an answer was cut, what was written is written
@@ -155,17 +174,28 @@ part_out trace plan (Err fault.Write) rows old mid new text cut wrote front = ab
 -- ---- the whole
 
 -- what the contract says of an answer, at the place where the text begins
-pub record Says (trace : Bool) (plan : Plan) (sizes : Sizes) (old new : Option (List ℕ))
+pub record Says (asked trace : Bool) (plan : Plan) (sizes : Sizes) (old new : Option (List ℕ))
     (answer : Result Verdict CaptureFault) (from : Place) : Type 0 where
-  pub verdict : IfOk answer (IsVerdict plan sizes from)
+  pub verdict : IfOk answer (IsVerdict asked plan sizes from)
   pub fault : IfErr answer (IsFault plan sizes from)
-  pub written : IsWritten trace plan sizes from old new answer
+  pub written : IsWritten asked trace plan sizes from old new answer
 
 -- an answer behind the header and some rows
-says_behind : (trace : Bool) (plan : Plan) (sizes : Sizes) (old new : Option (List ℕ))
+says_behind : (asked trace : Bool) (plan : Plan) (sizes : Sizes) (old new : Option (List ℕ))
     (answer : Result Verdict CaptureFault) (from : Place)
-    → IsWrittenOf trace plan sizes from old new answer → Says trace plan sizes old new answer from
-says_behind trace plan sizes old new (Ok (verdict.Lawful counts)) from is = record {
+    → IsWrittenOf asked trace plan sizes from old new answer → Says asked trace plan sizes old new answer from
+says_behind asked trace plan sizes old new (Ok (verdict.Lawful counts)) from is = record {
+  verdict = (
+    is.rows,
+    record { last = is.at; end = is.answers.0.0; begins = is.begins; ends = is.answers.0.1 },
+    is.answers.1,
+    is.answers.2,
+    is.answers.3,
+  );
+  fault = tt;
+  written = is;
+}
+says_behind asked trace plan sizes old new (Ok (verdict.Incomplete left)) from is = record {
   verdict = (
     is.rows,
     record { last = is.at; end = is.answers.0.0; begins = is.begins; ends = is.answers.0.1 },
@@ -175,27 +205,27 @@ says_behind trace plan sizes old new (Ok (verdict.Lawful counts)) from is = reco
   fault = tt;
   written = is;
 }
-says_behind trace plan sizes old new (Ok (verdict.Unlawful found)) from is = record {
+says_behind asked trace plan sizes old new (Ok (verdict.Unlawful found)) from is = record {
   verdict = (is.rows, is.at, is.begins, is.answers.0, is.answers.1);
   fault = tt;
   written = is;
 }
-says_behind trace plan sizes old new (Err (fault.Header line)) from is = absurd is.answers
-says_behind trace plan sizes old new (Err (fault.TooLong line)) from is =
+says_behind asked trace plan sizes old new (Err (fault.Header line)) from is = absurd is.answers
+says_behind asked trace plan sizes old new (Err (fault.TooLong line)) from is =
     record { verdict = tt; fault = inr (is.rows, is.at, is.begins, is.answers); written = inr is }
-says_behind trace plan sizes old new (Err (fault.Row line why)) from is =
+says_behind asked trace plan sizes old new (Err (fault.Row line why)) from is =
     record { verdict = tt; fault = (is.rows, is.at, is.answers.0, is.begins, is.answers.1); written = is }
-says_behind trace plan sizes old new (Err fault.Read) from is = record { verdict = tt; fault = tt; written = inr is }
-says_behind trace plan sizes old new (Err fault.Memory) from is = record { verdict = tt; fault = tt; written = inr is }
-says_behind trace plan sizes old new (Err fault.Write) from is = record { verdict = tt; fault = tt; written = is }
+says_behind asked trace plan sizes old new (Err fault.Read) from is = record { verdict = tt; fault = tt; written = inr is }
+says_behind asked trace plan sizes old new (Err fault.Memory) from is = record { verdict = tt; fault = tt; written = inr is }
+says_behind asked trace plan sizes old new (Err fault.Write) from is = record { verdict = tt; fault = tt; written = is }
 
 finished : (trace : Bool) (plan : Plan) (sizes : Sizes) (from behind : Place) (old mid new : Option (List ℕ))
     (text : List ℕ) (answer result : Result Verdict CaptureFault) (first : Judge)
     → is_traced first ≡ trace → Judges plan [] first → HasHeader from behind
     → IsJudgedAt sizes first old mid text answer behind → Finishes mid new text answer result
-    → IsWrittenOf trace plan sizes from old new result
+    → IsWrittenOf (is_asked first) trace plan sizes from old new result
 finished trace plan sizes from behind old mid new text answer result first traced start top judged (inl cut) =
-    let P : Result Verdict CaptureFault → Type 0 = λ r. IsWrittenOf trace plan sizes from old new r in
+    let P : Result Verdict CaptureFault → Type 0 = λ r. IsWrittenOf (is_asked first) trace plan sizes from old new r in
     subst P (sym cut.1) (record {
       rows = judged.rows;
       at = judged.last;
@@ -212,9 +242,9 @@ finished trace plan sizes from behind old mid new text answer result first trace
     wrote = subst (λ t. WroteBy t plan answer judged.rows old mid text) traced (judged.told plan start)
 
     go : ((result ≡ answer) × Appends mid new text) ⊎ ((result ≡ Err fault.Write) × AppendsPart mid new text)
-        → IsWrittenOf trace plan sizes from old new result
+        → IsWrittenOf (is_asked first) trace plan sizes from old new result
     go (inl all) =
-        let P : Result Verdict CaptureFault → Type 0 = λ r. IsWrittenOf trace plan sizes from old new r in
+        let P : Result Verdict CaptureFault → Type 0 = λ r. IsWrittenOf (is_asked first) trace plan sizes from old new r in
         subst P (sym all.0) (record {
           rows = judged.rows;
           at = judged.last;
@@ -223,7 +253,7 @@ finished trace plan sizes from behind old mid new text answer result first trace
           out = whole_out trace plan answer judged.rows old mid new text whole.0 wrote all.1;
         })
     go (inr front) =
-        let P : Result Verdict CaptureFault → Type 0 = λ r. IsWrittenOf trace plan sizes from old new r in
+        let P : Result Verdict CaptureFault → Type 0 = λ r. IsWrittenOf (is_asked first) trace plan sizes from old new r in
         subst P (sym front.0) (record {
           rows = judged.rows;
           at = judged.last;
@@ -236,11 +266,11 @@ pub says_judged : (plan : Plan) (sizes : Sizes) (a b : Left) (old mid new : Opti
     (answer result : Result Verdict CaptureFault) (first : Judge)
     → Judges plan [] first → Between a b HasHeader → IsJudged sizes first old mid text b answer
     → Finishes mid new text answer result
-    → IfSome a.text (λ t. Says (is_traced first) plan sizes old new result (record { line = a.line; text = t }))
+    → IfSome a.text (λ t. Says (is_asked first) (is_traced first) plan sizes old new result (record { line = a.line; text = t }))
 says_judged plan sizes a b old mid new text answer result first start header judged finishes =
     behind_start a b HasHeader (IsJudgedAt sizes first old mid text answer)
-    (Says (is_traced first) plan sizes old new result)
-    (λ x y top is. says_behind (is_traced first) plan sizes old new result x
+    (Says (is_asked first) (is_traced first) plan sizes old new result)
+    (λ x y top is. says_behind (is_asked first) (is_traced first) plan sizes old new result x
     (finished (is_traced first) plan sizes x y old mid new text answer result first refl start top is finishes))
     header judged
 
@@ -258,35 +288,35 @@ told known a Q keeps line_is holds = go known a.text keeps holds
     go (Some text) (Some from) keeps holds = rw (← line_is, ← keeps) holds
 
 -- and so each clause
-module _ (trace : Bool) (plan : Plan) (sizes : Sizes) (old new : Option (List ℕ)) (known : Option (List ℕ)) where
+module _ (asked trace : Bool) (plan : Plan) (sizes : Sizes) (old new : Option (List ℕ)) (known : Option (List ℕ)) where
   pub says_verdict : (answer : Result Verdict CaptureFault)
-      → IfSome known (λ text. Says trace plan sizes old new answer (start_of text))
-      → IfOk answer (λ v. IfSome known (λ text. IsVerdict plan sizes (start_of text) v))
+      → IfSome known (λ text. Says asked trace plan sizes old new answer (start_of text))
+      → IfOk answer (λ v. IfSome known (λ text. IsVerdict asked plan sizes (start_of text) v))
   says_verdict (Ok v) says = go known says
     where
-      go : (known : Option (List ℕ)) → IfSome known (λ text. Says trace plan sizes old new (Ok v) (start_of text))
-          → IfSome known (λ text. IsVerdict plan sizes (start_of text) v)
+      go : (known : Option (List ℕ)) → IfSome known (λ text. Says asked trace plan sizes old new (Ok v) (start_of text))
+          → IfSome known (λ text. IsVerdict asked plan sizes (start_of text) v)
       go None says = tt
       go (Some text) says = says.verdict
   says_verdict (Err why) says = tt
 
   pub says_fault : (answer : Result Verdict CaptureFault)
-      → IfSome known (λ text. Says trace plan sizes old new answer (start_of text))
+      → IfSome known (λ text. Says asked trace plan sizes old new answer (start_of text))
       → IfErr answer (λ why. IfSome known (λ text. IsFault plan sizes (start_of text) why))
   says_fault (Ok v) says = tt
   says_fault (Err why) says = go known says
     where
-      go : (known : Option (List ℕ)) → IfSome known (λ text. Says trace plan sizes old new (Err why) (start_of text))
+      go : (known : Option (List ℕ)) → IfSome known (λ text. Says asked trace plan sizes old new (Err why) (start_of text))
           → IfSome known (λ text. IsFault plan sizes (start_of text) why)
       go None says = tt
       go (Some text) says = says.fault
 
   pub says_written : (answer : Result Verdict CaptureFault)
-      → IfSome known (λ text. Says trace plan sizes old new answer (start_of text))
-      → IfSome known (λ text. IsWritten trace plan sizes (start_of text) old new answer)
+      → IfSome known (λ text. Says asked trace plan sizes old new answer (start_of text))
+      → IfSome known (λ text. IsWritten asked trace plan sizes (start_of text) old new answer)
   says_written answer says = go known says
     where
-      go : (known : Option (List ℕ)) → IfSome known (λ text. Says trace plan sizes old new answer (start_of text))
-          → IfSome known (λ text. IsWritten trace plan sizes (start_of text) old new answer)
+      go : (known : Option (List ℕ)) → IfSome known (λ text. Says asked trace plan sizes old new answer (start_of text))
+          → IfSome known (λ text. IsWritten asked trace plan sizes (start_of text) old new answer)
       go None says = tt
       go (Some text) says = says.written

@@ -179,6 +179,7 @@ module _ (sizes : Sizes) (first : Judge) (old : Option (List ℕ)) where
     rows = [];
     has = no_rows sizes x;
     traced = refl;
+    asked = refl;
     told = λ plan start. wrote_none (HasTold plan [] first) old (told_none plan first start);
   })
 
@@ -193,6 +194,7 @@ module _ (sizes : Sizes) (first : Judge) (old : Option (List ℕ)) where
         rows = took.rows ++ more.0 ∷ [];
         has = rows_more sizes took.rows more.0 x y z took.has more.1;
         traced = more.2.traced ∙ took.traced;
+        asked = more.2.asked ∙ took.asked;
         told = λ plan start.
             let wrote = took.told plan start in
             let on = more.2.tells plan took.rows wrote.told wrote.holds in

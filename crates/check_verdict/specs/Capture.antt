@@ -1,9 +1,9 @@
 -- What a text is as a capture. The format is this project's own; what the rows of a lawful one are is said in
 -- `check_judge`.
-use Rattle.std.specs.Prelude.{◌≡◌, ◌≢◌, ◌⊎◌, ℕ, Bool, List, [], Option, Result, Ok, Err, ⊤}
+use Rattle.std.specs.Prelude.{◌≡◌, ◌≢◌, ◌⊎◌, ℕ, Bool, List, [], Option, Some, None, Result, Ok, Err, ⊤}
 use Rattle.std.specs.Io.KnownBytes.{Appends}
 use Rattle.check_capture.specs.declared.row.Row.{Row}
-use Rattle.check_judge.specs.Verdict.{HasCounts, IsFirstUnlawful, IsLawfulFile}
+use Rattle.check_judge.specs.Verdict.{HasCounts, HasLeft, IsFirstUnlawful, IsLawfulFile}
 use Rattle.check_records.specs.Reading.{StopsLong}
 use Rattle.check_records.specs.Source.{Between, Left}
 use Rattle.check_records.specs.Text.{Ends, Gives, IsTooLong, Place}
@@ -14,7 +14,7 @@ use Rattle.check_verdict.specs.Rows.{HasNoRow, HasRows, IsAnswer, IsOut, IsTimeO
 use Rattle.check_verdict.specs.declared.fault.CaptureFault.{CaptureFault}
 use Rattle.check_verdict.specs.declared.fault.CaptureFault.TheVariants as fault
 use Rattle.check_verdict.specs.declared.fault.Verdict.{Verdict}
-use Rattle.check_verdict.specs.declared.fault.Verdict.TheVariants.{Lawful, Unlawful}
+use Rattle.check_verdict.specs.declared.fault.Verdict.TheVariants.{Incomplete, Lawful, Unlawful}
 use Rattle.check_verdict.specs.declared.rows.Sizes.{Sizes}
 
 -- the next record is the header
@@ -36,11 +36,15 @@ pub record IsCapture (sizes : Sizes) (from : Place) (rows : List Row) : Type 0 w
   pub begins : Begins sizes from rows last
   pub ends : Ends last end
 
--- the rows of a capture are lawful, and so many; or those to the end of some time are not, the first by this one
-abbrev pub IsVerdict : Plan → Sizes → Place → Verdict → Type 0
-IsVerdict plan sizes from (Lawful counts) =
+-- the rows of a capture are lawful, and so many; or those to the end of some time are not, the first by this one. If it
+-- is asked which requests are left at the end of a lawful capture, these are left, or none is
+abbrev pub IsVerdict : Bool → Plan → Sizes → Place → Verdict → Type 0
+IsVerdict asked plan sizes from (Lawful counts) =
     (rows : List Row) × IsCapture sizes from rows × IsLawfulFile plan rows × HasCounts plan rows counts
-IsVerdict plan sizes from (Unlawful found) =
+    × HasLeft asked plan rows None
+IsVerdict asked plan sizes from (Incomplete left) =
+    (rows : List Row) × IsCapture sizes from rows × IsLawfulFile plan rows × HasLeft asked plan rows (Some left)
+IsVerdict asked plan sizes from (Unlawful found) =
     (rows : List Row) × (at : Place) × Begins sizes from rows at × IsTimeOver sizes rows at
     × IsFirstUnlawful plan rows found
 
@@ -62,28 +66,28 @@ IsFault plan sizes from fault.Memory = ⊤
 IsFault plan sizes from fault.Write = ⊤
 
 -- what is written before an answer that is given behind the header and some rows
-pub record IsWrittenOf (trace : Bool) (plan : Plan) (sizes : Sizes) (from : Place) (old new : Option (List ℕ))
+pub record IsWrittenOf (asked trace : Bool) (plan : Plan) (sizes : Sizes) (from : Place) (old new : Option (List ℕ))
     (answer : Result Verdict CaptureFault) : Type 0 where
   pub rows : List Row
   pub at : Place
   pub begins : Begins sizes from rows at
-  pub answers : IsAnswer plan sizes answer rows at
+  pub answers : IsAnswer asked plan sizes answer rows at
   pub out : IsOut trace plan answer rows old new
 
 -- what is written before an answer: nothing before a fault of the header
-abbrev pub IsWritten : Bool → Plan → Sizes → Place → Option (List ℕ) → Option (List ℕ) → Result Verdict CaptureFault
-    → Type 0
-IsWritten trace plan sizes from old new (Ok verdict) = IsWrittenOf trace plan sizes from old new (Ok verdict)
-IsWritten trace plan sizes from old new (Err (fault.Header line)) = Appends old new []
-IsWritten trace plan sizes from old new (Err (fault.TooLong line)) =
-    (IsTooLong from line × Appends old new []) ⊎ IsWrittenOf trace plan sizes from old new (Err (fault.TooLong line))
-IsWritten trace plan sizes from old new (Err (fault.Row line why)) =
-    IsWrittenOf trace plan sizes from old new (Err (fault.Row line why))
-IsWritten trace plan sizes from old new (Err fault.Read) =
-    Appends old new [] ⊎ IsWrittenOf trace plan sizes from old new (Err fault.Read)
-IsWritten trace plan sizes from old new (Err fault.Memory) =
-    Appends old new [] ⊎ IsWrittenOf trace plan sizes from old new (Err fault.Memory)
-IsWritten trace plan sizes from old new (Err fault.Write) = IsWrittenOf trace plan sizes from old new (Err fault.Write)
+abbrev pub IsWritten : Bool → Bool → Plan → Sizes → Place → Option (List ℕ) → Option (List ℕ)
+    → Result Verdict CaptureFault → Type 0
+IsWritten asked trace plan sizes from old new (Ok verdict) = IsWrittenOf asked trace plan sizes from old new (Ok verdict)
+IsWritten asked trace plan sizes from old new (Err (fault.Header line)) = Appends old new []
+IsWritten asked trace plan sizes from old new (Err (fault.TooLong line)) =
+    (IsTooLong from line × Appends old new []) ⊎ IsWrittenOf asked trace plan sizes from old new (Err (fault.TooLong line))
+IsWritten asked trace plan sizes from old new (Err (fault.Row line why)) =
+    IsWrittenOf asked trace plan sizes from old new (Err (fault.Row line why))
+IsWritten asked trace plan sizes from old new (Err fault.Read) =
+    Appends old new [] ⊎ IsWrittenOf asked trace plan sizes from old new (Err fault.Read)
+IsWritten asked trace plan sizes from old new (Err fault.Memory) =
+    Appends old new [] ⊎ IsWrittenOf asked trace plan sizes from old new (Err fault.Memory)
+IsWritten asked trace plan sizes from old new (Err fault.Write) = IsWrittenOf asked trace plan sizes from old new (Err fault.Write)
 
 -- ---- for the proofs
 

@@ -1,13 +1,15 @@
 -- One row of a capture after another, as a judge takes them. This project's own.
-use Rattle.std.specs.Prelude.{◌≡◌, ◌⊎◌, ℕ, List, [], ◌∷◌, ◌++◌, Option, None, Result, Ok, Err, ⊤, Bool, true, false, IfSome}
+use Rattle.std.specs.Prelude.{◌≡◌, ◌⊎◌, ℕ, List, [], ◌∷◌, ◌++◌, Option, Some, None, Result, Ok, Err, ⊤, Bool, true, false, IfSome}
 use Rattle.check_capture.specs.Moment.{IsLink}
 use Rattle.check_capture.specs.Row.{row_of}
 use Rattle.check_capture.specs.declared.fault.RowFault.{RowFault}
 use Rattle.check_capture.specs.declared.row.Row.{Row}
 use Rattle.check_judge.specs.Order.{HasRowFault, IsLater}
-use Rattle.check_judge.specs.Verdict.{HasCounts, IsFirstUnlawful, IsLawfulFile, IsToldBefore, IsToldEarlier, IsToldFile, IsToldPart}
-use Rattle.check_judge.specs.View.{HasTold, Judges, TellsOn, is_traced}
+use Rattle.check_judge.specs.Verdict.{HasCounts, HasLeft, IsFirstUnlawful, IsLawfulFile, IsToldBefore, IsToldEarlier, IsToldFile, IsToldPart}
+use Rattle.check_judge.specs.View.{HasTold, Judges, TellsOn, is_asked, is_traced}
 use Rattle.check_judge.specs.declared.judge.Judge.{Judge}
+use Rattle.check_judge.specs.declared.stop.Counts.{Counts}
+use Rattle.check_judge.specs.declared.stop.Ending.{Ending}
 use Rattle.check_judge.specs.declared.stop.Refusal.{Refusal}
 use Rattle.check_judge.specs.declared.stop.Refusal.TheVariants as refusal
 use Rattle.check_judge.specs.declared.stop.Stop.{Stop}
@@ -18,11 +20,12 @@ use Rattle.check_records.specs.Text.{Ends, Gives, IsTooLong, Place, Reads}
 use Rattle.check_records.specs.Text.{Row as Record}
 use Rattle.check_records.specs.Reading.{Reading, StopsLong}
 use Rattle.check_groups.specs.Plan.{Plan}
+use Rattle.check_pending.specs.declared.request.Left.{Left as LeftOver}
 use Rattle.check_verdict.specs.declared.fault.CaptureFault.{CaptureFault}
 use Rattle.check_verdict.specs.declared.fault.CaptureFault.TheVariants as fault
 use Rattle.check_verdict.specs.Out.{WritesAll, WritesFront, WritesPart, Wrote}
 use Rattle.check_verdict.specs.declared.fault.Verdict.{Verdict}
-use Rattle.check_verdict.specs.declared.fault.Verdict.TheVariants.{Lawful, Unlawful as NotLawful}
+use Rattle.check_verdict.specs.declared.fault.Verdict.TheVariants.{Incomplete, Lawful, Unlawful as NotLawful}
 use Rattle.check_verdict.specs.declared.rows.Halt.{Halt}
 use Rattle.check_verdict.specs.declared.rows.Halt.TheVariants as halt
 use Rattle.check_verdict.specs.declared.rows.Next.{Next}
@@ -73,20 +76,23 @@ IsTimeOver sizes rows at =
 -- ---- what becomes of rows, and of the text behind them
 
 -- what is said of the rows that were taken, and of the place behind them, where this is answered
-abbrev pub IsAnswer : Plan → Sizes → Result Verdict CaptureFault → List Row → Place → Type 0
-IsAnswer plan sizes (Ok (Lawful counts)) rows at =
-    ((end : Place) × Ends at end) × IsLawfulFile plan rows × HasCounts plan rows counts
-IsAnswer plan sizes (Ok (NotLawful found)) rows at = IsTimeOver sizes rows at × IsFirstUnlawful plan rows found
-IsAnswer plan sizes (Err (fault.Header line)) rows at = ⊥
-IsAnswer plan sizes (Err (fault.TooLong line)) rows at = IsTooLong at line
-IsAnswer plan sizes (Err (fault.Row line why)) rows at = (to : Place) × HasNoRow sizes rows line why at to
-IsAnswer plan sizes (Err fault.Read) rows at = ⊤
-IsAnswer plan sizes (Err fault.Memory) rows at = ⊤
-IsAnswer plan sizes (Err fault.Write) rows at = ⊤
+abbrev pub IsAnswer : Bool → Plan → Sizes → Result Verdict CaptureFault → List Row → Place → Type 0
+IsAnswer asked plan sizes (Ok (Lawful counts)) rows at =
+    ((end : Place) × Ends at end) × IsLawfulFile plan rows × HasCounts plan rows counts × HasLeft asked plan rows None
+IsAnswer asked plan sizes (Ok (Incomplete left)) rows at =
+    ((end : Place) × Ends at end) × IsLawfulFile plan rows × HasLeft asked plan rows (Some left)
+IsAnswer asked plan sizes (Ok (NotLawful found)) rows at = IsTimeOver sizes rows at × IsFirstUnlawful plan rows found
+IsAnswer asked plan sizes (Err (fault.Header line)) rows at = ⊥
+IsAnswer asked plan sizes (Err (fault.TooLong line)) rows at = IsTooLong at line
+IsAnswer asked plan sizes (Err (fault.Row line why)) rows at = (to : Place) × HasNoRow sizes rows line why at to
+IsAnswer asked plan sizes (Err fault.Read) rows at = ⊤
+IsAnswer asked plan sizes (Err fault.Memory) rows at = ⊤
+IsAnswer asked plan sizes (Err fault.Write) rows at = ⊤
 
--- what is told with a verdict: of lawful rows all; of unlawful ones what crosses before the first that is
+-- what is told with a verdict: of lawful rows all, also if requests are left; of unlawful ones what crosses before the first that is
 abbrev pub IsToldBy : Bool → Plan → Verdict → List Row → List ℕ → Type 0
 IsToldBy trace plan (Lawful counts) rows text = IsToldFile trace plan rows text
+IsToldBy trace plan (Incomplete left) rows text = IsToldFile trace plan rows text
 IsToldBy trace plan (NotLawful found) rows text = IsToldBefore trace plan rows text found
 
 -- what is written of the rows that were taken, where this is answered: all that is told with a verdict; before a fault
@@ -114,6 +120,7 @@ pub record IsUnlawfulBefore (plan : Plan) (sizes : Sizes) (rows : List Row) (fou
 -- the judge took this row, and a text grew by what is told
 pub record Took (old : Judge) (row : Row) (new : Judge) (text grown : List ℕ) : Type 0 where
   pub traced : is_traced new ≡ is_traced old
+  pub asked : is_asked new ≡ is_asked old
   pub tells : (plan : Plan) (rows : List Row) (so_far : List ℕ) → HasTold plan rows old so_far
       → TellsOn plan (rows ++ row ∷ []) new so_far text grown
 
@@ -169,6 +176,7 @@ pub record TookRows (sizes : Sizes) (first now : Judge) (old new : Option (List 
   pub rows : List Row
   pub has : HasRows sizes rows from to
   pub traced : is_traced now ≡ is_traced first
+  pub asked : is_asked now ≡ is_asked first
   pub told : (plan : Plan) → Judges plan [] first → Wrote (HasTold plan rows now) old new text
 
 -- and then there were no more
@@ -193,7 +201,7 @@ pub record IsJudgedAt (sizes : Sizes) (first : Judge) (old new : Option (List �
   pub rows : List Row
   pub last : Place
   pub has : HasRows sizes rows from last
-  pub answers : (plan : Plan) → Judges plan [] first → IsAnswer plan sizes answer rows last
+  pub answers : (plan : Plan) → Judges plan [] first → IsAnswer (is_asked first) plan sizes answer rows last
   pub told : (plan : Plan) → Judges plan [] first → WroteBy (is_traced first) plan answer rows old new text
 
 abbrev pub IsJudged : Sizes → Judge → Option (List ℕ) → Option (List ℕ) → List ℕ → Left → Result Verdict CaptureFault
@@ -209,3 +217,11 @@ answer_of (halt.Fault why) = Err why
 abbrev pub refused : Refusal → Result Verdict CaptureFault
 refused (refusal.Unlawful found) = Ok (NotLawful found)
 refused refusal.Memory = Err fault.Memory
+
+-- the verdict over rows that are lawful: so many they are, and these requests are left, if it is asked which
+abbrev pub ended_with : Counts → Option LeftOver → Verdict
+ended_with counts None = Lawful counts
+ended_with counts (Some left) = Incomplete left
+
+abbrev pub ended : Ending → Verdict
+ended ending = ended_with ending.counts ending.left

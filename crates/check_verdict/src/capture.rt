@@ -3,7 +3,7 @@ ghost use Rattle.std.specs.Prelude.{◌≡◌, ◌≤◌, [], None, OnOk, IfOk, 
 ghost use Rattle.check_records.specs.Source.{Between};
 ghost use Rattle.check_records.specs.Text.{start_of};
 ghost use Rattle.check_groups.specs.Plan.{Plan};
-ghost use Rattle.check_judge.specs.View.{Judges, is_traced};
+ghost use Rattle.check_judge.specs.View.{Judges, is_asked, is_traced};
 ghost use Rattle.check_verdict.specs.Capture.{HasHeader, HasHeaderFault, IsFault, IsVerdict, IsWritten};
 
 use crate::fault::{CaptureFault, Verdict};
@@ -47,13 +47,13 @@ pub fn judge_capture<R: Read + Drop, W: Write>(
     requires ports { sizes.ports ≤ MAX_PORTS }
     ensures verdict { (plan : Plan) → Judges plan [] judge
         → IfOk result (λ verdict. IfSome (R.remaining reader) (λ text.
-        IsVerdict plan sizes (start_of text) verdict)) }
+        IsVerdict (is_asked judge) plan sizes (start_of text) verdict)) }
     ensures fault { (plan : Plan) → Judges plan [] judge
         → IfErr result (λ fault. IfSome (R.remaining reader) (λ text.
         IsFault plan sizes (start_of text) fault)) }
     ensures same { writer.new.writer.ghost_name ≡ writer.old.writer.ghost_name }
     ensures told { (plan : Plan) → Judges plan [] judge → IfSome (R.remaining reader) (λ text.
-        IsWritten (is_traced judge) plan sizes (start_of text)
+        IsWritten (is_asked judge) (is_traced judge) plan sizes (start_of text)
         (W.contents writer.old.writer.now) (W.contents writer.new.writer.now) result) }
 {
     let mut records = Records::new(alloc, reader)?;

@@ -4,6 +4,7 @@ ghost use Rattle.check_verdict.specs.Fault.{of_record};
 
 use check_capture::RowFault;
 use check_judge::{Counts, Unlawful};
+use check_pending::Left;
 use check_records::RecordFault;
 use thiserror::Error;
 
@@ -12,6 +13,8 @@ use thiserror::Error;
 pub enum Verdict {
     Lawful(Counts),
     Unlawful(Unlawful),
+    /// It is lawful, and requests are left at its end. This comes only if it is asked for.
+    Incomplete(Left),
 }
 
 /// Why a text is no capture, or was not read. The text of each is one line for standard error.

@@ -2,7 +2,8 @@
 //!
 //! [`judge_capture`] reads a capture to its end, or to the first row that makes it unlawful. Its answer is a
 //! [`Verdict`]: the rows that the text spells are lawful, with their counts; or those to the end of some time have a
-//! first row that makes them unlawful, with its first fault. A text that is no capture is a [`CaptureFault`]: the first
+//! first row that makes them unlawful, with its first fault; or they are lawful and requests are left at their end, if the
+//! judge was to say so. A text that is no capture is a [`CaptureFault`]: the first
 //! record that is no row, or none that may stand there, by its line (`specs/Capture.antt`). What the judge tells of the
 //! rows by then goes to a writer: in parts, as it grows long, and the rest before the answer (`specs/Out.antt`).
 //!

@@ -3,12 +3,12 @@ ghost use Rattle.std.specs.Prelude.{◌≡◌, ◌≤◌, [], None, OnOk, IfOk, 
 ghost use Rattle.check_records.specs.Source.{Between};
 ghost use Rattle.check_capture.specs.Moment.{IsLink};
 ghost use Rattle.check_capture.specs.Row.{row_of};
-ghost use Rattle.check_verdict.specs.Rows.{AllTaken, GoesOn, IsJudged, IsNext, answer_of, halt_of, refused};
+ghost use Rattle.check_verdict.specs.Rows.{AllTaken, GoesOn, IsJudged, IsNext, answer_of, ended, halt_of, refused};
 
 use crate::fault::{CaptureFault, Verdict};
 use crate::out::write_long;
 use check_capture::{Row, RowFault, read_bare_row, read_row};
-use check_judge::{Judge, Refusal, Stop, Unlawful};
+use check_judge::{Ending, Judge, Refusal, Stop, Unlawful};
 use check_map::{MAX_MASTERS, MAX_PORTS};
 use check_records::Records;
 use std::alloc::AllocError;
@@ -148,6 +148,16 @@ fn refused(refusal: Refusal) -> Result<Verdict, CaptureFault>
     }
 }
 
+/// The verdict over a capture that is lawful.
+fn ended(ending: Ending) -> Verdict
+    ensures { result ≡ ended ending }
+{
+    match ending.left {
+        Some(left) => Verdict::Incomplete(left),
+        None => Verdict::Lawful(ending.counts),
+    }
+}
+
 /// Judges all rows that are left, and writes what is told of them, but for the text that is left at the end.
 pub fn judge_rows<R: Read + Drop, W: Write>(
     records: &mut Records<R>,
@@ -168,7 +178,7 @@ pub fn judge_rows<R: Read + Drop, W: Write>(
         return answer_of(halt);
     }
     match judge.end(text) {
-        Ok(counts) => Ok(Verdict::Lawful(counts)),
+        Ok(ending) => Ok(ended(ending)),
         Err(refusal) => refused(refusal),
     }
 }

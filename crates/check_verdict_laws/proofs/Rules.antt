@@ -9,15 +9,16 @@ use Rattle.check_groups.specs.Plan.{Plan, Layout, IsPlan, HasLink, IsWatched}
 use Rattle.check_capture.specs.declared.row.Row.{Row}
 use Rattle.check_judge.specs.Order.{are_masters_watched, are_ports_watched, is_watched, seen}
 use Rattle.check_judge.specs.Verdict.{IsLawfulFile, IsFirstUnlawful}
+use Rattle.check_pending.specs.declared.request.Left.{Left}
 use Rattle.check_judge.specs.declared.stop.Counts.{Counts}
 use Rattle.check_judge.specs.declared.stop.Unlawful.{Unlawful}
 use Rattle.check_records.specs.Text.{Place}
 use Rattle.check_verdict.specs.Capture.{IsVerdict}
-use Rattle.check_verdict.specs.declared.fault.Verdict.TheVariants.{Lawful, Unlawful as Not}
+use Rattle.check_verdict.specs.declared.fault.Verdict.TheVariants.{Incomplete, Lawful, Unlawful as Not}
 use Rattle.check_verdict.specs.declared.rows.Sizes.{Sizes}
 use Rattle.check_groups_laws.specs.Rules.{AreWatched}
 use Rattle.check_groups_laws.proofs.Rules.{always_keeps, rules_make_lawful, seen_whole}
-use Rattle.check_verdict_laws.specs.Rules.{FileKeepsRules, BreaksRules, CaptureKeepsRules, CaptureBreaksRules}
+use Rattle.check_verdict_laws.specs.Rules.{FileKeepsRules, BreaksRules, CaptureKeepsRules, CaptureBreaksRules, CaptureLeaves}
 
 less : (m n : ℕ) → nat_lt m n ≡ true → m < n
 less m n is = ltb→lt m n (subst (λ b. T b) (sym is) tt)
@@ -94,18 +95,28 @@ unlawful_breaks plan file found is first =
           (watched_link plan.layout found.row.sighting.link first.is.watched, watched) whole keeps);
     }
 
-pub capture_keeps : (plan : Plan) (sizes : Sizes) (from : Place) (counts : Counts) → IsPlan plan
-    → IsVerdict plan sizes from (Lawful counts) → CaptureKeepsRules plan sizes from counts
-capture_keeps plan sizes from counts is verdict = record {
+pub capture_keeps : (asked : Bool) (plan : Plan) (sizes : Sizes) (from : Place) (counts : Counts) → IsPlan plan
+    → IsVerdict asked plan sizes from (Lawful counts) → CaptureKeepsRules asked plan sizes from counts
+capture_keeps asked plan sizes from counts is verdict = record {
   rows = verdict.0;
   is = verdict.1;
   keeps = file_keeps plan verdict.0 is verdict.2;
   counted = verdict.3;
+  complete = verdict.4;
 }
 
-pub capture_breaks : (plan : Plan) (sizes : Sizes) (from : Place) (found : Unlawful) → IsPlan plan
-    → IsVerdict plan sizes from (Not found) → CaptureBreaksRules plan sizes from found
-capture_breaks plan sizes from found is verdict = record {
+pub capture_leaves : (asked : Bool) (plan : Plan) (sizes : Sizes) (from : Place) (over : Left) → IsPlan plan
+    → IsVerdict asked plan sizes from (Incomplete over) → CaptureLeaves asked plan sizes from over
+capture_leaves asked plan sizes from over is verdict = record {
+  rows = verdict.0;
+  is = verdict.1;
+  keeps = file_keeps plan verdict.0 is verdict.2;
+  left = verdict.3;
+}
+
+pub capture_breaks : (asked : Bool) (plan : Plan) (sizes : Sizes) (from : Place) (found : Unlawful) → IsPlan plan
+    → IsVerdict asked plan sizes from (Not found) → CaptureBreaksRules plan sizes from found
+capture_breaks asked plan sizes from found is verdict = record {
   rows = verdict.0;
   place = verdict.1;
   begins = verdict.2;

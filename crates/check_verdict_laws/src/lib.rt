@@ -3,8 +3,8 @@
 //!
 //! The judges of `check_judge` and `check_verdict` promise that a file is lawful row by row.
 //! [`laws::lawful_captures_keep_the_rules`] says what the rows of such a text are: whole messages that come in turn,
-//! replies of memories, requests and replies that cross. Where the verdict is `unlawful`, it says that the row which is
-//! named is the first with which they are not.
+//! replies of memories, requests and replies that cross. If the verdict is `incomplete`, they keep the rules too, and
+//! requests are left at the end. If it is `unlawful`, the row which is named is the first with which they are not kept.
 //!
 //! Nothing runs here. Read `specs/Rules.antt`, and then the page of `check_groups_laws`.
 #![tactic(auto)]

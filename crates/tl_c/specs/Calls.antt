@@ -3,7 +3,11 @@ use Rattle.std.specs.Prelude.{◌≡◌, ◌↔◌, ◌&&◌, ◌<◌, ◌≤◌
 use Rattle.check_judge.specs.Count.{is_counted, is_whole_ask, is_whole_reply, one_more}
 use Rattle.check_judge.specs.Names.{NamesView}
 use Rattle.check_judge.specs.Start.{ByThePlan, layout_of, names_of}
-use Rattle.check_judge.specs.Text.{unlawful_line}
+use Rattle.check_capture.specs.declared.row.Row.{Row}
+use Rattle.check_pending.specs.Began.{IsLeft}
+use Rattle.check_pending.specs.View.{Holds}
+use Rattle.check_pending.specs.declared.request.Left.{Left}
+use Rattle.check_judge.specs.Text.{incomplete_line, unlawful_line}
 use Rattle.check_judge.specs.declared.start.Terms.{Terms}
 use Rattle.check_judge.specs.declared.stop.Unlawful.{Unlawful}
 use Rattle.check_link.specs.declared.beat.Sighting.{Sighting}
@@ -115,9 +119,12 @@ abbrev pub IsLineOf : NamesView → Unlawful → ℕ → List ℕ → Type 0
 IsLineOf names found room text =
     (text ≡ unlawful_line names found) ⊎ ((text ≡ []) × (room < length (unlawful_line names found)))
 
--- the fault of a beat that was shown with this line and this time
+-- a beat that was shown with this line and this time, and its fault
+abbrev pub row_at : ℕ → ℕ → Sighting → Row
+row_at line time shown = record { line = line; time = time; sighting = shown }
+
 abbrev pub found_at : ℕ → ℕ → Sighting → Fault → Unlawful
-found_at line time shown fault = record { row = record { line = line; time = time; sighting = shown }; fault = fault }
+found_at line time shown fault = record { row = row_at line time shown; fault = fault }
 
 -- the number is that of the first fault of the beat that is shown, and the text is the line of this fault, with the
 -- line and the time that the beat was shown with
@@ -134,13 +141,31 @@ pub record KeepsAllButText (old new : Judge) : Type 0 where
   pub names : new.names ≡ old.names
   pub requests : new.requests ≡ old.requests
   pub answered : new.answered ≡ old.answered
+  pub pending : new.pending ≡ old.pending
   pub room : vec_capacity old.text ≤ vec_capacity new.text
 
--- a judge of this system before any beat: it keeps no beat by each plan of the system, of which there is one, and has
--- counted none; its text is empty, with room for a line
+-- the text is the line of the requests that are left; or it is empty, if there was no memory for the line
+abbrev pub IsLineOfLeft : Left → List ℕ → Type 0
+IsLineOfLeft left text = (text ≡ incomplete_line left) ⊎ (text ≡ [])
+
+-- requests are left after these rows, and the text is their line
+abbrev pub IsEndOf : Plan → List Row → Judge → Type 0
+IsEndOf plan rows judge = (left : Left) × IsLeft plan rows left × IsLineOfLeft left judge.text.items
+
+-- the judge is as it was, but for its text
+pub record KeepsAllButLine (old new : Judge) : Type 0 where
+  pub watch : new.watch ≡ old.watch
+  pub names : new.names ≡ old.names
+  pub requests : new.requests ≡ old.requests
+  pub answered : new.answered ≡ old.answered
+  pub pending : new.pending ≡ old.pending
+
+-- a judge of this system before any beat: it keeps no beat by each plan of the system, of which there is one, has
+-- counted none, and no request is in flight; its text is empty, with room for a line
 pub record BeginsBy (terms : Terms) (system : Described) (judge : Judge) : Type 0 where
   pub layout : judge.watch.layout ≡ layout_of terms system
   pub keeps : ByThePlan terms system (λ plan. Keeps plan [] judge.watch)
+  pub pending : ByThePlan terms system (λ plan. Holds plan [] judge.pending)
   pub names : judge.names ≡ names_of system
   pub requests : judge.requests ≡ 0
   pub answered : judge.answered ≡ 0

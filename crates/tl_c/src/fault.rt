@@ -29,6 +29,9 @@ pub(crate) const NO_BYTE: u32 = 25;
 
 pub(crate) const NO_LINK: u32 = 30;
 
+/// Requests are left without a whole reply.
+pub(crate) const INCOMPLETE: u32 = 48;
+
 /// The number of a fault of a script.
 pub(crate) fn script_number(fault: ScriptFault) -> u32
     ensures { result ≡ script_number fault }
@@ -171,6 +174,7 @@ pub(crate) fn words(number: u32) -> &'static str {
         45 => "no master sent this request",
         46 => "the port gave no such reply",
         47 => "wrong reply",
+        48 => "requests without reply",
         other => call_words(other),
     }
 }

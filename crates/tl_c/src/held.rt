@@ -1,6 +1,7 @@
 //! What handles hold.
 use check_groups::Watch;
 use check_judge::Names;
+use check_pending::Pending;
 use std::marker::Model;
 use tl_model::Crossbar;
 use tl_script::System;
@@ -23,12 +24,13 @@ impl Model for Server {
     ghost view = { λ s. s.crossbar };
 }
 
-/// A judge of beats, with the names of links, how many whole requests and replies it has seen, and the line of the last
-/// fault.
+/// A judge of beats, with the names of links, the requests in flight, how many whole requests and replies it has seen,
+/// and the line of the last fault.
 #[derive(Drop)]
 pub struct Judge {
     pub watch: Watch,
     pub names: Names,
+    pub pending: Pending,
     pub requests: u64,
     pub answered: u64,
     pub text: Vec<u8>,

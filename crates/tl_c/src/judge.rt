@@ -1,6 +1,6 @@
 //! Judges of beats.
-ghost use Rattle.std.specs.Prelude.{◌≡◌, ◌≢◌, ◌<◌, ◌≤◌, ◌↔◌, ◌&&◌, ◌⊎◌, ℕ, List, IfOk, IsSome, None, Some, vec_capacity};
-ghost use Rattle.tl_c.specs.Calls.{BeginsBy, HoldsJudge, IsFaultOfBeat, IsFileAnswer, IsJudge, IsLineOf, IsReadAs, IsStep, KeepsAllButText, links_of, order_of};
+ghost use Rattle.std.specs.Prelude.{◌≡◌, ◌≢◌, ◌<◌, ◌≤◌, ◌↔◌, ◌&&◌, ◌⊎◌, ℕ, List, ◌∷◌, IsSome, None, Some, vec_capacity};
+ghost use Rattle.tl_c.specs.Calls.{HoldsJudge, IsEndOf, IsFaultOfBeat, IsFileAnswer, IsJudge, IsLineOf, IsLineOfLeft, IsReadAs, IsStep, KeepsAllButLine, KeepsAllButText, links_of, order_of, row_at};
 ghost use Rattle.tl_c.specs.Text.{IsTextOf, IsWritten};
 ghost use Rattle.tl_c.specs.Wire.{shown_by};
 ghost use Rattle.tl_c.specs.declared.held.Judge.{Judge};
@@ -8,9 +8,15 @@ ghost use Rattle.tl_c.specs.declared.held.Held.TheVariants as held;
 ghost use Rattle.check_judge.specs.Count.{ends_a_reply, ends_an_ask, is_counted, one_more};
 ghost use Rattle.check_link.specs.declared.beat.Sighting.{Sighting};
 ghost use Rattle.check_groups.specs.Plan.{HasLink, IsWatched, Plan};
+ghost use Rattle.check_groups.specs.Pending.{IsChange};
 ghost use Rattle.check_groups.specs.View.{Keeps};
+ghost use Rattle.check_capture.specs.declared.row.Row.{Row};
+ghost use Rattle.check_pending.specs.Began.{IsComplete, beats_of};
+ghost use Rattle.check_pending.specs.View.{Holds};
 
-use crate::fault::{BAD_ARGUMENT, EMPTY, FULL, MEMORY, NO_LINK, OK, OTHER_VERSION, beat_number};
+use crate::fault::{
+    BAD_ARGUMENT, EMPTY, FULL, INCOMPLETE, MEMORY, NO_LINK, OK, OTHER_VERSION, beat_number,
+};
 use crate::handle::Handle;
 use crate::held::{Held, Judge};
 use crate::reading::read_judge;
@@ -20,9 +26,10 @@ use crate::version::VERSION;
 use crate::wire::{WireBeat, sighting_of};
 use check_capture::Row;
 use check_crossbar::{Ended, Order, StepError};
-use check_groups::Links;
-use check_judge::{Names, Terms, Unlawful, count_end, push_unlawful};
+use check_groups::{Change, Links};
+use check_judge::{Names, Terms, Unlawful, count_end, push_incomplete, push_unlawful};
 use check_link::{Link, Sighting};
+use check_pending::Left;
 use std::alloc::Global;
 
 /// The links of a number.
@@ -102,6 +109,7 @@ fn count(judge: &mut Judge, link: Link, end: Ended)
     ensures watch { judge.new.watch ≡ judge.old.watch }
     ensures text { judge.new.text ≡ judge.old.text }
     ensures names { judge.new.names ≡ judge.old.names }
+    ensures pending { judge.new.pending ≡ judge.old.pending }
     ensures requests { judge.new.requests
         ≡ one_more (is_counted judge.old.watch.layout.links link && ends_an_ask end) judge.old.requests }
     ensures answered { judge.new.answered
@@ -130,6 +138,7 @@ fn judge_fault(judge: &mut Judge, line: u64, time: u64, sighting: Sighting) -> u
         → IsStep plan past sighting judge.old result judge.new }
     ensures fault { (plan : Plan) (past : List Sighting) → Keeps plan past judge.old.watch → NO_LINK < result
         → IsFaultOfBeat plan past sighting line time judge.old result judge.new }
+    ensures pending { judge.new.pending ≡ judge.old.pending }
     ensures above { result ≢ OK → result ≢ MEMORY → NO_LINK < result }
     ensures unseen { result ≡ MEMORY → judge.new ≡ judge.old }
     ensures err { result ≢ OK → KeepsAllButText judge.old judge.new }
@@ -153,12 +162,51 @@ fn judge_fault(judge: &mut Judge, line: u64, time: u64, sighting: Sighting) -> u
     }
 }
 
-/// Judges one beat more. Most are lawful, and no more is asked of them than what they end.
+/// Judges one beat more, at a link that is watched. Most are lawful, and no more is asked of them than what they end.
+fn judge_beat(judge: &mut Judge, line: u64, time: u64, sighting: Sighting) -> u32
+    requires known { HasLink judge.old.watch.layout sighting.link }
+    requires watched { IsWatched judge.old.watch.layout.links sighting.link }
+    ensures step { (plan : Plan) (past : List Sighting) → Keeps plan past judge.old.watch
+        → IsStep plan past sighting judge.old result judge.new }
+    ensures fault { (plan : Plan) (past : List Sighting) → Keeps plan past judge.old.watch → NO_LINK < result
+        → IsFaultOfBeat plan past sighting line time judge.old result judge.new }
+    ensures pending { judge.new.pending ≡ judge.old.pending }
+    ensures above { result ≢ OK → result ≢ MEMORY → NO_LINK < result }
+    ensures unseen { result ≡ MEMORY → judge.new ≡ judge.old }
+    ensures err { result ≢ OK → KeepsAllButText judge.old judge.new }
+{
+    match judge.watch.take(&sighting) {
+        Ok(Some(end)) => {
+            count(judge, sighting.link, end);
+            OK
+        }
+        Ok(None) => judge_fault(judge, line, time, sighting),
+        Err(_) => MEMORY,
+    }
+}
+
+/// Notes what a beat that was judged did to the requests in flight.
+fn note(judge: &mut Judge, change: Change, row: &Row)
+    ensures watch { judge.new.watch ≡ judge.old.watch }
+    ensures names { judge.new.names ≡ judge.old.names }
+    ensures requests { judge.new.requests ≡ judge.old.requests }
+    ensures answered { judge.new.answered ≡ judge.old.answered }
+    ensures text { judge.new.text ≡ judge.old.text }
+    ensures pending { (plan : Plan) (rows : List Row) → Holds plan rows judge.old.pending
+        → IsChange plan (beats_of rows) row.now.sighting change → Holds plan (row.now ∷ rows) judge.new.pending }
+{
+    judge.pending.note(change, row);
+}
+
+/// Judges one beat more, and notes what it does to the requests in flight.
 fn step(judge: &mut Judge, line: u64, time: u64, sighting: Sighting) -> u32
     ensures step { (plan : Plan) (past : List Sighting) → Keeps plan past judge.old.watch → result ≢ NO_LINK
         → IsStep plan past sighting judge.old result judge.new }
     ensures fault { (plan : Plan) (past : List Sighting) → Keeps plan past judge.old.watch → NO_LINK < result
         → IsFaultOfBeat plan past sighting line time judge.old result judge.new }
+    ensures pending { (plan : Plan) (rows : List Row) → Keeps plan (beats_of rows) judge.old.watch
+        → Holds plan rows judge.old.pending → result ≡ OK
+        → Holds plan (row_at line time sighting ∷ rows) judge.new.pending }
     ensures link { result ≡ NO_LINK ↔ ((HasLink judge.old.watch.layout sighting.link
         × IsWatched judge.old.watch.layout.links sighting.link) → ⊥) }
     ensures first { result ≢ OK → result ≢ MEMORY → NO_LINK ≤ result }
@@ -168,14 +216,17 @@ fn step(judge: &mut Judge, line: u64, time: u64, sighting: Sighting) -> u32
     if !judge.watch.watches(sighting.link) {
         return NO_LINK;
     }
-    match judge.watch.take(&sighting) {
-        Ok(Some(end)) => {
-            count(judge, sighting.link, end);
-            OK
-        }
-        Ok(None) => judge_fault(judge, line, time, sighting),
-        Err(_) => MEMORY,
+    let change = judge.watch.change(&sighting);
+    let number = judge_beat(judge, line, time, sighting);
+    if number == OK {
+        let row = Row {
+            line,
+            time,
+            sighting,
+        };
+        note(judge, change, &row);
     }
+    number
 }
 
 /// `tlx_judge_step_at` of the header: judges one beat more.
@@ -190,6 +241,10 @@ pub extern "C" fn tlx_judge_step_at(alloc: Global, judge: &mut Handle, beat: &Wi
     ensures fault { (plan : Plan) (past : List Sighting) (j : Judge) (shown : Sighting) → judge.old.value ≡ Some (held.Judge j) → shown_by beat.now ≡ Some shown
         → Keeps plan past j.watch → NO_LINK < result
         → HoldsJudge (IsFaultOfBeat plan past shown beat.now.line beat.now.time j result) judge.new.value }
+    ensures pending { (plan : Plan) (rows : List Row) (j : Judge) (shown : Sighting)
+        → judge.old.value ≡ Some (held.Judge j) → shown_by beat.now ≡ Some shown → Keeps plan (beats_of rows) j.watch
+        → Holds plan rows j.pending → result ≡ OK
+        → HoldsJudge (λ new. Holds plan (row_at beat.now.line beat.now.time shown ∷ rows) new.pending) judge.new.value }
     ensures first { result ≢ OK → result ≢ EMPTY → result ≢ BAD_ARGUMENT → result ≢ MEMORY → NO_LINK ≤ result }
     ensures err { result ≢ OK
         → HoldsJudge (λ old. HoldsJudge (KeepsAllButText old) judge.new.value) judge.old.value
@@ -210,7 +265,60 @@ pub extern "C" fn tlx_judge_step_at(alloc: Global, judge: &mut Handle, beat: &Wi
     number
 }
 
-/// `tlx_judge_text_at` of the header: the line of the last fault.
+/// Keeps the line of the requests that are left; none if there is no room for it.
+fn keep_left(text: &mut Vec<u8>, left: &Left)
+    ensures { IsLineOfLeft left.now text.new.items }
+{
+    text.clear();
+    if push_incomplete(text, left).is_err() {
+        text.clear();
+    }
+}
+
+/// Says whether requests are left, and keeps the line of those that are.
+fn end(judge: &mut Judge) -> u32
+    ensures complete { (plan : Plan) (rows : List Row) → Holds plan rows judge.old.pending
+        → result ≡ OK → IsComplete plan rows }
+    ensures incomplete { (plan : Plan) (rows : List Row) → Holds plan rows judge.old.pending
+        → result ≡ INCOMPLETE → IsEndOf plan rows judge.new }
+    ensures answers { result ≢ OK → result ≡ INCOMPLETE }
+    ensures kept { KeepsAllButLine judge.old judge.new }
+    ensures same { result ≡ OK → judge.new ≡ judge.old }
+{
+    match judge.pending.left() {
+        None => OK,
+        Some(left) => {
+            keep_left(&mut judge.text, &left);
+            INCOMPLETE
+        }
+    }
+}
+
+/// `tlx_judge_end_at` of the header: whether requests are left when no more beats come.
+#[unsafe(no_mangle)]
+pub extern "C" fn tlx_judge_end_at(alloc: Global, judge: &mut Handle) -> u32
+    ensures complete { (plan : Plan) (rows : List Row) (j : Judge) → judge.old.value ≡ Some (held.Judge j)
+        → Holds plan rows j.pending → result ≡ OK → IsComplete plan rows }
+    ensures incomplete { (plan : Plan) (rows : List Row) (j : Judge) → judge.old.value ≡ Some (held.Judge j)
+        → Holds plan rows j.pending → result ≡ INCOMPLETE → HoldsJudge (IsEndOf plan rows) judge.new.value }
+    ensures empty { result ≡ EMPTY ↔ (IsJudge judge.old.value → ⊥) }
+    ensures answers { result ≢ OK → result ≢ EMPTY → result ≡ INCOMPLETE }
+    ensures kept { result ≡ INCOMPLETE
+        → HoldsJudge (λ old. HoldsJudge (KeepsAllButLine old) judge.new.value) judge.old.value }
+    ensures same { result ≢ INCOMPLETE → judge.new.value ≡ judge.old.value }
+{
+    let Some(mut held) = take(alloc, judge) else {
+        return EMPTY;
+    };
+    let number = match &mut *held {
+        Held::Judge(held) => end(held),
+        Held::System(_) | Held::Model(_) => EMPTY,
+    };
+    *judge = Handle::of(held);
+    number
+}
+
+/// `tlx_judge_text_at` of the header: the line of the last fault, or of the requests that are left.
 #[unsafe(no_mangle)]
 pub extern "C" fn tlx_judge_text_at(alloc: Global, judge: &mut Handle, room: &mut [u8]) -> usize
     ensures text { (j : Judge) → judge.old.value ≡ Some (held.Judge j)

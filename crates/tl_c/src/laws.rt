@@ -1,6 +1,6 @@
 //! The numbers of the header, on functions that do nothing but carry the law.
 ghost use Rattle.std.specs.Prelude.{◌≡◌};
-ghost use Rattle.tl_c.specs.declared.fault.TheConstants.{OK, EMPTY, FULL, MEMORY, BAD_ARGUMENT, OTHER_VERSION, NO_OPERATION, SIZE, NO_BYTE, NO_LINK};
+ghost use Rattle.tl_c.specs.declared.fault.TheConstants.{OK, EMPTY, FULL, MEMORY, BAD_ARGUMENT, OTHER_VERSION, NO_OPERATION, SIZE, NO_BYTE, NO_LINK, INCOMPLETE};
 ghost use Rattle.tl_c.specs.declared.reading.TheConstants.{LINE_ROOM};
 ghost use Rattle.tl_c.specs.declared.version.TheConstants.{VERSION};
 ghost use Rattle.tl_c.specs.declared.wire.TheConstants.{ROOM};
@@ -18,6 +18,7 @@ pub fn faults_in_numbers()
     ensures size { SIZE ≡ 21 }
     ensures no_byte { NO_BYTE ≡ 25 }
     ensures no_link { NO_LINK ≡ 30 }
+    ensures incomplete { INCOMPLETE ≡ 48 }
 {}
 
 /// The room of a message's bytes in the structs, `TLX_ROOM`, and the room for the line of a fault that a judge begins
@@ -29,5 +30,5 @@ pub fn room_in_numbers()
 
 /// The version of the header, `TLX_VERSION`.
 pub fn version_in_numbers()
-    ensures { VERSION ≡ 2 }
+    ensures { VERSION ≡ 3 }
 {}

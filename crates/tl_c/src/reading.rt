@@ -6,7 +6,7 @@ ghost use Rattle.tl_c.specs.Numbers.{judge_number};
 
 use crate::fault::{file_number, reset_number};
 use crate::held::Judge;
-use check_judge::{Terms, begin};
+use check_judge::{Terms, begin, pending_of};
 use check_system::{ResetFault, SystemFault, read_system};
 use std::alloc::{AllocError, Global};
 use thiserror::Error;
@@ -73,10 +73,12 @@ pub(crate) fn read_judge(alloc: Global, file: &[u8], terms: Terms) -> Result<Jud
 {
     let system = read_system(alloc, file)?;
     let begun = begin(alloc, system, terms)?;
+    let pending = pending_of(alloc, &begun.watch)?;
     let text = Vec::with_capacity(alloc, LINE_ROOM)?;
     Ok(Judge {
         watch: begun.watch,
         names: begun.names,
+        pending,
         requests: 0,
         answered: 0,
         text,

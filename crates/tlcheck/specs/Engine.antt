@@ -4,7 +4,7 @@ use Rattle.std.specs.Io.KnownBytes.{Appends, Keeps}
 use Rattle.check_options.specs.declared.options.Options.{Options}
 use Rattle.check_judge.specs.Names.{NamesView}
 use Rattle.check_judge.specs.Start.{ByThePlan, names_of}
-use Rattle.check_judge.specs.Text.{lawful_line, unlawful_line}
+use Rattle.check_judge.specs.Text.{incomplete_line, lawful_line, unlawful_line}
 use Rattle.check_records.specs.Text.{start_of}
 use Rattle.check_system.specs.File.{IsFirstSystemFault, Spells}
 use Rattle.check_system.specs.Reset.{IsFirstResetFault}
@@ -17,7 +17,7 @@ use Rattle.check_verdict.specs.Capture.{IsFault, IsVerdict, IsWritten}
 use Rattle.check_verdict.specs.declared.fault.CaptureFault.{CaptureFault}
 use Rattle.check_verdict.specs.declared.fault.CaptureFault.TheVariants as stop
 use Rattle.check_verdict.specs.declared.fault.Verdict.{Verdict}
-use Rattle.check_verdict.specs.declared.fault.Verdict.TheVariants.{Lawful, Unlawful}
+use Rattle.check_verdict.specs.declared.fault.Verdict.TheVariants.{Incomplete, Lawful, Unlawful}
 use Rattle.check_verdict.specs.declared.rows.Sizes.{Sizes}
 use Rattle.check_groups.specs.Plan.{Plan}
 use Rattle.tlcheck.specs.declared.fault.CheckFault.{CheckFault}
@@ -27,8 +27,11 @@ use Rattle.tlcheck.specs.declared.asked.Asked.{Asked}
 -- ---- what the command line asks for
 
 abbrev pub asked_of : Options → Asked
-asked_of options =
-    record { terms = record { links = options.links; order = options.order }; trace = options.trace }
+asked_of options = record {
+  terms = record { links = options.links; order = options.order };
+  trace = options.trace;
+  complete = options.complete;
+}
 
 -- ---- a system as it is read
 
@@ -57,7 +60,8 @@ sizes_of system = record { masters = length system.owners; ports = length (range
 -- the verdict is the one over this capture, at a crossbar that is this system
 abbrev pub IsVerdictOf : Asked → System → Option (List ℕ) → Verdict → Type 0
 IsVerdictOf asked system capture verdict =
-    ByThePlan asked.terms system (λ plan. IfSome capture (λ text. IsVerdict plan (sizes_of system) (start_of text) verdict))
+    ByThePlan asked.terms system
+    (λ plan. IfSome capture (λ text. IsVerdict asked.complete plan (sizes_of system) (start_of text) verdict))
 
 -- the fault is one of this capture
 abbrev pub IsFaultOf : Asked → System → Option (List ℕ) → CaptureFault → Type 0
@@ -69,7 +73,8 @@ abbrev pub IsWrittenOf : Asked → System → Option (List ℕ) → Option (List
     → Result Verdict CaptureFault → Type 0
 IsWrittenOf asked system capture old new answer =
     ByThePlan asked.terms system
-    (λ plan. IfSome capture (λ text. IsWritten asked.trace plan (sizes_of system) (start_of text) old new answer))
+    (λ plan. IfSome capture
+    (λ text. IsWritten asked.complete asked.trace plan (sizes_of system) (start_of text) old new answer))
 
 -- ---- a verdict as it is told
 
@@ -77,10 +82,12 @@ IsWrittenOf asked system capture old new answer =
 abbrev pub line_of : NamesView → Verdict → List ℕ
 line_of names (Lawful counts) = lawful_line counts
 line_of names (Unlawful found) = unlawful_line names found
+line_of names (Incomplete left) = incomplete_line left
 
 abbrev pub is_lawful : Verdict → Bool
 is_lawful (Lawful counts) = true
 is_lawful (Unlawful found) = false
+is_lawful (Incomplete left) = false
 
 -- ---- what is promised
 

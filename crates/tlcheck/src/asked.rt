@@ -7,4 +7,6 @@ pub struct Asked {
     pub terms: Terms,
     /// Whether each reply is told.
     pub trace: bool,
+    /// Whether a lawful capture at whose end requests are left is incomplete.
+    pub complete: bool,
 }

@@ -1,11 +1,16 @@
 //! The engine: from the bytes of a system and of a capture to the line of the verdict.
-ghost use Rattle.std.specs.Prelude.{◌≡◌, IfOk};
+ghost use Rattle.std.specs.Prelude.{◌≡◌, [], is_some, IfOk, IfSome};
+ghost use Rattle.check_groups.specs.Plan.{Plan};
+ghost use Rattle.check_groups.specs.View.{Keeps};
+ghost use Rattle.check_pending.specs.View.{Holds};
 ghost use Rattle.tlcheck.specs.Engine.{IsChecked, is_lawful, line_of};
 
 use crate::asked::Asked;
 use crate::fault::CheckFault;
 use crate::system::{read_whole_system, sizes_of};
-use check_judge::{Judge, Names, begin, push_lawful, push_unlawful};
+use check_groups::Watch;
+use check_judge::{Judge, Names, begin, pending_of, push_incomplete, push_lawful, push_unlawful};
+use check_pending::Pending;
 use check_verdict::{Verdict, judge_capture};
 use std::alloc::Global;
 use std::io::{Read, Write};
@@ -20,6 +25,7 @@ fn line_of(alloc: Global, names: &Names, verdict: &Verdict) -> Result<Vec<u8>, M
     match verdict {
         Verdict::Lawful(counts) => push_lawful(&mut text, counts)?,
         Verdict::Unlawful(found) => push_unlawful(&mut text, names, found)?,
+        Verdict::Incomplete(left) => push_incomplete(&mut text, left)?,
     }
     Ok(text)
 }
@@ -31,8 +37,21 @@ fn is_lawful(verdict: &Verdict) -> bool
     matches!(verdict, Verdict::Lawful(_))
 }
 
+/// The requests in flight of a judge that has seen no beat, if it is asked which are left at the end.
+fn pending_if(alloc: Global, watch: &Watch, asked: bool) -> Result<Option<Pending>, Memory>
+    ensures asked { IfOk result (λ pending. is_some pending ≡ asked) }
+    ensures none_yet { IfOk result (λ pending. (plan : Plan) → Keeps plan [] watch.now
+        → IfSome pending (Holds plan [])) }
+{
+    if asked {
+        Ok(Some(pending_of(alloc, watch)?))
+    } else {
+        Ok(None)
+    }
+}
+
 /// Reads a system and then a capture, each to its end or first fault, and writes the line of the verdict: whether what
-/// crossed the watched links of a crossbar that is the system is lawful. The answer is the same. Where replies are
+/// crossed the watched links of a crossbar that is the system is lawful. The answer is the same. If replies are
 /// told, their lines are written before, as the capture is read.
 pub fn check<S: Read, C: Read + Drop, W: Write>(
     alloc: Global,
@@ -66,7 +85,8 @@ fn check_within<S: Read, C: Read + Drop, W: Write>(
     let system = read_whole_system(alloc, reader)?;
     let sizes = sizes_of(&system);
     let begun = begin(alloc, system, asked.terms)?;
-    let judge = Judge::new(begun.watch, asked.trace);
+    let pending = pending_if(alloc, &begun.watch, asked.complete)?;
+    let judge = Judge::new(begun.watch, asked.trace, pending);
     let verdict = judge_capture(alloc, capture, writer, judge, sizes)?;
     let line = line_of(alloc, &begun.names, &verdict)?;
     write_all(writer, &line)?;

@@ -2,7 +2,7 @@
 //!
 //! SYSTEM is a system file, and says what the crossbar is; CAPTURE has a row for each beat that crossed
 //! one of its links. Standard output ends with one line, the verdict: lawful, with counts, or the first row that makes
-//! the capture unlawful, and why. It is all that is written, save that with `--trace` a line for each reply stands
+//! the capture unlawful, and why; with `--complete` also that it is incomplete, since requests are left at its end. It is all that is written, save that with `--trace` a line for each reply stands
 //! before it. A fault is one line on standard error; then nothing was written, save for those replies and where a write
 //! failed. A command line that is refused is told by clap's text.
 //!
@@ -36,7 +36,7 @@ use std::io::{Read, Write};
 use std::process::ExitCode;
 use tl_streams::{fail, no_memory, refused, unread};
 
-/// The status of a capture that is not lawful.
+/// The status of a capture that is not lawful, or incomplete.
 const UNLAWFUL: u8 = 3;
 
 fn main(rt: HostRuntime) -> ExitCode {
@@ -87,6 +87,7 @@ fn check_as_asked<S: Read, C: Read + Drop, W: Write>(
             order: options.order,
         },
         trace: options.trace,
+        complete: options.complete,
     };
     check(alloc, system, capture, writer, asked)
 }

@@ -153,6 +153,7 @@ fn outcome_of(
                 order: Order::Accept,
             },
             trace,
+            complete: false,
         },
     );
     (outcome, writer.held)

@@ -40,7 +40,7 @@ fn judge(rt: &impl Abort, alloc: Global, links: Links, trace: bool) -> Judge {
     };
     let system = read_system(alloc, SYSTEM).ok().expect(rt, "a system");
     let begun = begin(alloc, system, terms).ok().expect(rt, "a judge");
-    Judge::new(begun.watch, trace)
+    Judge::new(begun.watch, trace, None)
 }
 
 /// The row of this line, which has no quotes.
@@ -91,7 +91,7 @@ fn push_stop(rt: &impl Abort, alloc: Global, text: &mut Vec<u8>, line: u64, stop
 /// Writes what is said of a capture that was read to its end.
 fn push_end(rt: &impl Abort, alloc: Global, judge: Judge, text: &mut Vec<u8>) {
     match judge.end(text) {
-        Ok(counts) => push_lawful(text, &counts).expect(rt, "memory"),
+        Ok(ending) => push_lawful(text, &ending.counts).expect(rt, "memory"),
         Err(Refusal::Unlawful(found)) => {
             push_unlawful(text, &Names::none(alloc), &found).expect(rt, "memory");
         }

@@ -6,7 +6,7 @@ ghost use Rattle.std.specs.Prelude.{None};
 use check_capture::RowFault;
 use check_crossbar::Order;
 use check_groups::Links;
-use check_judge::{Judge, Terms, begin};
+use check_judge::{Judge, Terms, begin, pending_of, push_incomplete};
 use check_system::read_system;
 use check_verdict::{CaptureFault, Sizes, Verdict, judge_capture};
 use std::alloc::Global;
@@ -37,7 +37,19 @@ fn judge(rt: &impl Abort, alloc: Global, trace: bool) -> Judge {
     };
     let system = read_system(alloc, SYSTEM).ok().expect(rt, "a system");
     let begun = begin(alloc, system, terms).ok().expect(rt, "a judge");
-    Judge::new(begun.watch, trace)
+    Judge::new(begun.watch, trace, None)
+}
+
+/// A judge that says which requests are left.
+fn asking_judge(rt: &impl Abort, alloc: Global, links: Links) -> Judge {
+    let terms = Terms {
+        links,
+        order: Order::Accept,
+    };
+    let system = read_system(alloc, SYSTEM).ok().expect(rt, "a system");
+    let begun = begin(alloc, system, terms).ok().expect(rt, "a judge");
+    let pending = pending_of(alloc, &begun.watch).expect(rt, "memory");
+    Judge::new(begun.watch, false, Some(pending))
 }
 
 const HEADER: &str =
@@ -219,5 +231,58 @@ fn a_failed_write_is_told(rt: HostRuntime) {
         let judge = judge(&rt, rt.alloc(), trace);
         let answer = judge_capture(rt.alloc(), text.as_bytes(), &mut writer, judge, SIZES);
         assert_eq!(&rt; answer.err(), fault);
+    }
+}
+
+/// The line of what is left of the requests of a header and these lines, if that is the verdict.
+fn left(rt: &impl Abort, alloc: Global, links: Links, lines: &[&str]) -> Option<Vec<u8>> {
+    let mut text = String::new(alloc);
+    text.push_str(HEADER).expect(rt, "memory");
+    for line in lines {
+        text.push_str(line).expect(rt, "memory");
+    }
+    let mut out = Vec::new(alloc);
+    let mut writer = LimitedWriter::new(&mut out);
+    let judge = asking_judge(rt, alloc, links);
+    match judge_capture(alloc, text.as_bytes(), &mut writer, judge, SIZES) {
+        Ok(Verdict::Incomplete(over)) => {
+            let mut line = Vec::new(alloc);
+            push_incomplete(&mut line, &over).expect(rt, "memory");
+            Some(line)
+        }
+        Ok(Verdict::Lawful(_)) => None,
+        other => panic!(rt; "{other:?}"),
+    }
+}
+
+const ANOTHER: &str = "11,m0,A,0,0,3,1,1008,ff,0000000000000000,,\n";
+
+const HALF: &str = "11,m0,A,0,0,4,2,1010,ff,0000000000000000,,\n";
+
+const PORT_ALONE: &str = "10,p0,A,4,0,2,3,1000,0f,,,\n";
+
+#[test]
+fn requests_that_are_left_are_named(rt: HostRuntime) {
+    let one =
+        "incomplete: 1 requests without reply, the first: line 2, time 10, m0 s3 get 0x1000 2\n";
+    let two =
+        "incomplete: 2 requests without reply, the first: line 2, time 10, m0 s3 get 0x1000 2\n";
+    let half =
+        "incomplete: 1 requests without reply, the first: line 2, time 11, m0 s2 putfull 0x1010 4\n";
+    let rows: [(Links, &[&str], Option<&str>); 8] = [
+        (Links::Both, &[], None),
+        (Links::Both, &[ASKED, GIVEN, READ], None),
+        (Links::Both, &[ASKED], Some(one)),
+        // the port has answered, and the master has no reply yet
+        (Links::Both, &[ASKED, GIVEN], Some(one)),
+        (Links::Both, &[ASKED, ANOTHER, GIVEN], Some(two)),
+        // a message that is under way
+        (Links::Both, &[HALF], Some(half)),
+        (Links::Ports, &[PORT_ALONE], Some(one)),
+        (Links::Ports, &[PORT_ALONE, GIVEN], None),
+    ];
+    for (links, lines, line) in rows {
+        let found = left(&rt, rt.alloc(), links, lines);
+        assert_eq!(&rt; found.as_deref(), line.map(|line| line.as_bytes()));
     }
 }

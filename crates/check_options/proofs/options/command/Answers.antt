@@ -11,12 +11,14 @@ returns c =
     let one = c.in_ok-arg.ensures.shape c.links_option.ensures.local ∙ ap₂ with_rule c.program.ensures links.is in
     let two = c.in_ok-arg-2.ensures.shape c.order_option.ensures.local ∙ ap₂ with_rule one orders.is in
     let three = c.in_ok-arg-3.ensures.shape c.trace_flag.ensures.local ∙ ap₂ with_rule two c.trace_flag.ensures.rule in
-    let four = c.in_ok-arg-4.ensures.shape c.system_word.ensures.local
-    ∙ ap₂ with_rule three c.system_word.ensures.rule in
-    IfOk-weaker c.arg-5.result _ _ (λ r added. record {
+    let four = c.in_ok-arg-4.ensures.shape c.complete_flag.ensures.local
+    ∙ ap₂ with_rule three c.complete_flag.ensures.rule in
+    let five = c.in_ok-arg-5.ensures.shape c.system_word.ensures.local
+    ∙ ap₂ with_rule four c.system_word.ensures.rule in
+    IfOk-weaker c.arg-6.result _ _ (λ r added. record {
       links = links.names;
       orders = orders.names;
       links_listed = links.listed;
       orders_listed = orders.listed;
-      is = added.shape c.capture_word.ensures.local ∙ ap₂ with_rule four c.capture_word.ensures.rule;
-    }) c.arg-5.ensures
+      is = added.shape c.capture_word.ensures.local ∙ ap₂ with_rule five c.capture_word.ensures.rule;
+    }) c.arg-6.ensures

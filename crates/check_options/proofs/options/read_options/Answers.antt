@@ -28,8 +28,10 @@ returns c =
     c.read_order.ensures ∙ ap order_of (c.value-2.ensures ∙ ap or_none (read (codes "order"))) in
     let trace : c.read_flag.result ≡ flag_of (value_in (app_of command) words (codes "trace")) =
     c.read_flag.ensures ∙ ap flag_of (c.value-3.ensures ∙ ap or_none (read (codes "trace"))) in
-    let system : c.value-4.result.now ≡ value_in (app_of command) words (codes "system") =
-    c.value-4.ensures ∙ ap or_none (read (codes "system")) in
+    let complete : c.read_flag-2.result ≡ flag_of (value_in (app_of command) words (codes "complete")) =
+    c.read_flag-2.ensures ∙ ap flag_of (c.value-4.ensures ∙ ap or_none (read (codes "complete"))) in
+    let system : c.value-5.result.now ≡ value_in (app_of command) words (codes "system") =
+    c.value-5.ensures ∙ ap or_none (read (codes "system")) in
     let capture : option_map (λ name. name.now) c.read_file.result
     ≡ file_of (first_of (codes "capture") (matches_of (app_of command) words)) =
     c.read_file.ensures ∙ ap file_of (c.get_str.ensures ∙ read (codes "capture")) in
@@ -38,6 +40,6 @@ returns c =
         app = app_of command;
         is = line;
         faults = c.in_ok-matches.ensures.kinds (is_free_line _ line);
-        asked = rw (links, order, trace, system, capture) refl;
+        asked = rw (links, order, trace, complete, system, capture) refl;
       };
     }

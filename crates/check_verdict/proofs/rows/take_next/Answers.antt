@@ -39,6 +39,7 @@ returns-in-Ok-true-take_quietly-clause-next g c =
         spells,
         λ text. record {
           traced = c.in-Ok-true-take_quietly.ensures.trace;
+          asked = c.in-Ok-true-take_quietly.ensures.asked;
           tells = λ plan rows so_far has.
               c.in-Ok-true-take_quietly.ensures.told plan rows so_far text has c.in-Ok-true-take_quietly.field-0-test;
         },

@@ -72,6 +72,7 @@ returns-in-Err-write_long-clause-halt g c =
     (row_taken c.args.sizes r c.in-Left.row next.1 at to next.0 c.loop.judge c.take.new.self text grown
     (subst T next.2 (record {
       traced = c.in_default.ensures.trace;
+      asked = c.in_default.ensures.asked;
       tells = λ plan rows so_far has. c.in_default.ensures.told plan rows so_far has;
     }))) c.in-Err-write_long.ensures.front)
 
@@ -105,6 +106,7 @@ loop-preserved g c =
                 (row_taken c.args.sizes r w.in-Left.row next.1 at to next.0 c.loop.judge w.take.new.self text grown
                 (subst T next.2 (record {
                   traced = w.in_default.ensures.trace;
+                  asked = w.in_default.ensures.asked;
                   tells = λ plan rows so_far has. w.in_default.ensures.told plan rows so_far has;
                 }))) w.in_default-write_long.ensures.moves;
           })

@@ -1,5 +1,5 @@
 -- The verdict or the fault is that of the system, and what was written is what is told with it.
-use Rattle.std.proofs.Common.{◌∙◌, ap, inr}
+use Rattle.std.proofs.Common.{◌∙◌, ap, inl, inr}
 use Rattle.std.proofs.KnownBytes.{Keeps-refl}
 use Rattle.tlcheck.proofs.Failing.{checked_by, of_stopped}
 use Rattle.tlcheck.proofs.Judged.{IsJudgeOf, has_verdict, is_stopped}
@@ -8,6 +8,10 @@ use Rattle.tlcheck.specs.Fault.{of_capture}
 use Rattle.tlcheck.specs.declared.fault.CheckFault.TheVariants as check
 use Rattle.tlcheck.proofs.engine.check_within.Goals as goal
 
+pub returns-in_err-pending-clause-checked : goal.returns-in_err-pending-clause-checked
+returns-in_err-pending-clause-checked g c =
+    checked_by _ _ _ _ _ _ _ check.Memory c.from_residual-in_err-pending.ensures.1 (inl (Keeps-refl _))
+
 pub returns-in_err-verdict-clause-checked : goal.returns-in_err-verdict-clause-checked
 returns-in_err-verdict-clause-checked g c =
     let system = c.in_ok-system.system in
@@ -15,8 +19,13 @@ returns-in_err-verdict-clause-checked g c =
     let begun = c.in_ok-begun.ensures.keeps in
     let of_it : IsJudgeOf c.args.asked system c.new-judge.result c.sizes_of-sizes.result =
     record {
-      judges = record { some = begun.some; each = λ plan is. c.new-judge.ensures.judges plan (begun.each plan is) };
+      judges = record {
+        some = begun.some;
+        each = λ plan is. let keeps = begun.each plan is in
+            c.new-judge.ensures.judges plan keeps (c.in_ok-pending.ensures.none_yet plan keeps);
+      };
       trace = c.new-judge.ensures.trace;
+      complete = c.new-judge.ensures.asked ∙ c.in_ok-pending.ensures.asked;
       sized = c.sizes_of-sizes.ensures.value;
     } in
     let stopped = is_stopped _ system _ _ _ _ _ _ _ fault of_it c.in_ok-system.ensures.ok c.in_err-verdict.ensures.fault c.in_err-verdict.ensures.told in
@@ -30,8 +39,13 @@ returns-in_err-line-clause-checked g c =
     let begun = c.in_ok-begun.ensures.keeps in
     let of_it : IsJudgeOf c.args.asked system c.new-judge.result c.sizes_of-sizes.result =
     record {
-      judges = record { some = begun.some; each = λ plan is. c.new-judge.ensures.judges plan (begun.each plan is) };
+      judges = record {
+        some = begun.some;
+        each = λ plan is. let keeps = begun.each plan is in
+            c.new-judge.ensures.judges plan keeps (c.in_ok-pending.ensures.none_yet plan keeps);
+      };
       trace = c.new-judge.ensures.trace;
+      complete = c.new-judge.ensures.asked ∙ c.in_ok-pending.ensures.asked;
       sized = c.sizes_of-sizes.ensures.value;
     } in
     let has = has_verdict _ system _ _ _ _ _ _ _ verdict of_it c.in_ok-system.ensures.ok c.in_ok-verdict.ensures.verdict c.in_ok-verdict.ensures.told in
@@ -46,8 +60,13 @@ returns-in_err-write_all-clause-checked g c =
     let begun = c.in_ok-begun.ensures.keeps in
     let of_it : IsJudgeOf c.args.asked system c.new-judge.result c.sizes_of-sizes.result =
     record {
-      judges = record { some = begun.some; each = λ plan is. c.new-judge.ensures.judges plan (begun.each plan is) };
+      judges = record {
+        some = begun.some;
+        each = λ plan is. let keeps = begun.each plan is in
+            c.new-judge.ensures.judges plan keeps (c.in_ok-pending.ensures.none_yet plan keeps);
+      };
       trace = c.new-judge.ensures.trace;
+      complete = c.new-judge.ensures.asked ∙ c.in_ok-pending.ensures.asked;
       sized = c.sizes_of-sizes.ensures.value;
     } in
     let has = has_verdict _ system _ _ _ _ _ _ _ verdict of_it c.in_ok-system.ensures.ok c.in_ok-verdict.ensures.verdict c.in_ok-verdict.ensures.told in
@@ -68,8 +87,13 @@ returns-clause-checked g c =
     let begun = c.in_ok-begun.ensures.keeps in
     let of_it : IsJudgeOf c.args.asked system c.new-judge.result c.sizes_of-sizes.result =
     record {
-      judges = record { some = begun.some; each = λ plan is. c.new-judge.ensures.judges plan (begun.each plan is) };
+      judges = record {
+        some = begun.some;
+        each = λ plan is. let keeps = begun.each plan is in
+            c.new-judge.ensures.judges plan keeps (c.in_ok-pending.ensures.none_yet plan keeps);
+      };
       trace = c.new-judge.ensures.trace;
+      complete = c.new-judge.ensures.asked ∙ c.in_ok-pending.ensures.asked;
       sized = c.sizes_of-sizes.ensures.value;
     } in
     let has = has_verdict _ system _ _ _ _ _ _ _ verdict of_it c.in_ok-system.ensures.ok c.in_ok-verdict.ensures.verdict c.in_ok-verdict.ensures.told in

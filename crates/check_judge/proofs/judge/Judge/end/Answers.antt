@@ -1,10 +1,10 @@
 -- The last rows are not lawful, and what is told.
-use Rattle.std.proofs.Common.{◌++◌, Err, List, ap, reverse, subst}
+use Rattle.std.proofs.Common.{◌++◌, Bool, Err, List, ap, reverse, subst}
 use Rattle.check_capture.specs.declared.row.Row.{Row}
-use Rattle.check_judge.specs.Order.{seen}
+use Rattle.check_judge.specs.Order.{seen, watched}
 use Rattle.check_judge.specs.Told.{AppendsTold}
-use Rattle.check_judge.specs.View.{Kept, is_traced}
-use Rattle.check_judge.specs.Verdict.{IsFirstUnlawful, OfUnlawful}
+use Rattle.check_judge.specs.View.{Kept, is_asked, is_traced}
+use Rattle.check_judge.specs.Verdict.{IsFirstUnlawful, IsWhatIsLeft, OfUnlawful}
 use Rattle.check_judge.proofs.Judging.{first_unlawful, refused_is_not_lawful, told_before, told_file}
 use Rattle.check_judge.proofs.Keeping.{of_unlawful}
 use Rattle.check_judge.proofs.judge.Judge.end.Goals as goal
@@ -42,3 +42,27 @@ returns-clause-told c plan file so_far has =
     told_file plan file c.args.self c.judge_rows.new.self so_far old new has
     (subst R c.rows.ensures.rows (c.in_default.ensures.keeps plan before has.judges.kept))
     (subst T c.rows.ensures.rows (c.in_default.ensures.told plan before has.judges.kept))
+
+pub returns-clause-left : goal.returns-clause-left
+returns-clause-left c plan file judges =
+    let crossed : List Row = reverse c.args.self.moment.rows ++ judges.before in
+    let R : List Row → Type 0 = λ rows. Kept plan (reverse rows ++ judges.before) c.judge_rows.new.self in
+    let kept = subst R c.rows.ensures.rows (c.in_default.ensures.keeps plan judges.before judges.kept) in
+    let A : Bool → Type 0 = λ asked. IsWhatIsLeft asked plan (watched plan.layout crossed) c.left.result in
+    record {
+      crossed = crossed;
+      crossing = judges.crossing;
+      is = subst A c.in_default.ensures.asked (c.left.ensures plan (watched plan.layout crossed) kept.pending);
+    }
+
+pub returns-clause-counts : goal.returns-clause-counts
+returns-clause-counts c plan file judges =
+    let R : List Row → Type 0 = λ rows. Kept plan (reverse rows ++ judges.before) c.judge_rows.new.self in
+    let kept = subst R c.rows.ensures.rows (c.in_default.ensures.keeps plan judges.before judges.kept) in
+    record {
+      crossed = reverse c.args.self.moment.rows ++ judges.before;
+      crossing = judges.crossing;
+      rows = judges.rows;
+      requests = kept.tallied.requests;
+      answered = kept.tallied.answered;
+    }

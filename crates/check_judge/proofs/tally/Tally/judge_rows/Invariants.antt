@@ -1,5 +1,5 @@
 -- The rows so far are judged, and told.
-use Rattle.std.proofs.Common.{◌≡◌, List, ◌++◌, reverse, take}
+use Rattle.std.proofs.Common.{◌≡◌, List, ◌++◌, is_some, reverse, take}
 use Rattle.check_groups.specs.Plan.{Plan}
 use Rattle.check_capture.specs.declared.row.Row.{Row}
 use Rattle.check_judge.specs.Order.{seen}
@@ -10,6 +10,7 @@ use Rattle.check_judge.proofs.tally.Tally.judge_rows.Given as goal
 abbrev pub invariant-loop-row : goal.invariant-loop-row
 invariant-loop-row l = record {
   trace : l.self.trace ≡ l.initial.self.trace;
+  asked : is_some l.self.pending ≡ is_some l.initial.self.pending;
   keeps : (plan : Plan) (before : List Row) → Kept plan before l.initial.self
       → Kept plan (reverse (take l.row-index l.rows) ++ before) l.self;
   told : (plan : Plan) (before : List Row) → Kept plan before l.initial.self
