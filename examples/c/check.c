@@ -106,6 +106,7 @@ static const char *words_of(enum tlx_fault fault) {
     case TLX_NOT_SENT: return "no master sent this request";
     case TLX_NOT_GIVEN: return "the port gave no such reply";
     case TLX_WRONG_REPLY: return "wrong reply";
+    case TLX_INCOMPLETE: return "requests without reply";
   }
   return "unknown fault";
 }
@@ -239,8 +240,8 @@ static int has_words(const char *line, const struct tlx_beat *beat, uint32_t fau
   return strstr(line, words) && fault != (is_request ? TLX_UNKNOWN_DATA : TLX_UNKNOWN_LANES);
 }
 
-/* The verdict over rows that cross in this order, as tlcheck tells it. */
-static void judge_rows(struct tlx_judge *judge, const struct row *rows, size_t count, uint8_t links, char *verdict, size_t room) {
+/* The verdict over rows that cross in this order, as tlcheck prints it. */
+static void judge_rows(struct tlx_judge *judge, const struct row *rows, size_t count, uint8_t links, int complete, char *verdict, size_t room) {
   for (size_t k = 0; k < count; k++) {
     const struct tlx_beat *beat = &rows[k].beat;
     int watched = links == TLX_BOTH_LINKS || links == TLX_EACH_LINK || (links == TLX_MASTER_LINKS) == (beat->side == TLX_MASTER);
@@ -250,6 +251,10 @@ static void judge_rows(struct tlx_judge *judge, const struct row *rows, size_t c
       if (!has_words(verdict, beat, fault)) verdict[0] = 0;
       return;
     }
+  }
+  if (complete && tlx_judge_end(judge) == TLX_INCOMPLETE) {
+    tlx_judge_text(judge, verdict, room);
+    return;
   }
   snprintf(verdict, room, "lawful: %zu rows, %" PRIu64 " requests, %" PRIu64 " answered\n", count, tlx_judge_requests(judge),
            tlx_judge_answered(judge));
@@ -274,7 +279,7 @@ static void check_capture(const char *folder, const char *script, size_t length,
   size_t count = read_rows(text, rows);
   int made = tlx_judge_read(&judge, script, length, links, order, 0, 0) == TLX_OK;
   size_t before = requests;
-  judge_rows(&judge, rows, count, links, verdict, sizeof verdict);
+  judge_rows(&judge, rows, count, links, strstr(args, "--complete") != NULL, verdict, sizeof verdict);
   tell(name, made && !strcmp(verdict, last) && (links == TLX_EACH_LINK || requests == before));
   if (strcmp(verdict, last)) fprintf(stderr, "  %s  %s", verdict, last);
   tlx_judge_free(&judge);

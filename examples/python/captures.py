@@ -44,7 +44,7 @@ def beat_of(line, row):
                     number, int(param or 0), denied == "1", corrupt == "1", known, line, int(time))
 
 
-def verdict_of(judge, beats, is_array):
+def verdict_of(judge, beats, is_array, is_complete):
     """The line that tlcheck prints of these beats; those of links that are not watched are counted alone."""
     watched = [beat for beat in beats if judge.links in ("both", "each") or (judge.links == "masters") == (beat.side == tlx.Side.MASTER)]
     try:
@@ -53,9 +53,13 @@ def verdict_of(judge, beats, is_array):
         else:
             for beat in watched:
                 judge.step(beat)
+        if is_complete:
+            judge.end()
     except tlx.Unlawful as found:
         is_beat = (found.line, found.time) in {(beat.line, beat.time) for beat in beats}
         return (found.text if is_beat else f"of another beat: {found.text}"), found
+    except tlx.Incomplete as left:
+        return left.text, None
     return f"lawful: {len(beats)} rows, {judge.requests} requests, {judge.answered} answered", None
 
 
@@ -75,12 +79,12 @@ def main():
         beats = rows_of(path.with_suffix(".csv"))
         for is_array in (False, True):
             with tlx.Judge(system, option(words, "--links", "both"), option(words, "--order", "accept")) as judge:
-                verdict, found = verdict_of(judge, beats, is_array)
+                verdict, found = verdict_of(judge, beats, is_array, "--complete" in words)
             tally.tell(f"{path.stem}: {verdict!r}, and not {wanted!r}", verdict == wanted)
             if found:
                 met.add(found.fault)
                 tally.tell(f"the words of {found.fault.name}", f": {found.fault.words}" in found.text)
-    tally.tell("each fault of a beat", met == {fault for fault in tlx.Fault if fault > tlx.Fault.NO_LINK})
+    tally.tell("each fault of a beat", met == {fault for fault in tlx.Fault if tlx.Fault.NO_LINK < fault < tlx.Fault.INCOMPLETE})
     return tally.end()
 
 
