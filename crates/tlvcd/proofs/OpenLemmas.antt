@@ -1,5 +1,5 @@
 -- A dump that is opened, and the identifiers that are kept of it.
-use Rattle.std.proofs.Common.{◌≡◌, ◌∙◌, ℕ, suc, ◌+◌, ◌<◌, List, [], ◌∷◌, length, get_or, drop, drop-cons, add-one, Option, Some, None, Result, Ok, Err, IfErr, IsErrAnd, inl, inr, ap, refl, sym, subst, if◌then◌else◌}
+use Rattle.std.proofs.Common.{◌≡◌, ◌≢◌, ◌∙◌, ℕ, suc, ◌+◌, ◌<◌, List, [], ◌∷◌, length, get_or, drop, drop-cons, add-one, Option, Some, None, Result, Ok, Err, false, IfErr, IsErrAnd, inl, inr, ap, refl, sym, subst, if◌then◌else◌}
 use Rattle.std.proofs.KnownBytes.{Appends-nil}
 use Rattle.std.specs.Option.{IfSome, option_map}
 use Rattle.std.specs.Str.{bytes_eq}
@@ -14,9 +14,24 @@ use Rattle.check_vcd.specs.declared.fault.DumpFault.TheVariants as dump
 use Rattle.check_vcd.specs.declared.fault.Mistake.{Mistake}
 use Rattle.check_samples.specs.Left.{Left, left_in, left_of}
 use Rattle.check_samples.specs.Sampling.{Sampling}
-use Rattle.tlvcd.specs.Capture.{IsCapture, IsOfSystem, IsOpened, IsUnopened, kept, kept_one}
+use Rattle.check_samples.specs.declared.rows.RowsFault.{RowsFault}
+use Rattle.check_samples.specs.declared.rows.RowsFault.TheVariants as rows
+use Rattle.check_signals.specs.Names.{names_of_file}
+use Rattle.check_signals.specs.declared.fault.KeyFault.{KeyFault}
+use Rattle.check_signals.specs.declared.fault.KeyFault.TheVariants as key
+use Rattle.check_signals.specs.declared.resolve.SignalFault.{SignalFault}
+use Rattle.check_signals.specs.declared.resolve.SignalFault.TheVariants as signal
+use Rattle.check_system.specs.File.{IsFirstSystemFault, Spells}
+use Rattle.check_system.specs.System.{System}
+use Rattle.check_system.specs.declared.fault.SystemFault.{SystemFault}
+use Rattle.check_system.specs.declared.fault.SystemFault.TheVariants as system
+use Rattle.check_system.specs.declared.read.TheConstants.{MAX_SYSTEM}
+use Rattle.tl_streams.specs.Streams.{ReadsUpTo}
+use Rattle.tl_streams.specs.declared.streams.ReadFault.{ReadFault}
+use Rattle.tl_streams.specs.declared.streams.ReadFault.TheVariants as read
+use Rattle.tlvcd.specs.Capture.{IsCapture, IsFirst, IsOfDump, IsOfSystem, IsOpened, IsUnopened, kept, kept_one}
 use Rattle.tlvcd.specs.Out.{IsOut, capture_of}
-use Rattle.tlvcd.specs.Fault.{of_dump}
+use Rattle.tlvcd.specs.Fault.{of_dump, of_keys, of_read, of_rows, of_signal, of_system}
 use Rattle.tlvcd.specs.declared.fault.WaveFault.{WaveFault}
 use Rattle.tlvcd.specs.declared.fault.WaveFault.TheVariants as wave
 
@@ -34,7 +49,7 @@ kept-same (code ∷ codes) slot f g same c =
 opened : (text : List ℕ) (vars : List Var) (words : Option (List Word)) (find : Find) (body : Body)
     (codes : List (List ℕ)) (s : Sampling) → Both (Some (words_of text)) words (λ from to. opening from blank ≡ Opened vars to)
     → body ≡ start → ((code : List ℕ) → find code ≡ kept codes 0 (coded_in vars) code) → s.time ≡ None
-    → IsOpened (option_map (λ h. left_of h s) (option_map (λ w. happenings find w body) words)) text
+    → IsOpened (option_map (λ h. left_of h s false) (option_map (λ w. happenings find w body) words)) text
 opened text vars None find body codes s both is finds fresh = absurd both
 opened text vars (Some w) find body codes s both is finds fresh = record {
   vars = vars;
@@ -45,14 +60,14 @@ opened text vars (Some w) find body codes s both is finds fresh = record {
   finds = finds;
   sampling = s;
   fresh = fresh;
-  is = ap (λ (b : Body). left_of (happenings find w b) s) is;
+  is = ap (λ (b : Body). left_of (happenings find w b) s false) is;
 }
 
 -- the rows of a dump behind its header, where these identifiers are kept
 pub opened-rows : (text : Option (List ℕ)) (vars : List Var) (first dump : Dumping) (codes : List (List ℕ)) (s : Sampling)
     → Opens text vars first → dump.words ≡ first.words → dump.body ≡ first.body
     → ((code : List ℕ) → find_in dump.codes code ≡ kept codes 0 (find_in first.codes) code) → s.time ≡ None
-    → IfSome text (IsOpened (left_in dump s))
+    → IfSome text (IsOpened (left_in dump s false))
 opened-rows None vars first dump codes s opens words body finds fresh = tt
 opened-rows (Some text) vars first dump codes s opens words body finds fresh =
     opened text vars dump.words (find_in dump.codes) dump.body codes s (rw words opens.words) (body ∙ opens.body)
@@ -88,17 +103,85 @@ rest-of xs i x lt is =
     rw add-one all
 
 -- what is nothing of a dump
-pub unopened-system : (text : Option (List ℕ)) (fault : WaveFault) → IsOfSystem fault → IfSome text (IsUnopened fault)
-unopened-system None fault of = tt
-unopened-system (Some text) (wave.System f) of = tt
-unopened-system (Some text) (wave.Keys f) of = tt
-unopened-system (Some text) (wave.Signal f) of = absurd of
-unopened-system (Some text) (wave.Dump line mistake) of = absurd of
-unopened-system (Some text) (wave.Unknown u) of = absurd of
-unopened-system (Some text) wave.NoEdge of = absurd of
-unopened-system (Some text) wave.Read of = tt
-unopened-system (Some text) wave.Write of = absurd of
-unopened-system (Some text) wave.Memory of = tt
+pub unopened-system : (text given left : Option (List ℕ)) (fault : WaveFault) → IsOfSystem given left fault
+    → IfSome text (IsUnopened fault)
+unopened-system None given left fault of = tt
+unopened-system (Some text) given left (wave.System f) of = tt
+unopened-system (Some text) given left (wave.Keys f) of = tt
+unopened-system (Some text) given left (wave.Signal f) of = absurd of
+unopened-system (Some text) given left (wave.Dump line mistake) of = absurd of
+unopened-system (Some text) given left (wave.Unknown u) of = absurd of
+unopened-system (Some text) given left wave.NoEdge of = absurd of
+unopened-system (Some text) given left wave.Read of = tt
+unopened-system (Some text) given left wave.Write of = absurd of
+unopened-system (Some text) given left wave.Memory of = tt
+
+-- ---- the first fault of a system
+
+pub read-first : (old new : Option (List ℕ)) (fault : ReadFault) → IsOfSystem old new (of_read fault)
+read-first old new read.Read = tt
+read-first old new read.Memory = tt
+
+pub system-first : (old new : Option (List ℕ)) (file : List ℕ) (fault : SystemFault)
+    → ReadsUpTo (MAX_SYSTEM + 1) old new file → (fault ≢ system.Memory → IsFirstSystemFault file fault)
+    → IsOfSystem old new (of_system fault)
+system-first old new file system.Memory reads first = tt
+system-first old new file fault reads first = record {
+  file = file;
+  read = reads;
+  first = first (λ (is : fault ≡ system.Memory). cc);
+}
+
+pub keys-first : (old new : Option (List ℕ)) (file : List ℕ) (about : System) (fault : KeyFault)
+    → ReadsUpTo (MAX_SYSTEM + 1) old new file → Spells file about
+    → (fault ≢ key.Memory → names_of_file file ≡ Err fault) → IsOfSystem old new (of_keys fault)
+keys-first old new file about key.Memory reads spelled first = tt
+keys-first old new file about fault reads spelled first = record {
+  file = file;
+  read = reads;
+  system = about;
+  spelled = spelled;
+  first = first (λ (is : fault ≡ key.Memory). cc);
+}
+
+pub first-of-system : (old new : Option (List ℕ)) (fault : WaveFault) → IsOfSystem old new fault → IsFirst old new fault
+first-of-system old new (wave.System f) of = of
+first-of-system old new (wave.Keys f) of = of
+first-of-system old new (wave.Signal f) of = absurd of
+first-of-system old new (wave.Dump line mistake) of = absurd of
+first-of-system old new (wave.Unknown u) of = absurd of
+first-of-system old new wave.NoEdge of = absurd of
+first-of-system old new wave.Read of = tt
+first-of-system old new wave.Write of = absurd of
+first-of-system old new wave.Memory of = tt
+
+pub first-of-dump : (old new : Option (List ℕ)) (fault : WaveFault) → IsOfDump fault → IsFirst old new fault
+first-of-dump old new (wave.System f) of = absurd of
+first-of-dump old new (wave.Keys f) of = absurd of
+first-of-dump old new (wave.Signal f) of = tt
+first-of-dump old new (wave.Dump line mistake) of = tt
+first-of-dump old new (wave.Unknown u) of = tt
+first-of-dump old new wave.NoEdge of = tt
+first-of-dump old new wave.Read of = tt
+first-of-dump old new wave.Write of = tt
+first-of-dump old new wave.Memory of = tt
+
+-- ---- faults of a dump
+
+pub dump-signal : (fault : SignalFault) → IsOfDump (of_signal fault)
+dump-signal signal.Memory = tt
+dump-signal fault = tt
+
+pub dump-dump : (fault : DumpFault) → IsOfDump (of_dump fault)
+dump-dump (dump.At line mistake) = tt
+dump-dump dump.Read = tt
+dump-dump dump.Memory = tt
+
+pub dump-rows : (fault : RowsFault) → IsOfDump (of_rows fault)
+dump-rows (rows.Unknown unknown) = tt
+dump-rows (rows.Dump line mistake) = tt
+dump-rows rows.Read = tt
+dump-rows rows.Memory = tt
 
 -- nothing was written
 pub refused : (text : Option (List ℕ)) (result : Result Unit WaveFault) (fault : WaveFault) (at : Option (List ℕ))

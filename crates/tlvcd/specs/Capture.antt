@@ -1,5 +1,5 @@
 -- What is written of a dump. This project's own.
-use Rattle.std.specs.Prelude.{◌≡◌, ◌⊎◌, ℕ, ◌+◌, List, [], ◌∷◌, Option, None, Some, Result, Ok, Err, ⊤, if◌then◌else◌}
+use Rattle.std.specs.Prelude.{◌≡◌, ◌⊎◌, ℕ, ◌+◌, false, List, [], ◌∷◌, Option, None, Some, Result, Ok, Err, ⊤, if◌then◌else◌}
 use Rattle.std.specs.Str.{bytes_eq}
 use Rattle.std.specs.Io.KnownBytes.{Appends}
 use Rattle.check_vcd.specs.Body.{Find, happenings, start}
@@ -7,6 +7,13 @@ use Rattle.check_vcd.specs.Codes.{coded_in}
 use Rattle.check_vcd.specs.Dump.{IsNoDump, with_slot}
 use Rattle.check_vcd.specs.Header.{Opened, Var, blank, opening}
 use Rattle.check_vcd.specs.Words.{Word, words_of}
+use Rattle.check_signals.specs.Names.{Names, names_of_file}
+use Rattle.check_signals.specs.declared.fault.KeyFault.{KeyFault}
+use Rattle.check_system.specs.File.{IsFirstSystemFault, Spells}
+use Rattle.check_system.specs.System.{System}
+use Rattle.check_system.specs.declared.fault.SystemFault.{SystemFault}
+use Rattle.check_system.specs.declared.read.TheConstants.{MAX_SYSTEM}
+use Rattle.tl_streams.specs.Streams.{ReadsUpTo}
 use Rattle.check_samples.specs.Left.{Left, left_of}
 use Rattle.check_samples.specs.Sampling.{Sampling}
 use Rattle.tlvcd.specs.Out.{IsOut, capture_of}
@@ -31,7 +38,46 @@ pub record HasRows (text : List ℕ) (left : Left) : Type 0 where
   pub finds : (code : List ℕ) → find code ≡ kept codes 0 (coded_in vars) code
   pub sampling : Sampling
   pub fresh : sampling.time ≡ None
-  pub is : left ≡ left_of (happenings find words start) sampling
+  pub is : left ≡ left_of (happenings find words start) sampling false
+
+-- ---- the system
+
+-- the reader gave a file that describes a system and says where its signals are: all that it had, or a byte more than a
+-- file may have
+pub record GivesNames (old new : Option (List ℕ)) (names : Names) : Type 0 where
+  pub file : List ℕ
+  pub read : ReadsUpTo (MAX_SYSTEM + 1) old new file
+  pub system : System
+  pub spelled : Spells file system
+  pub named : names_of_file file ≡ Ok names
+
+-- the fault is the first of what was read
+pub record HasSystemFault (old new : Option (List ℕ)) (fault : SystemFault) : Type 0 where
+  pub file : List ℕ
+  pub read : ReadsUpTo (MAX_SYSTEM + 1) old new file
+  pub first : IsFirstSystemFault file fault
+
+-- what was read describes a system, and the fault is the first on the way to where its signals are
+pub record HasKeyFault (old new : Option (List ℕ)) (fault : KeyFault) : Type 0 where
+  pub file : List ℕ
+  pub read : ReadsUpTo (MAX_SYSTEM + 1) old new file
+  pub system : System
+  pub spelled : Spells file system
+  pub first : names_of_file file ≡ Err fault
+
+-- a fault of the system is the first that it has
+abbrev pub IsFirst : Option (List ℕ) → Option (List ℕ) → WaveFault → Type 0
+IsFirst old new (wave.System fault) = HasSystemFault old new fault
+IsFirst old new (wave.Keys fault) = HasKeyFault old new fault
+IsFirst old new (wave.Signal fault) = ⊤
+IsFirst old new (wave.Dump line mistake) = ⊤
+IsFirst old new (wave.Unknown unknown) = ⊤
+IsFirst old new wave.NoEdge = ⊤
+IsFirst old new wave.Read = ⊤
+IsFirst old new wave.Write = ⊤
+IsFirst old new wave.Memory = ⊤
+
+-- ---- the dump
 
 -- why no row was written: the header is wrong, or it is nothing of the dump's text
 abbrev pub IsUnopened : WaveFault → List ℕ → Type 0
@@ -67,14 +113,26 @@ abbrev pub IsOpened : Option Left → List ℕ → Type 0
 IsOpened None text = ⊥
 IsOpened (Some left) text = HasRows text left
 
--- it is nothing of a dump
-abbrev pub IsOfSystem : WaveFault → Type 0
-IsOfSystem (wave.System fault) = ⊤
-IsOfSystem (wave.Keys fault) = ⊤
-IsOfSystem (wave.Signal fault) = ⊥
-IsOfSystem (wave.Dump line mistake) = ⊥
-IsOfSystem (wave.Unknown unknown) = ⊥
-IsOfSystem wave.NoEdge = ⊥
-IsOfSystem wave.Read = ⊤
-IsOfSystem wave.Write = ⊥
-IsOfSystem wave.Memory = ⊤
+-- it is nothing of a dump, and the first fault that the system has
+abbrev pub IsOfSystem : Option (List ℕ) → Option (List ℕ) → WaveFault → Type 0
+IsOfSystem old new (wave.System fault) = HasSystemFault old new fault
+IsOfSystem old new (wave.Keys fault) = HasKeyFault old new fault
+IsOfSystem old new (wave.Signal fault) = ⊥
+IsOfSystem old new (wave.Dump line mistake) = ⊥
+IsOfSystem old new (wave.Unknown unknown) = ⊥
+IsOfSystem old new wave.NoEdge = ⊥
+IsOfSystem old new wave.Read = ⊤
+IsOfSystem old new wave.Write = ⊥
+IsOfSystem old new wave.Memory = ⊤
+
+-- it is nothing of the system
+abbrev pub IsOfDump : WaveFault → Type 0
+IsOfDump (wave.System fault) = ⊥
+IsOfDump (wave.Keys fault) = ⊥
+IsOfDump (wave.Signal fault) = ⊤
+IsOfDump (wave.Dump line mistake) = ⊤
+IsOfDump (wave.Unknown unknown) = ⊤
+IsOfDump wave.NoEdge = ⊤
+IsOfDump wave.Read = ⊤
+IsOfDump wave.Write = ⊤
+IsOfDump wave.Memory = ⊤

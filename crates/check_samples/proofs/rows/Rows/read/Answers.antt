@@ -15,13 +15,13 @@ returns-in_err-push_rows-in-Ok-None-clause-fault g c =
     fails-by c.from_residual-in_err-push_rows-in-Ok-None.result (of_sample fault)
     (λ f. IfSome c.args.self.now (Stops f old new)) c.from_residual-in_err-push_rows-in-Ok-None.ensures.1
     (rw (← c.self.view_is) (stops-ending (happens_in inside.dump) (happens_in c.read.new.self) inside.sampler old new fault
-    (rw c.in-Ok-None.field-0-is at c.in-Ok-None.ensures.ok) c.in_err-push_rows-in-Ok-None.ensures))
+    inside.has_risen (rw c.in-Ok-None.field-0-is at c.in-Ok-None.ensures.ok) c.in_err-push_rows-in-Ok-None.ensures))
 
 pub returns-in_ok-push_rows-in-Ok-None-clause-ok : goal.returns-in_ok-push_rows-in-Ok-None-clause-ok
 returns-in_ok-push_rows-in-Ok-None-clause-ok g c =
     let inside = c.self.inside in
     rw (← c.self.view_is) (ends (happens_in inside.dump) (happens_in c.read.new.self) inside.sampler c.args.text.now.items
-    c.push_rows.new.text.items tt (rw c.in-Ok-None.field-0-is at c.in-Ok-None.ensures.ok)
+    c.push_rows.new.text.items tt inside.has_risen (rw c.in-Ok-None.field-0-is at c.in-Ok-None.ensures.ok)
     c.in_ok-push_rows-in-Ok-None.ensures)
 
 pub returns-in-Err-clause-fault : goal.returns-in-Err-clause-fault
@@ -29,4 +29,4 @@ returns-in-Err-clause-fault g c =
     let inside = c.self.inside in
     let fault = c.in-Err.fault in
     rw (← c.self.view_is, c.from.ensures) (stops-reading (happens_in inside.dump) inside.sampler c.args.text.now.items fault
-    (λ line mistake is. c.in-Err.ensures.wrong line mistake (cc)))
+    inside.has_risen (λ line mistake is. c.in-Err.ensures.wrong line mistake (cc)))
