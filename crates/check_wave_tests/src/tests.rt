@@ -269,13 +269,15 @@ fn a_clock_that_never_rises(rt: HostRuntime) {
     assert!(&rt; !has_risen(&rt, alloc, b"0! #5 1! #5 0! #6\n"));
 }
 
+/// A body whose clock rises.
+const RISES: &[u8] = b"0! #5 1!\n";
+
 #[test]
 fn a_read_that_fails_is_the_fault(rt: HostRuntime) {
     let alloc = rt.alloc();
-    let body: &[u8] = b"0! #5 1!\n";
-    let text = joined(&rt, alloc, HEAD, body);
+    let text = joined(&rt, alloc, HEAD, RISES);
     // byte by byte, each behind an interruption, and then the end
-    for fails_at in 0..2 * (HEAD.len() + body.len() + 1) as u32 {
+    for fails_at in 0..2 * (HEAD.len() + RISES.len() + 1) as u32 {
         let mut reader = reader_of(&text, 1);
         reader.fails_at = fails_at;
         let outcome = outcome_of(&rt, alloc, SYSTEM, reader);

@@ -14,8 +14,6 @@ use Rattle.check_vcd.specs.declared.fault.DumpFault.TheVariants as dump
 use Rattle.check_vcd.specs.declared.fault.Mistake.{Mistake}
 use Rattle.check_samples.specs.Left.{Left, left_in, left_of}
 use Rattle.check_samples.specs.Sampling.{Sampling}
-use Rattle.check_samples.specs.declared.rows.RowsFault.{RowsFault}
-use Rattle.check_samples.specs.declared.rows.RowsFault.TheVariants as rows
 use Rattle.check_signals.specs.Names.{names_of_file}
 use Rattle.check_signals.specs.declared.fault.KeyFault.{KeyFault}
 use Rattle.check_signals.specs.declared.fault.KeyFault.TheVariants as key
@@ -29,9 +27,9 @@ use Rattle.check_system.specs.declared.read.TheConstants.{MAX_SYSTEM}
 use Rattle.tl_streams.specs.Streams.{ReadsUpTo}
 use Rattle.tl_streams.specs.declared.streams.ReadFault.{ReadFault}
 use Rattle.tl_streams.specs.declared.streams.ReadFault.TheVariants as read
-use Rattle.tlvcd.specs.Capture.{IsCapture, IsFirst, IsOfDump, IsOfSystem, IsOpened, IsUnopened, kept, kept_one}
+use Rattle.tlvcd.specs.Capture.{HasHeader, HasNames, IsCapture, IsOfSystem, IsOpened, IsUnopened, kept, kept_one}
 use Rattle.tlvcd.specs.Out.{IsOut, capture_of}
-use Rattle.tlvcd.specs.Fault.{of_dump, of_keys, of_read, of_rows, of_signal, of_system}
+use Rattle.tlvcd.specs.Fault.{of_dump, of_keys, of_read, of_signal, of_system}
 use Rattle.tlvcd.specs.declared.fault.WaveFault.{WaveFault}
 use Rattle.tlvcd.specs.declared.fault.WaveFault.TheVariants as wave
 
@@ -102,19 +100,19 @@ rest-of xs i x lt is =
     let all : drop i xs ≡ x ∷ drop (suc i) xs = drop-cons xs i x lt ∙ ap (λ h. h ∷ drop (suc i) xs) (sym is) in
     rw add-one all
 
--- what is nothing of a dump
-pub unopened-system : (text given left : Option (List ℕ)) (fault : WaveFault) → IsOfSystem given left fault
-    → IfSome text (IsUnopened fault)
-unopened-system None given left fault of = tt
-unopened-system (Some text) given left (wave.System f) of = tt
-unopened-system (Some text) given left (wave.Keys f) of = tt
-unopened-system (Some text) given left (wave.Signal f) of = absurd of
-unopened-system (Some text) given left (wave.Dump line mistake) of = absurd of
-unopened-system (Some text) given left (wave.Unknown u) of = absurd of
-unopened-system (Some text) given left wave.NoEdge of = absurd of
-unopened-system (Some text) given left wave.Read of = tt
-unopened-system (Some text) given left wave.Write of = absurd of
-unopened-system (Some text) given left wave.Memory of = tt
+-- a signal is looked for once there is a header
+pub unopened-signal : (text : Option (List ℕ)) (vars : List Var) (first : Dumping) (fault : SignalFault)
+    → Opens text vars first → IfSome text (IsUnopened (of_signal fault))
+unopened-signal None vars first fault opens = tt
+unopened-signal (Some text) vars first fault opens = by fault (header first.words opens.words)
+  where
+    header : (words : Option (List Word)) → Both (Some (words_of text)) words (λ from to. opening from blank ≡ Opened vars to)
+        → HasHeader text
+    header None both = absurd both
+    header (Some words) both = record { vars = vars; words = words; opened = both }
+    by : (f : SignalFault) → HasHeader text → IsUnopened (of_signal f) text
+    by signal.Memory has = tt
+    by f has = has
 
 -- ---- the first fault of a system
 
@@ -144,58 +142,40 @@ keys-first old new file about fault reads spelled first = record {
   first = first (λ (is : fault ≡ key.Memory). cc);
 }
 
-pub first-of-system : (old new : Option (List ℕ)) (fault : WaveFault) → IsOfSystem old new fault → IsFirst old new fault
-first-of-system old new (wave.System f) of = of
-first-of-system old new (wave.Keys f) of = of
-first-of-system old new (wave.Signal f) of = absurd of
-first-of-system old new (wave.Dump line mistake) of = absurd of
-first-of-system old new (wave.Unknown u) of = absurd of
-first-of-system old new wave.NoEdge of = absurd of
-first-of-system old new wave.Read of = tt
-first-of-system old new wave.Write of = absurd of
-first-of-system old new wave.Memory of = tt
+-- ---- what is written
 
-pub first-of-dump : (old new : Option (List ℕ)) (fault : WaveFault) → IsOfDump fault → IsFirst old new fault
-first-of-dump old new (wave.System f) of = absurd of
-first-of-dump old new (wave.Keys f) of = absurd of
-first-of-dump old new (wave.Signal f) of = tt
-first-of-dump old new (wave.Dump line mistake) of = tt
-first-of-dump old new (wave.Unknown u) of = tt
-first-of-dump old new wave.NoEdge of = tt
-first-of-dump old new wave.Read of = tt
-first-of-dump old new wave.Write of = tt
-first-of-dump old new wave.Memory of = tt
+-- no names are known
+pub refused-system : (text : Option (List ℕ)) (result : Result Unit WaveFault) (fault : WaveFault)
+    (read_old read_new at : Option (List ℕ)) → IsErrAnd result (λ e. e ≡ fault) → IsOfSystem read_old read_new fault
+    → IfSome text (λ t. IsCapture read_old read_new result t at at)
+refused-system None result fault read_old read_new at is why = tt
+refused-system (Some text) (Ok done) fault read_old read_new at is why = absurd is
+refused-system (Some text) (Err e) fault read_old read_new at is why =
+    inl (record {
+      why = inl (subst (IsOfSystem read_old read_new) (sym is) why);
+      written = Appends-nil at;
+    })
 
--- ---- faults of a dump
+-- no dump was opened
+pub refused-dump : (text : Option (List ℕ)) (result : Result Unit WaveFault) (fault : WaveFault)
+    (read_old read_new at : Option (List ℕ)) → IsErrAnd result (λ e. e ≡ fault) → HasNames read_old read_new
+    → IfSome text (IsUnopened fault) → IfSome text (λ t. IsCapture read_old read_new result t at at)
+refused-dump None result fault read_old read_new at is has why = tt
+refused-dump (Some text) (Ok done) fault read_old read_new at is has why = absurd is
+refused-dump (Some text) (Err e) fault read_old read_new at is has why =
+    inl (record {
+      why = inr (has, subst (λ (f : WaveFault). IsUnopened f text) (sym is) why);
+      written = Appends-nil at;
+    })
 
-pub dump-signal : (fault : SignalFault) → IsOfDump (of_signal fault)
-dump-signal signal.Memory = tt
-dump-signal fault = tt
-
-pub dump-dump : (fault : DumpFault) → IsOfDump (of_dump fault)
-dump-dump (dump.At line mistake) = tt
-dump-dump dump.Read = tt
-dump-dump dump.Memory = tt
-
-pub dump-rows : (fault : RowsFault) → IsOfDump (of_rows fault)
-dump-rows (rows.Unknown unknown) = tt
-dump-rows (rows.Dump line mistake) = tt
-dump-rows rows.Read = tt
-dump-rows rows.Memory = tt
-
--- nothing was written
-pub refused : (text : Option (List ℕ)) (result : Result Unit WaveFault) (fault : WaveFault) (at : Option (List ℕ))
-    → IsErrAnd result (λ e. e ≡ fault) → IfSome text (IsUnopened fault) → IfSome text (λ t. IsCapture result t at at)
-refused None result fault at is why = tt
-refused (Some text) (Ok done) fault at is why = absurd is
-refused (Some text) (Err e) fault at is why =
-    inl (record { why = subst (λ (f : WaveFault). IsUnopened f text) (sym is) why; written = Appends-nil at })
-
--- the rows were
-pub captured : (text : Option (List ℕ)) (rows : Option Left) (result : Result Unit WaveFault) (old new : Option (List ℕ))
-    → IfSome text (IsOpened rows) → IfSome rows (λ left. IsOut result (capture_of left) old new)
-    → IfSome text (λ t. IsCapture result t old new)
-captured None rows result old new has out = tt
-captured (Some text) None result old new has out = absurd has
-captured (Some text) (Some left) (Ok done) old new has out = record { left = left; has = has; out = out }
-captured (Some text) (Some left) (Err e) old new has out = inr (record { left = left; has = has; out = out })
+-- the rows were written
+pub captured : (text : Option (List ℕ)) (rows : Option Left) (result : Result Unit WaveFault)
+    (read_old read_new old new : Option (List ℕ)) → HasNames read_old read_new → IfSome text (IsOpened rows)
+    → IfSome rows (λ left. IsOut result (capture_of left) old new)
+    → IfSome text (λ t. IsCapture read_old read_new result t old new)
+captured None rows result read_old read_new old new names has out = tt
+captured (Some text) None result read_old read_new old new names has out = absurd has
+captured (Some text) (Some left) (Ok done) read_old read_new old new names has out =
+    record { system = names; left = left; has = has; out = out }
+captured (Some text) (Some left) (Err e) read_old read_new old new names has out =
+    inr (record { system = names; left = left; has = has; out = out })

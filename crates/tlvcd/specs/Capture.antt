@@ -65,25 +65,25 @@ pub record HasKeyFault (old new : Option (List ℕ)) (fault : KeyFault) : Type 0
   pub spelled : Spells file system
   pub first : names_of_file file ≡ Err fault
 
--- a fault of the system is the first that it has
-abbrev pub IsFirst : Option (List ℕ) → Option (List ℕ) → WaveFault → Type 0
-IsFirst old new (wave.System fault) = HasSystemFault old new fault
-IsFirst old new (wave.Keys fault) = HasKeyFault old new fault
-IsFirst old new (wave.Signal fault) = ⊤
-IsFirst old new (wave.Dump line mistake) = ⊤
-IsFirst old new (wave.Unknown unknown) = ⊤
-IsFirst old new wave.NoEdge = ⊤
-IsFirst old new wave.Read = ⊤
-IsFirst old new wave.Write = ⊤
-IsFirst old new wave.Memory = ⊤
+-- there are such names
+pub record HasNames (old new : Option (List ℕ)) : Type 0 where
+  pub names : Names
+  pub given : GivesNames old new names
 
 -- ---- the dump
 
--- why no row was written: the header is wrong, or it is nothing of the dump's text
+-- the text begins with a header
+pub record HasHeader (text : List ℕ) : Type 0 where
+  pub vars : List Var
+  pub words : List Word
+  pub opened : opening (words_of text) blank ≡ Opened vars words
+
+-- why there are no rows: the header is wrong; there is one, and it has not a signal that is looked at; or it is nothing of
+-- the dump's text
 abbrev pub IsUnopened : WaveFault → List ℕ → Type 0
-IsUnopened (wave.System fault) text = ⊤
-IsUnopened (wave.Keys fault) text = ⊤
-IsUnopened (wave.Signal fault) text = ⊤
+IsUnopened (wave.System fault) text = ⊥
+IsUnopened (wave.Keys fault) text = ⊥
+IsUnopened (wave.Signal fault) text = HasHeader text
 IsUnopened (wave.Dump line mistake) text = IsNoDump (Some text) line mistake
 IsUnopened (wave.Unknown unknown) text = ⊥
 IsUnopened wave.NoEdge text = ⊥
@@ -91,29 +91,7 @@ IsUnopened wave.Read text = ⊤
 IsUnopened wave.Write text = ⊥
 IsUnopened wave.Memory text = ⊤
 
--- nothing was written
-pub record IsRefused (fault : WaveFault) (text : List ℕ) (old new : Option (List ℕ)) : Type 0 where
-  pub why : IsUnopened fault text
-  pub written : Appends old new []
-
--- the capture of a text was written, as far as is answered
-pub record IsWritten (result : Result Unit WaveFault) (text : List ℕ) (old new : Option (List ℕ)) : Type 0 where
-  pub left : Left
-  pub has : HasRows text left
-  pub out : IsOut result (capture_of left) old new
-
-abbrev pub IsCapture : Result Unit WaveFault → List ℕ → Option (List ℕ) → Option (List ℕ) → Type 0
-IsCapture (Ok done) text old new = IsWritten (Ok done) text old new
-IsCapture (Err fault) text old new = IsRefused fault text old new ⊎ IsWritten (Err fault) text old new
-
--- ---- for the proofs
-
--- a dump was opened, and these rows are to come
-abbrev pub IsOpened : Option Left → List ℕ → Type 0
-IsOpened None text = ⊥
-IsOpened (Some left) text = HasRows text left
-
--- it is nothing of a dump, and the first fault that the system has
+-- why no names are known: the first fault of the system, or nothing of its text
 abbrev pub IsOfSystem : Option (List ℕ) → Option (List ℕ) → WaveFault → Type 0
 IsOfSystem old new (wave.System fault) = HasSystemFault old new fault
 IsOfSystem old new (wave.Keys fault) = HasKeyFault old new fault
@@ -125,14 +103,31 @@ IsOfSystem old new wave.Read = ⊤
 IsOfSystem old new wave.Write = ⊥
 IsOfSystem old new wave.Memory = ⊤
 
--- it is nothing of the system
-abbrev pub IsOfDump : WaveFault → Type 0
-IsOfDump (wave.System fault) = ⊥
-IsOfDump (wave.Keys fault) = ⊥
-IsOfDump (wave.Signal fault) = ⊤
-IsOfDump (wave.Dump line mistake) = ⊤
-IsOfDump (wave.Unknown unknown) = ⊤
-IsOfDump wave.NoEdge = ⊤
-IsOfDump wave.Read = ⊤
-IsOfDump wave.Write = ⊤
-IsOfDump wave.Memory = ⊤
+-- ---- what is promised, of a system as it is read and of the text of a dump
+
+-- nothing was written: the system is wrong, or else the dump is
+pub record IsRefused (read_old read_new : Option (List ℕ)) (fault : WaveFault) (text : List ℕ)
+    (old new : Option (List ℕ)) : Type 0 where
+  pub why : IsOfSystem read_old read_new fault ⊎ (HasNames read_old read_new × IsUnopened fault text)
+  pub written : Appends old new []
+
+-- the system gives names, and the capture of the text was written, as far as is answered
+pub record IsWritten (read_old read_new : Option (List ℕ)) (result : Result Unit WaveFault) (text : List ℕ)
+    (old new : Option (List ℕ)) : Type 0 where
+  pub system : HasNames read_old read_new
+  pub left : Left
+  pub has : HasRows text left
+  pub out : IsOut result (capture_of left) old new
+
+abbrev pub IsCapture : Option (List ℕ) → Option (List ℕ) → Result Unit WaveFault → List ℕ → Option (List ℕ)
+    → Option (List ℕ) → Type 0
+IsCapture read_old read_new (Ok done) text old new = IsWritten read_old read_new (Ok done) text old new
+IsCapture read_old read_new (Err fault) text old new =
+    IsRefused read_old read_new fault text old new ⊎ IsWritten read_old read_new (Err fault) text old new
+
+-- ---- for the proofs
+
+-- a dump was opened, and these rows are to come
+abbrev pub IsOpened : Option Left → List ℕ → Type 0
+IsOpened None text = ⊥
+IsOpened (Some left) text = HasRows text left

@@ -2,7 +2,7 @@
 ghost use Rattle.std.specs.Prelude.{◌≡◌, ℕ, List, map, IfOk, IfErr, IfSome, OnOk, OnErr};
 ghost use Rattle.check_vcd.specs.Codes.{find_in};
 ghost use Rattle.check_signals.specs.Names.{names_view};
-ghost use Rattle.tlvcd.specs.Capture.{GivesNames, IsCapture, IsFirst, IsOfDump, IsOfSystem, IsOpened, IsUnopened, kept};
+ghost use Rattle.tlvcd.specs.Capture.{GivesNames, IsCapture, IsOfSystem, IsOpened, IsUnopened, kept};
 ghost use Rattle.tlvcd.specs.Out.{AppendsFront, Finishes, IsEnded, IsOut, IsPushed, Moves, capture_of, is_cut};
 
 use crate::fault::WaveFault;
@@ -56,7 +56,6 @@ fn keep_all<D: Read + Drop>(
 fn open<D: Read + Drop>(alloc: Global, reader: D, names: &Names) -> Result<Rows<D>, WaveFault>
     ensures ok { IfOk result (λ rows. IfSome (D.remaining reader) (IsOpened rows)) }
     ensures fault { IfErr result (λ fault. IfSome (D.remaining reader) (IsUnopened fault)) }
-    ensures dump { IfErr result IsOfDump }
 {
     let (vars, mut dump) = Dump::open(alloc, reader)?;
     let resolved = find_signals(alloc, names, &vars)?;
@@ -109,7 +108,6 @@ fn push_rows<D: Read + Drop, W: Write>(
     ensures same { writer.new.writer.ghost_name ≡ writer.old.writer.ghost_name }
     ensures pushed { IfSome rows.old (λ left. IsPushed result left text.old.items text.new.items
         (W.contents writer.old.writer.now) (W.contents writer.new.writer.now)) }
-    ensures dump { IfErr result IsOfDump }
 {
     for _ in 0..u64::MAX {
         match rows.read(text) {
@@ -159,7 +157,6 @@ fn write_rows<D: Read + Drop, W: Write>(
     ensures same { writer.new.writer.ghost_name ≡ writer.old.writer.ghost_name }
     ensures written { IfSome rows (λ left. IsOut result (capture_of left)
         (W.contents writer.old.writer.now) (W.contents writer.new.writer.now)) }
-    ensures dump { IfErr result IsOfDump }
 {
     let mut text = Vec::with_capacity(alloc, 2 * ROOM)?;
     text.extend_from_slice(HEADER)?;
@@ -168,17 +165,16 @@ fn write_rows<D: Read + Drop, W: Write>(
 }
 
 /// Reads a system and then a dump, each to its end or first fault, and writes the capture: the header, and a row for
-/// each beat that crosses at a rising edge of the clock. Rows before a fault are written. A fault of the system is the
-/// first that it has, whether the dump's text is known or not.
+/// each beat that crosses at a rising edge of the clock. Rows before a fault are written. The system is judged first,
+/// then the header of the dump, and then where its signals are.
 pub fn write_capture<S: Read, D: Read + Drop, W: Write>(
     alloc: Global,
     system: &mut S,
     dump: D,
     writer: &mut W,
 ) -> Result<(), WaveFault>
-    ensures system { IfErr result (IsFirst (S.remaining system.old) (S.remaining system.new)) }
-    ensures capture { IfSome (D.remaining dump) (λ text. IsCapture result text
-        (W.contents writer.old) (W.contents writer.new)) }
+    ensures { IfSome (D.remaining dump) (λ text. IsCapture (S.remaining system.old)
+        (S.remaining system.new) result text (W.contents writer.old) (W.contents writer.new)) }
 {
     let mut reader = LimitedReader::new(system);
     let mut writer = LimitedWriter::new(writer);
@@ -194,9 +190,8 @@ fn write_within<S: Read, D: Read + Drop, W: Write>(
 ) -> Result<(), WaveFault>
     ensures same_reader { reader.new.reader.ghost_name ≡ reader.old.reader.ghost_name }
     ensures same_writer { writer.new.writer.ghost_name ≡ writer.old.writer.ghost_name }
-    ensures system { IfErr result (IsFirst (S.remaining reader.old.reader.now)
-        (S.remaining reader.new.reader.now)) }
-    ensures written { IfSome (D.remaining dump) (λ text. IsCapture result text
+    ensures written { IfSome (D.remaining dump) (λ text. IsCapture
+        (S.remaining reader.old.reader.now) (S.remaining reader.new.reader.now) result text
         (W.contents writer.old.writer.now) (W.contents writer.new.writer.now)) }
 {
     let names = names_of(alloc, reader)?;
