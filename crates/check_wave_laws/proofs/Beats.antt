@@ -68,8 +68,7 @@ ask-parts : (o p z s a m : Result ℕ Signal) (cells : AskCells)
     → (o ≡ Ok cells.opcode) × (p ≡ Ok cells.param) × (z ≡ Ok cells.size) × (s ≡ Ok cells.source)
     × (a ≡ Ok cells.address) × ((n : ℕ) × (m ≡ Ok n))
 ask-parts (Ok o) (Ok p) (Ok z) (Ok s) (Ok a) (Ok m) cells is =
-    let same : ask-made o p z s a ≡ cells = cc in
-    (
+    let same : ask-made o p z s a ≡ cells = cc in (
       ap (λ (c : AskCells). Ok c.opcode) same,
       ap (λ (c : AskCells). Ok c.param) same,
       ap (λ (c : AskCells). Ok c.size) same,
@@ -89,8 +88,7 @@ reply-parts : (o z s n c : Result ℕ Signal) (cells : ReplyCells)
     → (o ≡ Ok cells.opcode) × (z ≡ Ok cells.size) × (s ≡ Ok cells.source) × (n ≡ Ok cells.denied)
     × (c ≡ Ok cells.corrupt)
 reply-parts (Ok o) (Ok z) (Ok s) (Ok n) (Ok c) cells is =
-    let same : reply-made o z s n c ≡ cells = cc in
-    (
+    let same : reply-made o z s n c ≡ cells = cc in (
       ap (λ (c : ReplyCells). Ok c.opcode) same,
       ap (λ (c : ReplyCells). Ok c.size) same,
       ap (λ (c : ReplyCells). Ok c.source) same,
@@ -196,15 +194,31 @@ ask-words : (masters ports time : ℕ) (link : Link) (values : List (List ℕ)) 
     → AreWords (decimal time ∷ ask_words link cells (bits_of values taps.mask) (bits_of values taps.data))
 ask-words masters ports time link values taps cells at has = (
   word-decimal time at.in_time,
-  (word-link masters ports link at.few_masters at.few_ports at.has_link,
-  ((omega arith, tt),
-  (word-decimal cells.opcode has.opcode.small,
-  (word-decimal cells.param has.param.small,
-  (word-decimal cells.size has.size.small,
-  (word-decimal cells.source has.source.small,
-  (word-hex cells.address has.address.small,
-  (word-bits (bits_of values taps.mask),
-  (word-bits (bits_of values taps.data), (tt, (tt, tt))))))))))),
+  (
+    word-link masters ports link at.few_masters at.few_ports at.has_link,
+    (
+      (omega arith, tt),
+      (
+        word-decimal cells.opcode has.opcode.small,
+        (
+          word-decimal cells.param has.param.small,
+          (
+            word-decimal cells.size has.size.small,
+            (
+              word-decimal cells.source has.source.small,
+              (
+                word-hex cells.address has.address.small,
+                (
+                  word-bits (bits_of values taps.mask),
+                  (word-bits (bits_of values taps.data), (tt, (tt, tt))),
+                ),
+              ),
+            ),
+          ),
+        ),
+      ),
+    ),
+  ),
 )
 
 reply-words : (masters ports time : ℕ) (link : Link) (values : List (List ℕ)) (taps : ReplyTaps) (cells : ReplyCells)
@@ -212,16 +226,34 @@ reply-words : (masters ports time : ℕ) (link : Link) (values : List (List ℕ)
     → AreWords (decimal time ∷ reply_words link cells (bits_of values taps.data))
 reply-words masters ports time link values taps cells at has = (
   word-decimal time at.in_time,
-  (word-link masters ports link at.few_masters at.few_ports at.has_link,
-  ((omega arith, tt),
-  (word-decimal cells.opcode has.opcode.small,
-  (tt,
-  (word-decimal cells.size has.size.small,
-  (word-decimal cells.source has.source.small,
-  (tt,
-  (tt,
-  (word-bits (bits_of values taps.data),
-  (word-decimal cells.denied has.denied.small, (word-decimal cells.corrupt has.corrupt.small, tt))))))))))),
+  (
+    word-link masters ports link at.few_masters at.few_ports at.has_link,
+    (
+      (omega arith, tt),
+      (
+        word-decimal cells.opcode has.opcode.small,
+        (
+          tt,
+          (
+            word-decimal cells.size has.size.small,
+            (
+              word-decimal cells.source has.source.small,
+              (
+                tt,
+                (
+                  tt,
+                  (
+                    word-bits (bits_of values taps.data),
+                    (word-decimal cells.denied has.denied.small, (word-decimal cells.corrupt has.corrupt.small, tt)),
+                  ),
+                ),
+              ),
+            ),
+          ),
+        ),
+      ),
+    ),
+  ),
 )
 
 abbrev row-shown : ℕ → ℕ → Link → Beat × ℕ → Row

@@ -89,7 +89,7 @@ pub ask-spelled : (t l c wo wp wz ws wa wm wd : List ℕ) (o p z s a m : ℕ) (l
     → address_of wa ≡ Ok a → mask_of wm ≡ Ok m → lanes_of wd ≡ Ok lanes
     → ask_of (t ∷ l ∷ c ∷ wo ∷ wp ∷ wz ∷ ws ∷ wa ∷ wm ∷ wd ∷ [] ∷ [] ∷ [])
     ≡ Ok (
-      beat.A (record { opcode = o; param = p; size = z; source = s; address = a; mask = m; lanes = bytes_of lanes; }),
+      beat.A (record { opcode = o; param = p; size = z; source = s; address = a; mask = m; lanes = bytes_of lanes }),
       known_of lanes,
     )
 unfolding ask_of field_at nothing_of
@@ -100,7 +100,7 @@ pub reply-spelled : (t l c wo wz ws wd wn wc : List ℕ) (o z s : ℕ) (n k : Bo
     → flag_of wn ≡ Ok n → flag_of wc ≡ Ok k
     → reply_of (t ∷ l ∷ c ∷ wo ∷ [] ∷ wz ∷ ws ∷ [] ∷ [] ∷ wd ∷ wn ∷ wc ∷ [])
     ≡ Ok (
-      beat.D (record { opcode = o; size = z; source = s; denied = n; corrupt = k; lanes = bytes_of lanes; }),
+      beat.D (record { opcode = o; size = z; source = s; denied = n; corrupt = k; lanes = bytes_of lanes }),
       known_of lanes,
     )
 unfolding reply_of field_at nothing_of

@@ -59,6 +59,7 @@ module _ (widths : List ℕ) (find : Find) (fit : FindFits widths find) where
       by coded is true wide = tt
       by coded is false fits =
           set-fits body code coded coded.slot is refl (ltb-false coded.width body.size fits) short
+
       go : (known : Option Coded) → find code ≡ known → StepFits widths (changed_to body known)
       go None is = tt
       go (Some coded) is = by coded is (nat_lt coded.width body.size) refl
@@ -92,6 +93,7 @@ timed-fits widths body digits short = go (number_of 10 TIME_DIGITS digits) refl
         → StepFits widths (cond t (Fails TimeFalls) (Gives (record body { time = Some time }) (At time)))
     by time below true = tt
     by time below false = (short, below)
+
     go : (number : Option ℕ) → number_of 10 TIME_DIGITS digits ≡ number → StepFits widths (timed_at body number)
     go None is = tt
     go (Some time) is = by time (number-small 10 TIME_DIGITS digits time is) (falls body.time time)

@@ -57,7 +57,7 @@ nibble bits four = ⊎_elim
     (λ (known : are_known bits ≡ true). inl (
       known,
       ap digit_by (number-known 4 bits known (omega (arith, four)) (omega (arith, four)) (omega (arith, small known)))
-      ∙ ap (λ (n : ℕ). digit_glyph false n) (mod-eq_of_lt (small known)),
+          ∙ ap (λ (n : ℕ). digit_glyph false n) (mod-eq_of_lt (small known)),
       small known,
     ))
     (λ (unknown : are_known bits ≡ false). inr (unknown, ap digit_by (number-unknown 4 bits unknown)))

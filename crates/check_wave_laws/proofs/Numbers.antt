@@ -81,8 +81,11 @@ length-onto zero j n acc small = omega arith
 length-onto (suc k) zero n acc small = omega (arith, ap length (hex_last k n acc (omega (arith, small))))
 length-onto (suc k) (suc j) n acc small = ⊎_elim
     (λ (low : n < 16). omega (arith, ap length (hex_last k n acc low)))
-    (λ (large : 16 ≤ n). omega (arith, ap length (hex_more k n acc large),
-    length-onto k j (n / 16) (digit_glyph false (n % 16) ∷ acc) (sixteenth-below n (suc j) small)))
+    (λ (large : 16 ≤ n). omega (
+      arith,
+      ap length (hex_more k n acc large),
+      length-onto k j (n / 16) (digit_glyph false (n % 16) ∷ acc) (sixteenth-below n (suc j) small),
+    ))
     (cases_lt n 16)
 
 hex-length : (n : ℕ) → n < 2 ^ 64 → length (digits 16 false n) ≤ 16

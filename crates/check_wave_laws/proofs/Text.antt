@@ -92,8 +92,7 @@ module _ (masters ports : ℕ) (channels : List Channel) where
       (subst (λ (n : ℕ). AreRows masters ports channels n more rest) none second)
   are-appended line (row ∷ rows) more text rest first second =
       let cut = first.1 in
-      let next : line + suc (length rows) ≡ line + 1 + length rows = omega arith in
-      (
+      let next : line + suc (length rows) ≡ line + 1 + length rows = omega arith in (
         first.0,
         (
           cut.0,
@@ -162,6 +161,7 @@ module _ (masters ports : ℕ) (channels : List Channel) (widths : List ℕ) (fe
           → Readable masters ports channels (row_alone time which r).text
       alone (Ok text) is crossed = readable-row which text one crossed is
       alone (Err signal) is crossed = readable-none masters ports channels
+
       go : (t : Bool) → crosses values which ≡ t
           → Readable masters ports channels (cond t (row_alone time which (row_at time values which)) no_rows).text
       go true crossed = alone (row_at time values which) refl crossed
@@ -242,6 +242,7 @@ module _ (masters ports : ℕ) (few_masters : masters < 2 ^ 64) (few_ports : por
           readable-of masters ports s.probes.channels s.widths few_masters few_ports fits.channels time below s.before
           fits.before s.probes.channels (λ which one. one)
       edge time below false = readable-none masters ports s.probes.channels
+
       go : (at : Option ℕ) → IfSome at (λ time. time < 2 ^ 64)
           → Readable masters ports s.probes.channels (rows_when at s).text
       go None below = readable-none masters ports s.probes.channels

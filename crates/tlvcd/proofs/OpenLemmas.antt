@@ -110,6 +110,7 @@ unopened-signal (Some text) vars first fault opens = by fault (header first.word
         → HasHeader text
     header None both = absurd both
     header (Some words) both = record { vars = vars; words = words; opened = both }
+
     by : (f : SignalFault) → HasHeader text → IsUnopened (of_signal f) text
     by signal.Memory has = tt
     by f has = has

@@ -145,8 +145,7 @@ fn outcome_of(
 #[test]
 fn slow_streams_change_nothing(rt: HostRuntime) {
     for trouble in [Trouble::Never, Trouble::BeforeEach] {
-        let (outcome, written) =
-            outcome_of(rt.alloc(), SYSTEM, DUMP, (trouble, trouble, trouble));
+        let (outcome, written) = outcome_of(rt.alloc(), SYSTEM, DUMP, (trouble, trouble, trouble));
         assert!(&rt; outcome.is_ok());
         assert_eq!(&rt; written.as_slice(), CAPTURE);
     }
