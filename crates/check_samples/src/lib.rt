@@ -22,7 +22,6 @@ mod tap;
 mod values;
 
 pub use channel::{AskTaps, BeatTaps, Channel, ReplyTaps, UnknownBit};
-pub use row::{AskCells, MAX_BITS, ReplyCells};
 pub use rows::{Progress, Rows, RowsFault};
 pub use sampler::{Probes, Reset, SampleFault, Sampler};
 pub use signal::Signal;

@@ -17,21 +17,21 @@ pub const MAX_BITS: usize = 64;
 /// The signals of a beat of channel A as numbers, save its data.
 #[derive(Debug, Clone, Copy, PartialEq, Eq)]
 pub struct AskCells {
-    pub opcode: u64,
-    pub param: u64,
-    pub size: u64,
-    pub source: u64,
-    pub address: u64,
+    opcode: u64,
+    param: u64,
+    size: u64,
+    source: u64,
+    address: u64,
 }
 
 /// The signals of a beat of channel D as numbers, save its data.
 #[derive(Debug, Clone, Copy, PartialEq, Eq)]
 pub struct ReplyCells {
-    pub opcode: u64,
-    pub size: u64,
-    pub source: u64,
-    pub denied: u64,
-    pub corrupt: u64,
+    opcode: u64,
+    size: u64,
+    source: u64,
+    denied: u64,
+    corrupt: u64,
 }
 
 /// The number that bits spell, if each is known.
