@@ -1,5 +1,5 @@
 -- The columns of a row, and the row that they spell.
-use Rattle.std.proofs.Common.{◌≡◌, ◌∙◌, ℕ, ◌+◌, ◌-◌, ◌^◌, ◌<◌, ◌==◌, Bool, List, [], ◌∷◌, ◌++◌, Option, Some, Result, Ok, Err, arith, refl, ap, append_assoc}
+use Rattle.std.proofs.Common.{◌≡◌, ◌∙◌, ℕ, ◌+◌, ◌-◌, ◌^◌, ◌<◌, ◌==◌, Bool, false, List, [], ◌∷◌, ◌++◌, Option, Some, Result, Ok, Err, arith, refl, sym, ap, append_assoc}
 use Rattle.std.specs.Fmt.{decimal, digits}
 use Rattle.csv.specs.Records.{field_at}
 use Rattle.check_link.specs.declared.beat.Beat.{Beat}
@@ -33,11 +33,31 @@ reply_words link cells lanes =
     link_text link ∷ (68 ∷ []) ∷ decimal cells.opcode ∷ [] ∷ decimal cells.size ∷ decimal cells.source ∷ [] ∷ []
     ∷ hex_text lanes ∷ decimal cells.denied ∷ decimal cells.corrupt ∷ []
 
+-- texts one behind the other, and some of them together
+regrouped : (t h i n o p q x y z e : List ℕ)
+    → (t ++ h ++ i) ++ (n ++ o ++ p ++ q) ++ (x ++ y ++ z) ++ e
+    ≡ t ++ (h ++ (i ++ (n ++ (o ++ (p ++ (q ++ (x ++ (y ++ (z ++ e)))))))))
+regrouped t h i n o p q x y z e = simp append_assoc
+
+one-more : (t h i n o p q x y z e : List ℕ)
+    → (t ++ (h ++ (i ++ (n ++ (o ++ (p ++ (q ++ (x ++ (y ++ z))))))))) ++ e
+    ≡ t ++ (h ++ (i ++ (n ++ (o ++ (p ++ (q ++ (x ++ (y ++ (z ++ e)))))))))
+one-more t h i n o p q x y z e = simp append_assoc
+
+two-more : (t h i n o p q x y z e f : List ℕ)
+    → (t ++ (h ++ (i ++ (n ++ (o ++ (p ++ (q ++ (x ++ (y ++ (z ++ e)))))))))) ++ f
+    ≡ t ++ (h ++ (i ++ (n ++ (o ++ (p ++ (q ++ (x ++ (y ++ (z ++ (e ++ f))))))))))
+two-more t h i n o p q x y z e f = simp append_assoc
+
 ask-joined : (t l o p z s a m d : List ℕ)
     → (t ++ (44 ∷ l) ++ (44 ∷ 65 ∷ [])) ++ ((44 ∷ o) ++ (44 ∷ p) ++ (44 ∷ z) ++ (44 ∷ s))
     ++ ((44 ∷ a) ++ (44 ∷ m) ++ (44 ∷ d)) ++ (44 ∷ 44 ∷ 10 ∷ [])
     ≡ joined t (l ∷ (65 ∷ []) ∷ o ∷ p ∷ z ∷ s ∷ a ∷ m ∷ d ∷ [] ∷ [] ∷ []) ++ (10 ∷ [])
-ask-joined t l o p z s a m d = simp append_assoc
+ask-joined t l o p z s a m d =
+    regrouped t (44 ∷ l) (44 ∷ 65 ∷ []) (44 ∷ o) (44 ∷ p) (44 ∷ z) (44 ∷ s) (44 ∷ a) (44 ∷ m) (44 ∷ d)
+    (44 ∷ 44 ∷ 10 ∷ [])
+    ∙ sym (two-more t (44 ∷ l) (44 ∷ 65 ∷ []) (44 ∷ o) (44 ∷ p) (44 ∷ z) (44 ∷ s) (44 ∷ a) (44 ∷ m) (44 ∷ d)
+    (44 ∷ 44 ∷ []) (10 ∷ []))
 
 pub ask-line : (time : ℕ) (link : Link) (cells : AskCells) (mask lanes : List ℕ)
     → ask_text time link cells mask lanes ≡ joined (decimal time) (ask_words link cells mask lanes) ++ (10 ∷ [])
@@ -50,7 +70,11 @@ reply-joined : (t l o z s d n c : List ℕ)
     → (t ++ (44 ∷ l) ++ (44 ∷ 68 ∷ [])) ++ ((44 ∷ o) ++ (44 ∷ []) ++ (44 ∷ z) ++ (44 ∷ s))
     ++ ((44 ∷ 44 ∷ 44 ∷ d) ++ (44 ∷ n) ++ (44 ∷ c)) ++ (10 ∷ [])
     ≡ joined t (l ∷ (68 ∷ []) ∷ o ∷ [] ∷ z ∷ s ∷ [] ∷ [] ∷ d ∷ n ∷ c ∷ []) ++ (10 ∷ [])
-reply-joined t l o z s d n c = simp append_assoc
+reply-joined t l o z s d n c =
+    regrouped t (44 ∷ l) (44 ∷ 68 ∷ []) (44 ∷ o) (44 ∷ []) (44 ∷ z) (44 ∷ s) (44 ∷ 44 ∷ 44 ∷ d) (44 ∷ n) (44 ∷ c)
+    (10 ∷ [])
+    ∙ sym (one-more t (44 ∷ l) (44 ∷ 68 ∷ []) (44 ∷ o) (44 ∷ []) (44 ∷ z) (44 ∷ s) (44 ∷ 44 ∷ 44 ∷ d) (44 ∷ n) (44 ∷ c)
+    (10 ∷ []))
 
 pub reply-line : (time : ℕ) (link : Link) (cells : ReplyCells) (lanes : List ℕ)
     → reply_text time link cells lanes ≡ joined (decimal time) (reply_words link cells lanes) ++ (10 ∷ [])
