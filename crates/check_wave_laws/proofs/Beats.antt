@@ -1,11 +1,10 @@
 -- The text of a beat is a row.
-use Rattle.std.proofs.Common.{◌≡◌, ◌∙◌, ℕ, ◌+◌, ◌-◌, ◌^◌, ◌<◌, ◌≤◌, ◌==◌, false, List, [], ◌∷◌, ◌++◌, length, map, Option, None, Some, Result, Ok, Err, arith, refl, sym, ap, subst, ok_or}
+use Rattle.std.proofs.Common.{◌≡◌, ◌∙◌, ℕ, ◌+◌, ◌-◌, ◌^◌, ◌<◌, ◌≤◌, ◌==◌, false, List, [], ◌∷◌, length, map, Option, None, Some, Result, Ok, Err, arith, refl, ap, subst, ok_or}
 use Rattle.std.specs.Fmt.{decimal, digits}
 use Rattle.std.specs.Str.Parse.{digits_value}
 use Rattle.tl_text.specs.Number.{number_of}
 use Rattle.check_link.specs.declared.beat.Beat.{Beat}
 use Rattle.check_link.specs.declared.beat.Link.{Link}
-use Rattle.check_capture.specs.Column.{parts_of}
 use Rattle.check_capture.specs.Columns.{IsLinkOf, flag_of}
 use Rattle.check_capture.specs.Lanes.{lane_numbers}
 use Rattle.check_capture.specs.Number.{decimal_of}

@@ -1,5 +1,5 @@
 -- The columns of a row, and the row that they spell.
-use Rattle.std.proofs.Common.{◌≡◌, ◌∙◌, ℕ, ◌+◌, ◌-◌, ◌^◌, ◌<◌, ◌==◌, Bool, false, List, [], ◌∷◌, ◌++◌, Option, Some, Result, Ok, Err, arith, refl, sym, ap, append_assoc}
+use Rattle.std.proofs.Common.{◌≡◌, ◌∙◌, ℕ, ◌+◌, ◌-◌, ◌^◌, ◌<◌, Bool, false, List, [], ◌∷◌, ◌++◌, Option, Result, Ok, arith, refl, sym, ap, append_assoc}
 use Rattle.std.specs.Fmt.{decimal, digits}
 use Rattle.csv.specs.Records.{field_at}
 use Rattle.check_link.specs.declared.beat.Beat.{Beat}
@@ -14,7 +14,7 @@ use Rattle.check_capture.specs.Row.{ask_of, beat_of, reply_of, row_of}
 use Rattle.check_capture.specs.declared.columns.Channel.{Channel}
 use Rattle.check_capture.specs.declared.columns.Channel.TheVariants as channel
 use Rattle.check_capture.specs.declared.fault.RowFault.{RowFault}
-use Rattle.check_samples.specs.Row.{ask_lanes, ask_numbers, ask_text, head_text, hex_text, link_text, reply_lanes, reply_numbers, reply_text}
+use Rattle.check_samples.specs.Row.{ask_text, hex_text, link_text, reply_text}
 use Rattle.check_samples.specs.declared.row.AskCells.{AskCells}
 use Rattle.check_samples.specs.declared.row.ReplyCells.{ReplyCells}
 use Rattle.check_wave_laws.proofs.Numbers.{index-read}

@@ -1,5 +1,5 @@
 -- Bits that were written as hexadecimal digits are read as lanes and as a mask.
-use Rattle.std.proofs.Common.{◌≡◌, ◌∙◌, ℕ, zero, suc, ◌+◌, ◌-◌, ◌*◌, ◌/◌, ◌%◌, ◌^◌, ◌<◌, ◌≤◌, ◌==◌, nat_le, nat_lt, Bool, true, false, ◌&&◌, ◌||◌, cond, List, [], ◌∷◌, ◌++◌, length, take, drop, map, Option, Some, None, Result, Ok, Err, arith, refl, sym, ap, subst, ⊎_elim, ok_or, option_and_then, option_map, length-append, length-take-le, length-drop, take_all, take-append-drop, drop-drop, mod-eq_of_lt, ◌⊎◌, inl, inr}
+use Rattle.std.proofs.Common.{◌≡◌, ◌∙◌, ℕ, ◌+◌, ◌*◌, ◌%◌, ◌^◌, ◌<◌, ◌≤◌, ◌==◌, nat_le, nat_lt, Bool, true, false, ◌&&◌, ◌||◌, cond, List, [], ◌∷◌, ◌++◌, length, take, drop, map, Option, Some, None, Ok, arith, refl, sym, ap, subst, ⊎_elim, ok_or, option_and_then, option_map, length-append, length-take-le, length-drop, take_all, take-append-drop, drop-drop, mod-eq_of_lt, ◌⊎◌, inl, inr}
 use Rattle.std.proofs.lemmas.Bool.{and_from, cases_Bool, le-leb, lt-ltb}
 use Rattle.std.proofs.lemmas.Bool.Decides.{nat_tests}
 use Rattle.std.proofs.lemmas.Int.Digits.{digits_value-lt}
@@ -9,13 +9,12 @@ use Rattle.std.specs.Fmt.{digit_glyph}
 use Rattle.std.specs.List.{list_all}
 use Rattle.std.specs.Str.Parse.{digits_value, digits_value_after}
 use Rattle.tl_text.specs.Number.{below_64_bits, number_of, pair_of}
-use Rattle.check_capture.specs.Lanes.{all_of, is_shown, lane_at, lane_numbers, lane_of, lanes_of}
+use Rattle.check_capture.specs.Lanes.{all_of, is_shown, lane_numbers, lane_of, lanes_of}
 use Rattle.check_capture.specs.Number.{mask_of}
-use Rattle.check_capture.specs.declared.fault.RowFault.{RowFault}
 use Rattle.check_capture.specs.declared.fault.RowFault.TheVariants.{Number}
 use Rattle.check_samples.specs.Row.{digit_by, digit_of, hex_text, hexes}
 use Rattle.check_wave_laws.specs.Seen.{lane_in}
-use Rattle.check_wave_laws.proofs.Numbers.{HasNumber, digits-all, has-number, number-below}
+use Rattle.check_wave_laws.proofs.Numbers.{HasNumber, digits-all, number-below}
 
 -- whether each of the bits is known
 abbrev are_known : List ℕ → Bool

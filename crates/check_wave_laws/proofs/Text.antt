@@ -1,10 +1,9 @@
 -- The rows of what happens in a dump are rows.
-use Rattle.std.proofs.Common.{◌≡◌, ◌∙◌, ℕ, zero, suc, ◌+◌, ◌-◌, ◌^◌, ◌<◌, ◌≤◌, ◌==◌, nat_le, nat_lt, Bool, true, false, ◌&&◌, not, cond, List, [], ◌∷◌, ◌++◌, length, get_or, set, take, drop, map, replicate, slice_get, Option, Some, None, Result, Ok, Err, Contains, arith, refl, sym, ap, subst, append_assoc, append-nil, length-append, length-drop, length-take, length-take-le, add_assoc}
+use Rattle.std.proofs.Common.{◌≡◌, ◌∙◌, ℕ, zero, suc, ◌+◌, ◌-◌, ◌^◌, ◌<◌, ◌≤◌, nat_le, nat_lt, Bool, true, false, ◌&&◌, cond, List, [], ◌∷◌, ◌++◌, length, get_or, set, take, drop, map, replicate, slice_get, Option, Some, None, Result, Ok, Err, Contains, arith, refl, sym, ap, subst, append_assoc, append-nil, length-append, length-drop, length-take, length-take-le}
 use Rattle.std.specs.Option.{IfSome}
 use Rattle.std.proofs.lemmas.Bool.{and_from, le-leb}
 use Rattle.std.proofs.lemmas.List.{length-replicate, map-set, set-get_or}
 use Rattle.check_vcd.specs.Body.{At, Happens, Sets, Wrong}
-use Rattle.check_vcd.specs.declared.fault.Mistake.{Mistake}
 use Rattle.check_capture.specs.declared.row.Row.{Row}
 use Rattle.check_samples.specs.Digits.{bits_of, extended, fill_of, part_if_any, part_of, set_extended}
 use Rattle.check_samples.specs.Rows.{Probes, Rows, and_then, crosses, followed_by, has_edge, no_rows, row_alone, row_at, rows_at, rows_of}

@@ -1,5 +1,5 @@
 -- Whole texts of rows, and the dumps whose rows they are. It is this project's own.
-use Rattle.std.specs.Prelude.{◌≡◌, ℕ, ◌+◌, ◌-◌, ◌^◌, ◌≤◌, ◌<◌, true, ⊤, List, [], ◌∷◌, ◌++◌, get_or, length, map, Option, Some, Contains, IfSome}
+use Rattle.std.specs.Prelude.{◌≡◌, ℕ, ◌+◌, ◌-◌, ◌^◌, ◌≤◌, ◌<◌, true, ⊤, List, [], ◌∷◌, ◌++◌, get_or, length, map, Some, Contains, IfSome}
 use Rattle.check_vcd.specs.Body.{Find, Happens, At, Sets, Wrong}
 use Rattle.check_vcd.specs.declared.codes.Coded.{Coded}
 use Rattle.check_capture.specs.Columns.{IsLinkOf}
