@@ -1,10 +1,10 @@
 -- The rows of what happens in a dump. This project's own.
-use Rattle.std.specs.Prelude.{◌≡◌, ℕ, ◌==◌, Bool, false, nat_lt, List, [], ◌∷◌, ◌++◌, length, Option, None, Some, Result, Ok, Err, if◌then◌else◌}
+use Rattle.std.specs.Prelude.{◌≡◌, ℕ, ◌==◌, ◌||◌, Bool, false, nat_lt, List, [], ◌∷◌, ◌++◌, length, Option, None, Some, Result, Ok, Err, if◌then◌else◌}
 use Rattle.check_vcd.specs.Body.{Happens, At, Sets, Wrong}
 use Rattle.check_samples.specs.Digits.{set_extended}
 use Rattle.check_samples.specs.declared.sampler.SampleFault.{SampleFault}
 use Rattle.check_samples.specs.declared.sampler.SampleFault.TheVariants.{Unknown, Memory}
-use Rattle.check_samples.specs.Rows.{Probes, Rows, and_then, has_edge, no_rows, rows_of}
+use Rattle.check_samples.specs.Rows.{Probes, Rows, and_then, has_edge, no_rows, rises, rows_of}
 
 -- what is looked at; the values before the present time and at it, and how many bits each has; and the present time
 pub record Sampling : Type 0 where
@@ -33,6 +33,12 @@ is_at s time = is_time s.time time
 abbrev pub at_time : Sampling → ℕ → Sampling
 at_time s time = if is_at s time then s else record s { before = s.now; time = Some time }
 
+-- what is so behind one thing that happens
+abbrev pub behind : Happens → Sampling → Sampling
+behind (At time) s = at_time s time
+behind (Sets slot digits) s = with_value s slot digits
+behind (Wrong line mistake) s = s
+
 -- the rows of the present time, if the clock rises at it: with the values that were before it
 abbrev pub rows_when : Option ℕ → Sampling → Rows
 rows_when None s = no_rows
@@ -52,6 +58,18 @@ rows_from (At time ∷ happens) s =
     else and_then (rows_now s) (rows_from happens (at_time s time))
 rows_from (Sets slot digits ∷ happens) s = rows_from happens (with_value s slot digits)
 rows_from (Wrong line mistake ∷ happens) s = no_rows
+
+-- whether the clock rises at the present time, in a reset too
+abbrev pub rises_now : Sampling → Bool
+rises_now s = rises s.before s.now s.probes.clock
+
+-- whether the clock rises at some time of what happens: that of each, with what has changed by its end
+unfoldable pub rises_in : List Happens → Sampling → Bool
+rises_in [] s = rises_now s
+rises_in (At time ∷ happens) s =
+    if is_at s time then rises_in happens s else rises_now s || rises_in happens (at_time s time)
+rises_in (Sets slot digits ∷ happens) s = rises_in happens (with_value s slot digits)
+rises_in (Wrong line mistake ∷ happens) s = false
 
 -- ---- what calls answer
 

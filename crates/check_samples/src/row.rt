@@ -16,7 +16,7 @@ pub const MAX_BITS: usize = 64;
 
 /// The signals of a beat of channel A as numbers, save its data.
 #[derive(Debug, Clone, Copy, PartialEq, Eq)]
-pub(crate) struct AskCells {
+pub struct AskCells {
     opcode: u64,
     param: u64,
     size: u64,
@@ -26,7 +26,7 @@ pub(crate) struct AskCells {
 
 /// The signals of a beat of channel D as numbers, save its data.
 #[derive(Debug, Clone, Copy, PartialEq, Eq)]
-pub(crate) struct ReplyCells {
+pub struct ReplyCells {
     opcode: u64,
     size: u64,
     source: u64,

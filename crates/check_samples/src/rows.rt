@@ -1,7 +1,8 @@
 //! The rows of a dump, one thing that happens in it after the other.
-ghost use Rattle.std.specs.Prelude.{◌≡◌, IfErr, IfOk, IfSome, Some};
+ghost use Rattle.std.specs.Prelude.{◌≡◌, ◌||◌, IfErr, IfOk, IfSome, Some, false};
 ghost use Rattle.check_vcd.specs.Words.{Both};
-ghost use Rattle.check_samples.specs.Left.{GoesOn, Stops, left_in};
+ghost use Rattle.check_samples.specs.Left.{GoesOn, Stops, left_in, risen_behind};
+ghost use Rattle.check_samples.specs.Sampling.{rises_now};
 
 use crate::channel::UnknownBit;
 use crate::sampler::{SampleFault, Sampler};
@@ -47,6 +48,15 @@ impl From<DumpFault> for RowsFault {
     }
 }
 
+/// How far the rows of a dump were read.
+#[derive(Debug, Clone, Copy, PartialEq, Eq)]
+pub enum Progress {
+    /// More may be to come.
+    More,
+    /// All are there; whether the clock rose at some time.
+    Over(bool),
+}
+
 /// The rows of a dump that are left to come, and what they end with; and whether the clock rose at a time that is over.
 #[derive(Drop)]
 pub struct Rows<R: Read + Drop> {
@@ -61,21 +71,36 @@ impl<R: Read + Drop> Model for Rows<R> {
 
     ghost Value = { Option Left };
 
-    ghost view = { λ rows. left_in rows.dump rows.sampler };
+    ghost view = { λ rows. left_in rows.dump rows.sampler rows.has_risen };
 }
 
-/// Whether what happens ends a time at which the clock rises.
-fn ends_edge(sampler: &Sampler, event: Event) -> bool {
+/// Whether the clock rose up to the present time, if it is known whether it did before.
+fn risen_now(has_risen: bool, sampler: &Sampler) -> bool
+    ensures { result ≡ (has_risen || rises_now sampler.now) }
+{
+    has_risen || sampler.rises()
+}
+
+/// Whether the clock rose at a time that is over behind what happens next.
+fn risen_behind(has_risen: bool, sampler: &Sampler, event: Event) -> bool
+    ensures { result ≡ risen_behind has_risen sampler.now event }
+{
     match event {
-        Event::Time(time) => !sampler.is_at(time) && sampler.rises(),
-        Event::Change(_) => false,
+        Event::Time(time) => {
+            if sampler.is_at(time) {
+                has_risen
+            } else {
+                risen_now(has_risen, sampler)
+            }
+        }
+        Event::Change(_) => has_risen,
     }
 }
 
 impl<R: Read + Drop> Rows<R> {
     /// Those of a dump behind its header, by a sampler that has taken nothing.
     pub fn new(dump: Dump<R>, sampler: Sampler) -> Rows<R>
-        ensures { result ≡ left_in dump sampler }
+        ensures { result ≡ left_in dump sampler false }
     {
         Rows {
             dump,
@@ -84,28 +109,22 @@ impl<R: Read + Drop> Rows<R> {
         }
     }
 
-    /// Whether the clock rose so far.
-    pub fn has_risen(&self) -> bool {
-        self.has_risen || self.sampler.rises()
-    }
-
-    /// Reads on to what happens next, and appends the rows that are then due; answers whether more may be to come. After
-    /// the end or a fault it is called no more.
-    pub fn read(&mut self, text: &mut Vec<u8>) -> Result<bool, RowsFault>
-        ensures ok { IfOk result (λ more. Both self.old self.new (GoesOn more text.old.items text.new.items)) }
+    /// Reads on to what happens next, and appends the rows that are then due. After the end or a fault it is called no
+    /// more.
+    pub fn read(&mut self, text: &mut Vec<u8>) -> Result<Progress, RowsFault>
+        ensures ok { IfOk result (λ progress. Both self.old self.new (GoesOn progress text.old.items text.new.items)) }
         ensures fault { IfErr result (λ fault. IfSome self.old (Stops fault text.old.items text.new.items)) }
     {
         match self.dump.read() {
             Ok(Some(event)) => {
-                if ends_edge(&self.sampler, event) {
-                    self.has_risen = true;
-                }
+                let has_risen = risen_behind(self.has_risen, &self.sampler, event);
                 self.sampler.take(text, event, self.dump.value())?;
-                Ok(true)
+                self.has_risen = has_risen;
+                Ok(Progress::More)
             }
             Ok(None) => {
                 self.sampler.push_rows(text)?;
-                Ok(false)
+                Ok(Progress::Over(risen_now(self.has_risen, &self.sampler)))
             }
             Err(fault) => Err(RowsFault::from(fault)),
         }

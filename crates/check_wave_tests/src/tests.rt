@@ -1,5 +1,7 @@
 //! Dumps, and the rows that they hold.
-use check_samples::{Rows, RowsFault, Sampler, Signal, UnknownBit};
+mod memory;
+
+use check_samples::{Progress, Rows, RowsFault, Sampler, Signal, UnknownBit};
 use check_signals::{SignalFault, find_signals, read_names};
 use check_vcd::{Dump, DumpFault, Mistake};
 use std::alloc::Global;
@@ -58,8 +60,8 @@ fn outcome_of_rows(mut rows: Rows<Trickle<'_>>, alloc: Global) -> Outcome {
     let mut text = Vec::new(alloc);
     for _ in 0..u32::MAX {
         match rows.read(&mut text) {
-            Ok(true) => {}
-            Ok(false) => return Outcome::Rows(text, rows.has_risen()),
+            Ok(Progress::More) => {}
+            Ok(Progress::Over(has_risen)) => return Outcome::Rows(text, has_risen),
             Err(RowsFault::Unknown(unknown)) => return Outcome::Unknown(text, unknown),
             Err(RowsFault::Dump(line, mistake)) => {
                 return Outcome::Dump(DumpFault::At(line, mistake));
@@ -267,12 +269,16 @@ fn a_clock_that_never_rises(rt: HostRuntime) {
     assert!(&rt; !has_risen(&rt, alloc, b"0! #5 1! #5 0! #6\n"));
 }
 
+/// A body whose clock rises.
+const RISES: &[u8] = b"0! #5 1!\n";
+
 #[test]
 fn a_read_that_fails_is_the_fault(rt: HostRuntime) {
     let alloc = rt.alloc();
-    let text = joined(&rt, alloc, HEAD, b"0! #5 1!\n");
-    for fails_at in 0..7 {
-        let mut reader = reader_of(&text, 64);
+    let text = joined(&rt, alloc, HEAD, RISES);
+    // byte by byte, each behind an interruption, and then the end
+    for fails_at in 0..2 * (HEAD.len() + RISES.len() + 1) as u32 {
+        let mut reader = reader_of(&text, 1);
         reader.fails_at = fails_at;
         let outcome = outcome_of(&rt, alloc, SYSTEM, reader);
         assert!(&rt; matches!(outcome, Outcome::Dump(DumpFault::Read)));

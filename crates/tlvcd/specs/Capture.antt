@@ -1,5 +1,5 @@
 -- What is written of a dump. This project's own.
-use Rattle.std.specs.Prelude.{◌≡◌, ◌⊎◌, ℕ, ◌+◌, List, [], ◌∷◌, Option, None, Some, Result, Ok, Err, ⊤, if◌then◌else◌}
+use Rattle.std.specs.Prelude.{◌≡◌, ◌⊎◌, ℕ, ◌+◌, false, List, [], ◌∷◌, Option, None, Some, Result, Ok, Err, ⊤, if◌then◌else◌}
 use Rattle.std.specs.Str.{bytes_eq}
 use Rattle.std.specs.Io.KnownBytes.{Appends}
 use Rattle.check_vcd.specs.Body.{Find, happenings, start}
@@ -7,6 +7,13 @@ use Rattle.check_vcd.specs.Codes.{coded_in}
 use Rattle.check_vcd.specs.Dump.{IsNoDump, with_slot}
 use Rattle.check_vcd.specs.Header.{Opened, Var, blank, opening}
 use Rattle.check_vcd.specs.Words.{Word, words_of}
+use Rattle.check_signals.specs.Names.{Names, names_of_file}
+use Rattle.check_signals.specs.declared.fault.KeyFault.{KeyFault}
+use Rattle.check_system.specs.File.{IsFirstSystemFault, Spells}
+use Rattle.check_system.specs.System.{System}
+use Rattle.check_system.specs.declared.fault.SystemFault.{SystemFault}
+use Rattle.check_system.specs.declared.read.TheConstants.{MAX_SYSTEM}
+use Rattle.tl_streams.specs.Streams.{ReadsUpTo}
 use Rattle.check_samples.specs.Left.{Left, left_of}
 use Rattle.check_samples.specs.Sampling.{Sampling}
 use Rattle.tlvcd.specs.Out.{IsOut, capture_of}
@@ -31,13 +38,52 @@ pub record HasRows (text : List ℕ) (left : Left) : Type 0 where
   pub finds : (code : List ℕ) → find code ≡ kept codes 0 (coded_in vars) code
   pub sampling : Sampling
   pub fresh : sampling.time ≡ None
-  pub is : left ≡ left_of (happenings find words start) sampling
+  pub is : left ≡ left_of (happenings find words start) sampling false
 
--- why no row was written: the header is wrong, or it is nothing of the dump's text
+-- ---- the system
+
+-- the reader gave a file that describes a system and says where its signals are: all that it had, or a byte more than a
+-- file may have
+pub record GivesNames (old new : Option (List ℕ)) (names : Names) : Type 0 where
+  pub file : List ℕ
+  pub read : ReadsUpTo (MAX_SYSTEM + 1) old new file
+  pub system : System
+  pub spelled : Spells file system
+  pub named : names_of_file file ≡ Ok names
+
+-- the fault is the first of what was read
+pub record HasSystemFault (old new : Option (List ℕ)) (fault : SystemFault) : Type 0 where
+  pub file : List ℕ
+  pub read : ReadsUpTo (MAX_SYSTEM + 1) old new file
+  pub first : IsFirstSystemFault file fault
+
+-- what was read describes a system, and the fault is the first on the way to where its signals are
+pub record HasKeyFault (old new : Option (List ℕ)) (fault : KeyFault) : Type 0 where
+  pub file : List ℕ
+  pub read : ReadsUpTo (MAX_SYSTEM + 1) old new file
+  pub system : System
+  pub spelled : Spells file system
+  pub first : names_of_file file ≡ Err fault
+
+-- there are such names
+pub record HasNames (old new : Option (List ℕ)) : Type 0 where
+  pub names : Names
+  pub given : GivesNames old new names
+
+-- ---- the dump
+
+-- the text begins with a header
+pub record HasHeader (text : List ℕ) : Type 0 where
+  pub vars : List Var
+  pub words : List Word
+  pub opened : opening (words_of text) blank ≡ Opened vars words
+
+-- why there are no rows: the header is wrong; there is one, and it has not a signal that is looked at; or it is nothing of
+-- the dump's text
 abbrev pub IsUnopened : WaveFault → List ℕ → Type 0
-IsUnopened (wave.System fault) text = ⊤
-IsUnopened (wave.Keys fault) text = ⊤
-IsUnopened (wave.Signal fault) text = ⊤
+IsUnopened (wave.System fault) text = ⊥
+IsUnopened (wave.Keys fault) text = ⊥
+IsUnopened (wave.Signal fault) text = HasHeader text
 IsUnopened (wave.Dump line mistake) text = IsNoDump (Some text) line mistake
 IsUnopened (wave.Unknown unknown) text = ⊥
 IsUnopened wave.NoEdge text = ⊥
@@ -45,20 +91,39 @@ IsUnopened wave.Read text = ⊤
 IsUnopened wave.Write text = ⊥
 IsUnopened wave.Memory text = ⊤
 
--- nothing was written
-pub record IsRefused (fault : WaveFault) (text : List ℕ) (old new : Option (List ℕ)) : Type 0 where
-  pub why : IsUnopened fault text
+-- why no names are known: the first fault of the system, or nothing of its text
+abbrev pub IsOfSystem : Option (List ℕ) → Option (List ℕ) → WaveFault → Type 0
+IsOfSystem old new (wave.System fault) = HasSystemFault old new fault
+IsOfSystem old new (wave.Keys fault) = HasKeyFault old new fault
+IsOfSystem old new (wave.Signal fault) = ⊥
+IsOfSystem old new (wave.Dump line mistake) = ⊥
+IsOfSystem old new (wave.Unknown unknown) = ⊥
+IsOfSystem old new wave.NoEdge = ⊥
+IsOfSystem old new wave.Read = ⊤
+IsOfSystem old new wave.Write = ⊥
+IsOfSystem old new wave.Memory = ⊤
+
+-- ---- what is promised, of a system as it is read and of the text of a dump
+
+-- nothing was written: the system is wrong, or else the dump is
+pub record IsRefused (read_old read_new : Option (List ℕ)) (fault : WaveFault) (text : List ℕ)
+    (old new : Option (List ℕ)) : Type 0 where
+  pub why : IsOfSystem read_old read_new fault ⊎ (HasNames read_old read_new × IsUnopened fault text)
   pub written : Appends old new []
 
--- the capture of a text was written, as far as is answered
-pub record IsWritten (result : Result Unit WaveFault) (text : List ℕ) (old new : Option (List ℕ)) : Type 0 where
+-- the system gives names, and the capture of the text was written, as far as is answered
+pub record IsWritten (read_old read_new : Option (List ℕ)) (result : Result Unit WaveFault) (text : List ℕ)
+    (old new : Option (List ℕ)) : Type 0 where
+  pub system : HasNames read_old read_new
   pub left : Left
   pub has : HasRows text left
   pub out : IsOut result (capture_of left) old new
 
-abbrev pub IsCapture : Result Unit WaveFault → List ℕ → Option (List ℕ) → Option (List ℕ) → Type 0
-IsCapture (Ok done) text old new = IsWritten (Ok done) text old new
-IsCapture (Err fault) text old new = IsRefused fault text old new ⊎ IsWritten (Err fault) text old new
+abbrev pub IsCapture : Option (List ℕ) → Option (List ℕ) → Result Unit WaveFault → List ℕ → Option (List ℕ)
+    → Option (List ℕ) → Type 0
+IsCapture read_old read_new (Ok done) text old new = IsWritten read_old read_new (Ok done) text old new
+IsCapture read_old read_new (Err fault) text old new =
+    IsRefused read_old read_new fault text old new ⊎ IsWritten read_old read_new (Err fault) text old new
 
 -- ---- for the proofs
 
@@ -66,15 +131,3 @@ IsCapture (Err fault) text old new = IsRefused fault text old new ⊎ IsWritten 
 abbrev pub IsOpened : Option Left → List ℕ → Type 0
 IsOpened None text = ⊥
 IsOpened (Some left) text = HasRows text left
-
--- it is nothing of a dump
-abbrev pub IsOfSystem : WaveFault → Type 0
-IsOfSystem (wave.System fault) = ⊤
-IsOfSystem (wave.Keys fault) = ⊤
-IsOfSystem (wave.Signal fault) = ⊥
-IsOfSystem (wave.Dump line mistake) = ⊥
-IsOfSystem (wave.Unknown unknown) = ⊥
-IsOfSystem wave.NoEdge = ⊥
-IsOfSystem wave.Read = ⊤
-IsOfSystem wave.Write = ⊥
-IsOfSystem wave.Memory = ⊤

@@ -1,11 +1,12 @@
 //! The engine: from the bytes of a system and of a dump to the rows of a capture.
 ghost use Rattle.std.specs.Prelude.{◌≡◌, ℕ, List, map, IfOk, IfErr, IfSome, OnOk, OnErr};
 ghost use Rattle.check_vcd.specs.Codes.{find_in};
-ghost use Rattle.tlvcd.specs.Capture.{IsCapture, IsOfSystem, IsOpened, IsUnopened, kept};
+ghost use Rattle.check_signals.specs.Names.{names_view};
+ghost use Rattle.tlvcd.specs.Capture.{GivesNames, IsCapture, IsOfSystem, IsOpened, IsUnopened, kept};
 ghost use Rattle.tlvcd.specs.Out.{AppendsFront, Finishes, IsEnded, IsOut, IsPushed, Moves, capture_of, is_cut};
 
 use crate::fault::WaveFault;
-use check_samples::{Rows, Sampler};
+use check_samples::{Progress, Rows, Sampler};
 use check_signals::{Names, find_signals, read_names};
 use check_system::{MAX_SYSTEM, read_system};
 use check_vcd::Dump;
@@ -23,11 +24,15 @@ const ROOM: usize = 32_768;
 /// The names of signals that a system file gives. The file has to describe a system.
 fn names_of<S: Read>(alloc: Global, reader: &mut LimitedReader<'_, S>) -> Result<Names, WaveFault>
     ensures same { reader.new.reader.ghost_name ≡ reader.old.reader.ghost_name }
-    ensures fault { IfErr result IsOfSystem }
+    ensures ok { IfOk result (λ names. GivesNames (S.remaining reader.old.reader.now)
+        (S.remaining reader.new.reader.now) (names_view names)) }
+    ensures fault { IfErr result (IsOfSystem (S.remaining reader.old.reader.now)
+        (S.remaining reader.new.reader.now)) }
 {
     let bytes = read_up_to(alloc, reader, MAX_SYSTEM + 1)?;
     let _system = read_system(alloc, &bytes)?;
-    Ok(read_names(alloc, &bytes)?)
+    let names = read_names(alloc, &bytes)?;
+    Ok(names)
 }
 
 /// Keeps the values of these identifiers, each in the slot of its place.
@@ -84,10 +89,10 @@ fn write_long<W: Write>(
 }
 
 /// What is answered at the end of a dump: its clock has to rise.
-fn ended<D: Read + Drop>(rows: &Rows<D>) -> Result<(), WaveFault>
-    ensures { IsEnded result }
+fn ended(has_risen: bool) -> Result<(), WaveFault>
+    ensures { IsEnded result has_risen }
 {
-    if rows.has_risen() {
+    if has_risen {
         Ok(())
     } else {
         Err(WaveFault::NoEdge)
@@ -106,8 +111,8 @@ fn push_rows<D: Read + Drop, W: Write>(
 {
     for _ in 0..u64::MAX {
         match rows.read(text) {
-            Ok(true) => {}
-            Ok(false) => return ended(rows),
+            Ok(Progress::More) => {}
+            Ok(Progress::Over(has_risen)) => return ended(has_risen),
             Err(fault) => return Err(WaveFault::from(fault)),
         }
         if let Err(fault) = write_long(writer, text) {
@@ -160,15 +165,16 @@ fn write_rows<D: Read + Drop, W: Write>(
 }
 
 /// Reads a system and then a dump, each to its end or first fault, and writes the capture: the header, and a row for
-/// each beat that crosses at a rising edge of the clock. Rows before a fault are written.
+/// each beat that crosses at a rising edge of the clock. Rows before a fault are written. The system is judged first,
+/// then the header of the dump, and then where its signals are.
 pub fn write_capture<S: Read, D: Read + Drop, W: Write>(
     alloc: Global,
     system: &mut S,
     dump: D,
     writer: &mut W,
 ) -> Result<(), WaveFault>
-    ensures { IfSome (D.remaining dump) (λ text. IsCapture result text
-        (W.contents writer.old) (W.contents writer.new)) }
+    ensures { IfSome (D.remaining dump) (λ text. IsCapture (S.remaining system.old)
+        (S.remaining system.new) result text (W.contents writer.old) (W.contents writer.new)) }
 {
     let mut reader = LimitedReader::new(system);
     let mut writer = LimitedWriter::new(writer);
@@ -184,7 +190,8 @@ fn write_within<S: Read, D: Read + Drop, W: Write>(
 ) -> Result<(), WaveFault>
     ensures same_reader { reader.new.reader.ghost_name ≡ reader.old.reader.ghost_name }
     ensures same_writer { writer.new.writer.ghost_name ≡ writer.old.writer.ghost_name }
-    ensures written { IfSome (D.remaining dump) (λ text. IsCapture result text
+    ensures written { IfSome (D.remaining dump) (λ text. IsCapture
+        (S.remaining reader.old.reader.now) (S.remaining reader.new.reader.now) result text
         (W.contents writer.old.writer.now) (W.contents writer.new.writer.now)) }
 {
     let names = names_of(alloc, reader)?;

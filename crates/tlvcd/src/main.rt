@@ -12,6 +12,8 @@ pub mod engine;
 pub mod fault;
 pub mod file;
 pub mod options;
+#[cfg(test)]
+mod tests;
 
 ghost use Rattle.std.specs.Prelude.{◌≡◌, IfErr, OnOk};
 ghost use Rattle.std.specs.Process.{exit_status};

@@ -3,8 +3,8 @@ use Rattle.std.proofs.Common.{map}
 use Rattle.std.specs.Option.{IfSome}
 use Rattle.check_vcd.specs.Header.{var_view}
 use Rattle.tlvcd.specs.Capture.{IsUnopened}
-use Rattle.tlvcd.specs.Fault.{of_dump}
-use Rattle.tlvcd.proofs.OpenLemmas.{fails-by, opened-rows, unopened-dump}
+use Rattle.tlvcd.specs.Fault.{of_dump, of_signal}
+use Rattle.tlvcd.proofs.OpenLemmas.{fails-by, opened-rows, unopened-dump, unopened-signal}
 use Rattle.tlvcd.proofs.engine.open.Goals as goal
 
 pub returns-in_err-vars-clause-fault : goal.returns-in_err-vars-clause-fault
@@ -14,6 +14,14 @@ returns-in_err-vars-clause-fault g c =
     fails-by c.from_residual.result (of_dump fault) (λ f. IfSome text (IsUnopened f))
     c.from_residual.ensures.1
     (unopened-dump text fault (λ line mistake is. c.open.ensures.wrong line mistake (cc (c.in_err-vars.was, is))))
+
+pub returns-in_err-resolved-clause-fault : goal.returns-in_err-resolved-clause-fault
+returns-in_err-resolved-clause-fault g c =
+    let text = g.D.Read.remaining c.args.reader in
+    let fault = c.in_err-resolved.field-0.0 in
+    fails-by c.from_residual-in_err-resolved.result (of_signal fault) (λ f. IfSome text (IsUnopened f))
+    c.from_residual-in_err-resolved.ensures.1
+    (unopened-signal text (map var_view c.in_ok-vars.vars.items) c.in_ok-vars.dump fault c.in_ok-vars.ensures.ok)
 
 pub returns-clause-ok : goal.returns-clause-ok
 returns-clause-ok g c =

@@ -17,15 +17,16 @@ loop-preserved g c =
       pushing = pushing-on c.args.rows.now c.loop.rows c.read.new.self c.args.text.now.items c.loop.text.items
           c.read.new.text.items c.write_long.new.text.items (contents c.args.writer.now.writer.now)
           (contents c.loop.writer.writer.now) (contents c.write_long.new.writer.writer.now) c.loop.invariant.pushing
-          (rw c.in-Ok-true.field-0-test at c.in-Ok-true.ensures.ok) c.in_default.ensures.moves;
+          (rw c.in-Ok-More.field-0-is at c.in-Ok-More.ensures.ok) c.in_default.ensures.moves;
     }
 
-pub returns-in-Ok-false-clause-pushed : goal.returns-in-Ok-false-clause-pushed
-returns-in-Ok-false-clause-pushed g c =
+pub returns-in-Ok-Over-clause-pushed : goal.returns-in-Ok-Over-clause-pushed
+returns-in-Ok-Over-clause-pushed g c =
     let contents = g.W.Write.contents in
     pushed-all c.args.rows.now c.loop.rows c.read.new.self c.args.text.now.items c.loop.text.items c.read.new.text.items
-    (contents c.args.writer.now.writer.now) (contents c.loop.writer.writer.now) c.ended.result c.loop.invariant.pushing
-    (rw c.in-Ok-false.field-0-test at c.in-Ok-false.ensures.ok) c.ended.ensures
+    (contents c.args.writer.now.writer.now) (contents c.loop.writer.writer.now) c.ended.result c.in-Ok-Over.has_risen
+    c.loop.invariant.pushing
+    (rw c.in-Ok-Over.field-0-is at c.in-Ok-Over.ensures.ok) c.ended.ensures
 
 pub returns-in-Err-clause-pushed : goal.returns-in-Err-clause-pushed
 returns-in-Err-clause-pushed g c =
@@ -42,7 +43,7 @@ returns-in-Err-write_long-clause-pushed g c =
     (pushed-part c.args.rows.now c.loop.rows c.read.new.self c.args.text.now.items c.loop.text.items c.read.new.text.items
     (contents c.args.writer.now.writer.now) (contents c.loop.writer.writer.now)
     (contents c.write_long.new.writer.writer.now) c.loop.invariant.pushing
-    (rw c.in-Ok-true.field-0-test at c.in-Ok-true.ensures.ok) c.in-Err-write_long.ensures.front c.write_long.new.text.items)
+    (rw c.in-Ok-More.field-0-is at c.in-Ok-More.ensures.ok) c.in-Err-write_long.ensures.front c.write_long.new.text.items)
 
 pub returns-clause-pushed : goal.returns-clause-pushed
 returns-clause-pushed g c =

@@ -5,13 +5,13 @@ use Rattle.check_samples.specs.Sampling.{is_at, rows_now}
 use Rattle.check_samples.proofs.TakeLemmas.{takes-none, takes-same, takes-time, takes-value}
 use Rattle.check_samples.proofs.sampler.Sampler.take.Goals as goal
 
-pub returns-in_ok-change-in-Change : goal.returns-in_ok-change-in-Change
-returns-in_ok-change-in-Change c = λ rest.
+pub returns-in_ok-change-in-Change-clause-rows : goal.returns-in_ok-change-in-Change-clause-rows
+returns-in_ok-change-in-Change-clause-rows c = λ rest.
     rw c.in-Change.is (takes-value c.args.text.now.items c.args.self.now c.change.new.self c.in-Change.slot
     c.args.digits.now rest c.in_ok-change-in-Change.ensures)
 
-pub returns-in_ok-begin-in-Ok : goal.returns-in_ok-begin-in-Ok
-returns-in_ok-begin-in-Ok c = λ rest.
+pub returns-in_ok-begin-in-Ok-clause-rows : goal.returns-in_ok-begin-in-Ok-clause-rows
+returns-in_ok-begin-in-Ok-clause-rows c = λ rest.
     let old = c.args.self.now in
     let not : is_at old c.in-Time.time ≡ false = sym c.is_at.ensures ∙ c.if-not-is_at.true in
     let writes : Writes (Ok tt) c.args.text.now.items c.push_rows.new.text.items (rows_now old) =
@@ -19,8 +19,8 @@ returns-in_ok-begin-in-Ok c = λ rest.
     rw c.in-Time.is (takes-time c.args.text.now.items c.push_rows.new.text.items old c.begin.new.self c.in-Time.time rest
     not writes c.in_ok-begin-in-Ok.ensures)
 
-pub returns-in-Err : goal.returns-in-Err
-returns-in-Err c = λ rest.
+pub returns-in-Err-clause-rows : goal.returns-in-Err-clause-rows
+returns-in-Err-clause-rows c = λ rest.
     let old = c.args.self.now in
     let not : is_at old c.in-Time.time ≡ false = sym c.is_at.ensures ∙ c.if-not-is_at.true in
     let writes : Writes (Err c.in-Err.fault) c.args.text.now.items c.push_rows.new.text.items (rows_now old) =
@@ -28,7 +28,7 @@ returns-in-Err c = λ rest.
     rw c.in-Time.is (takes-none c.args.text.now.items c.push_rows.new.text.items old old c.in-Time.time rest
     c.in-Err.fault not writes)
 
-pub returns-else-not-is_at : goal.returns-else-not-is_at
-returns-else-not-is_at c = λ rest.
+pub returns-else-not-is_at-clause-rows : goal.returns-else-not-is_at-clause-rows
+returns-else-not-is_at-clause-rows c = λ rest.
     let same : is_at c.args.self.now c.in-Time.time ≡ true = sym c.is_at.ensures ∙ c.if-not-is_at.false in
     rw c.in-Time.is (takes-same c.args.text.now.items c.args.self.now c.in-Time.time rest same)

@@ -1,0 +1,343 @@
+-- The text of a beat is a row.
+use Rattle.std.proofs.Common.{◌≡◌, ◌∙◌, ℕ, ◌+◌, ◌-◌, ◌^◌, ◌<◌, ◌≤◌, ◌==◌, false, List, [], ◌∷◌, length, map, Option, None, Some, Result, Ok, Err, arith, refl, ap, subst, ok_or}
+use Rattle.std.specs.Fmt.{decimal, digits}
+use Rattle.std.specs.Str.Parse.{digits_value}
+use Rattle.tl_text.specs.Number.{number_of}
+use Rattle.check_link.specs.declared.beat.Beat.{Beat}
+use Rattle.check_link.specs.declared.beat.Link.{Link}
+use Rattle.check_capture.specs.Columns.{IsLinkOf, flag_of}
+use Rattle.check_capture.specs.Lanes.{lane_numbers}
+use Rattle.check_capture.specs.Number.{decimal_of}
+use Rattle.check_capture.specs.Row.{ask_of, reply_of, row_of}
+use Rattle.check_capture.specs.declared.columns.Channel.TheVariants as channel
+use Rattle.check_capture.specs.declared.row.Row.{Row}
+use Rattle.check_samples.specs.Digits.{bits_of}
+use Rattle.check_samples.specs.Row.{ask_text, cells_of_ask, cells_of_reply, hex_text, known, link_text, reply_text}
+use Rattle.check_samples.specs.Row.{◌>>=◌}
+use Rattle.check_samples.specs.Rows.{row_at, row_by}
+use Rattle.check_samples.specs.declared.channel.AskTaps.{AskTaps}
+use Rattle.check_samples.specs.declared.channel.BeatTaps.{BeatTaps}
+use Rattle.check_samples.specs.declared.channel.BeatTaps.TheVariants.{A, D}
+use Rattle.check_samples.specs.declared.channel.Channel.{Channel}
+use Rattle.check_samples.specs.declared.channel.ReplyTaps.{ReplyTaps}
+use Rattle.check_samples.specs.declared.row.AskCells.{AskCells}
+use Rattle.check_samples.specs.declared.row.ReplyCells.{ReplyCells}
+use Rattle.check_samples.specs.declared.row.TheConstants.{MAX_BITS}
+use Rattle.check_samples.specs.declared.signal.Signal.{Signal}
+use Rattle.check_samples.specs.declared.signal.Signal.TheVariants as signal
+use Rattle.check_wave_laws.specs.Rows.{IsRow}
+use Rattle.check_wave_laws.specs.Seen.{AskFits, BeatFits, ReplyFits, ask_in, beat_in, lane_in, number_in, reply_in, row_in}
+use Rattle.check_wave_laws.proofs.Columns.{ask-line, ask-spelled, ask_words, channel-a, channel-d, link-read, reply-line, reply-spelled, reply_words, row-spelled, word-link}
+use Rattle.check_wave_laws.proofs.Lanes.{lanes-read, mask-read}
+use Rattle.check_wave_laws.proofs.Numbers.{HasNumber, address-read, decimal-read, flag-read, has-number, number-below}
+use Rattle.check_wave_laws.proofs.Words.{AreWords, joined, parts-joined, plain-joined, word-bits, word-decimal, word-hex}
+
+-- ---- the numbers of a beat
+
+known-number : (which : Signal) (bits : List ℕ) (n : ℕ) → known which bits ≡ Ok n → HasNumber bits n
+known-number which bits n is = has-number MAX_BITS bits n (go (number_of 2 MAX_BITS bits) is)
+  where
+    go : (number : Option ℕ) → ok_or number which ≡ Ok n → number ≡ Some n
+    go None e = absurd (cc)
+    go (Some m) e = cc
+
+record AskNumbers (values : List (List ℕ)) (taps : AskTaps) (cells : AskCells) : Type 0 where
+  opcode : HasNumber (bits_of values taps.opcode) cells.opcode
+  param : HasNumber (bits_of values taps.param) cells.param
+  size : HasNumber (bits_of values taps.size) cells.size
+  source : HasNumber (bits_of values taps.source) cells.source
+  address : HasNumber (bits_of values taps.address) cells.address
+  mask : HasNumber (bits_of values taps.mask) (number_in values taps.mask)
+
+record ReplyNumbers (values : List (List ℕ)) (taps : ReplyTaps) (cells : ReplyCells) : Type 0 where
+  opcode : HasNumber (bits_of values taps.opcode) cells.opcode
+  size : HasNumber (bits_of values taps.size) cells.size
+  source : HasNumber (bits_of values taps.source) cells.source
+  denied : HasNumber (bits_of values taps.denied) cells.denied
+  corrupt : HasNumber (bits_of values taps.corrupt) cells.corrupt
+
+abbrev ask-made : ℕ → ℕ → ℕ → ℕ → ℕ → AskCells
+ask-made o p z s a = record { opcode = o; param = p; size = z; source = s; address = a }
+
+abbrev reply-made : ℕ → ℕ → ℕ → ℕ → ℕ → ReplyCells
+reply-made o z s n c = record { opcode = o; size = z; source = s; denied = n; corrupt = c }
+
+ask-parts : (o p z s a m : Result ℕ Signal) (cells : AskCells)
+    → (o >>= (λ o. p >>= (λ p. z >>= (λ z. s >>= (λ s. a >>= (λ a. m >>= (λ _. Ok (ask-made o p z s a)))))))) ≡ Ok cells
+    → (o ≡ Ok cells.opcode) × (p ≡ Ok cells.param) × (z ≡ Ok cells.size) × (s ≡ Ok cells.source)
+    × (a ≡ Ok cells.address) × ((n : ℕ) × (m ≡ Ok n))
+ask-parts (Ok o) (Ok p) (Ok z) (Ok s) (Ok a) (Ok m) cells is =
+    let same : ask-made o p z s a ≡ cells = cc in (
+      ap (λ (c : AskCells). Ok c.opcode) same,
+      ap (λ (c : AskCells). Ok c.param) same,
+      ap (λ (c : AskCells). Ok c.size) same,
+      ap (λ (c : AskCells). Ok c.source) same,
+      ap (λ (c : AskCells). Ok c.address) same,
+      (m, refl),
+    )
+ask-parts (Err e) p z s a m cells is = absurd (cc)
+ask-parts (Ok o) (Err e) z s a m cells is = absurd (cc)
+ask-parts (Ok o) (Ok p) (Err e) s a m cells is = absurd (cc)
+ask-parts (Ok o) (Ok p) (Ok z) (Err e) a m cells is = absurd (cc)
+ask-parts (Ok o) (Ok p) (Ok z) (Ok s) (Err e) m cells is = absurd (cc)
+ask-parts (Ok o) (Ok p) (Ok z) (Ok s) (Ok a) (Err e) cells is = absurd (cc)
+
+reply-parts : (o z s n c : Result ℕ Signal) (cells : ReplyCells)
+    → (o >>= (λ o. z >>= (λ z. s >>= (λ s. n >>= (λ n. c >>= (λ c. Ok (reply-made o z s n c))))))) ≡ Ok cells
+    → (o ≡ Ok cells.opcode) × (z ≡ Ok cells.size) × (s ≡ Ok cells.source) × (n ≡ Ok cells.denied)
+    × (c ≡ Ok cells.corrupt)
+reply-parts (Ok o) (Ok z) (Ok s) (Ok n) (Ok c) cells is =
+    let same : reply-made o z s n c ≡ cells = cc in (
+      ap (λ (c : ReplyCells). Ok c.opcode) same,
+      ap (λ (c : ReplyCells). Ok c.size) same,
+      ap (λ (c : ReplyCells). Ok c.source) same,
+      ap (λ (c : ReplyCells). Ok c.denied) same,
+      ap (λ (c : ReplyCells). Ok c.corrupt) same,
+    )
+reply-parts (Err e) z s n c cells is = absurd (cc)
+reply-parts (Ok o) (Err e) s n c cells is = absurd (cc)
+reply-parts (Ok o) (Ok z) (Err e) n c cells is = absurd (cc)
+reply-parts (Ok o) (Ok z) (Ok s) (Err e) c cells is = absurd (cc)
+reply-parts (Ok o) (Ok z) (Ok s) (Ok n) (Err e) cells is = absurd (cc)
+
+ask-numbers : (values : List (List ℕ)) (taps : AskTaps) (cells : AskCells) → cells_of_ask values taps ≡ Ok cells
+    → AskNumbers values taps cells
+ask-numbers values taps cells is =
+    let parts = ask-parts (known signal.AOpcode (bits_of values taps.opcode))
+    (known signal.AParam (bits_of values taps.param)) (known signal.ASize (bits_of values taps.size))
+    (known signal.ASource (bits_of values taps.source)) (known signal.AAddress (bits_of values taps.address))
+    (known signal.AMask (bits_of values taps.mask)) cells is in
+    let mask = known-number signal.AMask (bits_of values taps.mask) parts.5.0 parts.5.1 in
+    record {
+      opcode = known-number signal.AOpcode (bits_of values taps.opcode) cells.opcode parts.0;
+      param = known-number signal.AParam (bits_of values taps.param) cells.param parts.1;
+      size = known-number signal.ASize (bits_of values taps.size) cells.size parts.2;
+      source = known-number signal.ASource (bits_of values taps.source) cells.source parts.3;
+      address = known-number signal.AAddress (bits_of values taps.address) cells.address parts.4;
+      mask = subst (λ (n : ℕ). HasNumber (bits_of values taps.mask) n) mask.value mask;
+    }
+
+reply-numbers : (values : List (List ℕ)) (taps : ReplyTaps) (cells : ReplyCells) → cells_of_reply values taps ≡ Ok cells
+    → ReplyNumbers values taps cells
+reply-numbers values taps cells is =
+    let parts = reply-parts (known signal.DOpcode (bits_of values taps.opcode))
+    (known signal.DSize (bits_of values taps.size)) (known signal.DSource (bits_of values taps.source))
+    (known signal.DDenied (bits_of values taps.denied)) (known signal.DCorrupt (bits_of values taps.corrupt)) cells is in
+    record {
+      opcode = known-number signal.DOpcode (bits_of values taps.opcode) cells.opcode parts.0;
+      size = known-number signal.DSize (bits_of values taps.size) cells.size parts.1;
+      source = known-number signal.DSource (bits_of values taps.source) cells.source parts.2;
+      denied = known-number signal.DDenied (bits_of values taps.denied) cells.denied parts.3;
+      corrupt = known-number signal.DCorrupt (bits_of values taps.corrupt) cells.corrupt parts.4;
+    }
+
+-- ---- the columns of a beat
+
+-- a number of so many bits is no more than its column takes
+small-read : (bits : List ℕ) (n k most : ℕ) → HasNumber bits n → length bits ≤ k → 2 ^ k ≡ most + 1
+    → decimal_of most (decimal n) ≡ Ok (digits_value 2 bits)
+small-read bits n k most has fits is =
+    let below : n < 2 ^ k = number-below bits n k has fits in
+    decimal-read most n has.small (omega (arith, below, is)) ∙ ap (λ (m : ℕ). Ok m) has.value
+
+flag-of : (bits : List ℕ) (n : ℕ) → HasNumber bits n → length bits ≤ 1
+    → flag_of (decimal n) ≡ Ok (digits_value 2 bits == 1)
+flag-of bits n has fits =
+    flag-read n (number-below bits n 1 has fits) ∙ ap (λ (m : ℕ). Ok (m == 1)) has.value
+
+ask-columns : (time : ℕ) (link : Link) (values : List (List ℕ)) (taps : AskTaps) (cells : AskCells)
+    → AskNumbers values taps cells → AskFits values taps
+    → ask_of (decimal time ∷ ask_words link cells (bits_of values taps.mask) (bits_of values taps.data))
+    ≡ Ok (ask_in values taps)
+ask-columns time link values taps cells has fits =
+    ask-spelled (decimal time) (link_text link) (65 ∷ []) (decimal cells.opcode) (decimal cells.param) (decimal cells.size)
+    (decimal cells.source) (digits 16 false cells.address) (hex_text (bits_of values taps.mask))
+    (hex_text (bits_of values taps.data)) (number_in values taps.opcode) (number_in values taps.param)
+    (number_in values taps.size) (number_in values taps.source) (number_in values taps.address)
+    (number_in values taps.mask) (map (lane_in (bits_of values taps.data)) lane_numbers)
+    (small-read (bits_of values taps.opcode) cells.opcode 8 255 has.opcode fits.opcode refl)
+    (small-read (bits_of values taps.param) cells.param 8 255 has.param fits.param refl)
+    (small-read (bits_of values taps.size) cells.size 8 255 has.size fits.size refl)
+    (small-read (bits_of values taps.source) cells.source 16 65535 has.source fits.source refl)
+    (address-read cells.address has.address.small ∙ ap (λ (n : ℕ). Ok n) has.address.value)
+    (mask-read (bits_of values taps.mask) (number_in values taps.mask) fits.mask has.mask)
+    (lanes-read (bits_of values taps.data) fits.data_bits)
+
+reply-columns : (time : ℕ) (link : Link) (values : List (List ℕ)) (taps : ReplyTaps) (cells : ReplyCells)
+    → ReplyNumbers values taps cells → ReplyFits values taps
+    → reply_of (decimal time ∷ reply_words link cells (bits_of values taps.data)) ≡ Ok (reply_in values taps)
+reply-columns time link values taps cells has fits =
+    reply-spelled (decimal time) (link_text link) (68 ∷ []) (decimal cells.opcode) (decimal cells.size)
+    (decimal cells.source) (hex_text (bits_of values taps.data)) (decimal cells.denied) (decimal cells.corrupt)
+    (number_in values taps.opcode) (number_in values taps.size) (number_in values taps.source)
+    (number_in values taps.denied == 1) (number_in values taps.corrupt == 1)
+    (map (lane_in (bits_of values taps.data)) lane_numbers)
+    (small-read (bits_of values taps.opcode) cells.opcode 8 255 has.opcode fits.opcode refl)
+    (small-read (bits_of values taps.size) cells.size 8 255 has.size fits.size refl)
+    (small-read (bits_of values taps.source) cells.source 16 65535 has.source fits.source refl)
+    (lanes-read (bits_of values taps.data) fits.data_bits)
+    (flag-of (bits_of values taps.denied) cells.denied has.denied fits.denied)
+    (flag-of (bits_of values taps.corrupt) cells.corrupt has.corrupt fits.corrupt)
+
+-- ---- the row of a beat
+
+-- a link of such a system, and a time that there is
+record Stands (masters ports time : ℕ) (link : Link) : Type 0 where
+  few_masters : masters < 2 ^ 64
+  few_ports : ports < 2 ^ 64
+  in_time : time < 2 ^ 64
+  has_link : IsLinkOf masters ports link
+
+ask-words : (masters ports time : ℕ) (link : Link) (values : List (List ℕ)) (taps : AskTaps) (cells : AskCells)
+    → Stands masters ports time link → AskNumbers values taps cells
+    → AreWords (decimal time ∷ ask_words link cells (bits_of values taps.mask) (bits_of values taps.data))
+ask-words masters ports time link values taps cells at has = (
+  word-decimal time at.in_time,
+  (
+    word-link masters ports link at.few_masters at.few_ports at.has_link,
+    (
+      (omega arith, tt),
+      (
+        word-decimal cells.opcode has.opcode.small,
+        (
+          word-decimal cells.param has.param.small,
+          (
+            word-decimal cells.size has.size.small,
+            (
+              word-decimal cells.source has.source.small,
+              (
+                word-hex cells.address has.address.small,
+                (
+                  word-bits (bits_of values taps.mask),
+                  (word-bits (bits_of values taps.data), (tt, (tt, tt))),
+                ),
+              ),
+            ),
+          ),
+        ),
+      ),
+    ),
+  ),
+)
+
+reply-words : (masters ports time : ℕ) (link : Link) (values : List (List ℕ)) (taps : ReplyTaps) (cells : ReplyCells)
+    → Stands masters ports time link → ReplyNumbers values taps cells
+    → AreWords (decimal time ∷ reply_words link cells (bits_of values taps.data))
+reply-words masters ports time link values taps cells at has = (
+  word-decimal time at.in_time,
+  (
+    word-link masters ports link at.few_masters at.few_ports at.has_link,
+    (
+      (omega arith, tt),
+      (
+        word-decimal cells.opcode has.opcode.small,
+        (
+          tt,
+          (
+            word-decimal cells.size has.size.small,
+            (
+              word-decimal cells.source has.source.small,
+              (
+                tt,
+                (
+                  tt,
+                  (
+                    word-bits (bits_of values taps.data),
+                    (word-decimal cells.denied has.denied.small, (word-decimal cells.corrupt has.corrupt.small, tt)),
+                  ),
+                ),
+              ),
+            ),
+          ),
+        ),
+      ),
+    ),
+  ),
+)
+
+abbrev row-shown : ℕ → ℕ → Link → Beat × ℕ → Row
+row-shown line time link seen = record {
+  line = line;
+  time = time;
+  sighting = record { link = link; beat = seen.0; known = seen.1 };
+}
+
+ask-row : (masters ports line time : ℕ) (link : Link) (values : List (List ℕ)) (taps : AskTaps) (cells : AskCells)
+    → Stands masters ports time link → AskNumbers values taps cells → AskFits values taps
+    → IsRow masters ports (row-shown line time link (ask_in values taps))
+    (ask_text time link cells (bits_of values taps.mask) (bits_of values taps.data))
+ask-row masters ports line time link values taps cells at has fits =
+    let mask = bits_of values taps.mask in
+    let lanes = bits_of values taps.data in
+    let words = ask_words link cells mask lanes in
+    let are = ask-words masters ports time link values taps cells at has in
+    record {
+      line = joined (decimal time) words;
+      ends = ask-line time link cells mask lanes;
+      plain = plain-joined (decimal time) words are;
+      reads =
+          ap (row_of masters ports line) (parts-joined (decimal time) words are)
+          ∙ row-spelled masters ports line time link channel.A (ask_in values taps) (decimal time) (link_text link)
+          (65 ∷ []) (decimal cells.opcode) (decimal cells.param) (decimal cells.size) (decimal cells.source)
+          (digits 16 false cells.address) (hex_text mask) (hex_text lanes) [] []
+          (decimal-read (2 ^ 64 - 1) time at.in_time (omega (arith, at.in_time)))
+          (link-read masters ports link at.few_masters at.few_ports at.has_link) channel-a
+          (ask-columns time link values taps cells has fits);
+    }
+
+reply-row : (masters ports line time : ℕ) (link : Link) (values : List (List ℕ)) (taps : ReplyTaps) (cells : ReplyCells)
+    → Stands masters ports time link → ReplyNumbers values taps cells → ReplyFits values taps
+    → IsRow masters ports (row-shown line time link (reply_in values taps))
+    (reply_text time link cells (bits_of values taps.data))
+reply-row masters ports line time link values taps cells at has fits =
+    let lanes = bits_of values taps.data in
+    let words = reply_words link cells lanes in
+    let are = reply-words masters ports time link values taps cells at has in
+    record {
+      line = joined (decimal time) words;
+      ends = reply-line time link cells lanes;
+      plain = plain-joined (decimal time) words are;
+      reads =
+          ap (row_of masters ports line) (parts-joined (decimal time) words are)
+          ∙ row-spelled masters ports line time link channel.D (reply_in values taps) (decimal time) (link_text link)
+          (68 ∷ []) (decimal cells.opcode) [] (decimal cells.size) (decimal cells.source) [] [] (hex_text lanes)
+          (decimal cells.denied) (decimal cells.corrupt)
+          (decimal-read (2 ^ 64 - 1) time at.in_time (omega (arith, at.in_time)))
+          (link-read masters ports link at.few_masters at.few_ports at.has_link) channel-d
+          (reply-columns time link values taps cells has fits);
+    }
+
+-- ---- the row of a channel
+
+row-by : (masters ports line time : ℕ) (values : List (List ℕ)) (which : Channel) (text : List ℕ) (beat : BeatTaps)
+    → Stands masters ports time which.link → BeatFits beat values → row_by beat time values which ≡ Ok text
+    → IsRow masters ports (row-shown line time which.link (beat_in beat values)) text
+row-by masters ports line time values which text (A taps) at fits is = go (cells_of_ask values taps) refl is
+  where
+    go : (r : Result AskCells Signal) → cells_of_ask values taps ≡ r
+        → (r >>= (λ cells. Ok (ask_text time which.link cells (bits_of values taps.mask) (bits_of values taps.data))))
+        ≡ Ok text
+        → IsRow masters ports (row-shown line time which.link (ask_in values taps)) text
+    go (Ok cells) e made =
+        let same : ask_text time which.link cells (bits_of values taps.mask) (bits_of values taps.data) ≡ text = cc in
+        subst (IsRow masters ports (row-shown line time which.link (ask_in values taps))) same
+        (ask-row masters ports line time which.link values taps cells at (ask-numbers values taps cells e) fits)
+    go (Err signal) e made = absurd (cc)
+row-by masters ports line time values which text (D taps) at fits is = go (cells_of_reply values taps) refl is
+  where
+    go : (r : Result ReplyCells Signal) → cells_of_reply values taps ≡ r
+        → (r >>= (λ cells. Ok (reply_text time which.link cells (bits_of values taps.data)))) ≡ Ok text
+        → IsRow masters ports (row-shown line time which.link (reply_in values taps)) text
+    go (Ok cells) e made =
+        let same : reply_text time which.link cells (bits_of values taps.data) ≡ text = cc in
+        subst (IsRow masters ports (row-shown line time which.link (reply_in values taps))) same
+        (reply-row masters ports line time which.link values taps cells at (reply-numbers values taps cells e) fits)
+    go (Err signal) e made = absurd (cc)
+
+pub beat-row : (masters ports line time : ℕ) (values : List (List ℕ)) (which : Channel) (text : List ℕ)
+    → masters < 2 ^ 64 → ports < 2 ^ 64 → time < 2 ^ 64 → IsLinkOf masters ports which.link
+    → BeatFits which.beat values → row_at time values which ≡ Ok text
+    → IsRow masters ports (row_in line time values which) text
+beat-row masters ports line time values which text m p t inside fits is =
+    row-by masters ports line time values which text which.beat
+    (record { few_masters = m; few_ports = p; in_time = t; has_link = inside }) fits is

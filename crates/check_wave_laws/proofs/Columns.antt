@@ -1,0 +1,145 @@
+-- The columns of a row, and the row that they spell.
+use Rattle.std.proofs.Common.{◌≡◌, ◌∙◌, ℕ, ◌+◌, ◌-◌, ◌^◌, ◌<◌, Bool, false, List, [], ◌∷◌, ◌++◌, Option, Result, Ok, arith, refl, sym, ap, append_assoc}
+use Rattle.std.specs.Fmt.{decimal, digits}
+use Rattle.csv.specs.Records.{field_at}
+use Rattle.check_link.specs.declared.beat.Beat.{Beat}
+use Rattle.check_link.specs.declared.beat.Beat.TheVariants as beat
+use Rattle.check_link.specs.declared.beat.Link.{Link}
+use Rattle.check_link.specs.declared.beat.Link.TheVariants.{Master, Port}
+use Rattle.check_capture.specs.Columns.{IsLinkOf, channel_of, flag_of, link_of, nothing_of}
+use Rattle.check_capture.specs.Lanes.{bytes_of, known_of, lanes_of}
+use Rattle.check_capture.specs.Number.{address_of, decimal_of, mask_of}
+use Rattle.check_capture.specs.Reading.{◌>>=◌}
+use Rattle.check_capture.specs.Row.{ask_of, beat_of, reply_of, row_of}
+use Rattle.check_capture.specs.declared.columns.Channel.{Channel}
+use Rattle.check_capture.specs.declared.columns.Channel.TheVariants as channel
+use Rattle.check_capture.specs.declared.fault.RowFault.{RowFault}
+use Rattle.check_samples.specs.Row.{ask_text, hex_text, link_text, reply_text}
+use Rattle.check_samples.specs.declared.row.AskCells.{AskCells}
+use Rattle.check_samples.specs.declared.row.ReplyCells.{ReplyCells}
+use Rattle.check_wave_laws.proofs.Numbers.{index-read}
+use Rattle.check_wave_laws.proofs.Words.{IsWord, joined, word-decimal}
+
+-- ---- the words of a row
+
+-- those behind the time
+abbrev pub ask_words : Link → AskCells → List ℕ → List ℕ → List (List ℕ)
+ask_words link cells mask lanes =
+    link_text link ∷ (65 ∷ []) ∷ decimal cells.opcode ∷ decimal cells.param ∷ decimal cells.size ∷ decimal cells.source
+    ∷ digits 16 false cells.address ∷ hex_text mask ∷ hex_text lanes ∷ [] ∷ [] ∷ []
+
+abbrev pub reply_words : Link → ReplyCells → List ℕ → List (List ℕ)
+reply_words link cells lanes =
+    link_text link ∷ (68 ∷ []) ∷ decimal cells.opcode ∷ [] ∷ decimal cells.size ∷ decimal cells.source ∷ [] ∷ []
+    ∷ hex_text lanes ∷ decimal cells.denied ∷ decimal cells.corrupt ∷ []
+
+-- texts one behind the other, and some of them together
+regrouped : (t h i n o p q x y z e : List ℕ)
+    → (t ++ h ++ i) ++ (n ++ o ++ p ++ q) ++ (x ++ y ++ z) ++ e
+    ≡ t ++ (h ++ (i ++ (n ++ (o ++ (p ++ (q ++ (x ++ (y ++ (z ++ e)))))))))
+regrouped t h i n o p q x y z e = simp append_assoc
+
+one-more : (t h i n o p q x y z e : List ℕ)
+    → (t ++ (h ++ (i ++ (n ++ (o ++ (p ++ (q ++ (x ++ (y ++ z))))))))) ++ e
+    ≡ t ++ (h ++ (i ++ (n ++ (o ++ (p ++ (q ++ (x ++ (y ++ (z ++ e)))))))))
+one-more t h i n o p q x y z e = simp append_assoc
+
+two-more : (t h i n o p q x y z e f : List ℕ)
+    → (t ++ (h ++ (i ++ (n ++ (o ++ (p ++ (q ++ (x ++ (y ++ (z ++ e)))))))))) ++ f
+    ≡ t ++ (h ++ (i ++ (n ++ (o ++ (p ++ (q ++ (x ++ (y ++ (z ++ (e ++ f))))))))))
+two-more t h i n o p q x y z e f = simp append_assoc
+
+ask-joined : (t l o p z s a m d : List ℕ)
+    → (t ++ (44 ∷ l) ++ (44 ∷ 65 ∷ [])) ++ ((44 ∷ o) ++ (44 ∷ p) ++ (44 ∷ z) ++ (44 ∷ s))
+    ++ ((44 ∷ a) ++ (44 ∷ m) ++ (44 ∷ d)) ++ (44 ∷ 44 ∷ 10 ∷ [])
+    ≡ joined t (l ∷ (65 ∷ []) ∷ o ∷ p ∷ z ∷ s ∷ a ∷ m ∷ d ∷ [] ∷ [] ∷ []) ++ (10 ∷ [])
+ask-joined t l o p z s a m d =
+    regrouped t (44 ∷ l) (44 ∷ 65 ∷ []) (44 ∷ o) (44 ∷ p) (44 ∷ z) (44 ∷ s) (44 ∷ a) (44 ∷ m) (44 ∷ d)
+    (44 ∷ 44 ∷ 10 ∷ [])
+    ∙ sym (two-more t (44 ∷ l) (44 ∷ 65 ∷ []) (44 ∷ o) (44 ∷ p) (44 ∷ z) (44 ∷ s) (44 ∷ a) (44 ∷ m) (44 ∷ d)
+    (44 ∷ 44 ∷ []) (10 ∷ []))
+
+pub ask-line : (time : ℕ) (link : Link) (cells : AskCells) (mask lanes : List ℕ)
+    → ask_text time link cells mask lanes ≡ joined (decimal time) (ask_words link cells mask lanes) ++ (10 ∷ [])
+unfolding ask_text
+ask-line time link cells mask lanes =
+    ask-joined (decimal time) (link_text link) (decimal cells.opcode) (decimal cells.param) (decimal cells.size)
+    (decimal cells.source) (digits 16 false cells.address) (hex_text mask) (hex_text lanes)
+
+reply-joined : (t l o z s d n c : List ℕ)
+    → (t ++ (44 ∷ l) ++ (44 ∷ 68 ∷ [])) ++ ((44 ∷ o) ++ (44 ∷ []) ++ (44 ∷ z) ++ (44 ∷ s))
+    ++ ((44 ∷ 44 ∷ 44 ∷ d) ++ (44 ∷ n) ++ (44 ∷ c)) ++ (10 ∷ [])
+    ≡ joined t (l ∷ (68 ∷ []) ∷ o ∷ [] ∷ z ∷ s ∷ [] ∷ [] ∷ d ∷ n ∷ c ∷ []) ++ (10 ∷ [])
+reply-joined t l o z s d n c =
+    regrouped t (44 ∷ l) (44 ∷ 68 ∷ []) (44 ∷ o) (44 ∷ []) (44 ∷ z) (44 ∷ s) (44 ∷ 44 ∷ 44 ∷ d) (44 ∷ n) (44 ∷ c)
+    (10 ∷ [])
+    ∙ sym (one-more t (44 ∷ l) (44 ∷ 68 ∷ []) (44 ∷ o) (44 ∷ []) (44 ∷ z) (44 ∷ s) (44 ∷ 44 ∷ 44 ∷ d) (44 ∷ n) (44 ∷ c)
+    (10 ∷ []))
+
+pub reply-line : (time : ℕ) (link : Link) (cells : ReplyCells) (lanes : List ℕ)
+    → reply_text time link cells lanes ≡ joined (decimal time) (reply_words link cells lanes) ++ (10 ∷ [])
+unfolding reply_text
+reply-line time link cells lanes =
+    reply-joined (decimal time) (link_text link) (decimal cells.opcode) (decimal cells.size) (decimal cells.source)
+    (hex_text lanes) (decimal cells.denied) (decimal cells.corrupt)
+
+-- ---- links and channels
+
+pub link-read : (masters ports : ℕ) (link : Link) → masters < 2 ^ 64 → ports < 2 ^ 64 → IsLinkOf masters ports link
+    → link_of masters ports (link_text link) ≡ Ok link
+unfolding link_of
+link-read masters ports (Master number) m p inside =
+    ap (λ (r : Result ℕ RowFault). r >>= (λ n. Ok (Master n))) (index-read masters number inside (omega (arith, inside, m)))
+link-read masters ports (Port number) m p inside =
+    ap (λ (r : Result ℕ RowFault). r >>= (λ n. Ok (Port n))) (index-read ports number inside (omega (arith, inside, p)))
+
+pub word-link : (masters ports : ℕ) (link : Link) → masters < 2 ^ 64 → ports < 2 ^ 64 → IsLinkOf masters ports link
+    → IsWord (link_text link)
+word-link masters ports (Master number) m p inside = (omega arith, word-decimal number (omega (arith, inside, m)))
+word-link masters ports (Port number) m p inside = (omega arith, word-decimal number (omega (arith, inside, p)))
+
+pub channel-a : channel_of (65 ∷ []) ≡ Ok channel.A
+unfolding channel_of
+channel-a = refl
+
+pub channel-d : channel_of (68 ∷ []) ≡ Ok channel.D
+unfolding channel_of
+channel-d = refl
+
+-- ---- the row that words spell
+
+pub ask-spelled : (t l c wo wp wz ws wa wm wd : List ℕ) (o p z s a m : ℕ) (lanes : List (Option ℕ))
+    → decimal_of 255 wo ≡ Ok o → decimal_of 255 wp ≡ Ok p → decimal_of 255 wz ≡ Ok z → decimal_of 65535 ws ≡ Ok s
+    → address_of wa ≡ Ok a → mask_of wm ≡ Ok m → lanes_of wd ≡ Ok lanes
+    → ask_of (t ∷ l ∷ c ∷ wo ∷ wp ∷ wz ∷ ws ∷ wa ∷ wm ∷ wd ∷ [] ∷ [] ∷ [])
+    ≡ Ok (
+      beat.A (record { opcode = o; param = p; size = z; source = s; address = a; mask = m; lanes = bytes_of lanes }),
+      known_of lanes,
+    )
+unfolding ask_of field_at nothing_of
+ask-spelled t l c wo wp wz ws wa wm wd o p z s a m lanes eo ep ez es ea em ed = rw (eo, ep, ez, es, ea, em, ed) refl
+
+pub reply-spelled : (t l c wo wz ws wd wn wc : List ℕ) (o z s : ℕ) (n k : Bool) (lanes : List (Option ℕ))
+    → decimal_of 255 wo ≡ Ok o → decimal_of 255 wz ≡ Ok z → decimal_of 65535 ws ≡ Ok s → lanes_of wd ≡ Ok lanes
+    → flag_of wn ≡ Ok n → flag_of wc ≡ Ok k
+    → reply_of (t ∷ l ∷ c ∷ wo ∷ [] ∷ wz ∷ ws ∷ [] ∷ [] ∷ wd ∷ wn ∷ wc ∷ [])
+    ≡ Ok (
+      beat.D (record { opcode = o; size = z; source = s; denied = n; corrupt = k; lanes = bytes_of lanes }),
+      known_of lanes,
+    )
+unfolding reply_of field_at nothing_of
+reply-spelled t l c wo wz ws wd wn wc o z s n k lanes eo ez es ed en ec = rw (eo, ez, es, ed, en, ec) refl
+
+pub row-spelled : (masters ports line time : ℕ) (link : Link) (which : Channel) (seen : Beat × ℕ)
+    (t l c w3 w4 w5 w6 w7 w8 w9 w10 w11 : List ℕ)
+    → decimal_of (2 ^ 64 - 1) t ≡ Ok time → link_of masters ports l ≡ Ok link → channel_of c ≡ Ok which
+    → beat_of which (t ∷ l ∷ c ∷ w3 ∷ w4 ∷ w5 ∷ w6 ∷ w7 ∷ w8 ∷ w9 ∷ w10 ∷ w11 ∷ []) ≡ Ok seen
+    → row_of masters ports line (t ∷ l ∷ c ∷ w3 ∷ w4 ∷ w5 ∷ w6 ∷ w7 ∷ w8 ∷ w9 ∷ w10 ∷ w11 ∷ [])
+    ≡ Ok (record {
+      line = line;
+      time = time;
+      sighting = record { link = link; beat = seen.0; known = seen.1 };
+    })
+unfolding row_of field_at
+row-spelled masters ports line time link which seen t l c w3 w4 w5 w6 w7 w8 w9 w10 w11 et el ec eb =
+    rw (et, el, ec, eb) refl

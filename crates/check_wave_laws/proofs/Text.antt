@@ -1,0 +1,278 @@
+-- The rows of what happens in a dump are rows.
+use Rattle.std.proofs.Common.{◌≡◌, ◌∙◌, ℕ, zero, suc, ◌+◌, ◌-◌, ◌^◌, ◌<◌, ◌≤◌, nat_le, nat_lt, Bool, true, false, ◌&&◌, cond, List, [], ◌∷◌, ◌++◌, length, get_or, set, take, drop, map, replicate, slice_get, Option, Some, None, Result, Ok, Err, Contains, arith, refl, sym, ap, subst, append_assoc, append-nil, length-append, length-drop, length-take, length-take-le}
+use Rattle.std.specs.Option.{IfSome}
+use Rattle.std.proofs.lemmas.Bool.{and_from, le-leb}
+use Rattle.std.proofs.lemmas.List.{length-replicate, map-set, set-get_or}
+use Rattle.check_vcd.specs.Body.{At, Happens, Sets, Wrong}
+use Rattle.check_capture.specs.declared.row.Row.{Row}
+use Rattle.check_samples.specs.Digits.{bits_of, extended, fill_of, part_if_any, part_of, set_extended}
+use Rattle.check_samples.specs.Rows.{Probes, Rows, and_then, crosses, followed_by, has_edge, no_rows, row_alone, row_at, rows_at, rows_of}
+use Rattle.check_samples.specs.Sampling.{Sampling, at_time, is_at, rows_from, rows_now, rows_when, with_value}
+use Rattle.check_samples.specs.declared.channel.BeatTaps.{BeatTaps}
+use Rattle.check_samples.specs.declared.channel.BeatTaps.TheVariants.{A, D}
+use Rattle.check_samples.specs.declared.channel.Channel.{Channel}
+use Rattle.check_samples.specs.declared.channel.UnknownBit.{UnknownBit}
+use Rattle.check_samples.specs.declared.signal.Signal.{Signal}
+use Rattle.check_samples.specs.declared.tap.Tap.{Tap}
+use Rattle.check_wave_laws.specs.Seen.{BeatFits, row_in}
+use Rattle.check_wave_laws.specs.Text.{AreRows, BeatTakes, ChannelFits, HappensFit, HasRows, SamplingFits, Takes}
+use Rattle.check_wave_laws.proofs.Beats.{beat-row}
+
+-- ---- the bits of a tap
+
+slot-has : (values : List (List ℕ)) (slot n : ℕ) → 0 < n → n ≤ get_or (map length values) slot 0
+    → (digits : List ℕ) × (slice_get values slot ≡ Some digits) × (n ≤ length digits)
+slot-has [] slot n some inside = absurd (omega (arith, some, inside))
+slot-has (digits ∷ values) zero n some inside = (digits, refl, inside)
+slot-has (digits ∷ values) (suc slot) n some inside = slot-has values slot n some inside
+
+part-length : (digits : List ℕ) (tap : Tap) → tap.from ≤ tap.to → tap.to ≤ length digits
+    → length (part_of digits tap) ≡ tap.to - tap.from
+part-length digits tap order inside =
+    ap (λ (t : Bool). length (cond t (take (tap.to - tap.from) (drop tap.from digits)) []))
+    (and_from (nat_le tap.from tap.to) (nat_le tap.to (length digits)) (le-leb tap.from tap.to order)
+    (le-leb tap.to (length digits) inside))
+    ∙ length-take-le (tap.to - tap.from) (drop tap.from digits)
+    (omega (arith, length-drop tap.from digits, order, inside))
+
+part-few : (digits : List ℕ) (tap : Tap) (n : ℕ) → tap.to - tap.from ≤ n → length (part_of digits tap) ≤ n
+part-few digits tap n few = go (nat_le tap.from tap.to && nat_le tap.to (length digits))
+  where
+    go : (t : Bool) → length (cond t (take (tap.to - tap.from) (drop tap.from digits)) []) ≤ n
+    go true = omega (arith, length-take (tap.to - tap.from) (drop tap.from digits), few)
+    go false = omega arith
+
+pub bits-few : (values : List (List ℕ)) (tap : Tap) (n : ℕ) → tap.to - tap.from ≤ n
+    → length (bits_of values tap) ≤ n
+bits-few values tap n few = go (slice_get values tap.slot)
+  where
+    go : (found : Option (List ℕ)) → length (part_if_any found tap) ≤ n
+    go None = omega arith
+    go (Some digits) = part-few digits tap n few
+
+bits-all : (values : List (List ℕ)) (widths : List ℕ) (tap : Tap) (n : ℕ) → map length values ≡ widths → 0 < n
+    → Takes widths tap n → length (bits_of values tap) ≡ n
+bits-all values widths tap n has some takes =
+    let inside : tap.to ≤ get_or (map length values) tap.slot 0 =
+    subst (λ (ws : List ℕ). tap.to ≤ get_or ws tap.slot 0) (sym has) takes.inside in
+    let found = slot-has values tap.slot tap.to (omega (arith, some, takes.bits)) inside in
+    ap (λ (value : Option (List ℕ)). length (part_if_any value tap)) found.1
+    ∙ part-length found.0 tap takes.from found.2 ∙ takes.bits
+
+beat-fits : (values : List (List ℕ)) (widths : List ℕ) (beat : BeatTaps) → map length values ≡ widths
+    → BeatTakes widths beat → BeatFits beat values
+beat-fits values widths (A taps) has takes = record {
+  opcode = bits-few values taps.opcode 8 takes.opcode;
+  param = bits-few values taps.param 8 takes.param;
+  size = bits-few values taps.size 8 takes.size;
+  source = bits-few values taps.source 16 takes.source;
+  mask = bits-all values widths taps.mask 8 has (omega arith) takes.mask;
+  data_bits = bits-all values widths taps.data 64 has (omega arith) takes.lanes;
+}
+beat-fits values widths (D taps) has takes = record {
+  opcode = bits-few values taps.opcode 8 takes.opcode;
+  size = bits-few values taps.size 8 takes.size;
+  source = bits-few values taps.source 16 takes.source;
+  data_bits = bits-all values widths taps.data 64 has (omega arith) takes.lanes;
+  denied = bits-few values taps.denied 1 takes.denied;
+  corrupt = bits-few values taps.corrupt 1 takes.corrupt;
+}
+
+-- ---- texts of rows
+
+module _ (masters ports : ℕ) (channels : List Channel) where
+  are-appended : (line : ℕ) (rows more : List Row) (text rest : List ℕ)
+      → AreRows masters ports channels line rows text
+      → AreRows masters ports channels (line + length rows) more rest
+      → AreRows masters ports channels line (rows ++ more) (text ++ rest)
+  are-appended line [] more text rest first second =
+      let none : line + 0 ≡ line = omega arith in
+      subst (λ (t : List ℕ). AreRows masters ports channels line more t) (ap (λ (t : List ℕ). t ++ rest) (sym first))
+      (subst (λ (n : ℕ). AreRows masters ports channels n more rest) none second)
+  are-appended line (row ∷ rows) more text rest first second =
+      let cut = first.1 in
+      let next : line + suc (length rows) ≡ line + 1 + length rows = omega arith in (
+        first.0,
+        (
+          cut.0,
+          cut.1 ++ rest,
+          ap (λ (t : List ℕ). t ++ rest) cut.2 ∙ append_assoc cut.0 cut.1 rest,
+          cut.3,
+          are-appended (line + 1) rows more cut.1 rest cut.4
+              (subst (λ (n : ℕ). AreRows masters ports channels n more rest) next second),
+        ),
+      )
+
+  -- a text is rows wherever it begins
+  abbrev Readable : List ℕ → Type 0
+  Readable text = (line : ℕ) → HasRows masters ports channels line text
+
+  readable-none : Readable []
+  readable-none = λ line. record { rows = []; are = refl }
+
+  readable-append : (text rest : List ℕ) → Readable text → Readable rest → Readable (text ++ rest)
+  readable-append text rest first second = λ line.
+      let one = first line in
+      let two = second (line + length one.rows) in
+      record { rows = one.rows ++ two.rows; are = are-appended line one.rows two.rows text rest one.are two.are }
+
+  readable-and : (first second : Rows) → Readable first.text
+      → Readable second.text → Readable (and_then first second).text
+  readable-and first second one two = go first.fault
+    where
+      go : (fault : Option UnknownBit) → Readable (followed_by fault first.text second).text
+      go None = readable-append first.text second.text one two
+      go (Some unknown) = one
+
+-- ---- the rows of a time
+
+module _ (masters ports : ℕ) (channels : List Channel) (widths : List ℕ) (few_masters : masters < 2 ^ 64)
+    (few_ports : ports < 2 ^ 64)
+    (fit : (which : Channel) → Contains channels which → ChannelFits masters ports widths which) (time : ℕ)
+    (in_time : time < 2 ^ 64) (values : List (List ℕ)) (has : map length values ≡ widths) where
+  readable-row : (which : Channel) (text : List ℕ) → Contains channels which → crosses values which ≡ true
+      → row_at time values which ≡ Ok text → Readable masters ports channels text
+  readable-row which text one crossed is = λ line.
+      let fits = fit which one in
+      record {
+        rows = row_in line time values which ∷ [];
+        are = (
+          record {
+            place = refl;
+            beat = record { values = values; which = which; one = one; crossed = crossed; is = refl };
+          },
+          (
+            text,
+            [],
+            sym (append-nil text),
+            beat-row masters ports line time values which text few_masters few_ports in_time fits.link
+                (beat-fits values widths which.beat has fits.taps) is,
+            refl,
+          ),
+        );
+      }
+
+  readable-at : (which : Channel) → Contains channels which
+      → Readable masters ports channels (rows_at time values which).text
+  readable-at which one = go (crosses values which) refl
+    where
+      alone : (r : Result (List ℕ) Signal) → row_at time values which ≡ r → crosses values which ≡ true
+          → Readable masters ports channels (row_alone time which r).text
+      alone (Ok text) is crossed = readable-row which text one crossed is
+      alone (Err signal) is crossed = readable-none masters ports channels
+
+      go : (t : Bool) → crosses values which ≡ t
+          → Readable masters ports channels (cond t (row_alone time which (row_at time values which)) no_rows).text
+      go true crossed = alone (row_at time values which) refl crossed
+      go false crossed = readable-none masters ports channels
+
+  pub readable-of : (some : List Channel) → ((which : Channel) → Contains some which → Contains channels which)
+      → Readable masters ports channels (rows_of time values some).text
+  readable-of [] within = readable-none masters ports channels
+  readable-of (which ∷ some) within =
+      readable-and masters ports channels (rows_at time values which) (rows_of time values some)
+      (readable-at which (within which (0, omega arith, refl)))
+      (readable-of some (λ other has_it. within other (suc has_it.0, omega (arith, has_it.1), has_it.2)))
+
+-- ---- all times
+
+same-widths : (values : List (List ℕ)) (widths : List ℕ) (slot : ℕ) (digits : List ℕ) → map length values ≡ widths
+    → length digits ≤ get_or widths slot 0 → map length (set_extended widths values slot digits) ≡ widths
+same-widths values widths slot digits has short =
+    let width = get_or widths slot 0 in
+    let size : length (extended width digits) ≡ width =
+    length-append (replicate (width - length digits) (fill_of digits)) digits
+    ∙ ap (λ (n : ℕ). n + length digits) (length-replicate (width - length digits) (fill_of digits))
+    ∙ omega (arith, short) in
+    map-set (λ (value : List ℕ). length value) values slot (extended width digits)
+    ∙ ap (λ (n : ℕ). set (map length values) slot n) size
+    ∙ ap (λ (ws : List ℕ). set ws slot width) has
+    ∙ set-get_or widths slot 0
+
+pub value-fits : (masters ports : ℕ) (s : Sampling) (slot : ℕ) (digits : List ℕ) → SamplingFits masters ports s
+    → length digits ≤ get_or s.widths slot 0 → SamplingFits masters ports (with_value s slot digits)
+value-fits masters ports s slot digits fits short = go (nat_lt slot (length s.now))
+  where
+    go : (t : Bool)
+        → SamplingFits masters ports (cond t (record s { now = set_extended s.widths s.now slot digits }) s)
+    go true = record {
+      before = fits.before;
+      now = same-widths s.now s.widths slot digits fits.now short;
+      time = fits.time;
+      channels = fits.channels;
+    }
+    go false = fits
+
+pub time-fits : (masters ports : ℕ) (s : Sampling) (time : ℕ) → SamplingFits masters ports s → time < 2 ^ 64
+    → SamplingFits masters ports (at_time s time)
+time-fits masters ports s time fits below = go (is_at s time)
+  where
+    go : (t : Bool) → SamplingFits masters ports (cond t s (record s { before = s.now; time = Some time }))
+    go true = fits
+    go false = record { before = fits.now; now = fits.now; time = below; channels = fits.channels }
+
+-- what is looked at and how many bits values have stays
+record IsSame (after before : Sampling) : Type 0 where
+  probes : after.probes ≡ before.probes
+  widths : before.widths ≡ after.widths
+
+value-same : (s : Sampling) (slot : ℕ) (digits : List ℕ) → IsSame (with_value s slot digits) s
+value-same s slot digits = go (nat_lt slot (length s.now))
+  where
+    go : (t : Bool) → IsSame (cond t (record s { now = set_extended s.widths s.now slot digits }) s) s
+    go true = record { probes = refl; widths = refl }
+    go false = record { probes = refl; widths = refl }
+
+time-same : (s : Sampling) (time : ℕ) → IsSame (at_time s time) s
+time-same s time = go (is_at s time)
+  where
+    go : (t : Bool) → IsSame (cond t s (record s { before = s.now; time = Some time })) s
+    go true = record { probes = refl; widths = refl }
+    go false = record { probes = refl; widths = refl }
+
+module _ (masters ports : ℕ) (few_masters : masters < 2 ^ 64) (few_ports : ports < 2 ^ 64) where
+  readable-now : (s : Sampling) → SamplingFits masters ports s
+      → Readable masters ports s.probes.channels (rows_now s).text
+  readable-now s fits = go s.time fits.time
+    where
+      edge : (time : ℕ) → time < 2 ^ 64 → (t : Bool)
+          → Readable masters ports s.probes.channels (cond t (rows_of time s.before s.probes.channels) no_rows).text
+      edge time below true =
+          readable-of masters ports s.probes.channels s.widths few_masters few_ports fits.channels time below s.before
+          fits.before s.probes.channels (λ which one. one)
+      edge time below false = readable-none masters ports s.probes.channels
+
+      go : (at : Option ℕ) → IfSome at (λ time. time < 2 ^ 64)
+          → Readable masters ports s.probes.channels (rows_when at s).text
+      go None below = readable-none masters ports s.probes.channels
+      go (Some time) below = edge time below (has_edge s.before s.now s.probes)
+
+  readable-same : (s next : Sampling) (text : List ℕ) → IsSame next s
+      → Readable masters ports next.probes.channels text → Readable masters ports s.probes.channels text
+  readable-same s next text same readable =
+      subst (λ (probes : Probes). Readable masters ports probes.channels text) same.probes readable
+
+  by-time : (s : Sampling) (time : ℕ) (t : Bool) (same next : Rows) → SamplingFits masters ports s
+      → Readable masters ports s.probes.channels same.text → Readable masters ports s.probes.channels next.text
+      → Readable masters ports s.probes.channels (cond t same (and_then (rows_now s) next)).text
+  by-time s time true same next fits one two = one
+  by-time s time false same next fits one two =
+      readable-and masters ports s.probes.channels (rows_now s) next (readable-now s fits) two
+
+  pub readable-from : (happens : List Happens) (s : Sampling) → SamplingFits masters ports s
+      → HappensFit s.widths happens → Readable masters ports s.probes.channels (rows_from happens s).text
+  unfolding rows_from
+  readable-from [] s fits all = readable-now s fits
+  readable-from (At time ∷ happens) s fits all =
+      let next = at_time s time in
+      by-time s time (is_at s time) (rows_from happens s) (rows_from happens next) fits
+      (readable-from happens s fits all.1)
+      (readable-same s next (rows_from happens next).text (time-same s time)
+      (readable-from happens next (time-fits masters ports s time fits all.0)
+      (subst (λ (ws : List ℕ). HappensFit ws happens) (time-same s time).widths all.1)))
+  readable-from (Sets slot digits ∷ happens) s fits all =
+      let next = with_value s slot digits in
+      readable-same s next (rows_from happens next).text (value-same s slot digits)
+      (readable-from happens next (value-fits masters ports s slot digits fits all.0)
+      (subst (λ (ws : List ℕ). HappensFit ws happens) (value-same s slot digits).widths all.1))
+  readable-from (Wrong line mistake ∷ happens) s fits all = readable-none masters ports s.probes.channels

@@ -1,0 +1,3 @@
+pub mod Seen
+pub mod Rows
+pub mod Text

@@ -1,0 +1,98 @@
+-- Whole texts of rows, and the dumps whose rows they are. It is this project's own.
+use Rattle.std.specs.Prelude.{◌≡◌, ℕ, ◌+◌, ◌-◌, ◌^◌, ◌≤◌, ◌<◌, true, ⊤, List, [], ◌∷◌, ◌++◌, get_or, length, map, Some, Contains, IfSome}
+use Rattle.check_vcd.specs.Body.{Find, Happens, At, Sets, Wrong}
+use Rattle.check_vcd.specs.declared.codes.Coded.{Coded}
+use Rattle.check_capture.specs.Columns.{IsLinkOf}
+use Rattle.check_capture.specs.declared.row.Row.{Row}
+use Rattle.check_samples.specs.Rows.{crosses}
+use Rattle.check_samples.specs.Sampling.{Sampling}
+use Rattle.check_samples.specs.declared.channel.AskTaps.{AskTaps}
+use Rattle.check_samples.specs.declared.channel.BeatTaps.{BeatTaps}
+use Rattle.check_samples.specs.declared.channel.BeatTaps.TheVariants.{A, D}
+use Rattle.check_samples.specs.declared.channel.Channel.{Channel}
+use Rattle.check_samples.specs.declared.channel.ReplyTaps.{ReplyTaps}
+use Rattle.check_samples.specs.declared.tap.Tap.{Tap}
+use Rattle.check_wave_laws.specs.Rows.{IsRow}
+use Rattle.check_wave_laws.specs.Seen.{row_in}
+
+-- ---- rows of beats
+
+-- the row is that of a beat which crosses at one of the channels, in some values of the signals
+pub record IsBeat (channels : List Channel) (row : Row) : Type 0 where
+  pub values : List (List ℕ)
+  pub which : Channel
+  pub one : Contains channels which
+  pub crossed : crosses values which ≡ true
+  pub is : row ≡ row_in row.line row.time values which
+
+-- the row is that of a beat and stands on this line
+pub record Stands (channels : List Channel) (line : ℕ) (row : Row) : Type 0 where
+  pub place : row.line ≡ line
+  pub beat : IsBeat channels row
+
+-- a text is rows of beats, one to a line, of which the first stands on this line
+abbrev pub AreRows : ℕ → ℕ → List Channel → ℕ → List Row → List ℕ → Type 0
+AreRows masters ports channels line [] text = text ≡ []
+AreRows masters ports channels line (row ∷ rows) text =
+    Stands channels line row
+    × ((front : List ℕ) × (rest : List ℕ) × (text ≡ front ++ rest) × IsRow masters ports row front
+    × AreRows masters ports channels (line + 1) rows rest)
+
+pub record HasRows (masters ports : ℕ) (channels : List Channel) (line : ℕ) (text : List ℕ) : Type 0 where
+  pub rows : List Row
+  pub are : AreRows masters ports channels line rows text
+
+-- ---- the bits of signals, by how many bits the kept values have
+
+-- a tap takes so many bits of a value that has them
+pub record Takes (widths : List ℕ) (tap : Tap) (count : ℕ) : Type 0 where
+  pub from : tap.from ≤ tap.to
+  pub inside : tap.to ≤ get_or widths tap.slot 0
+  pub bits : tap.to - tap.from ≡ count
+
+pub record AskTakes (widths : List ℕ) (taps : AskTaps) : Type 0 where
+  pub opcode : taps.opcode.to - taps.opcode.from ≤ 8
+  pub param : taps.param.to - taps.param.from ≤ 8
+  pub size : taps.size.to - taps.size.from ≤ 8
+  pub source : taps.source.to - taps.source.from ≤ 16
+  pub mask : Takes widths taps.mask 8
+  pub lanes : Takes widths taps.data 64
+
+pub record ReplyTakes (widths : List ℕ) (taps : ReplyTaps) : Type 0 where
+  pub opcode : taps.opcode.to - taps.opcode.from ≤ 8
+  pub size : taps.size.to - taps.size.from ≤ 8
+  pub source : taps.source.to - taps.source.from ≤ 16
+  pub lanes : Takes widths taps.data 64
+  pub denied : taps.denied.to - taps.denied.from ≤ 1
+  pub corrupt : taps.corrupt.to - taps.corrupt.from ≤ 1
+
+abbrev pub BeatTakes : List ℕ → BeatTaps → Type 0
+BeatTakes widths (A taps) = AskTakes widths taps
+BeatTakes widths (D taps) = ReplyTakes widths taps
+
+-- a channel of a link that the system has, whose signals have no more bits than their columns have room for
+pub record ChannelFits (masters ports : ℕ) (widths : List ℕ) (which : Channel) : Type 0 where
+  pub link : IsLinkOf masters ports which.link
+  pub taps : BeatTakes widths which.beat
+
+-- the values of a sampler have their widths, its time is one that a number can be, and its channels fit
+pub record SamplingFits (masters ports : ℕ) (s : Sampling) : Type 0 where
+  pub before : map length s.before ≡ s.widths
+  pub now : map length s.now ≡ s.widths
+  pub time : IfSome s.time (λ time. time < 2 ^ 64)
+  pub channels : (which : Channel) → Contains s.probes.channels which → ChannelFits masters ports s.widths which
+
+-- ---- dumps
+
+-- no value that changes has more digits than its slot, and each time is one that a number can be
+abbrev pub HappensFit : List ℕ → List Happens → Type 0
+HappensFit widths [] = ⊤
+HappensFit widths (At time ∷ happens) = (time < 2 ^ 64) × HappensFit widths happens
+HappensFit widths (Sets slot digits ∷ happens) = (length digits ≤ get_or widths slot 0) × HappensFit widths happens
+HappensFit widths (Wrong line mistake ∷ happens) = ⊤
+
+-- no identifier that is kept has more bits than its slot
+abbrev pub FindFits : List ℕ → Find → Type 0
+FindFits widths find =
+    (code : List ℕ) (coded : Coded) (slot : ℕ) → find code ≡ Some coded → coded.slot ≡ Some slot
+    → coded.width ≤ get_or widths slot 0

@@ -1,0 +1,297 @@
+//! What no clause says: the lines and statuses of faults, and readers and writers that are slow or fail at each place.
+ghost use Rattle.std.specs.Prelude.{Some, ◌<◌};
+
+use crate::engine::write_capture;
+use crate::fault::WaveFault;
+use check_link::Link;
+use check_samples::{Signal, UnknownBit};
+use check_signals::{Key, KeyFault};
+use check_system::SystemFault;
+use check_vcd::Mistake;
+use std::alloc::Global;
+use std::io;
+use std::io::{ErrorKind, Read, Write};
+use std::process::Abort;
+
+/// One master, whose requests are valid with `v`; most of its signals are constants.
+const SYSTEM: &[u8] =
+    b"slots = 1\nclock = 'c'\nport = [{ kind = 'ram', base = 0, length = 16 }]\nmaster = [{ sources = 1, ops = [], wires = { a_valid = 'v', a_ready = '1', a_opcode = '1', a_param = '0', a_size = '0', a_source = '0', a_address = '0', a_mask = '1', a_data = '0', d_valid = '0', d_ready = '0', d_opcode = '0', d_size = '0', d_source = '0', d_data = '0', d_denied = '0', d_corrupt = '0' } }]\n";
+
+/// The same system with no clock.
+const NO_CLOCK: &[u8] =
+    b"slots = 1\nport = [{ kind = 'ram', base = 0, length = 16 }]\nmaster = [{ sources = 1, ops = [] }]\n";
+
+/// The header of a dump.
+const HEAD: &[u8] = b"$var wire 1 ! c $end $var wire 1 \" v $end $enddefinitions $end\n";
+
+/// Two beats cross, at 5 and at 7.
+const DUMP: &[u8] =
+    b"$var wire 1 ! c $end $var wire 1 \" v $end $enddefinitions $end\n0! 1\" #5 1! #6 0! #7 1! 0\" #8 0! #9 1!\n";
+
+const CAPTURE: &[u8] =
+    b"time,link,channel,opcode,param,size,source,address,mask,data,denied,corrupt\n5,m0,A,1,0,0,0,0,01,0000000000000000,,\n7,m0,A,1,0,0,0,0,01,0000000000000000,,\n";
+
+/// How many bytes the first row of a capture has.
+const FIRST_ROW: usize = 76;
+
+/// What a stream does at a call, in place of its work.
+#[derive(Clone, Copy)]
+enum Trouble {
+    Never,
+    /// The call of this number fails.
+    At(u32),
+    /// The first call is interrupted, and every second one behind it.
+    BeforeEach,
+    Always(ErrorKind),
+}
+
+impl Trouble {
+    fn strikes(self, call: u32) -> Option<ErrorKind> {
+        match self {
+            Trouble::Never => None,
+            Trouble::At(at) => (at == call).then_some(ErrorKind::BrokenPipe),
+            Trouble::BeforeEach => (call % 2 == 0).then_some(ErrorKind::Interrupted),
+            Trouble::Always(kind) => Some(kind),
+        }
+    }
+}
+
+/// Gives its bytes one at a time, and has trouble.
+#[derive(Drop)]
+struct Trickle<'a> {
+    rest: &'a [u8],
+    reads: u32,
+    trouble: Trouble,
+}
+
+impl<'a> Trickle<'a> {
+    fn new(text: &'a [u8], trouble: Trouble) -> Trickle<'a> {
+        Trickle {
+            rest: text,
+            reads: 0,
+            trouble,
+        }
+    }
+}
+
+impl<'a> Read for Trickle<'a> {
+    ghost remaining = { λ r. Some r.rest.now };
+
+    fn read(&mut self, buf: &mut [u8]) -> io::Result<usize> {
+        let call = self.reads;
+        self.reads = self.reads.saturating_add(1);
+        if let Some(kind) = self.trouble.strikes(call) {
+            return Err(io::Error::from(kind));
+        }
+        let n = buf.len().min(self.rest.len()).min(1);
+        let (front, rest) = self.rest.split_at(n);
+        buf[..n].copy_from_slice(front);
+        self.rest = rest;
+        Ok(n)
+    }
+}
+
+/// Takes its bytes one at a time, and has trouble.
+#[derive(Drop)]
+struct Drips {
+    held: Vec<u8>,
+    writes: u32,
+    trouble: Trouble,
+}
+
+impl Drips {
+    fn new(alloc: Global, trouble: Trouble) -> Drips {
+        Drips {
+            held: Vec::new(alloc),
+            writes: 0,
+            trouble,
+        }
+    }
+}
+
+impl Write for Drips {
+    ghost contents = { λ w. Some w.held.items };
+
+    fn write(&mut self, buf: &[u8]) -> io::Result<usize> {
+        let call = self.writes;
+        self.writes = self.writes.saturating_add(1);
+        if let Some(kind) = self.trouble.strikes(call) {
+            return Err(io::Error::from(kind));
+        }
+        let n = buf.len().min(1);
+        self.held.extend_from_slice(&buf[..n])?;
+        Ok(n)
+    }
+
+    fn flush(&mut self) -> io::Result<()> {
+        Ok(())
+    }
+}
+
+/// What becomes of two texts, and what is written.
+fn outcome_of(
+    alloc: Global,
+    system: &[u8],
+    dump: &[u8],
+    trouble: (Trouble, Trouble, Trouble),
+) -> (Result<(), WaveFault>, Vec<u8>) {
+    let mut reader = Trickle::new(system, trouble.0);
+    let dump = Trickle::new(dump, trouble.1);
+    let mut writer = Drips::new(alloc, trouble.2);
+    let outcome = write_capture(alloc, &mut reader, dump, &mut writer);
+    (outcome, writer.held)
+}
+
+#[test]
+fn slow_streams_change_nothing(rt: HostRuntime) {
+    for trouble in [Trouble::Never, Trouble::BeforeEach] {
+        let (outcome, written) = outcome_of(rt.alloc(), SYSTEM, DUMP, (trouble, trouble, trouble));
+        assert!(&rt; outcome.is_ok());
+        assert_eq!(&rt; written.as_slice(), CAPTURE);
+    }
+}
+
+/// Two texts have this fault: its line and its status, and so many bytes of the capture are written.
+fn expect_fault(
+    rt: &impl Abort,
+    alloc: Global,
+    texts: (&[u8], &[u8]),
+    trouble: (Trouble, Trouble),
+    fault: (&str, u8),
+    count: usize,
+) {
+    let (outcome, written) = outcome_of(
+        alloc,
+        texts.0,
+        texts.1,
+        (trouble.0, trouble.1, Trouble::Never),
+    );
+    let found = outcome.err().expect(rt, "a fault");
+    let text = format!(in alloc; "{found}").ok().expect(rt, "a line");
+    assert_eq!(rt; text.as_str(), fault.0);
+    assert_eq!(rt; found.status(), fault.1);
+    assert_eq!(rt; Some(written.as_slice()), CAPTURE.get(..count));
+}
+
+#[test]
+fn the_system_comes_before_the_header_and_that_before_its_signals(rt: HostRuntime) {
+    let rows = [
+        (b"slots".as_slice(), b"".as_slice(), "system: not TOML"),
+        (b"slots = 1", b"", "system: missing master"),
+        (NO_CLOCK, b"", "system: missing clock"),
+        (SYSTEM, b"", "tlvcd: line 1: cut in its header"),
+        (SYSTEM, b"\n$upscope $end ", "tlvcd: line 2: not a dump"),
+        (SYSTEM, b"$enddefinitions $end ", "tlvcd: no signal c"),
+    ];
+    let never = (Trouble::Never, Trouble::Never);
+    for (system, dump, line) in rows {
+        expect_fault(&rt, rt.alloc(), (system, dump), never, (line, 1), 0);
+    }
+    // the system is read to its end before the dump is touched
+    let trouble = (Trouble::Never, Trouble::Always(ErrorKind::BrokenPipe));
+    let texts = (b"slots".as_slice(), DUMP);
+    expect_fault(&rt, rt.alloc(), texts, trouble, ("system: not TOML", 1), 0);
+}
+
+#[test]
+fn a_clock_that_never_rises(rt: HostRuntime) {
+    let dump: &[u8] =
+        b"$var wire 1 ! c $end $var wire 1 \" v $end $enddefinitions $end\n0! 1\" #5 #6 0!\n";
+    let never = (Trouble::Never, Trouble::Never);
+    let fault = ("tlvcd: the clock never rises", 1);
+    expect_fault(&rt, rt.alloc(), (SYSTEM, dump), never, fault, FIRST_ROW);
+}
+
+#[test]
+fn a_failed_read_is_read(rt: HostRuntime) {
+    let texts = (SYSTEM, DUMP);
+    let fault = ("read failed", 5);
+    for at in 0..=SYSTEM.len() as u32 {
+        let trouble = (Trouble::At(at), Trouble::Never);
+        expect_fault(&rt, rt.alloc(), texts, trouble, fault, 0);
+    }
+    for at in 0..HEAD.len() as u32 {
+        let trouble = (Trouble::Never, Trouble::At(at));
+        expect_fault(&rt, rt.alloc(), texts, trouble, fault, 0);
+    }
+    // behind the header its line is written; at the end all rows are there
+    let places = [(HEAD.len(), FIRST_ROW), (DUMP.len(), CAPTURE.len())];
+    for (at, count) in places {
+        let trouble = (Trouble::Never, Trouble::At(at as u32));
+        expect_fault(&rt, rt.alloc(), texts, trouble, fault, count);
+    }
+}
+
+#[test]
+fn reads_that_are_interrupted_for_ever_are_read(rt: HostRuntime) {
+    let trouble = (Trouble::Always(ErrorKind::Interrupted), Trouble::Never);
+    let texts = (SYSTEM, DUMP);
+    expect_fault(&rt, rt.alloc(), texts, trouble, ("read failed", 5), 0);
+}
+
+/// A writer with this trouble is a failed write, after so many bytes.
+fn expect_front(rt: &impl Abort, alloc: Global, trouble: Trouble, count: usize) {
+    let never = Trouble::Never;
+    let (outcome, written) = outcome_of(alloc, SYSTEM, DUMP, (never, never, trouble));
+    assert!(rt; matches!(outcome, Err(WaveFault::Write)));
+    assert_eq!(rt; Some(written.as_slice()), CAPTURE.get(..count));
+}
+
+#[test]
+fn a_failed_write_is_write(rt: HostRuntime) {
+    for count in 0..CAPTURE.len() {
+        expect_front(&rt, rt.alloc(), Trouble::At(count as u32), count);
+    }
+    let forever = Trouble::Always(ErrorKind::Interrupted);
+    expect_front(&rt, rt.alloc(), forever, 0);
+}
+
+#[test]
+fn faults_have_their_lines_and_statuses(rt: HostRuntime) {
+    let of_ask = UnknownBit {
+        time: 35,
+        link: Link::Master(0),
+        signal: Signal::AOpcode,
+    };
+    let of_reply = UnknownBit {
+        time: 9,
+        link: Link::Port(3),
+        signal: Signal::DSize,
+    };
+    let rows: [(WaveFault, &str, u8); 9] = [
+        (
+            WaveFault::System(SystemFault::TooLong),
+            "system: longer than 1048576 bytes",
+            1,
+        ),
+        (
+            WaveFault::Keys(KeyFault::WrongType(Key::Wires)),
+            "system: wrong type of wires",
+            1,
+        ),
+        (
+            WaveFault::Dump(12, Mistake::BadValue),
+            "tlvcd: line 12: bad value",
+            1,
+        ),
+        (
+            WaveFault::Unknown(of_ask),
+            "tlvcd: time 35, m0 A: a_opcode is unknown",
+            1,
+        ),
+        (
+            WaveFault::Unknown(of_reply),
+            "tlvcd: time 9, p3 D: d_size is unknown",
+            1,
+        ),
+        (WaveFault::NoEdge, "tlvcd: the clock never rises", 1),
+        (WaveFault::Memory, "memory refused", 4),
+        (WaveFault::Read, "read failed", 5),
+        (WaveFault::Write, "write failed", 5),
+    ];
+    for (fault, line, status) in &rows {
+        let text = format!(in rt.alloc(); "{fault}").ok().expect(&rt, "a line");
+        assert_eq!(&rt; text.as_str(), *line);
+        assert_eq!(&rt; fault.status(), *status);
+    }
+}
