@@ -1,9 +1,9 @@
 -- Slaves whose bytes are all known.
-use Rattle.std.proofs.Common.{◌≡◌, ◌∙◌, ℕ, true, List, [], ◌∷◌, length, refl, sym, ap, subst}
+use Rattle.std.proofs.Common.{◌≡◌, ◌∙◌, ℕ, true, List, [], ◌∷◌, refl, sym, ap, subst}
 use Rattle.tl_types.specs.Request.{Request}
 use Rattle.tl_types.specs.Response.{Response}
 use Rattle.check_cells.specs.Known.{known, all_known}
-use Rattle.check_cells.specs.Pattern.{Pattern, seen_as}
+use Rattle.check_cells.specs.Pattern.{seen_as}
 use Rattle.check_memory.specs.Laws.{IsLawful}
 use Rattle.check_memory.specs.Partial.{Partial, AreWithin}
 use Rattle.check_memory.specs.Slave.{slave_after, expected_of}

@@ -1,5 +1,5 @@
 -- Bytes that are known alike.
-use Rattle.std.proofs.Common.{◌≡◌, ◌∙◌, ◌↔◌, ℕ, zero, suc, List, [], ◌∷◌, length, Option, Some, None, get_or, ap, sym, refl, arith}
+use Rattle.std.proofs.Common.{◌≡◌, ℕ, suc, List, [], ◌∷◌, length, Option, Some, None, ap, sym, refl, arith}
 use Rattle.check_cells.specs.Known.{IsBelow}
 
 first_same : (x y : Option ℕ) → ((byte : ℕ) → x ≡ Some byte → y ≡ Some byte)
