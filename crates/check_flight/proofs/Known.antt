@@ -1,0 +1,48 @@
+-- Slaves whose bytes are all known.
+use Rattle.std.proofs.Common.{◌≡◌, ◌∙◌, ℕ, true, List, [], ◌∷◌, refl, sym, ap, subst}
+use Rattle.tl_types.specs.Request.{Request}
+use Rattle.tl_types.specs.Response.{Response}
+use Rattle.check_cells.specs.Known.{known, all_known}
+use Rattle.check_cells.specs.Pattern.{seen_as}
+use Rattle.check_memory.specs.Laws.{IsLawful}
+use Rattle.check_memory.specs.Partial.{Partial, AreWithin}
+use Rattle.check_memory.specs.Slave.{slave_after, expected_of}
+use Rattle.check_memory.specs.Whole.{true_after, true_reply}
+use Rattle.check_memory.specs.declared.slave.Slave.{Slave}
+use Rattle.check_memory.specs.declared.slave.Slave.TheVariants.{Memory, Device}
+use Rattle.check_memory.proofs.Wholeness.{whole_stays_whole}
+use Rattle.check_flight.specs.PortSlave.{PortSlave, is_device}
+use Rattle.check_flight.specs.Laws.{IsWholeMemory, IsWholePattern, StaysAsItIs, StaysWhole}
+
+device_stays : (slave : Slave) (ask : Request) → is_device (slave_after slave ask) ≡ is_device slave
+device_stays (Memory memory) ask = refl
+device_stays Device ask = refl
+
+pub stays_as_it_is : (slave : PortSlave) (ask : Request) → StaysAsItIs slave ask
+stays_as_it_is slave ask = record { order = refl; lanes = rw (device_stays slave.kept ask) refl }
+
+all_known-known : (bytes : List ℕ) → all_known (known bytes) ≡ true
+all_known-known [] = refl
+all_known-known (byte ∷ bytes) = all_known-known bytes
+
+whole_pattern : (response : Response) → IsWholePattern (seen_as response)
+whole_pattern response = record {
+  flag = response.denied;
+  denied = refl;
+  bytes = all_known-known response.bytes;
+}
+
+pub stays_whole : (slave : PortSlave) (ask : Request) → IsLawful ask → IsWholeMemory slave.kept → StaysWhole slave ask
+stays_whole slave ask lawful whole =
+    let law = whole_stays_whole whole.memory whole.bytes ask whole.within lawful in
+    record {
+      expects = subst IsWholePattern
+          (sym (ap (λ (s : Slave). expected_of s ask) whole.is ∙ law.answers))
+          (whole_pattern (true_reply whole.memory whole.bytes ask));
+      leaves = record {
+        memory = whole.memory;
+        bytes = true_after whole.memory whole.bytes ask;
+        is = ap (λ (s : Slave). slave_after s ask) whole.is ∙ ap (λ (m : Partial). Memory m) law.leaves;
+        within = subst (λ (n : ℕ). AreWithin whole.memory.ranges n) (sym law.counted) whole.within;
+      };
+    }

@@ -1,0 +1,4 @@
+pub mod Fresh
+pub mod Served
+pub mod Same
+pub mod Known

@@ -1,0 +1,55 @@
+-- What is in flight of a source. It is this project's own.
+use Rattle.std.specs.Prelude.{◌≡◌, ℕ, Bool, true, false, Option, Some, None}
+use Rattle.tl_types.specs.Request.{Request}
+use Rattle.check_flight.specs.declared.answer.Answer.{Answer}
+use Rattle.check_flight.specs.declared.flight.Stage.{Stage}
+use Rattle.check_flight.specs.declared.flight.Stage.TheVariants.{Nothing, Begun, Ended}
+
+-- what is in flight of a source on one side: nothing, a request that has begun at the link of this number and not
+-- ended, or one that has ended there
+pub data Turn : Type 0 where
+  Idle : Turn
+  Asking : ℕ → Turn
+  Asked : ℕ → Request → Turn
+
+-- what is in flight of a source on one side, with what its reply has to fit, where it has taken effect there
+pub record Flight : Type 0 where
+  pub turn : Turn
+  pub due : Option Answer
+
+-- ---- how it is kept, with a request and an answer that say something only where the stage says so
+
+abbrev pub turn_kept : Stage → Request → Turn
+turn_kept Nothing ask = Idle
+turn_kept (Begun number) ask = Asking number
+turn_kept (Ended number) ask = Asked number ask
+
+abbrev pub due_kept : Bool → Answer → Option Answer
+due_kept false answer = None
+due_kept true answer = Some answer
+
+-- ---- what is in flight
+
+-- nothing
+abbrev pub idle : Flight
+idle = record { turn = Idle; due = None }
+
+-- a request of the source is in flight at the link
+abbrev pub IsInFlight : ℕ → Turn → Type 0
+IsInFlight number Idle = ⊥
+IsInFlight number (Asking at) = at ≡ number
+IsInFlight number (Asked at ask) = at ≡ number
+
+-- the request in flight that has ended
+abbrev pub asked : Turn → Option Request
+asked Idle = None
+asked (Asking number) = None
+asked (Asked number ask) = Some ask
+
+-- what the reply has to fit, if that is known now
+abbrev pub due_by : Option Answer → Option Answer → Option Answer
+due_by before None = before
+due_by before (Some answer) = Some answer
+
+abbrev pub flight_due : Flight → Option Answer → Flight
+flight_due flight answer = record flight { due = due_by flight.due answer }

@@ -1,0 +1,62 @@
+-- The laws, said on their own.
+use Rattle.std.specs.Prelude.{◌≡◌, ℕ, Bool, true, List, Some, length, IsTrue}
+use Rattle.tl_types.specs.Request.{Request}
+use Rattle.check_beats.specs.State.{Under, ends_ask, ends_reply}
+use Rattle.check_beats.specs.declared.beat.AskHead.{AskHead}
+use Rattle.check_beats.specs.declared.beat.ReplyHead.{ReplyHead}
+use Rattle.check_cells.specs.Known.{all_known}
+use Rattle.check_cells.specs.Pattern.{Pattern}
+use Rattle.check_memory.specs.Laws.{IsLawful}
+use Rattle.check_memory.specs.Partial.{Partial, AreWithin}
+use Rattle.check_memory.specs.Slave.{expected_of}
+use Rattle.check_memory.specs.Whole.{whole}
+use Rattle.check_memory.specs.declared.slave.Slave.{Slave}
+use Rattle.check_memory.specs.declared.slave.Slave.TheVariants.{Memory}
+use Rattle.check_flight.specs.PortSlave.{PortSlave, may_be_unknown, served_by}
+use Rattle.check_flight.specs.Side.{ask_crossed, ask_ended, reply_crossed, reply_ended}
+
+-- ---- links
+
+-- after the last beat of its message nothing is under way on a channel
+abbrev pub LastBeatEndsAsk : Type 0
+LastBeatEndsAsk =
+    (under : Under) (beat : AskHead) (lanes : List ℕ) → IsTrue (ends_ask under.bus under.asking beat)
+    → ask_crossed under beat lanes ≡ ask_ended under
+
+abbrev pub LastBeatEndsReply : Type 0
+LastBeatEndsReply =
+    (under : Under) (beat : ReplyHead) (known : ℕ) (lanes : List ℕ)
+    → IsTrue (ends_reply under.bus under.replying beat) → reply_crossed under beat known lanes ≡ reply_ended under
+
+-- ---- slaves
+
+-- when requests take effect at a slave, and whether lanes of its replies may be unknown, stays as it is
+pub record StaysAsItIs (slave : PortSlave) (ask : Request) : Type 0 where
+  pub order : (served_by slave ask).order ≡ slave.order
+  pub lanes : may_be_unknown (served_by slave ask) ≡ may_be_unknown slave
+
+abbrev pub SlaveStaysAsItIs : Type 0
+SlaveStaysAsItIs = (slave : PortSlave) (ask : Request) → StaysAsItIs slave ask
+
+-- it is a memory, and all its bytes are known
+pub record IsWholeMemory (slave : Slave) : Type 0 where
+  pub memory : Partial
+  pub bytes : List ℕ
+  pub is : slave ≡ Memory (whole memory bytes)
+  pub within : AreWithin memory.ranges (length bytes)
+
+-- a reply of which all is known
+pub record IsWholePattern (reply : Pattern) : Type 0 where
+  pub flag : Bool
+  pub denied : reply.denied ≡ Some flag
+  pub bytes : all_known reply.bytes ≡ true
+
+-- all is known of what is expected of it, and all its bytes are known afterwards
+pub record StaysWhole (slave : PortSlave) (ask : Request) : Type 0 where
+  pub expects : IsWholePattern (expected_of slave.kept ask)
+  pub leaves : IsWholeMemory (served_by slave ask).kept
+
+-- a memory that is wholly known has no use for unknown lanes
+abbrev pub WholeSlaveStaysWhole : Type 0
+WholeSlaveStaysWhole =
+    (slave : PortSlave) (ask : Request) → IsLawful ask → IsWholeMemory slave.kept → StaysWhole slave ask

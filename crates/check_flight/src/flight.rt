@@ -1,0 +1,247 @@
+//! What is in flight.
+//!
+//! A message is some 300 bytes long, and most beats need but a few of them. So what is in flight is kept in one place
+//! and written there: where it is nothing, what stands of a message is left as it is, and says nothing.
+ghost use Rattle.std.specs.Prelude.{◌≡◌, ◌≤◌, ◌↔◌, length, IsTrue, OnOk, OnErr, Some, None, option_map};
+ghost use Rattle.check_beats.specs.Form.{FitsAsk};
+ghost use Rattle.check_beats.specs.State.{ask_of, ends_ask, first_ask};
+ghost use Rattle.check_flight.specs.PortSlave.{answer_by, effect_at_acceptance, effect_at_reply, served_by, slave_by};
+ghost use Rattle.check_flight.specs.Flight.Turn.{Idle, Asking, Asked};
+ghost use Rattle.check_flight.specs.Flight.{asked, flight_due, idle, IsInFlight};
+
+use crate::answer::Answer;
+use crate::place::Place;
+use crate::slave::PortSlave;
+use check_beats::{AskHead, UnderWay};
+use std::alloc::{AllocError, Global};
+use std::marker::Model;
+use tl_types::Ask;
+
+/// Which part of a request is in flight, and between which link.
+#[derive(Debug, Clone, Copy, PartialEq, Eq)]
+pub enum Stage {
+    /// None.
+    Nothing,
+    /// One that has begun at the link of this number, and not ended.
+    Begun(usize),
+    /// One that has ended there.
+    Ended(usize),
+}
+
+/// What is in flight of a source on one side, with what its reply has to fit, where it has taken effect there.
+#[derive(Debug, Drop)]
+pub struct Flight {
+    stage: Stage,
+    /// The request, where it has ended.
+    ask: Ask,
+    is_due: bool,
+    /// What the reply has to fit, where one is due.
+    due: Answer,
+}
+
+impl Model for Flight {
+    ghost use Rattle.check_flight.specs.Flight.{Flight, turn_kept, due_kept};
+
+    ghost Value = { Flight };
+
+    ghost view = { λ f. record { turn = turn_kept f.stage f.ask; due = due_kept f.is_due f.due } };
+}
+
+impl Flight {
+    /// Nothing in flight.
+    pub fn idle() -> Flight
+        ensures { result ≡ idle }
+    {
+        Flight {
+            stage: Stage::Nothing,
+            ask: Ask::blank(),
+            is_due: false,
+            due: Answer::blank(),
+        }
+    }
+
+    /// Whether nothing is in flight.
+    pub fn is_idle(&self) -> bool
+        ensures { IsTrue result ↔ (self.now.turn ≡ Idle) }
+    {
+        matches!(self.stage, Stage::Nothing)
+    }
+
+    /// Whether a request is in flight at the link of this number.
+    pub fn is_at(&self, number: usize) -> bool
+        ensures { IsTrue result ↔ IsInFlight number self.now.turn }
+    {
+        match self.stage {
+            Stage::Nothing => false,
+            Stage::Begun(at) | Stage::Ended(at) => at == number,
+        }
+    }
+
+    /// The request, where it has ended.
+    pub fn asked(&self) -> Option<&Ask>
+        ensures { option_map (λ ask. ask.now) result ≡ asked self.now.turn }
+    {
+        match self.stage {
+            Stage::Nothing | Stage::Begun(_) => None,
+            Stage::Ended(_) => Some(&self.ask),
+        }
+    }
+
+    /// What the reply has to fit, where it is known.
+    pub fn due(&self) -> Option<&Answer>
+        ensures { option_map (λ answer. answer.now) result ≡ self.now.due }
+    {
+        if self.is_due { Some(&self.due) } else { None }
+    }
+
+    /// A request has begun at the link of this number.
+    pub fn begin(&mut self, number: usize)
+        ensures { self.new ≡ record { turn = Asking number; due = None } }
+    {
+        self.stage = Stage::Begun(number);
+        self.is_due = false;
+    }
+
+    /// The request has ended there, by a beat behind those under way, and takes no effect yet.
+    pub fn end(&mut self, number: usize, under: &UnderWay, beat: &AskHead, lanes: &[u8])
+        requires fits { FitsAsk under.now.bus (first_ask under.now.asking) beat.now }
+        requires ends { IsTrue (ends_ask under.now.bus under.now.asking beat.now) }
+        requires lanes { under.now.bus ≤ length lanes.now }
+        ensures { let ask = ask_of under.now.bus under.now.asking beat.now lanes.now in
+            self.new ≡ record { turn = Asked number ask; due = None } }
+    {
+        under.ask_into(beat, lanes, &mut self.ask);
+        self.stage = Stage::Ended(number);
+        self.is_due = false;
+    }
+
+    /// The request has ended, by a beat behind those under way, and the slave of its port accepts it: the slave serves it
+    /// now, if requests take effect there as they are accepted. Where there is no memory for a page, nothing is changed.
+    pub fn accept(
+        &mut self,
+        alloc: Global,
+        place: Place,
+        under: &UnderWay,
+        beat: &AskHead,
+        lanes: &[u8],
+        slave: &mut PortSlave,
+    ) -> Result<(), AllocError>
+        requires fits { FitsAsk under.now.bus (first_ask under.now.asking) beat.now }
+        requires ends { IsTrue (ends_ask under.now.bus under.now.asking beat.now) }
+        requires lanes { under.now.bus ≤ length lanes.now }
+        ensures flight { let ask = ask_of under.now.bus under.now.asking beat.now lanes.now in
+            OnOk result (self.new ≡ record {
+              turn = Asked place.link ask;
+              due = answer_by place.port slave.old (effect_at_acceptance slave.old (Some ask));
+            }) }
+        ensures slave { let ask = ask_of under.now.bus under.now.asking beat.now lanes.now in
+            OnOk result (slave.new ≡ slave_by slave.old (effect_at_acceptance slave.old (Some ask))) }
+        ensures unchanged { OnErr result (self.new ≡ self.old) }
+        ensures slave_unchanged { OnErr result (slave.new ≡ slave.old) }
+    {
+        if slave.order().is_at_acceptance() {
+            self.serve_whole(alloc, place, under, beat, lanes, slave)
+        } else {
+            self.end(place.link, under, beat, lanes);
+            Ok(())
+        }
+    }
+
+    /// The request has ended, by a beat behind those under way, and the slave of its port serves it. Where there is no
+    /// memory for a page, nothing is changed.
+    fn serve_whole(
+        &mut self,
+        alloc: Global,
+        place: Place,
+        under: &UnderWay,
+        beat: &AskHead,
+        lanes: &[u8],
+        slave: &mut PortSlave,
+    ) -> Result<(), AllocError>
+        requires fits { FitsAsk under.now.bus (first_ask under.now.asking) beat.now }
+        requires ends { IsTrue (ends_ask under.now.bus under.now.asking beat.now) }
+        requires lanes { under.now.bus ≤ length lanes.now }
+        ensures flight { let ask = ask_of under.now.bus under.now.asking beat.now lanes.now in
+            OnOk result (self.new
+            ≡ record { turn = Asked place.link ask; due = answer_by place.port slave.old (Some ask) }) }
+        ensures slave { let ask = ask_of under.now.bus under.now.asking beat.now lanes.now in
+            OnOk result (slave.new ≡ served_by slave.old ask) }
+        ensures unchanged { OnErr result (self.new ≡ self.old) }
+        ensures slave_unchanged { OnErr result (slave.new ≡ slave.old) }
+    {
+        if self.asked().is_some() {
+            return self.serve_apart(alloc, place, under, beat, lanes, slave);
+        }
+        under.ask_into(beat, lanes, &mut self.ask);
+        slave.serve_into(alloc, place.port, &self.ask, &mut self.due)?;
+        self.stage = Stage::Ended(place.link);
+        self.is_due = true;
+        Ok(())
+    }
+
+    /// The same where a request has ended before, as it has at no lawful beat: that one stays if memory is refused.
+    #[inline(never)]
+    fn serve_apart(
+        &mut self,
+        alloc: Global,
+        place: Place,
+        under: &UnderWay,
+        beat: &AskHead,
+        lanes: &[u8],
+        slave: &mut PortSlave,
+    ) -> Result<(), AllocError>
+        requires fits { FitsAsk under.now.bus (first_ask under.now.asking) beat.now }
+        requires ends { IsTrue (ends_ask under.now.bus under.now.asking beat.now) }
+        requires lanes { under.now.bus ≤ length lanes.now }
+        ensures flight { let ask = ask_of under.now.bus under.now.asking beat.now lanes.now in
+            OnOk result (self.new
+            ≡ record { turn = Asked place.link ask; due = answer_by place.port slave.old (Some ask) }) }
+        ensures slave { let ask = ask_of under.now.bus under.now.asking beat.now lanes.now in
+            OnOk result (slave.new ≡ served_by slave.old ask) }
+        ensures unchanged { OnErr result (self.new ≡ self.old) }
+        ensures slave_unchanged { OnErr result (slave.new ≡ slave.old) }
+    {
+        let mut ask = Ask::blank();
+        under.ask_into(beat, lanes, &mut ask);
+        slave.serve_into(alloc, place.port, &ask, &mut self.due)?;
+        self.ask = ask;
+        self.stage = Stage::Ended(place.link);
+        self.is_due = true;
+        Ok(())
+    }
+
+    /// The reply begins to the request in flight, if that has ended: the slave of this port serves it now, if requests
+    /// take effect there as they are answered. Where there is no memory for a page, nothing is changed.
+    pub fn answer(
+        &mut self,
+        alloc: Global,
+        port: usize,
+        slave: &mut PortSlave,
+    ) -> Result<(), AllocError>
+        ensures flight { OnOk result (self.new
+            ≡ flight_due self.old (answer_by port slave.old (effect_at_reply slave.old (asked self.old.turn)))) }
+        ensures slave { OnOk result (slave.new ≡ slave_by slave.old (effect_at_reply slave.old (asked self.old.turn))) }
+        ensures unchanged { OnErr result (self.new ≡ self.old) }
+        ensures slave_unchanged { OnErr result (slave.new ≡ slave.old) }
+    {
+        if !slave.order().is_at_reply() {
+            return Ok(());
+        }
+        match self.stage {
+            Stage::Nothing | Stage::Begun(_) => Ok(()),
+            Stage::Ended(_) => {
+                slave.serve_into(alloc, port, &self.ask, &mut self.due)?;
+                self.is_due = true;
+                Ok(())
+            }
+        }
+    }
+
+    /// Nothing is in flight any more.
+    pub fn clear(&mut self)
+        ensures { self.new ≡ idle }
+    {
+        self.stage = Stage::Nothing;
+        self.is_due = false;
+    }
+}

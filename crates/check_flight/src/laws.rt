@@ -1,0 +1,18 @@
+//! Laws about the definitions, each on a function that does nothing but carry it.
+ghost use Rattle.check_flight.specs.Laws.{LastBeatEndsAsk, LastBeatEndsReply, SlaveStaysAsItIs, WholeSlaveStaysWhole};
+
+/// After the last beat of its message nothing is under way on a channel.
+pub fn the_last_beat_ends()
+    ensures ask { LastBeatEndsAsk }
+    ensures reply { LastBeatEndsReply }
+{}
+
+/// When requests take effect at a slave, and whether lanes of its replies may be unknown, stays as it is.
+pub fn a_slave_stays_as_it_is()
+    ensures { SlaveStaysAsItIs }
+{}
+
+/// Of a memory that is wholly known replies are expected that are wholly known, and it stays so.
+pub fn a_whole_slave_stays_whole()
+    ensures { WholeSlaveStaysWhole }
+{}

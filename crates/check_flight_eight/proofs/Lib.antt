@@ -1,0 +1,4 @@
+pub mod Stores
+pub mod Standing
+pub mod Slaves
+pub mod Sides

@@ -1,0 +1,4 @@
+mod crossed;
+mod refused;
+mod scene;
+mod served;
