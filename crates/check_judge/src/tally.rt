@@ -251,27 +251,30 @@ impl Tally {
         Ok(())
     }
 
-    /// Takes the beat of a row behind those before it, if it is lawful or its link is not watched, and tells and notes
-    /// nothing: whether it did.
+    /// Takes the beat of a row behind those before it, if it is lawful or its link is not watched, notes what it does to
+    /// the requests in flight, and tells nothing: whether it did.
     fn pass_row(&mut self, row: &Row) -> Result<bool, AllocError>
-        requires { is_some self.old.pending ≡ false }
         ensures trace { self.new.trace ≡ self.old.trace }
-        ensures pending { self.new.pending ≡ self.old.pending }
+        ensures asked { is_some self.new.pending ≡ is_some self.old.pending }
         ensures keeps { (plan : Plan) (before : List Row) → Kept plan before self.old
             → IfOk result (λ passed. passed ≡ true → Kept plan (row.now ∷ before) self.new) }
         ensures refused { IfOk result (λ passed. passed ≡ false → self.new ≡ self.old) }
         ensures memory { (plan : Plan) (before : List Row) → Kept plan before self.old
             → IfErr result (λ _. MayWantMemory self.old.trace plan) }
     {
-        if self.watch.watches(row.sighting.link) {
-            self.take_row(row)
-        } else {
-            Ok(true)
+        if !self.watch.watches(row.sighting.link) {
+            return Ok(true);
         }
+        let change = self.change(row);
+        if !self.take_row(row)? {
+            return Ok(false);
+        }
+        self.note(change, row);
+        Ok(true)
     }
 
-    /// Takes the beats of rows that cross in this order behind those before them, if nothing is told or noted of them,
-    /// they are lawful, and there is but one: whether it did. Nothing changes if it did not. It costs less than
+    /// Takes the beats of rows that cross in this order behind those before them, if nothing is told of them, they are
+    /// lawful, and there is but one: whether it did. Nothing changes if it did not. It costs less than
     /// [`Tally::judge_rows`], which has room for a fault.
     pub fn pass_rows(&mut self, rows: &[Row]) -> Result<bool, AllocError>
         ensures trace { self.new.trace ≡ self.old.trace }
@@ -286,7 +289,7 @@ impl Tally {
             → IfErr result (λ _. MayWantMemory self.old.trace plan) }
     {
         match rows {
-            [row] if !self.trace && self.pending.is_none() => self.pass_row(row),
+            [row] if !self.trace => self.pass_row(row),
             _ => Ok(false),
         }
     }
