@@ -1,4 +1,5 @@
 //! Worked values of each operation at each kind of slave, and banks beside memories that are as plain as they can be.
+use super::expect_text;
 use arrayvec::ArrayVec;
 use std::alloc::Global;
 use std::process::Abort;
@@ -337,8 +338,7 @@ fn refuse(rt: &impl Abort, alloc: Global, refusal: &Refusal) {
     let reset = Vec::from_elem(alloc, 0u8, length).expect(rt, "memory");
     let made = Bank::new(alloc, Kind::Ram, base, reset.as_slice());
     assert!(rt; made.err() == Some(fault));
-    let told = format!(in alloc; "{fault}").expect(rt, "memory");
-    assert!(rt; told.as_str() == text);
+    expect_text(rt, alloc, &fault, text);
 }
 
 #[test]

@@ -1,49 +1,49 @@
 //! Messages, and the numbers that stand for operations on the wire.
+use super::expect_text;
+use std::alloc::Global;
+use std::process::Abort;
 use tl_types::{
     Arith, Ask, AskFault, AskOp, Hint, Logic, OpFault, Reply, ReplyFault, ReplyOp, opcode, param,
     read_op, read_reply_op, reply_opcode,
 };
 
+/// A put of this size with two holes is refused by this fault.
+fn expect_refused_ask(rt: &impl Abort, alloc: Global, size: u8, fault: AskFault, text: &str) {
+    assert!(rt; Ask::new(AskOp::PutFull, size, 0, 0, &[None; 2]).err() == Some(fault));
+    expect_text(rt, alloc, &fault, text);
+}
+
 #[test]
 fn requests_are_refused_by_their_first_fault(rt: HostRuntime) {
-    let hole = [None; 2];
     let rows = [
-        (
-            9,
-            hole.as_slice(),
-            AskFault::TooLarge,
-            "the size is over the limit",
-        ),
+        (9, AskFault::TooLarge, "the size is over the limit"),
         (
             0,
-            hole.as_slice(),
             AskFault::WrongCount,
             "the number of bytes is not the message's",
         ),
-        (
-            1,
-            hole.as_slice(),
-            AskFault::HoleInFull,
-            "a byte is left unset",
-        ),
+        (1, AskFault::HoleInFull, "a byte is left unset"),
     ];
-    for (size, bytes, fault, text) in rows {
-        let made = Ask::new(AskOp::PutFull, size, 0, 0, bytes);
-        assert!(rt; made.err() == Some(fault));
-        assert!(rt;
-            format!(in rt.alloc(); "{fault}")
-                .expect(&rt, "memory")
-                .as_str()
-                == text
-        );
+    for (size, fault, text) in rows {
+        expect_refused_ask(&rt, rt.alloc(), size, fault, text);
     }
-    assert!(rt; Ask::new(AskOp::PutPartial, 1, 0, 0, &hole).is_ok());
+}
+
+#[test]
+fn a_partial_put_may_have_holes_alone(rt: HostRuntime) {
+    assert!(rt; Ask::new(AskOp::PutPartial, 1, 0, 0, &[None; 2]).is_ok());
     assert!(rt; Ask::new(AskOp::PutPartial, 8, 0, 0, &[None; 256]).is_ok());
+}
+
+/// A denied reply of this size with a byte that is not zero is refused by this fault.
+fn expect_refused_reply(rt: &impl Abort, alloc: Global, size: u8, fault: ReplyFault, text: &str) {
+    let made = Reply::new(ReplyOp::AccessAckData, size, 0, true, &[0, 1]);
+    assert!(rt; made.err() == Some(fault));
+    expect_text(rt, alloc, &fault, text);
 }
 
 #[test]
 fn replies_are_refused_by_their_first_fault(rt: HostRuntime) {
-    let dirty = [0, 1];
     let rows = [
         (9, ReplyFault::TooLarge, "the size is over the limit"),
         (
@@ -58,37 +58,35 @@ fn replies_are_refused_by_their_first_fault(rt: HostRuntime) {
         ),
     ];
     for (size, fault, text) in rows {
-        let made = Reply::new(ReplyOp::AccessAckData, size, 0, true, &dirty);
-        assert!(rt; made.err() == Some(fault));
-        assert!(rt;
-            format!(in rt.alloc(); "{fault}")
-                .expect(&rt, "memory")
-                .as_str()
-                == text
-        );
+        expect_refused_reply(&rt, rt.alloc(), size, fault, text);
     }
-    assert!(rt; Reply::new(ReplyOp::AccessAckData, 1, 0, false, &dirty).is_ok());
+}
+
+#[test]
+fn a_reply_has_its_bytes_or_zeros(rt: HostRuntime) {
+    assert!(rt; Reply::new(ReplyOp::AccessAckData, 1, 0, false, &[0, 1]).is_ok());
     assert!(rt; Reply::new(ReplyOp::AccessAckData, 8, 0, true, &[0; 256]).is_ok());
 }
 
 #[test]
-fn copies_differ_in_the_source_alone(rt: HostRuntime) {
+fn a_requests_copy_differs_in_the_source_alone(rt: HostRuntime) {
     let ask = Ask::new(AskOp::PutPartial, 1, 3, 0x1000, &[Some(7), None])
         .expect(&rt, "a request")
         .with_source(12);
-    assert!(rt;
-        (ask.op(), ask.size(), ask.source(), ask.address()) == (AskOp::PutPartial, 1, 12, 0x1000)
-    );
+    assert!(rt; ask.op() == AskOp::PutPartial);
+    assert!(rt; (ask.size(), ask.source(), ask.address()) == (1, 12, 0x1000));
     let again = ask.copy();
     assert!(rt; again.bytes().len() == 2);
     assert!(rt; (again.bytes().get(0), again.bytes().get(1)) == (Some(7), None));
+}
+
+#[test]
+fn a_replys_copy_differs_in_the_source_alone(rt: HostRuntime) {
     let reply = Reply::new(ReplyOp::AccessAckData, 0, 12, false, &[7])
         .expect(&rt, "a reply")
         .with_source(3);
-    assert!(rt;
-        (reply.op(), reply.size(), reply.source(), reply.denied())
-            == (ReplyOp::AccessAckData, 0, 3, false)
-    );
+    assert!(rt; reply.op() == ReplyOp::AccessAckData);
+    assert!(rt; (reply.size(), reply.source(), reply.denied()) == (0, 3, false));
     assert!(rt; reply.copy().bytes() == [7].as_slice());
 }
 
@@ -110,27 +108,38 @@ const OPERATIONS: [(AskOp, u8, u8); 14] = [
     (AskOp::Intent(Hint::PrefetchWrite), 5, 1),
 ];
 
+/// An operation has these numbers, and is read from them.
+fn expect_numbers(rt: &impl Abort, op: AskOp, number: u8, parameter: u8) {
+    assert!(rt; opcode(&op) == number);
+    assert!(rt; param(&op) == parameter);
+    assert!(rt; read_op(number, parameter) == Ok(op));
+}
+
 #[test]
 fn opcodes_are_those_of_the_standard(rt: HostRuntime) {
     for (op, number, parameter) in OPERATIONS {
-        assert!(rt; (opcode(&op), param(&op)) == (number, parameter));
-        assert!(rt; read_op(number, parameter) == Ok(op));
+        expect_numbers(&rt, op, number, parameter);
     }
-    let refused = [
-        (6, 0, OpFault::Cached, "a cached operation"),
-        (7, 9, OpFault::Cached, "a cached operation"),
-        (9, 0, OpFault::UnknownOpcode, "no such opcode"),
-        (4, 1, OpFault::UnknownParam, "no such parameter"),
-    ];
-    for (number, parameter, fault, text) in refused {
+}
+
+/// Numbers that mean no operation, and their fault in words.
+const REFUSED: [(u8, u8, OpFault, &str); 4] = [
+    (6, 0, OpFault::Cached, "a cached operation"),
+    (7, 9, OpFault::Cached, "a cached operation"),
+    (9, 0, OpFault::UnknownOpcode, "no such opcode"),
+    (4, 1, OpFault::UnknownParam, "no such parameter"),
+];
+
+#[test]
+fn other_numbers_are_refused(rt: HostRuntime) {
+    for (number, parameter, fault, text) in REFUSED {
         assert!(rt; read_op(number, parameter) == Err(fault));
-        assert!(rt;
-            format!(in rt.alloc(); "{fault}")
-                .expect(&rt, "memory")
-                .as_str()
-                == text
-        );
+        expect_text(&rt, rt.alloc(), &fault, text);
     }
+}
+
+#[test]
+fn replies_have_numbers(rt: HostRuntime) {
     for (op, number) in [
         (ReplyOp::AccessAck, 0),
         (ReplyOp::AccessAckData, 1),
