@@ -16,7 +16,7 @@ use tl_types::Memory;
 const LOOKS: u32 = 64;
 
 /// What a bell says.
-#[derive(Debug, Clone, Copy, PartialEq, Eq)]
+#[derive(Clone, Copy, PartialEq, Eq)]
 pub(crate) enum Ring {
     /// Something was posted, or answered.
     Look,

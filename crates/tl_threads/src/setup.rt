@@ -64,7 +64,10 @@ fn book_of(
     ensures { IfOk result (λ book. book
         ≡ new_book (new_port arena.now number) (reset_of arena.now.about number) journal) }
 {
-    Book::new(alloc, bank, seat, arena.slots(), journal).map_err(|_| Memory)
+    let Ok(book) = Book::new(alloc, bank, seat, arena.slots(), journal) else {
+        return Err(Memory);
+    };
+    Ok(book)
 }
 
 /// The books of new ports, with these banks, which are their resets.
@@ -152,7 +155,9 @@ fn master_of(
     ensures idle { IfOk result (λ master. IsIdle arena.now number master) }
     ensures room { IfOk result (λ master. master.limit ≡ limit) }
 {
-    let master = Master::new(alloc, seat, system.sources(), limit).map_err(|_| Memory)?;
+    let Ok(master) = Master::new(alloc, seat, system.sources(), limit) else {
+        return Err(Memory);
+    };
     Ok(master)
 }
 

@@ -95,8 +95,10 @@ pub(crate) fn run_worker<N: ArenaName, R: Wait, G: Gate>(
             held = !may_serve(rt, shared.gate, number, &mut bells.others, &mut owed);
         }
         let step = port.step(rt, shared.arena);
-        if let Some(master) = step.source.and_then(|wide| master_of(sources, wide)) {
-            owed.push(master);
+        if let Some(wide) = step.source {
+            if let Some(master) = master_of(sources, wide) {
+                owed.push(master);
+            }
         }
     }
     held.then_some(number)

@@ -6,5 +6,5 @@ use Rattle.tl_threads.proofs.setup.master_of.Goals as goal
 
 pub returns-clause-idle : goal.returns-clause-idle
 returns-clause-idle c =
-    let is : c.in_ok-master.master ≡ new_state c.args.seat c.args.limit = search rules in
-    new_idle c.args.arena.now c.args.number c.args.limit c.args.seat c.in_ok-master.master c.requires.seat is
+    let is : c.in-Ok.master ≡ new_state c.args.seat c.args.limit = search rules in
+    new_idle c.args.arena.now c.args.number c.args.limit c.args.seat c.in-Ok.master c.requires.seat is
