@@ -1,7 +1,7 @@
 -- What is left of a dump's rows behind one thing that happens.
-use Rattle.std.proofs.Common.{◌≡◌, ◌∙◌, ℕ, Bool, true, false, ◌||◌, cond, List, [], ◌∷◌, ◌++◌, Option, Some, None, Result, Ok, Err, ap, append-nil, refl, sym, subst}
+use Rattle.std.proofs.Common.{◌≡◌, ◌∙◌, ℕ, Bool, true, false, ◌||◌, List, [], ◌∷◌, Option, Some, None, Result, Ok, Err, ap, append-nil, refl, sym, subst}
 use Rattle.std.specs.Option.{IfSome, option_map}
-use Rattle.check_vcd.specs.Body.{At, Happens, Sets, Wrong, happens_of}
+use Rattle.check_vcd.specs.Body.{At, Happens, Wrong, happens_of}
 use Rattle.check_vcd.specs.Words.{Both}
 use Rattle.check_vcd.specs.declared.body.Event.{Event}
 use Rattle.check_vcd.specs.declared.body.Event.TheVariants as event

@@ -1,6 +1,6 @@
 //! The values that are kept of a dump: what they are, and what they were before the present time.
 ghost use Rattle.std.specs.Prelude.{◌≡◌, ◌≤◌, ◌<◌, ◌++◌, ◌∷◌, [], All, OnOk, vec_len};
-ghost use Rattle.check_samples.specs.Digits.{bits_of, set_extended, unknown};
+ghost use Rattle.check_samples.specs.Digits.{bits_of, extended, set_extended, unknown};
 
 use crate::slot::{Slot, part};
 use crate::tap::Tap;
@@ -44,6 +44,19 @@ impl Values {
         ensures widths { OnOk result (all_widths self.new ≡ all_widths self.old ++ (width ∷ [])) }
     {
         self.slots.push(Slot::new(alloc, width)?)?;
+        Ok(())
+    }
+
+    /// Keeps one more, of so many bits: a constant, whose lowest bit has this digit.
+    pub fn add_constant(&mut self, alloc: Global, width: usize, digit: u8) -> Result<(), AllocError>
+        ensures before { OnOk result (all_before self.new ≡ all_before self.old ++ (unknown width ∷ [])) }
+        ensures now { OnOk result (all_now self.new
+            ≡ all_now self.old ++ (extended width (digit ∷ []) ∷ [])) }
+        ensures widths { OnOk result (all_widths self.new ≡ all_widths self.old ++ (width ∷ [])) }
+    {
+        let mut slot = Slot::new(alloc, width)?;
+        slot.change(self.times, &[digit])?;
+        self.slots.push(slot)?;
         Ok(())
     }
 

@@ -8,13 +8,20 @@
 #![tactic(auto)]
 
 mod fault;
+mod kept;
 mod keys;
+mod links;
+mod nearest;
 mod resolve;
+mod signal_fault;
+mod source;
 mod wanted;
 mod wires;
 
 pub use fault::{Key, KeyFault};
 pub use keys::{LinkNames, Names, SIGNALS, read_names};
-pub use resolve::{BUS, Owner, Resolved, SignalFault, find_signals};
+pub use links::BUS;
+pub use resolve::{Resolved, find_signals};
+pub use signal_fault::{Owner, SignalFault};
 pub use wanted::{Wanted, wanted_of};
 pub use wires::{Places, places_in};

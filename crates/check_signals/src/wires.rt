@@ -1,10 +1,11 @@
 //! The bits that a name means, among the signals that a dump declares.
-ghost use Rattle.std.specs.Prelude.{◌≡◌};
-ghost use Rattle.check_signals.specs.Wires.{places_in};
+ghost use Rattle.std.specs.Prelude.{◌≡◌, IfSome, map, option_map, not};
+ghost use Rattle.std.specs.List.{list_any};
+ghost use Rattle.std.specs.Str.{bytes_eq};
+ghost use Rattle.check_vcd.specs.Header.{var_view};
+ghost use Rattle.check_signals.specs.Wires.{IsInside, first_of, places_in, sought as sought_in, sought_view, wire_by, wire_of, wire_view, wires};
 
 use check_vcd::{Span, Var, split_range};
-use std::alloc::{AllocError, Global};
-use strsim::generic_levenshtein;
 
 /// The places of bits among the digits of a signal, from the first to before the last, the highest bit's digit being at
 /// place 0.
@@ -38,81 +39,78 @@ pub(crate) struct Wire<'a> {
     pub(crate) places: Places,
 }
 
-/// The first signal of this name.
-fn find_whole<'a>(vars: &'a [Var], name: &[u8]) -> Option<Wire<'a>> {
-    for var in vars {
-        if var.name.as_slice() == name {
-            let places = Places {
-                from: 0,
-                to: var.width,
-            };
-            return Some(Wire { var, places });
-        }
-    }
-    None
-}
-
-/// The first signal of this name that has these bits.
-fn find_part<'a>(vars: &'a [Var], name: &[u8], part: Span) -> Option<Wire<'a>> {
-    for var in vars {
-        if let Some(span) = var.span
-            && var.name.as_slice() == name
-            && let Some(places) = places_in(span, part)
-        {
-            return Some(Wire { var, places });
-        }
-    }
-    None
-}
-
-/// The bits that a name means: a signal of this name, or else the part of one that a range at its end names.
-pub(crate) fn find_wire<'a>(vars: &'a [Var], name: &[u8]) -> Option<Wire<'a>> {
-    if let Some(wire) = find_whole(vars, name) {
-        return Some(wire);
-    }
-    let (base, part) = split_range(name)?;
-    find_part(vars, base, part)
-}
-
-/// Whether a signal has these bits, where some are asked for.
-fn has_part(var: &Var, part: Option<Span>) -> bool {
-    match (var.span, part) {
-        (_, None) => true,
-        (None, Some(_)) => false,
-        (Some(span), Some(part)) => places_in(span, part).is_some(),
-    }
-}
-
-/// Whether a name that means a wire could mean another signal as well, by another identifier.
-pub(crate) fn is_ambiguous(vars: &[Var], name: &[u8], wire: &Wire<'_>) -> bool {
-    let found = wire.var.name.as_slice();
-    let part = match split_range(name) {
-        Some((_, part)) if found != name => Some(part),
-        _ => None,
+/// The bits of a signal that a range means, if the signal has them; all bits if there is no range.
+fn wire_by<'a>(var: &'a Var, part: Option<Span>) -> Option<Wire<'a>>
+    ensures wire { option_map wire_view result ≡ wire_by part (var_view var.now) }
+    ensures inside { IfSome result IsInside }
+{
+    let Some(part) = part else {
+        let to = var.width;
+        return Some(Wire {
+            var,
+            places: Places { from: 0, to },
+        });
     };
+    let Some(span) = var.span else {
+        return None;
+    };
+    match places_in(span, part) {
+        Some(places) if places.from <= places.to && places.to <= var.width => {
+            Some(Wire { var, places })
+        }
+        _ => None,
+    }
+}
+
+/// The same of a signal that has this name.
+fn wire_of<'a>(var: &'a Var, name: &[u8], part: Option<Span>) -> Option<Wire<'a>>
+    ensures wire { option_map wire_view result ≡ wire_of name.now part (var_view var.now) }
+    ensures inside { IfSome result IsInside }
+{
+    if var.name.as_slice() == name {
+        wire_by(var, part)
+    } else {
+        None
+    }
+}
+
+/// The first wire that a name and a range mean.
+pub(crate) fn first_wire<'a>(vars: &'a [Var], name: &[u8], part: Option<Span>) -> Option<Wire<'a>>
+    ensures wire { option_map wire_view result ≡ first_of (wires name.now part (map var_view vars.now)) }
+    ensures inside { IfSome result IsInside }
+{
     for var in vars {
-        let is_other = var.code.as_slice() != wire.var.code.as_slice();
-        if is_other && var.name.as_slice() == found && has_part(var, part) {
+        if let Some(wire) = wire_of(var, name, part) {
+            return Some(wire);
+        }
+    }
+    None
+}
+
+/// Whether a name and a range mean a wire of another identifier.
+pub(crate) fn has_another(vars: &[Var], name: &[u8], part: Option<Span>, code: &[u8]) -> bool
+    ensures { result ≡ list_any (λ wire. not (bytes_eq wire.var.code code.now))
+        (wires name.now part (map var_view vars.now)) }
+{
+    for var in vars {
+        if let Some(wire) = wire_of(var, name, part)
+            && wire.var.code.as_slice() != code
+        {
             return true;
         }
     }
     false
 }
 
-/// The declared name that is nearest to a name: by the count of bytes to be changed, put in or left out.
-pub(crate) fn nearest<'a>(
-    alloc: Global,
-    vars: &'a [Var],
-    name: &[u8],
-) -> Result<Option<&'a [u8]>, AllocError> {
-    let mut best = None;
-    let mut least = usize::MAX;
-    for var in vars {
-        let distance = generic_levenshtein(alloc, name, var.name.as_slice())?;
-        if distance < least {
-            least = distance;
-            best = Some(var.name.as_slice());
-        }
+/// What is looked for by a name: all bits of a signal of this name, or else those that a range at its end means.
+pub(crate) fn sought<'n>(vars: &[Var], name: &'n [u8]) -> (&'n [u8], Option<Span>)
+    ensures { sought_view result ≡ sought_in (map var_view vars.now) name.now }
+{
+    if first_wire(vars, name, None).is_some() {
+        return (name, None);
     }
-    Ok(best)
+    match split_range(name) {
+        Some((base, part)) => (base, Some(part)),
+        None => (name, None),
+    }
 }

@@ -1,5 +1,5 @@
 -- The words of a row, with commas between them.
-use Rattle.std.proofs.Common.{◌≡◌, ◌∙◌, ℕ, ◌+◌, ◌^◌, ◌<◌, ◌≤◌, ◌==◌, false, ◌%◌, cond, Bool, true, List, [], ◌∷◌, ◌++◌, length, take, drop, Option, Some, None, arith, refl, ap}
+use Rattle.std.proofs.Common.{◌≡◌, ◌∙◌, ℕ, ◌^◌, ◌<◌, ◌≤◌, ◌==◌, false, ◌%◌, cond, Bool, true, List, [], ◌∷◌, ◌++◌, length, take, drop, Option, Some, None, arith, refl, ap}
 use Rattle.std.specs.Prelude.{⊤}
 use Rattle.std.proofs.lemmas.Bool.{ne_eqb}
 use Rattle.std.proofs.lemmas.Bool.Decides.{nat_tests}

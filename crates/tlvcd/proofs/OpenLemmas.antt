@@ -1,6 +1,7 @@
 -- A dump that is opened, and the identifiers that are kept of it.
-use Rattle.std.proofs.Common.{◌≡◌, ◌≢◌, ◌∙◌, ℕ, suc, ◌+◌, ◌<◌, List, [], ◌∷◌, length, get_or, drop, drop-cons, add-one, Option, Some, None, Result, Ok, Err, false, IfErr, IsErrAnd, inl, inr, ap, refl, sym, subst, if◌then◌else◌}
+use Rattle.std.proofs.Common.{◌≡◌, ◌≢◌, ◌∙◌, ℕ, suc, ◌+◌, ◌<◌, List, [], ◌∷◌, length, get_or, drop, drop-cons, map, add-one, Option, Some, None, Result, Ok, Err, false, IfErr, IsErrAnd, inl, inr, ap, refl, sym, subst, if◌then◌else◌}
 use Rattle.std.proofs.KnownBytes.{Appends-nil}
+use Rattle.std.proofs.Math.Path.{fun_ext}
 use Rattle.std.specs.Option.{IfSome, option_map}
 use Rattle.std.specs.Str.{bytes_eq}
 use Rattle.check_vcd.specs.Body.{Body, Find, happenings, start}
@@ -12,13 +13,18 @@ use Rattle.check_vcd.specs.declared.codes.Coded.{Coded}
 use Rattle.check_vcd.specs.declared.fault.DumpFault.{DumpFault}
 use Rattle.check_vcd.specs.declared.fault.DumpFault.TheVariants as dump
 use Rattle.check_vcd.specs.declared.fault.Mistake.{Mistake}
+use Rattle.check_samples.specs.Digits.{unknown}
 use Rattle.check_samples.specs.Left.{Left, left_in, left_of}
+use Rattle.check_samples.specs.Rows.{Probes}
 use Rattle.check_samples.specs.Sampling.{Sampling}
-use Rattle.check_signals.specs.Names.{names_of_file}
+use Rattle.check_signals.specs.Found.{Found, IsFound, IsResolved, code_in, digits_in, find_of, found_in, sampling_of, slot_one, slots_from, width_in}
+use Rattle.check_signals.specs.Names.{Names, names_of_file}
+use Rattle.check_signals.specs.Source.{Fault, fault_view}
 use Rattle.check_signals.specs.declared.fault.KeyFault.{KeyFault}
 use Rattle.check_signals.specs.declared.fault.KeyFault.TheVariants as key
-use Rattle.check_signals.specs.declared.resolve.SignalFault.{SignalFault}
-use Rattle.check_signals.specs.declared.resolve.SignalFault.TheVariants as signal
+use Rattle.check_signals.specs.declared.resolve.Resolved.{Resolved}
+use Rattle.check_signals.specs.declared.signal_fault.SignalFault.{SignalFault}
+use Rattle.check_signals.specs.declared.signal_fault.SignalFault.TheVariants as signal
 use Rattle.check_system.specs.File.{IsFirstSystemFault, Spells}
 use Rattle.check_system.specs.System.{System}
 use Rattle.check_system.specs.declared.fault.SystemFault.{SystemFault}
@@ -27,66 +33,114 @@ use Rattle.check_system.specs.declared.read.TheConstants.{MAX_SYSTEM}
 use Rattle.tl_streams.specs.Streams.{ReadsUpTo}
 use Rattle.tl_streams.specs.declared.streams.ReadFault.{ReadFault}
 use Rattle.tl_streams.specs.declared.streams.ReadFault.TheVariants as read
-use Rattle.tlvcd.specs.Capture.{HasHeader, HasNames, IsCapture, IsOfSystem, IsOpened, IsUnopened, kept, kept_one}
+use Rattle.tlvcd.specs.Capture.{GivesNames, IsCapture, IsNoHeader, IsOfSystem, IsOpened, IsUnopened, NotFound, rows_behind, rows_found, rows_in}
 use Rattle.tlvcd.specs.Out.{IsOut, capture_of}
 use Rattle.tlvcd.specs.Fault.{of_dump, of_keys, of_read, of_signal, of_system}
 use Rattle.tlvcd.specs.declared.fault.WaveFault.{WaveFault}
-use Rattle.tlvcd.specs.declared.fault.WaveFault.TheVariants as wave
 
-kept-one-same : (code : List ℕ) (slot : ℕ) (f g : Find) → ((c : List ℕ) → f c ≡ g c) → (c : List ℕ)
-    → kept_one code slot f c ≡ kept_one code slot g c
-kept-one-same code slot f g same c =
+slot-one-same : (code : Option (List ℕ)) (slot : ℕ) (f g : Find) → ((c : List ℕ) → f c ≡ g c) → (c : List ℕ)
+    → slot_one code slot f c ≡ slot_one code slot g c
+slot-one-same None slot f g same c = same c
+slot-one-same (Some code) slot f g same c =
     ap (λ (known : Option Coded). if bytes_eq code c then with_slot slot known else known) (same c)
 
-pub kept-same : (codes : List (List ℕ)) (slot : ℕ) (f g : Find) → ((c : List ℕ) → f c ≡ g c) → (c : List ℕ)
-    → kept codes slot f c ≡ kept codes slot g c
-kept-same [] slot f g same c = same c
-kept-same (code ∷ codes) slot f g same c =
-    kept-same codes (slot + 1) (kept_one code slot f) (kept_one code slot g) (kept-one-same code slot f g same) c
+pub slots-same : (codes : List (Option (List ℕ))) (slot : ℕ) (f g : Find) → ((c : List ℕ) → f c ≡ g c) → (c : List ℕ)
+    → slots_from codes slot f c ≡ slots_from codes slot g c
+slots-same [] slot f g same c = same c
+slots-same (code ∷ codes) slot f g same c =
+    slots-same codes (slot + 1) (slot_one code slot f) (slot_one code slot g) (slot-one-same code slot f g same) c
 
-opened : (text : List ℕ) (vars : List Var) (words : Option (List Word)) (find : Find) (body : Body)
-    (codes : List (List ℕ)) (s : Sampling) → Both (Some (words_of text)) words (λ from to. opening from blank ≡ Opened vars to)
-    → body ≡ start → ((code : List ℕ) → find code ≡ kept codes 0 (coded_in vars) code) → s.time ≡ None
-    → IsOpened (option_map (λ h. left_of h s false) (option_map (λ w. happenings find w body) words)) text
-opened text vars None find body codes s both is finds fresh = absurd both
-opened text vars (Some w) find body codes s both is finds fresh = record {
-  vars = vars;
-  words = w;
-  opened = both;
-  codes = codes;
-  find = find;
-  finds = finds;
-  sampling = s;
-  fresh = fresh;
-  is = ap (λ (b : Body). left_of (happenings find w b) s false) is;
-}
+-- a sampler that has taken nothing
+pub record IsFresh (s : Sampling) (found : Found) : Type 0 where
+  pub probes : s.probes ≡ found.probes
+  pub before : s.before ≡ map (λ value. unknown (width_in value)) found.kept
+  pub now : s.now ≡ map digits_in found.kept
+  pub widths : s.widths ≡ map width_in found.kept
+  pub time : s.time ≡ None
 
--- the rows of a dump behind its header, where these identifiers are kept
-pub opened-rows : (text : Option (List ℕ)) (vars : List Var) (first dump : Dumping) (codes : List (List ℕ)) (s : Sampling)
+-- a sampler of these parts
+abbrev made : Probes → List (List ℕ) → List (List ℕ) → List ℕ → Option ℕ → Sampling
+made probes before now widths time =
+    record { probes = probes; before = before; now = now; widths = widths; time = time }
+
+same-made : (p q : Probes) (b c n m : List (List ℕ)) (w v : List ℕ) (t u : Option ℕ) → p ≡ q → b ≡ c → n ≡ m → w ≡ v
+    → t ≡ u → made p b n w t ≡ made q c m v u
+same-made p q b c n m w v t u probes before now widths time =
+    ap (λ (x : Probes). made x b n w t) probes ∙ ap (λ (x : List (List ℕ)). made q x n w t) before
+    ∙ ap (λ (x : List (List ℕ)). made q c x w t) now ∙ ap (λ (x : List ℕ). made q c m x t) widths
+    ∙ ap (λ (x : Option ℕ). made q c m v x) time
+
+fresh-is : (s : Sampling) (found : Found) → IsFresh s found → s ≡ sampling_of found
+fresh-is s found fresh =
+    same-made s.probes found.probes s.before (map (λ value. unknown (width_in value)) found.kept) s.now
+    (map digits_in found.kept) s.widths (map width_in found.kept) s.time None fresh.probes fresh.before fresh.now
+    fresh.widths fresh.time
+
+opened : (names : Names) (text : List ℕ) (vars : List Var) (words : Option (List Word)) (find : Find) (body : Body)
+    (found : Found) (s : Sampling)
+    → Both (Some (words_of text)) words (λ from to. opening from blank ≡ Opened vars to)
+    → body ≡ start → find ≡ find_of vars found → s ≡ sampling_of found → found_in vars names ≡ Ok found
+    → IsOpened names (option_map (λ h. left_of h s false) (option_map (λ w. happenings find w body) words)) text
+unfolding rows_in
+opened names text vars None find body found s both is finds fresh has = absurd both
+opened names text vars (Some w) find body found s both is finds fresh has =
+    ap (rows_behind names) both
+    ∙ ap (rows_found vars w) has
+    ∙ ap (λ (l : Left). Ok l) (sym (ap (λ (b : Body). left_of (happenings find w b) s false) is
+    ∙ ap (λ (f : Find). left_of (happenings f w start) s false) finds
+    ∙ ap (λ (t : Sampling). left_of (happenings (find_of vars found) w start) t false) fresh))
+
+-- the identifiers that are kept are those that were found
+find-is : (vars : List Var) (first now : Find) (codes : List (Option (List ℕ))) (found : Found)
+    → ((code : List ℕ) → first code ≡ coded_in vars code) → ((code : List ℕ) → now code ≡ slots_from codes 0 first code)
+    → codes ≡ map code_in found.kept → now ≡ find_of vars found
+find-is vars first now codes found opens finds are =
+    fun_ext (λ code. finds code ∙ slots-same codes 0 first (coded_in vars) opens code
+    ∙ ap (λ (all : List (Option (List ℕ))). slots_from all 0 (coded_in vars) code) are)
+
+-- the rows of a dump behind its header, if these identifiers are kept
+pub opened-rows : (names : Names) (text : Option (List ℕ)) (vars : List Var) (first dump : Dumping)
+    (codes : List (Option (List ℕ))) (found : Found) (s : Sampling)
     → Opens text vars first → dump.words ≡ first.words → dump.body ≡ first.body
-    → ((code : List ℕ) → find_in dump.codes code ≡ kept codes 0 (find_in first.codes) code) → s.time ≡ None
-    → IfSome text (IsOpened (left_in dump s false))
-opened-rows None vars first dump codes s opens words body finds fresh = tt
-opened-rows (Some text) vars first dump codes s opens words body finds fresh =
-    opened text vars dump.words (find_in dump.codes) dump.body codes s (rw words opens.words) (body ∙ opens.body)
-    (λ code. finds code ∙ kept-same codes 0 (find_in first.codes) (coded_in vars) opens.find code) fresh
+    → ((code : List ℕ) → find_in dump.codes code ≡ slots_from codes 0 (find_in first.codes) code)
+    → codes ≡ map code_in found.kept → IsFresh s found → found_in vars names ≡ Ok found
+    → IfSome text (IsOpened names (left_in dump s false))
+opened-rows names None vars first dump codes found s opens words body finds are fresh has = tt
+opened-rows names (Some text) vars first dump codes found s opens words body finds are fresh has =
+    opened names text vars dump.words (find_in dump.codes) dump.body found s (rw words opens.words) (body ∙ opens.body)
+    (find-is vars (find_in first.codes) (find_in dump.codes) codes found opens.find finds are)
+    (fresh-is s found fresh) has
+
+-- what was found
+pub found-is : (found : Result Found Fault) (resolved : Resolved) → IsFound found resolved
+    → (f : Found) × (found ≡ Ok f) × IsResolved resolved f
+found-is (Ok f) resolved is = (f, refl, is)
+found-is (Err fault) resolved is = absurd is
 
 -- one identifier more is kept
-pub keeps-on : (first now next : Find) (all here rest : List (List ℕ)) (slot : ℕ) (code : List ℕ) → here ≡ code ∷ rest
-    → ((o : List ℕ) → kept here slot now o ≡ kept all 0 first o) → ((o : List ℕ) → next o ≡ kept_one code slot now o)
-    → (o : List ℕ) → kept rest (slot + 1) next o ≡ kept all 0 first o
+pub keeps-on : (first now next : Find) (all here rest : List (Option (List ℕ))) (slot : ℕ) (code : Option (List ℕ))
+    → here ≡ code ∷ rest → ((o : List ℕ) → slots_from here slot now o ≡ slots_from all 0 first o)
+    → ((o : List ℕ) → next o ≡ slot_one code slot now o)
+    → (o : List ℕ) → slots_from rest (slot + 1) next o ≡ slots_from all 0 first o
 keeps-on first now next all here rest slot code is so_far one o =
-    kept-same rest (slot + 1) next (kept_one code slot now) one o
-    ∙ subst (λ (h : List (List ℕ)). kept h slot now o ≡ kept all 0 first o) is (so_far o)
+    slots-same rest (slot + 1) next (slot_one code slot now) one o
+    ∙ subst (λ (h : List (Option (List ℕ))). slots_from h slot now o ≡ slots_from all 0 first o) is (so_far o)
 
 -- no dump was opened
-pub unopened-dump : (text : Option (List ℕ)) (fault : DumpFault)
+wrong-header : (names : Names) (text : List ℕ) (line : ℕ) (mistake : Mistake)
+    → IsNoDump (Some text) line mistake → IsNoHeader names text line mistake
+unfolding rows_in
+wrong-header names text line mistake (inl refused) = inl (ap (rows_behind names) refused)
+wrong-header names text line mistake (inr cut) = inr (ap (rows_behind names) cut.0, cut.1)
+
+pub unopened-dump : (names : Names) (text : Option (List ℕ)) (fault : DumpFault)
     → ((line : ℕ) (mistake : Mistake) → fault ≡ dump.At line mistake → IsNoDump text line mistake)
-    → IfSome text (IsUnopened (of_dump fault))
-unopened-dump None fault wrong = tt
-unopened-dump (Some text) (dump.At line mistake) wrong = wrong line mistake refl
-unopened-dump (Some text) dump.Read wrong = tt
-unopened-dump (Some text) dump.Memory wrong = tt
+    → IfSome text (IsUnopened names (of_dump fault))
+unopened-dump names None fault wrong = tt
+unopened-dump names (Some text) (dump.At line mistake) wrong =
+    wrong-header names text line mistake (wrong line mistake refl)
+unopened-dump names (Some text) dump.Read wrong = tt
+unopened-dump names (Some text) dump.Memory wrong = tt
 
 pub fails-by : {T : Type 0} (result : Result T WaveFault) (fault : WaveFault) (P : WaveFault → Type 0)
     → IsErrAnd result (λ e. e ≡ fault) → P fault → IfErr result P
@@ -100,20 +154,23 @@ rest-of xs i x lt is =
     let all : drop i xs ≡ x ∷ drop (suc i) xs = drop-cons xs i x lt ∙ ap (λ h. h ∷ drop (suc i) xs) (sym is) in
     rw add-one all
 
--- a signal is looked for once there is a header
-pub unopened-signal : (text : Option (List ℕ)) (vars : List Var) (first : Dumping) (fault : SignalFault)
-    → Opens text vars first → IfSome text (IsUnopened (of_signal fault))
-unopened-signal None vars first fault opens = tt
-unopened-signal (Some text) vars first fault opens = by fault (header first.words opens.words)
+-- the first signal that is not found behind a header
+pub unopened-signal : (names : Names) (text : Option (List ℕ)) (vars : List Var) (first : Dumping) (fault : SignalFault)
+    → Opens text vars first → (fault ≢ signal.Memory → found_in vars names ≡ Err (fault_view fault))
+    → IfSome text (IsUnopened names (of_signal fault))
+unfolding rows_in
+unopened-signal names None vars first fault opens finds = tt
+unopened-signal names (Some text) vars first fault opens finds = by fault finds
   where
-    header : (words : Option (List Word)) → Both (Some (words_of text)) words (λ from to. opening from blank ≡ Opened vars to)
-        → HasHeader text
-    header None both = absurd both
-    header (Some words) both = record { vars = vars; words = words; opened = both }
+    behind : (words : Option (List Word)) (f : Fault) → Both (Some (words_of text)) words (λ from to. opening from blank ≡ Opened vars to)
+        → found_in vars names ≡ Err f → rows_in names text ≡ Err (NotFound f)
+    behind None f both is = absurd both
+    behind (Some words) f both is = ap (rows_behind names) both ∙ ap (rows_found vars words) is
 
-    by : (f : SignalFault) → HasHeader text → IsUnopened (of_signal f) text
-    by signal.Memory has = tt
-    by f has = has
+    by : (f : SignalFault) → (f ≢ signal.Memory → found_in vars names ≡ Err (fault_view f))
+        → IsUnopened names (of_signal f) text
+    by signal.Memory is = tt
+    by f is = behind first.words (fault_view f) opens.words (is (λ (same : f ≡ signal.Memory). cc))
 
 -- ---- the first fault of a system
 
@@ -158,25 +215,29 @@ refused-system (Some text) (Err e) fault read_old read_new at is why =
     })
 
 -- no dump was opened
-pub refused-dump : (text : Option (List ℕ)) (result : Result Unit WaveFault) (fault : WaveFault)
-    (read_old read_new at : Option (List ℕ)) → IsErrAnd result (λ e. e ≡ fault) → HasNames read_old read_new
-    → IfSome text (IsUnopened fault) → IfSome text (λ t. IsCapture read_old read_new result t at at)
-refused-dump None result fault read_old read_new at is has why = tt
-refused-dump (Some text) (Ok done) fault read_old read_new at is has why = absurd is
-refused-dump (Some text) (Err e) fault read_old read_new at is has why =
+pub refused-dump : (text : Option (List ℕ)) (result : Result Unit WaveFault) (fault : WaveFault) (names : Names)
+    (read_old read_new at : Option (List ℕ)) → IsErrAnd result (λ e. e ≡ fault) → GivesNames read_old read_new names
+    → IfSome text (IsUnopened names fault) → IfSome text (λ t. IsCapture read_old read_new result t at at)
+refused-dump None result fault names read_old read_new at is given why = tt
+refused-dump (Some text) (Ok done) fault names read_old read_new at is given why = absurd is
+refused-dump (Some text) (Err e) fault names read_old read_new at is given why =
     inl (record {
-      why = inr (has, subst (λ (f : WaveFault). IsUnopened f text) (sym is) why);
+      why = inr (record {
+        names = names;
+        given = given;
+        why = subst (λ (f : WaveFault). IsUnopened names f text) (sym is) why;
+      });
       written = Appends-nil at;
     })
 
 -- the rows were written
-pub captured : (text : Option (List ℕ)) (rows : Option Left) (result : Result Unit WaveFault)
-    (read_old read_new old new : Option (List ℕ)) → HasNames read_old read_new → IfSome text (IsOpened rows)
-    → IfSome rows (λ left. IsOut result (capture_of left) old new)
+pub captured : (text : Option (List ℕ)) (rows : Option Left) (result : Result Unit WaveFault) (names : Names)
+    (read_old read_new old new : Option (List ℕ)) → GivesNames read_old read_new names
+    → IfSome text (IsOpened names rows) → IfSome rows (λ left. IsOut result (capture_of left) old new)
     → IfSome text (λ t. IsCapture read_old read_new result t old new)
-captured None rows result read_old read_new old new names has out = tt
-captured (Some text) None result read_old read_new old new names has out = absurd has
-captured (Some text) (Some left) (Ok done) read_old read_new old new names has out =
-    record { system = names; left = left; has = has; out = out }
-captured (Some text) (Some left) (Err e) read_old read_new old new names has out =
-    inr (record { system = names; left = left; has = has; out = out })
+captured None rows result names read_old read_new old new given has out = tt
+captured (Some text) None result names read_old read_new old new given has out = absurd has
+captured (Some text) (Some left) (Ok done) names read_old read_new old new given has out =
+    record { names = names; given = given; left = left; has = has; out = out }
+captured (Some text) (Some left) (Err e) names read_old read_new old new given has out =
+    inr (record { names = names; given = given; left = left; has = has; out = out })

@@ -1,13 +1,14 @@
 -- What is written of a dump. This project's own.
-use Rattle.std.specs.Prelude.{◌≡◌, ◌⊎◌, ℕ, ◌+◌, false, List, [], ◌∷◌, Option, None, Some, Result, Ok, Err, ⊤, if◌then◌else◌}
-use Rattle.std.specs.Str.{bytes_eq}
+use Rattle.std.specs.Prelude.{◌≡◌, ◌⊎◌, ℕ, ◌+◌, false, List, [], Option, None, Some, Result, Ok, Err, ⊤}
 use Rattle.std.specs.Io.KnownBytes.{Appends}
-use Rattle.check_vcd.specs.Body.{Find, happenings, start}
-use Rattle.check_vcd.specs.Codes.{coded_in}
-use Rattle.check_vcd.specs.Dump.{IsNoDump, with_slot}
-use Rattle.check_vcd.specs.Header.{Opened, Var, blank, opening}
+use Rattle.check_vcd.specs.Body.{happenings, start}
+use Rattle.check_vcd.specs.Header.{Cut, Opened, Opening, Refused, Var, blank, opening}
 use Rattle.check_vcd.specs.Words.{Word, words_of}
+use Rattle.check_vcd.specs.declared.fault.Mistake.{Mistake}
+use Rattle.check_vcd.specs.declared.fault.Mistake.TheVariants.{CutInHeader}
+use Rattle.check_signals.specs.Found.{Found, find_of, found_in, sampling_of}
 use Rattle.check_signals.specs.Names.{Names, names_of_file}
+use Rattle.check_signals.specs.Source.{Fault, fault_view}
 use Rattle.check_signals.specs.declared.fault.KeyFault.{KeyFault}
 use Rattle.check_system.specs.File.{IsFirstSystemFault, Spells}
 use Rattle.check_system.specs.System.{System}
@@ -15,30 +16,32 @@ use Rattle.check_system.specs.declared.fault.SystemFault.{SystemFault}
 use Rattle.check_system.specs.declared.read.TheConstants.{MAX_SYSTEM}
 use Rattle.tl_streams.specs.Streams.{ReadsUpTo}
 use Rattle.check_samples.specs.Left.{Left, left_of}
-use Rattle.check_samples.specs.Sampling.{Sampling}
 use Rattle.tlvcd.specs.Out.{IsOut, capture_of}
 use Rattle.tlvcd.specs.declared.fault.WaveFault.{WaveFault}
 use Rattle.tlvcd.specs.declared.fault.WaveFault.TheVariants as wave
 
--- identifiers are kept, each in the slot of its place
-abbrev pub kept_one : List ℕ → ℕ → Find → Find
-kept_one code slot find other = if bytes_eq code other then with_slot slot (find other) else find other
+-- why a text has no rows: its header is wrong on this line, or it is cut; or a signal of the system is not found in it
+pub data NoRows : Type 0 where
+  WrongHeader : ℕ → Mistake → NoRows
+  CutHeader : NoRows
+  NotFound : Fault → NoRows
 
-abbrev pub kept : List (List ℕ) → ℕ → Find → Find
-kept [] slot find other = find other
-kept (code ∷ codes) slot find other = kept codes (slot + 1) (kept_one code slot find) other
+-- the rows of what happens behind a header, if this is looked at
+abbrev pub rows_of : List Var → List Word → Found → Left
+rows_of vars words found = left_of (happenings (find_of vars found) words start) (sampling_of found) false
 
--- the rows of a text: those of what happens behind a header, where some of the signals that this declares are looked at
-pub record HasRows (text : List ℕ) (left : Left) : Type 0 where
-  pub vars : List Var
-  pub words : List Word
-  pub opened : opening (words_of text) blank ≡ Opened vars words
-  pub codes : List (List ℕ)
-  pub find : Find
-  pub finds : (code : List ℕ) → find code ≡ kept codes 0 (coded_in vars) code
-  pub sampling : Sampling
-  pub fresh : sampling.time ≡ None
-  pub is : left ≡ left_of (happenings find words start) sampling false
+abbrev pub rows_found : List Var → List Word → Result Found Fault → Result Left NoRows
+rows_found vars words (Ok found) = Ok (rows_of vars words found)
+rows_found vars words (Err fault) = Err (NotFound fault)
+
+abbrev pub rows_behind : Names → Opening → Result Left NoRows
+rows_behind names (Opened vars words) = rows_found vars words (found_in vars names)
+rows_behind names (Refused line mistake) = Err (WrongHeader line mistake)
+rows_behind names Cut = Err CutHeader
+
+-- the rows of a text and what they end with, if a system gives these names of signals; or why there are none
+unfoldable pub rows_in : Names → List ℕ → Result Left NoRows
+rows_in names text = rows_behind names (opening (words_of text) blank)
 
 -- ---- the system
 
@@ -65,31 +68,25 @@ pub record HasKeyFault (old new : Option (List ℕ)) (fault : KeyFault) : Type 0
   pub spelled : Spells file system
   pub first : names_of_file file ≡ Err fault
 
--- there are such names
-pub record HasNames (old new : Option (List ℕ)) : Type 0 where
-  pub names : Names
-  pub given : GivesNames old new names
-
 -- ---- the dump
 
--- the text begins with a header
-pub record HasHeader (text : List ℕ) : Type 0 where
-  pub vars : List Var
-  pub words : List Word
-  pub opened : opening (words_of text) blank ≡ Opened vars words
+-- why there are no rows: the header is wrong, or it is cut; the first signal that is not found; or it is nothing of the
+-- dump's text
+abbrev pub IsNoHeader : Names → List ℕ → ℕ → Mistake → Type 0
+IsNoHeader names text line mistake =
+    (rows_in names text ≡ Err (WrongHeader line mistake))
+    ⊎ ((rows_in names text ≡ Err CutHeader) × (mistake ≡ CutInHeader))
 
--- why there are no rows: the header is wrong; there is one, and it has not a signal that is looked at; or it is nothing of
--- the dump's text
-abbrev pub IsUnopened : WaveFault → List ℕ → Type 0
-IsUnopened (wave.System fault) text = ⊥
-IsUnopened (wave.Keys fault) text = ⊥
-IsUnopened (wave.Signal fault) text = HasHeader text
-IsUnopened (wave.Dump line mistake) text = IsNoDump (Some text) line mistake
-IsUnopened (wave.Unknown unknown) text = ⊥
-IsUnopened wave.NoEdge text = ⊥
-IsUnopened wave.Read text = ⊤
-IsUnopened wave.Write text = ⊥
-IsUnopened wave.Memory text = ⊤
+abbrev pub IsUnopened : Names → WaveFault → List ℕ → Type 0
+IsUnopened names (wave.System fault) text = ⊥
+IsUnopened names (wave.Keys fault) text = ⊥
+IsUnopened names (wave.Signal fault) text = rows_in names text ≡ Err (NotFound (fault_view fault))
+IsUnopened names (wave.Dump line mistake) text = IsNoHeader names text line mistake
+IsUnopened names (wave.Unknown unknown) text = ⊥
+IsUnopened names wave.NoEdge text = ⊥
+IsUnopened names wave.Read text = ⊤
+IsUnopened names wave.Write text = ⊥
+IsUnopened names wave.Memory text = ⊤
 
 -- why no names are known: the first fault of the system, or nothing of its text
 abbrev pub IsOfSystem : Option (List ℕ) → Option (List ℕ) → WaveFault → Type 0
@@ -103,20 +100,27 @@ IsOfSystem old new wave.Read = ⊤
 IsOfSystem old new wave.Write = ⊥
 IsOfSystem old new wave.Memory = ⊤
 
+-- the system gives names, and there are no rows of the dump by these
+pub record IsOfDump (old new : Option (List ℕ)) (fault : WaveFault) (text : List ℕ) : Type 0 where
+  pub names : Names
+  pub given : GivesNames old new names
+  pub why : IsUnopened names fault text
+
 -- ---- what is promised, of a system as it is read and of the text of a dump
 
 -- nothing was written: the system is wrong, or else the dump is
 pub record IsRefused (read_old read_new : Option (List ℕ)) (fault : WaveFault) (text : List ℕ)
     (old new : Option (List ℕ)) : Type 0 where
-  pub why : IsOfSystem read_old read_new fault ⊎ (HasNames read_old read_new × IsUnopened fault text)
+  pub why : IsOfSystem read_old read_new fault ⊎ IsOfDump read_old read_new fault text
   pub written : Appends old new []
 
 -- the system gives names, and the capture of the text was written, as far as is answered
 pub record IsWritten (read_old read_new : Option (List ℕ)) (result : Result Unit WaveFault) (text : List ℕ)
     (old new : Option (List ℕ)) : Type 0 where
-  pub system : HasNames read_old read_new
+  pub names : Names
+  pub given : GivesNames read_old read_new names
   pub left : Left
-  pub has : HasRows text left
+  pub has : rows_in names text ≡ Ok left
   pub out : IsOut result (capture_of left) old new
 
 abbrev pub IsCapture : Option (List ℕ) → Option (List ℕ) → Result Unit WaveFault → List ℕ → Option (List ℕ)
@@ -128,6 +132,6 @@ IsCapture read_old read_new (Err fault) text old new =
 -- ---- for the proofs
 
 -- a dump was opened, and these rows are to come
-abbrev pub IsOpened : Option Left → List ℕ → Type 0
-IsOpened None text = ⊥
-IsOpened (Some left) text = HasRows text left
+abbrev pub IsOpened : Names → Option Left → List ℕ → Type 0
+IsOpened names None text = ⊥
+IsOpened names (Some left) text = rows_in names text ≡ Ok left

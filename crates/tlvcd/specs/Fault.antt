@@ -4,8 +4,8 @@ use Rattle.check_samples.specs.declared.rows.RowsFault.{RowsFault}
 use Rattle.check_samples.specs.declared.rows.RowsFault.TheVariants as rows
 use Rattle.check_signals.specs.declared.fault.KeyFault.{KeyFault}
 use Rattle.check_signals.specs.declared.fault.KeyFault.TheVariants as key
-use Rattle.check_signals.specs.declared.resolve.SignalFault.{SignalFault}
-use Rattle.check_signals.specs.declared.resolve.SignalFault.TheVariants as signal
+use Rattle.check_signals.specs.declared.signal_fault.SignalFault.{SignalFault}
+use Rattle.check_signals.specs.declared.signal_fault.SignalFault.TheVariants as signal
 use Rattle.check_system.specs.declared.fault.SystemFault.{SystemFault}
 use Rattle.check_system.specs.declared.fault.SystemFault.TheVariants as system
 use Rattle.check_vcd.specs.declared.fault.DumpFault.{DumpFault}

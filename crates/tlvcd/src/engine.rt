@@ -1,8 +1,9 @@
 //! The engine: from the bytes of a system and of a dump to the rows of a capture.
-ghost use Rattle.std.specs.Prelude.{◌≡◌, ℕ, List, map, IfOk, IfErr, IfSome, OnOk, OnErr};
+ghost use Rattle.std.specs.Prelude.{◌≡◌, ℕ, List, map, option_map, IfOk, IfErr, IfSome, OnOk, OnErr};
 ghost use Rattle.check_vcd.specs.Codes.{find_in};
+ghost use Rattle.check_signals.specs.Found.{slot_one, slots_from};
 ghost use Rattle.check_signals.specs.Names.{names_view};
-ghost use Rattle.tlvcd.specs.Capture.{GivesNames, IsCapture, IsOfSystem, IsOpened, IsUnopened, kept};
+ghost use Rattle.tlvcd.specs.Capture.{GivesNames, IsCapture, IsOfSystem, IsOpened, IsUnopened};
 ghost use Rattle.tlvcd.specs.Out.{AppendsFront, Finishes, IsEnded, IsOut, IsPushed, Moves, capture_of, is_cut};
 
 use crate::fault::WaveFault;
@@ -35,27 +36,46 @@ fn names_of<S: Read>(alloc: Global, reader: &mut LimitedReader<'_, S>) -> Result
     Ok(names)
 }
 
+/// Keeps the values of an identifier in a slot; a constant has no identifier.
+fn keep_if_any<D: Read + Drop>(
+    alloc: Global,
+    dump: &mut Dump<D>,
+    code: &Option<Vec<u8>>,
+    slot: usize,
+) -> Result<(), AllocError>
+    ensures kept { OnOk result ((other : List ℕ) → find_in dump.new.codes other
+        ≡ slot_one (option_map (λ code. code.items) code.now) slot (find_in dump.old.codes) other) }
+    ensures words { dump.new.words ≡ dump.old.words }
+    ensures body { dump.new.body ≡ dump.old.body }
+{
+    match code {
+        Some(code) => dump.keep(alloc, code, slot),
+        None => Ok(()),
+    }
+}
+
 /// Keeps the values of these identifiers, each in the slot of its place.
 fn keep_all<D: Read + Drop>(
     alloc: Global,
     dump: &mut Dump<D>,
-    codes: &[Vec<u8>],
+    codes: &[Option<Vec<u8>>],
 ) -> Result<(), AllocError>
-    ensures kept { OnOk result ((other : List ℕ) → find_in dump.new.codes other
-        ≡ kept (map (λ code. code.items) codes.now) 0 (find_in dump.old.codes) other) }
+    ensures kept { OnOk result ((other : List ℕ) → find_in dump.new.codes other ≡ slots_from
+        (map (λ code. option_map (λ code. code.items) code) codes.now) 0 (find_in dump.old.codes) other) }
     ensures words { dump.new.words ≡ dump.old.words }
     ensures body { dump.new.body ≡ dump.old.body }
 {
     for (slot, code) in codes.iter().enumerate() {
-        dump.keep(alloc, code, slot)?;
+        keep_if_any(alloc, dump, code, slot)?;
     }
     Ok(())
 }
 
 /// Opens a dump; answers the rows that are to come of it.
 fn open<D: Read + Drop>(alloc: Global, reader: D, names: &Names) -> Result<Rows<D>, WaveFault>
-    ensures ok { IfOk result (λ rows. IfSome (D.remaining reader) (IsOpened rows)) }
-    ensures fault { IfErr result (λ fault. IfSome (D.remaining reader) (IsUnopened fault)) }
+    ensures ok { IfOk result (λ rows. IfSome (D.remaining reader) (IsOpened (names_view names.now) rows)) }
+    ensures fault { IfErr result (λ fault. IfSome (D.remaining reader)
+        (IsUnopened (names_view names.now) fault)) }
 {
     let (vars, mut dump) = Dump::open(alloc, reader)?;
     let resolved = find_signals(alloc, names, &vars)?;

@@ -10,14 +10,14 @@ returns-in_err-names-clause-written g c =
 
 pub returns-in_err-rows-clause-written : goal.returns-in_err-rows-clause-written
 returns-in_err-rows-clause-written g c =
-    refused-dump (g.D.Read.remaining c.args.dump) c.from_residual-in_err-rows.result c.in_err-rows.field-0.0
+    refused-dump (g.D.Read.remaining c.args.dump) c.from_residual-in_err-rows.result c.in_err-rows.field-0.0 _
     (g.S.Read.remaining c.args.reader.now.reader.now) (g.S.Read.remaining c.names_of.new.reader.reader.now)
     (g.W.Write.contents c.args.writer.now.writer.now) c.from_residual-in_err-rows.ensures.1
-    (record { names = _; given = c.in_ok-names.ensures.ok }) c.in_err-rows.ensures.fault
+    c.in_ok-names.ensures.ok c.in_err-rows.ensures.fault
 
 pub returns-clause-written : goal.returns-clause-written
 returns-clause-written g c =
-    captured (g.D.Read.remaining c.args.dump) _ c.write_rows.result
+    captured (g.D.Read.remaining c.args.dump) _ c.write_rows.result _
     (g.S.Read.remaining c.args.reader.now.reader.now) (g.S.Read.remaining c.names_of.new.reader.reader.now)
     (g.W.Write.contents c.args.writer.now.writer.now) (g.W.Write.contents c.write_rows.new.writer.writer.now)
-    (record { names = _; given = c.in_ok-names.ensures.ok }) c.in_ok-rows.ensures.ok c.write_rows.ensures.written
+    c.in_ok-names.ensures.ok c.in_ok-rows.ensures.ok c.write_rows.ensures.written

@@ -1,0 +1,13 @@
+-- The links so far, and those of the rest, are those of all.
+use Rattle.std.proofs.Common.{◌≡◌, drop, map}
+use Rattle.check_vcd.specs.Header.{var_view}
+use Rattle.check_signals.specs.Found.{link_sources_view, links_from, with_front}
+use Rattle.check_signals.specs.Names.{link_view}
+use Rattle.check_signals.proofs.links.links_of.Given as goal
+
+abbrev pub invariant-loop-number : goal.invariant-loop-number
+invariant-loop-number l =
+    let vars = map var_view l.vars in
+    with_front (map link_sources_view l.found.items)
+    (links_from vars l.is_port l.number (map link_view (drop l.number l.links)))
+    ≡ links_from vars l.is_port 0 (map link_view l.links)

@@ -1,0 +1,295 @@
+-- Which signals of a dump are looked at, and what is kept of it. This project's own; the order of the channels within one
+-- time is that of captures.
+use Rattle.std.specs.Prelude.{◌≡◌, ℕ, ◌+◌, ◌==◌, ◌&&◌, Bool, true, false, List, [], ◌∷◌, ◌++◌, map, Option, None, Some, option_map, Result, Ok, Err, if◌then◌else◌, Vec}
+use Rattle.std.specs.Global.{Global}
+use Rattle.std.specs.List.{filter_map, flat_map, list_any, zip}
+use Rattle.std.specs.Str.{bytes_eq}
+use Rattle.check_link.specs.declared.beat.Link.{Link}
+use Rattle.check_link.specs.declared.beat.Link.TheVariants as link
+use Rattle.check_vcd.specs.Body.{Find}
+use Rattle.check_vcd.specs.Codes.{coded_in}
+use Rattle.check_vcd.specs.Dump.{with_slot}
+use Rattle.check_vcd.specs.Header.{Var}
+use Rattle.check_samples.specs.Digits.{extended, unknown}
+use Rattle.check_samples.specs.Rows.{Probes, view_of}
+use Rattle.check_samples.specs.Sampling.{Sampling}
+use Rattle.check_samples.specs.Values.{all_before, all_now, all_widths}
+use Rattle.check_samples.specs.declared.channel.BeatTaps.TheVariants.{A, D}
+use Rattle.check_samples.specs.declared.channel.Channel.{Channel}
+use Rattle.check_samples.specs.declared.sampler.Reset.{Reset}
+use Rattle.check_samples.specs.declared.signal.Signal.{Signal}
+use Rattle.check_samples.specs.declared.tap.Tap.{Tap}
+use Rattle.check_signals.specs.Names.{Names}
+use Rattle.check_signals.specs.Source.{Asked, Fault, Kept, Changing, Constant, Source, source_in, source_view}
+use Rattle.check_signals.specs.Wanted.{wanted_of}
+use Rattle.check_signals.specs.declared.keys.TheConstants.{SIGNALS}
+use Rattle.check_signals.specs.declared.links.LinkSources as code_links
+use Rattle.check_signals.specs.declared.links.TheConstants.{BUS}
+use Rattle.check_signals.specs.declared.resolve.Resolved as code_resolved
+use Rattle.check_signals.specs.declared.resolve.Sources as code_sources
+use Rattle.check_signals.specs.declared.signal_fault.Owner.{Owner}
+use Rattle.check_signals.specs.declared.signal_fault.Owner.TheVariants as owner
+use Rattle.check_signals.specs.declared.wanted.Wanted.TheVariants.{AtMost}
+
+infixl 10 ◌>>=◌
+-- the first, and if it has no fault, the second on what it gave
+abbrev pub ◌>>=◌ : {A B : Type 0} → Result A Fault → (A → Result B Fault) → Result B Fault
+(Ok x) >>= f = f x
+(Err e) >>= f = Err e
+
+-- each of the values in order, or the fault of the first that has one
+abbrev pub each : {A B : Type 0} → (A → Result B Fault) → List A → Result (List B) Fault
+each f [] = Ok []
+each f (x ∷ xs) = f x >>= (λ y. each f xs >>= (λ ys. Ok (y ∷ ys)))
+
+-- the value that is there, looked for; none where none is there
+abbrev pub if_any : {A B : Type 0} → (A → Result B Fault) → Option A → Result (Option B) Fault
+if_any f None = Ok None
+if_any f (Some x) = f x >>= (λ y. Ok (Some y))
+
+-- what was found, and then the rest
+abbrev pub with_front : {B : Type 0} → List B → Result (List B) Fault → Result (List B) Fault
+with_front front rest = rest >>= (λ more. Ok (front ++ more))
+
+-- ---- what the names find
+
+-- the clock and the reset have one bit
+abbrev pub system_source : List Var → List ℕ → Result Source Fault
+system_source vars name = source_in vars (record { owner = owner.System; name = name; wanted = AtMost 1 })
+
+-- the signals of a link, in the order of their names
+abbrev pub asked_by : Owner → Signal × List ℕ → Asked
+asked_by whose named = record { owner = whose; name = named.1; wanted = wanted_of named.0 BUS }
+
+abbrev pub asked_of : Owner → List Signal → List (List ℕ) → List Asked
+asked_of whose signals names = map (asked_by whose) (zip signals names)
+
+abbrev pub sources_of : List Var → Owner → List (List ℕ) → Result (List Source) Fault
+sources_of vars whose names = each (source_in vars) (asked_of whose SIGNALS names)
+
+-- a link, and what the names of its signals find
+pub record LinkSources : Type 0 where
+  pub link : Link
+  pub sources : List Source
+
+abbrev pub link_at : Bool → ℕ → Link
+link_at true number = link.Port number
+link_at false number = link.Master number
+
+abbrev pub owner_of : Link → Owner
+owner_of (link.Port number) = owner.Port number
+owner_of (link.Master number) = owner.Master number
+
+-- the links of a kind that have names, the first of them with this number
+abbrev pub numbered : Bool → ℕ → List (Option (List (List ℕ))) → List (Link × List (List ℕ))
+numbered is_port number [] = []
+numbered is_port number (None ∷ links) = numbered is_port (number + 1) links
+numbered is_port number (Some names ∷ links) = (link_at is_port number, names) ∷ numbered is_port (number + 1) links
+
+abbrev pub link_sources : List Var → Link × List (List ℕ) → Result LinkSources Fault
+link_sources vars named =
+    sources_of vars (owner_of named.0) named.1 >>= (λ sources. Ok (record { link = named.0; sources = sources }))
+
+unfoldable pub links_from : List Var → Bool → ℕ → List (Option (List (List ℕ))) → Result (List LinkSources) Fault
+links_from vars is_port number links = each (link_sources vars) (numbered is_port number links)
+
+-- what all names find: those of the clock, of the reset, and of the signals of each link
+pub record Sources : Type 0 where
+  pub clock : Source
+  pub reset : Option Source
+  pub ports : List LinkSources
+  pub masters : List LinkSources
+
+-- or the first fault: System's signals first, then port by port and master by master those of its link
+unfoldable pub sources_in : List Var → Names → Result Sources Fault
+sources_in vars names = do
+  clock ← system_source vars names.clock
+  reset ← if_any (system_source vars) names.reset
+  ports ← links_from vars true 0 names.ports
+  masters ← links_from vars false 0 names.masters
+  Ok (record { clock = clock; reset = reset; ports = ports; masters = masters })
+
+-- ---- what is kept
+
+-- two values are one: of one identifier, or constants with the same digits
+abbrev pub is_same : Kept → Kept → Bool
+is_same (Changing one width) (Changing other count) = bytes_eq one other
+is_same (Changing one width) (Constant digit count) = false
+is_same (Constant digit bits) (Changing other count) = false
+is_same (Constant digit bits) (Constant other count) = (digit == other) && (bits == count)
+
+abbrev pub is_kept : List Kept → Kept → Bool
+is_kept kept value = list_any (λ other. is_same other value) kept
+
+-- the values that are to be kept beside some that are, each once
+abbrev pub distinct : List Kept → List Kept → List Kept
+distinct some [] = []
+distinct some (value ∷ values) =
+    if is_kept some value then distinct some values else value ∷ distinct (some ++ (value ∷ [])) values
+
+-- all sources of a system
+abbrev pub flat : List LinkSources → List Source
+flat links = flat_map (λ found. found.sources) links
+
+abbrev pub all_by : Source → Option Source → List Source → List Source
+all_by clock None others = clock ∷ others
+all_by clock (Some reset) others = clock ∷ reset ∷ others
+
+abbrev pub all_of : Sources → List Source
+all_of sources = all_by sources.clock sources.reset (flat sources.ports ++ flat sources.masters)
+
+unfoldable pub kept_of : List Source → List Kept
+kept_of sources = distinct [] (map (λ source. source.kept) sources)
+
+-- the place of a value among those that are kept: its slot
+abbrev pub place_of : List Kept → Kept → ℕ
+place_of [] value = 0
+place_of (other ∷ kept) value = if is_same other value then 0 else place_of kept value + 1
+
+abbrev pub tap_by : List Kept → Source → Tap
+tap_by kept source = record { slot = place_of kept source.kept; from = source.from; to = source.to }
+
+-- ---- what is looked at
+
+-- the channels of a link, by the taps of its signals in the order of their names
+abbrev pub pair_of : Link → List Tap → Option (Channel × Channel)
+pair_of link (a_valid ∷ a_ready ∷ a_opcode ∷ a_param ∷ a_size ∷ a_source ∷ a_address ∷ a_mask ∷ a_data
+    ∷ d_valid ∷ d_ready ∷ d_opcode ∷ d_size ∷ d_source ∷ d_data ∷ d_denied ∷ d_corrupt ∷ []) = Some (
+      record {
+        link = link;
+        valid = a_valid;
+        ready = a_ready;
+        beat = A (record {
+          opcode = a_opcode;
+          param = a_param;
+          size = a_size;
+          source = a_source;
+          address = a_address;
+          mask = a_mask;
+          «data» = a_data;
+        });
+      },
+      record {
+        link = link;
+        valid = d_valid;
+        ready = d_ready;
+        beat = D (record {
+          opcode = d_opcode;
+          size = d_size;
+          source = d_source;
+          «data» = d_data;
+          denied = d_denied;
+          corrupt = d_corrupt;
+        });
+      },
+    )
+pair_of link taps = None
+
+abbrev pub pair_at : List Kept → LinkSources → Option (Channel × Channel)
+pair_at kept found = pair_of found.link (map (tap_by kept) found.sources)
+
+abbrev pub pairs_of : List Kept → List LinkSources → List (Channel × Channel)
+pairs_of kept links = filter_map (pair_at kept) links
+
+-- the order in which beats cross within one time
+abbrev pub in_order : List (Channel × Channel) → List (Channel × Channel) → List Channel
+in_order ports masters =
+    map (λ pair. pair.0) masters ++ map (λ pair. pair.0) ports ++ map (λ pair. pair.1) ports
+    ++ map (λ pair. pair.1) masters
+
+abbrev pub reset_by : List Kept → Bool → Option Source → Option Reset
+reset_by kept is_low None = None
+reset_by kept is_low (Some reset) = Some (record { tap = tap_by kept reset; is_low = is_low })
+
+-- what is looked at, and the values that are kept, each in the slot of its place
+pub record Found : Type 0 where
+  pub probes : Probes
+  pub kept : List Kept
+
+abbrev pub found_by : List Kept → Bool → Sources → Found
+found_by kept is_low sources = record {
+  probes = record {
+    clock = tap_by kept sources.clock;
+    reset = reset_by kept is_low sources.reset;
+    channels = in_order (pairs_of kept sources.ports) (pairs_of kept sources.masters);
+  };
+  kept = kept;
+}
+
+abbrev pub found_of : Bool → Sources → Found
+found_of is_low sources = found_by (kept_of (all_of sources)) is_low sources
+
+-- what the names of a system file find among the signals of a header, or the first fault
+unfoldable pub found_in : List Var → Names → Result Found Fault
+found_in vars names = sources_in vars names >>= (λ sources. Ok (found_of names.is_low sources))
+
+-- ---- how a dump is read so
+
+-- how many bits a value has; its digits before a dump's body; and the identifier that it changes by
+abbrev pub width_in : Kept → ℕ
+width_in (Changing code width) = width
+width_in (Constant digit width) = width
+
+abbrev pub digits_in : Kept → List ℕ
+digits_in (Changing code width) = unknown width
+digits_in (Constant digit width) = extended width (digit ∷ [])
+
+abbrev pub code_in : Kept → Option (List ℕ)
+code_in (Changing code width) = Some code
+code_in (Constant digit width) = None
+
+-- before the body no value was before another, and only constants are known
+abbrev pub sampling_of : Found → Sampling
+sampling_of found = record {
+  probes = found.probes;
+  before = map (λ value. unknown (width_in value)) found.kept;
+  now = map digits_in found.kept;
+  widths = map width_in found.kept;
+  time = None;
+}
+
+-- identifiers have slots, each that of its place
+abbrev pub slot_one : Option (List ℕ) → ℕ → Find → Find
+slot_one None slot find other = find other
+slot_one (Some code) slot find other = if bytes_eq code other then with_slot slot (find other) else find other
+
+abbrev pub slots_from : List (Option (List ℕ)) → ℕ → Find → Find
+slots_from [] slot find other = find other
+slots_from (code ∷ codes) slot find other = slots_from codes (slot + 1) (slot_one code slot find) other
+
+-- what is known of the identifiers of a header then
+abbrev pub find_of : List Var → Found → Find
+find_of vars found = slots_from (map code_in found.kept) 0 (coded_in vars)
+
+-- ---- what calls answer
+
+abbrev pub link_sources_view : code_links.LinkSources → LinkSources
+link_sources_view found = record { link = found.link; sources = map source_view found.sources.items }
+
+abbrev pub links_view : Vec code_links.LinkSources Global → List LinkSources
+links_view links = map link_sources_view links.items
+
+abbrev pub sources_view : code_sources.Sources → Sources
+sources_view sources = record {
+  clock = source_view sources.clock;
+  reset = option_map source_view sources.reset;
+  ports = map link_sources_view sources.ports.items;
+  masters = map link_sources_view sources.masters.items;
+}
+
+-- the identifiers of values, as text
+abbrev pub codes_view : Vec (Option (Vec ℕ Global)) Global → List (Option (List ℕ))
+codes_view codes = map (λ code. option_map (λ code. code.items) code) codes.items
+
+-- this is looked at and kept
+pub record IsResolved (resolved : code_resolved.Resolved) (found : Found) : Type 0 where
+  pub probes : view_of resolved.probes ≡ found.probes
+  pub before : all_before resolved.values ≡ map (λ value. unknown (width_in value)) found.kept
+  pub now : all_now resolved.values ≡ map digits_in found.kept
+  pub widths : all_widths resolved.values ≡ map width_in found.kept
+  pub codes : codes_view resolved.codes ≡ map code_in found.kept
+
+-- what was found is looked at and kept
+abbrev pub IsFound : Result Found Fault → code_resolved.Resolved → Type 0
+IsFound (Ok found) resolved = IsResolved resolved found
+IsFound (Err fault) resolved = ⊥

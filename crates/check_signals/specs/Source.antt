@@ -1,0 +1,132 @@
+-- What a name of a system file finds among the signals that a dump declares. This project's own.
+use Rattle.std.specs.Prelude.{◌≡◌, ◌≢◌, ℕ, ◌+◌, ◌-◌, not, nat_lt, List, map, codes, Option, None, Some, option_map, MatchResult, Result, Ok, Err, if◌then◌else◌}
+use Rattle.std.specs.List.{list_any}
+use Rattle.std.specs.Str.{bytes_eq}
+use Rattle.check_vcd.specs.Codes.{coded_in}
+use Rattle.check_vcd.specs.Header.{Var}
+use Rattle.check_vcd.specs.declared.codes.Coded.{Coded}
+use Rattle.check_signals.specs.Nearest.{nearest}
+use Rattle.check_signals.specs.Wanted.{bits_fit, count_of}
+use Rattle.check_signals.specs.Wires.{Wire, first_of, wires_called}
+use Rattle.check_signals.specs.declared.signal_fault.Owner.{Owner}
+use Rattle.check_signals.specs.declared.signal_fault.SignalFault.{SignalFault}
+use Rattle.check_signals.specs.declared.signal_fault.SignalFault.TheVariants as code_fault
+use Rattle.check_signals.specs.declared.source.Asked as code_asked
+use Rattle.check_signals.specs.declared.source.Kept as code_kept
+use Rattle.check_signals.specs.declared.source.Kept.TheVariants as kept
+use Rattle.check_signals.specs.declared.source.Source as code_source
+use Rattle.check_signals.specs.declared.source.TheConstants.{MAX_WIDTH}
+use Rattle.check_signals.specs.declared.wanted.Wanted.{Wanted}
+
+-- a signal that is looked for: whose it is, its name, and how many bits it has to have
+pub record Asked : Type 0 where
+  pub owner : Owner
+  pub name : List ℕ
+  pub wanted : Wanted
+
+-- why it is not found: no signal has the name, and this is the nearest one; two have it, and identifiers of their own; or it
+-- has so many bits, and not those that are wanted. Or memory was refused, which no definition here says of anything
+pub data Fault : Type 0 where
+  NoSignal : Owner → List ℕ → Option (List ℕ) → Fault
+  Twice : Owner → List ℕ → Fault
+  Width : Owner → List ℕ → ℕ → ℕ → Fault
+  Refused : Fault
+
+-- a value that is kept: that of an identifier, or a constant, which has this digit; and how many bits it has
+pub data Kept : Type 0 where
+  Changing : List ℕ → ℕ → Kept
+  Constant : ℕ → ℕ → Kept
+
+-- some digits of a kept value, by their places
+pub record Source : Type 0 where
+  pub kept : Kept
+  pub from : ℕ
+  pub to : ℕ
+
+-- ---- a constant
+
+-- the digit that a name is: `0` and `1` are constants
+abbrev pub digit_in : List ℕ → Option ℕ
+digit_in name = if bytes_eq name (codes "0") then Some 48 else if bytes_eq name (codes "1") then Some 49 else None
+
+-- all bits of a constant of so many
+abbrev pub constant_of : ℕ → ℕ → Source
+constant_of digit count = record { kept = Constant digit count; from = 0; to = count }
+
+-- ---- a signal
+
+-- how many bits the values of an identifier have: those of the first signal that has it
+abbrev pub width_by : Option Coded → ℕ
+width_by None = 0
+width_by (Some coded) = coded.width
+
+abbrev pub width_of : List Var → List ℕ → ℕ
+width_of vars code = width_by (coded_in vars code)
+
+abbrev pub missing : List Var → Asked → Fault
+missing vars asked = NoSignal asked.owner asked.name (nearest asked.name (map (λ var. var.name) vars))
+
+abbrev pub too_wide : Asked → ℕ → ℕ → Fault
+too_wide asked bits wanted = Width asked.owner asked.name bits wanted
+
+-- the bits of a wire within the values of its identifier, whose lowest bits are the signal
+abbrev pub within : List Var → Asked → Wire → ℕ → Result Source Fault
+within vars asked wire width =
+    if nat_lt MAX_WIDTH width then Err (too_wide asked width MAX_WIDTH)
+    else if nat_lt width wire.var.width then Err (missing vars asked)
+    else Ok (record {
+      kept = Changing wire.var.code width;
+      from = (width - wire.var.width) + wire.places.from;
+      to = (width - wire.var.width) + wire.places.to;
+    })
+
+-- a wire that has as many bits as are wanted
+abbrev pub measured : List Var → Asked → Wire → Result Source Fault
+measured vars asked wire =
+    let bits = wire.places.to - wire.places.from in
+    if bits_fit asked.wanted bits then within vars asked wire (width_of vars wire.var.code)
+    else Err (too_wide asked bits (count_of asked.wanted))
+
+-- the first of the wires that a name means: all of them have its identifier
+abbrev pub alone : List Var → Asked → List Wire → Option Wire → Result Source Fault
+alone vars asked wires None = Err (missing vars asked)
+alone vars asked wires (Some wire) =
+    if list_any (λ other. not (bytes_eq other.var.code wire.var.code)) wires then Err (Twice asked.owner asked.name)
+    else measured vars asked wire
+
+abbrev pub signal_in : List Var → Asked → Result Source Fault
+signal_in vars asked =
+    let wires = wires_called vars asked.name in alone vars asked wires (first_of wires)
+
+-- ---- what a name finds
+
+abbrev pub source_by : List Var → Asked → Option ℕ → Result Source Fault
+source_by vars asked (Some digit) = Ok (constant_of digit (count_of asked.wanted))
+source_by vars asked None = signal_in vars asked
+
+unfoldable pub source_in : List Var → Asked → Result Source Fault
+source_in vars asked = source_by vars asked (digit_in asked.name)
+
+-- ---- what calls answer
+
+abbrev pub asked_view : code_asked.Asked → Asked
+asked_view asked = record { owner = asked.owner; name = asked.name.now; wanted = asked.wanted }
+
+abbrev pub kept_view : code_kept.Kept → Kept
+kept_view (kept.Signal code width) = Changing code.now width
+kept_view (kept.Constant digit width) = Constant digit width
+
+abbrev pub source_view : code_source.Source → Source
+source_view source = record { kept = kept_view source.kept; from = source.from; to = source.to }
+
+-- a fault, with its texts as lists
+abbrev pub fault_view : SignalFault → Fault
+fault_view (code_fault.NoSignal owner name near) = NoSignal owner name.items (option_map (λ near. near.items) near)
+fault_view (code_fault.Twice owner name) = Twice owner name.items
+fault_view (code_fault.Width owner name bits wanted) = Width owner name.items bits wanted
+fault_view code_fault.Memory = Refused
+
+-- a call answers what the definition finds, or its fault, unless memory ran out
+abbrev pub Finds : {X Y : Type 0} → (X → Y) → Result X SignalFault → Result Y Fault → Type 0
+Finds view result found =
+    MatchResult result (λ x. found ≡ Ok (view x)) (λ e. e ≢ code_fault.Memory → found ≡ Err (fault_view e))

@@ -1,0 +1,201 @@
+//! What a name of a system file finds among the signals that a dump declares.
+ghost use Rattle.std.specs.Prelude.{◌≡◌, ◌≢◌, ◌≤◌, IfOk, map, option_map};
+ghost use Rattle.check_vcd.specs.Header.{var_view};
+ghost use Rattle.check_signals.specs.Source.{Finds, asked_view, constant_of, digit_in, fault_view, measured, missing as missing_in, signal_in, source_in, source_view, too_wide, width_of, within};
+ghost use Rattle.check_signals.specs.Source.{Twice as TwiceIn};
+ghost use Rattle.check_signals.specs.Wires.{IsInside, wire_view};
+ghost use Rattle.check_signals.specs.declared.signal_fault.SignalFault.TheVariants.{Memory};
+
+use crate::nearest::nearest;
+use crate::signal_fault::{Owner, SignalFault};
+use crate::wanted::Wanted;
+use crate::wires::{Wire, first_wire, has_another, sought};
+use check_vcd::{MAX_WORD, Var};
+use std::alloc::{AllocError, Global};
+
+/// The most bits of a signal whose values are kept.
+pub const MAX_WIDTH: u64 = MAX_WORD as u64 - 1;
+
+/// A signal that is looked for: whose it is, its name, and how many bits it has to have.
+#[derive(Debug, Clone, Copy)]
+pub(crate) struct Asked<'a> {
+    pub(crate) owner: Owner,
+    pub(crate) name: &'a [u8],
+    pub(crate) wanted: Wanted,
+}
+
+/// A value that is kept: that of an identifier, or a constant, which has this digit; and how many bits it has.
+#[derive(Debug, Clone, Copy)]
+pub(crate) enum Kept<'a> {
+    Signal(&'a [u8], u64),
+    Constant(u8, u64),
+}
+
+/// Some digits of a kept value, by their places.
+#[derive(Debug, Clone, Copy)]
+pub(crate) struct Source<'a> {
+    pub(crate) kept: Kept<'a>,
+    pub(crate) from: u64,
+    pub(crate) to: u64,
+}
+
+/// The digit that a name is: `0` and `1` are constants.
+fn digit_in(name: &[u8]) -> Option<u8>
+    ensures { result ≡ digit_in name.now }
+{
+    if name == b"0".as_slice() {
+        Some(b'0')
+    } else if name == b"1".as_slice() {
+        Some(b'1')
+    } else {
+        None
+    }
+}
+
+/// All bits of a constant of so many.
+fn constant_of<'a>(digit: u8, count: u64) -> Source<'a>
+    ensures { source_view result ≡ constant_of digit count }
+{
+    Source {
+        kept: Kept::Constant(digit, count),
+        from: 0,
+        to: count,
+    }
+}
+
+/// How many bits the values of an identifier have: those of the first signal that has it.
+fn width_of(vars: &[Var], code: &[u8]) -> u64
+    ensures { result ≡ width_of (map var_view vars.now) code.now }
+{
+    for var in vars {
+        if var.code.as_slice() == code {
+            return var.width;
+        }
+    }
+    0
+}
+
+/// A text that may be absent, copied.
+fn copy_if_any(alloc: Global, text: Option<&[u8]>) -> Result<Option<Vec<u8>>, AllocError>
+    ensures { IfOk result (λ copy. option_map (λ copy. copy.items) copy ≡ option_map (λ text. text.now) text.entry) }
+{
+    match text {
+        Some(text) => Ok(Some(Vec::from_slice(alloc, text)?)),
+        None => Ok(None),
+    }
+}
+
+/// That there is no such signal, with the nearest name that there is.
+fn describe(alloc: Global, vars: &[Var], asked: Asked<'_>) -> Result<SignalFault, AllocError>
+    ensures { IfOk result (λ fault. fault_view fault ≡ missing_in (map var_view vars.now) (asked_view asked.entry)) }
+{
+    let near = copy_if_any(alloc, nearest(alloc, vars, asked.name)?)?;
+    let name = Vec::from_slice(alloc, asked.name)?;
+    Ok(SignalFault::NoSignal(asked.owner, name, near))
+}
+
+/// The same, or that memory was refused for it.
+fn missing(alloc: Global, vars: &[Var], asked: Asked<'_>) -> SignalFault
+    ensures { result ≢ Memory → fault_view result ≡ missing_in (map var_view vars.now) (asked_view asked.entry) }
+{
+    match describe(alloc, vars, asked) {
+        Ok(fault) => fault,
+        Err(_) => SignalFault::Memory,
+    }
+}
+
+/// That two signals have the name.
+fn twice(alloc: Global, asked: Asked<'_>) -> SignalFault
+    ensures { result ≢ Memory → fault_view result ≡ TwiceIn asked.entry.owner asked.entry.name.now }
+{
+    match Vec::from_slice(alloc, asked.name) {
+        Ok(name) => SignalFault::Twice(asked.owner, name),
+        Err(_) => SignalFault::Memory,
+    }
+}
+
+/// That the signal has another width than is wanted.
+fn too_wide(alloc: Global, asked: Asked<'_>, bits: u64, wanted: u64) -> SignalFault
+    ensures { result ≢ Memory → fault_view result ≡ too_wide (asked_view asked.entry) bits wanted }
+{
+    match Vec::from_slice(alloc, asked.name) {
+        Ok(name) => SignalFault::Width(asked.owner, name, bits, wanted),
+        Err(_) => SignalFault::Memory,
+    }
+}
+
+/// The bits of a wire within the values of its identifier, whose lowest bits are the signal.
+fn within<'a>(
+    alloc: Global,
+    vars: &'a [Var],
+    asked: Asked<'_>,
+    wire: Wire<'a>,
+    width: u64,
+) -> Result<Source<'a>, SignalFault>
+    requires { IsInside wire }
+    ensures { Finds source_view result (within (map var_view vars.now) (asked_view asked.entry) (wire_view wire.entry) width) }
+{
+    if width > MAX_WIDTH {
+        return Err(too_wide(alloc, asked, width, MAX_WIDTH));
+    }
+    if width < wire.var.width {
+        return Err(missing(alloc, vars, asked));
+    }
+    let shift = width - wire.var.width;
+    Ok(Source {
+        kept: Kept::Signal(wire.var.code.as_slice(), width),
+        from: shift + wire.places.from,
+        to: shift + wire.places.to,
+    })
+}
+
+/// A wire that has as many bits as are wanted.
+fn measured<'a>(
+    alloc: Global,
+    vars: &'a [Var],
+    asked: Asked<'_>,
+    wire: Wire<'a>,
+) -> Result<Source<'a>, SignalFault>
+    requires { IsInside wire }
+    ensures { Finds source_view result (measured (map var_view vars.now) (asked_view asked.entry) (wire_view wire.entry)) }
+{
+    let bits = wire.places.to.saturating_sub(wire.places.from);
+    if !asked.wanted.fits(bits) {
+        return Err(too_wide(alloc, asked, bits, asked.wanted.count()));
+    }
+    let width = width_of(vars, wire.var.code.as_slice());
+    within(alloc, vars, asked, wire, width)
+}
+
+/// The first of the wires that a name means: all of them have its identifier.
+fn signal_in<'a>(
+    alloc: Global,
+    vars: &'a [Var],
+    asked: Asked<'_>,
+) -> Result<Source<'a>, SignalFault>
+    ensures { Finds source_view result (signal_in (map var_view vars.now) (asked_view asked.entry)) }
+{
+    let (name, part) = sought(vars, asked.name);
+    let Some(wire) = first_wire(vars, name, part) else {
+        return Err(missing(alloc, vars, asked));
+    };
+    if has_another(vars, name, part, wire.var.code.as_slice()) {
+        return Err(twice(alloc, asked));
+    }
+    measured(alloc, vars, asked, wire)
+}
+
+/// What a name finds among the signals that a dump declares.
+#[tactic(auto, unfolding(crate::specs::Source::source_in))]
+pub(crate) fn source_in<'a>(
+    alloc: Global,
+    vars: &'a [Var],
+    asked: Asked<'_>,
+) -> Result<Source<'a>, SignalFault>
+    ensures { Finds source_view result (source_in (map var_view vars.now) (asked_view asked.entry)) }
+{
+    match digit_in(asked.name) {
+        Some(digit) => Ok(constant_of(digit, asked.wanted.count())),
+        None => signal_in(alloc, vars, asked),
+    }
+}
