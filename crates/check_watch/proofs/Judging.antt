@@ -1,0 +1,164 @@
+-- From what a judge finds of a beat of a request to what it is after its past: the first reason, or that it is lawful.
+use Rattle.std.proofs.Common.{◌≡◌, ◌∙◌, ap, Some, None, ℕ, ◌<◌, ◌↔◌, Bool, List, Option, sym, subst, refl, arith}
+use Rattle.std.specs.Prelude.{IsTrue}
+use Rattle.tl_types.specs.Request.{Request}
+use Rattle.tl_types.specs.declared.operation.AskOp.{AskOp}
+use Rattle.check_map.specs.Ranges.{RoutesBytes}
+use Rattle.check_beats.specs.Form.{FitsAsk, IsKnown, IsLawfulMask, HasAskFormFault}
+use Rattle.check_beats.specs.State.{ask_of, ends_ask, first_ask}
+use Rattle.check_beats.specs.declared.beat.AskHead.{AskHead}
+use Rattle.check_beats.specs.declared.beat.ReplyHead.{ReplyHead}
+use Rattle.check_beats.specs.declared.fault.FormFault.{FormFault}
+use Rattle.check_beats.specs.declared.fault.FormFault.TheVariants.{Changed, Opcode, Size, Mask, CorruptFlag, UnknownData as UnknownLanes}
+use Rattle.check_flight.specs.Flight.{asked, Turn}
+use Rattle.check_flight.specs.Flight.Turn.{Idle, Asking, Asked}
+use Rattle.check_flight.specs.Side.{flight_at}
+use Rattle.check_watch.specs.declared.beat.Beat.TheVariants.{A, D}
+use Rattle.check_watch.specs.declared.beat.Link.{Link}
+use Rattle.check_watch.specs.declared.beat.Link.TheVariants.{Master, Port}
+use Rattle.check_watch.specs.declared.fault.Reason.{Reason}
+use Rattle.check_watch.specs.declared.fault.Reason.TheVariants.{Form, NoSuchSource, SourceBusy, WrongPort, NoRequest, EarlyReply, WrongSize, WrongOpcode, UnknownData, NotSent, NotGiven, WrongReply}
+use Rattle.check_watch.specs.Allowed.{IsSent, BeginsFree, BeginsPlaced, EndsSent, IsAllowedAsk}
+use Rattle.check_watch.specs.Faults.{HasAskReason, IsFirstAskReason, reason_rank}
+use Rattle.check_watch.specs.Past.{port_in, port_of}
+use Rattle.check_watch.specs.Plan.{Layout, Plan, HasSource, IsWideAt, wide_of}
+use Rattle.check_watch.specs.Scene.{Scene}
+use Rattle.check_watch.specs.View.{View, Suits, under_in, flight_in, crossing_at, scene_in}
+use Rattle.check_watch.proofs.Codes.{same_op}
+
+-- the wide source that a judge finds is that of the plan
+pub wide_is : (plan : Plan) (view : View) (link : Link) (source wide : ℕ) → Suits plan view
+    → IsWideAt view.layout link source wide → wide ≡ wide_of plan link source
+wide_is plan view (Master m) source wide suits is = sym (suits.lawful.wide m source wide (rw (← suits.layout) is))
+wide_is plan view (Port p) source wide suits is = is.0
+
+-- the port that a judge finds is that of the plan
+pub port_is : (plan : Plan) (view : View) (address size port : ℕ) → Suits plan view
+    → ((other : ℕ) → (port ≡ other) ↔ RoutesBytes view.layout.ports address size other)
+    → port ≡ plan.route address size
+port_is plan view address size port suits routes =
+    (routes (plan.route address size)).1 (rw suits.layout (suits.lawful.route address size))
+
+pub port_found : (plan : Plan) (view : View) (link : Link) (turn : Turn) (beat : AskHead) (port : ℕ) → Suits plan view
+    → ((number other : ℕ) → link ≡ Master number → (port ≡ other)
+    ↔ RoutesBytes view.layout.ports beat.address beat.size other)
+    → ((number : ℕ) → link ≡ Port number → port ≡ number)
+    → port ≡ port_of plan link turn (A beat)
+port_found plan view (Master m) turn beat port suits master at_port =
+    port_is plan view beat.address beat.size port suits (λ other. master m other refl)
+port_found plan view (Port p) turn beat port suits master at_port = at_port p refl
+
+-- the request in flight that has ended
+pub asked_is : (turn : Turn) (ask : Request) → asked turn ≡ Some ask → (at : ℕ) × (turn ≡ Asked at ask)
+asked_is Idle ask is = absurd (cc)
+asked_is (Asking at) ask is = absurd (cc)
+asked_is (Asked at other) ask is = (at, ap (λ r. Asked at r) (cc))
+
+-- the port that it goes to is that of the plan
+pub port_asked : (plan : Plan) (view : View) (link : Link) (turn : Turn) (ask : Request) (beat : ReplyHead) (port : ℕ)
+    → Suits plan view → asked turn ≡ Some ask
+    → ((number other : ℕ) → link ≡ Master number → (port ≡ other)
+    ↔ RoutesBytes view.layout.ports ask.address ask.size other)
+    → ((number : ℕ) → link ≡ Port number → port ≡ number)
+    → port ≡ port_of plan link turn (D beat)
+port_asked plan view (Port p) turn ask beat port suits is master at_port = at_port p refl
+port_asked plan view (Master m) turn ask beat port suits is master at_port =
+    let found = asked_is turn ask is in
+    port_is plan view ask.address ask.size port suits (λ other. master m other refl)
+    ∙ ap (λ t. port_in plan t) (sym found.1)
+
+-- ---- requests
+
+module _ (plan : Plan) (view : View) (link : Link) (beat : AskHead) (lanes : List ℕ) (wide : ℕ) (r : Bool)
+    (suits : Suits plan view) (at : IsWideAt view.layout link beat.source wide) where
+  pub free_here : (IsTrue r ↔ ((under_in view link).asking ≡ None → (flight_in view link wide).turn ≡ Idle))
+      → (IsTrue r ↔ BeginsFree (scene_in plan view link (A beat)))
+  free_here free =
+      let P : ℕ → Type 0 = λ w. IsTrue r ↔ ((under_in view link).asking ≡ None → (flight_in view link w).turn ≡ Idle) in
+      subst P (wide_is plan view link beat.source wide suits at) free
+
+  pub sent_here : (IsTrue r ↔ (IsTrue (ends_ask (under_in view link).bus (under_in view link).asking beat)
+      → IsSent view.layout link (flight_at view.masters.flights wide).turn (crossing_at view.crossings wide)
+      (ask_of (under_in view link).bus (under_in view link).asking beat lanes)))
+      → (IsTrue r ↔ EndsSent view.layout link (scene_in plan view link (A beat)) beat lanes)
+  sent_here sent =
+      let P : ℕ → Type 0 =
+      λ w. IsTrue r ↔ (IsTrue (ends_ask (under_in view link).bus (under_in view link).asking beat)
+      → IsSent view.layout link (flight_at view.masters.flights w).turn (crossing_at view.crossings w)
+      (ask_of (under_in view link).bus (under_in view link).asking beat lanes)) in
+      subst P (wide_is plan view link beat.source wide suits at) sent
+
+mask_same : (bus : ℕ) (op other : AskOp) (size address mask : ℕ) → op ≡ other → IsLawfulMask bus op size address mask
+    → IsLawfulMask bus other size address mask
+mask_same bus op other size address mask is lawful =
+    subst (λ (o : AskOp). IsLawfulMask bus o size address mask) is lawful
+
+no_form_fault : (bus : ℕ) (begun : Option AskHead) (beat : AskHead) (known : ℕ) → FitsAsk bus begun beat
+    → IsKnown beat known → (fault : FormFault) → HasAskFormFault bus begun beat known fault → ⊥
+no_form_fault bus begun beat known fits lanes Changed has = has fits.same
+no_form_fault bus begun beat known fits lanes Opcode has = has fits.formed.op fits.formed.code
+no_form_fault bus begun beat known fits lanes Size has = omega (arith, fits.formed.in_limit, has)
+no_form_fault bus begun beat known fits lanes Mask has =
+    has.2 (mask_same bus fits.formed.op has.0 beat.size beat.address beat.mask
+    (same_op fits.formed.op has.0 beat.opcode beat.param fits.formed.code has.1) fits.formed.mask)
+no_form_fault bus begun beat known fits lanes CorruptFlag has = has
+no_form_fault bus begun beat known fits lanes UnknownLanes has = has.1 (lanes has.0)
+
+-- what is known of a beat once the reasons before this place are ruled out
+pub record AskUpTo (layout : Layout) (link : Link) (scene : Scene) (beat : AskHead) (known : ℕ) (lanes : List ℕ)
+    (rank : ℕ) : Type 0 where
+  pub fits : FitsAsk scene.under.bus (first_ask scene.under.asking) beat
+  pub known_lanes : IsKnown beat known
+  pub source : HasSource layout link beat.source
+  pub free : 8 < rank → BeginsFree scene
+  pub placed : 9 < rank → BeginsPlaced layout link scene beat
+  pub sent : 15 < rank → EndsSent layout link scene beat lanes
+
+module _ (layout : Layout) (link : Link) (scene : Scene) (beat : AskHead) (known : ℕ) (lanes : List ℕ) where
+  none_before_ask : (rank : ℕ) → AskUpTo layout link scene beat known lanes rank
+      → (other : Reason) → reason_rank other < rank → HasAskReason layout link scene beat known lanes other → ⊥
+  none_before_ask rank up (Form f) lower has =
+      no_form_fault scene.under.bus (first_ask scene.under.asking) beat known up.fits up.known_lanes f has
+  none_before_ask rank up NoSuchSource lower has = has up.source
+  none_before_ask rank up SourceBusy lower has = has (up.free lower)
+  none_before_ask rank up WrongPort lower has = has (up.placed lower)
+  none_before_ask rank up NoRequest lower has = has
+  none_before_ask rank up EarlyReply lower has = has
+  none_before_ask rank up WrongSize lower has = has
+  none_before_ask rank up WrongOpcode lower has = has
+  none_before_ask rank up UnknownData lower has = has
+  none_before_ask rank up NotSent lower has = has (up.sent lower)
+  none_before_ask rank up NotGiven lower has = has
+  none_before_ask rank up WrongReply lower has = has
+
+  pub first_ask_reason : (reason : Reason) → HasAskReason layout link scene beat known lanes reason
+      → AskUpTo layout link scene beat known lanes (reason_rank reason) → IsFirstAskReason layout link scene beat known lanes reason
+  first_ask_reason reason has up =
+      record { applies = has; first = none_before_ask (reason_rank reason) up }
+
+  pub allowed_ask : AskUpTo layout link scene beat known lanes 18 → IsAllowedAsk layout link scene beat known lanes
+  allowed_ask up = record {
+    fits = up.fits;
+    known_lanes = up.known_lanes;
+    source = up.source;
+    free = up.free (omega arith);
+    placed = up.placed (omega arith);
+    sent = up.sent (omega arith);
+  }
+
+  -- a beat that is lawful has no reason not to be
+  pub no_ask_reason : IsAllowedAsk layout link scene beat known lanes
+      → (reason : Reason) → HasAskReason layout link scene beat known lanes reason → ⊥
+  no_ask_reason allowed (Form f) has =
+      no_form_fault scene.under.bus (first_ask scene.under.asking) beat known allowed.fits allowed.known_lanes f has
+  no_ask_reason allowed NoSuchSource has = has allowed.source
+  no_ask_reason allowed SourceBusy has = has allowed.free
+  no_ask_reason allowed WrongPort has = has allowed.placed
+  no_ask_reason allowed NoRequest has = has
+  no_ask_reason allowed EarlyReply has = has
+  no_ask_reason allowed WrongSize has = has
+  no_ask_reason allowed WrongOpcode has = has
+  no_ask_reason allowed UnknownData has = has
+  no_ask_reason allowed NotSent has = has allowed.sent
+  no_ask_reason allowed NotGiven has = has
+  no_ask_reason allowed WrongReply has = has

@@ -1,0 +1,11 @@
+mod Earlier
+mod Wides
+mod Served
+mod Sized
+mod Codes
+mod Judging
+mod Replying
+mod Keeping
+mod Beginning
+mod InFlight
+mod Changes

@@ -1,0 +1,171 @@
+-- What a beat finds at its link and in its port, and what it makes of that: messages and their order by the chapters
+-- "Beats and bursts" and "TL-UL and TL-UH operations" of the TileLink specification; when a request takes effect is the
+-- system's own affair.
+use Rattle.std.specs.Prelude.{ℕ, Bool, true, false, ◌&&◌, if◌then◌else◌, List, Option, Some, None}
+use Rattle.tl_types.specs.Request.{Request}
+use Rattle.check_cells.specs.Pattern.{Pattern}
+use Rattle.check_beats.specs.State.{Under, ReplyBegun, ends_ask, ends_reply, ask_of, reply_of}
+use Rattle.check_beats.specs.declared.beat.AskHead.{AskHead}
+use Rattle.check_beats.specs.declared.beat.ReplyHead.{ReplyHead}
+use Rattle.check_flight.specs.declared.answer.Answer.{Answer}
+use Rattle.check_flight.specs.Crossing.{Crossing, given}
+use Rattle.check_flight.specs.Crossing.Crossing.{Waiting, Crossed, Given}
+use Rattle.check_flight.specs.Flight.{Turn, Flight, idle, asked, flight_due}
+use Rattle.check_flight.specs.Flight.Turn.{Idle, Asking, Asked}
+use Rattle.check_flight.specs.Order.{effect_by}
+use Rattle.check_flight.specs.PortSlave.{PortSlave, slave_by, answer_by, effect_at_acceptance, effect_at_reply}
+use Rattle.check_flight.specs.Side.{ask_crossed, reply_crossed}
+use Rattle.check_watch.specs.declared.beat.Beat.{Beat}
+use Rattle.check_watch.specs.declared.beat.Beat.TheVariants.{A, D}
+use Rattle.check_watch.specs.declared.beat.Link.{Link}
+use Rattle.check_watch.specs.declared.beat.Link.TheVariants.{Master, Port}
+use Rattle.check_watch.specs.declared.seen.Entry.{Entry}
+use Rattle.check_watch.specs.declared.seen.Seen.{Seen}
+use Rattle.check_watch.specs.declared.seen.Seen.TheVariants.{Part, WholeAsk, WholeReply}
+use Rattle.check_watch.specs.declared.seen.Ended.{Ended}
+use Rattle.check_watch.specs.declared.seen.Ended.TheVariants as ends
+use Rattle.check_watch.specs.Plan.{Layout, number_of, crosses}
+
+-- the messages under way at its link, what is in flight of its source on its side and on the masters' side, how far
+-- that has come across, and the port that its request goes to, with what the slave there holds
+pub record Scene : Type 0 where
+  pub under : Under
+  pub flight : Flight
+  pub sent : Turn
+  pub crossing : Crossing
+  pub port : ℕ
+  pub slave : PortSlave
+
+-- ---- messages
+
+-- the request that a beat ends, if it ends one
+abbrev pub ask_by : Under → AskHead → List ℕ → Option Request
+ask_by under beat lanes =
+    if ends_ask under.bus under.asking beat then Some (ask_of under.bus under.asking beat lanes) else None
+
+-- the address of the request in flight, where it has ended
+abbrev pub address_in : Turn → ℕ
+address_in Idle = 0
+address_in (Asking number) = 0
+address_in (Asked number ask) = ask.address
+
+-- the reply that a beat ends, as it was captured
+abbrev pub captured : Under → Turn → ReplyHead → ℕ → List ℕ → Pattern
+captured under turn beat known lanes = reply_of under.bus under.replying (address_in turn) beat known lanes
+
+-- the messages under way after a beat
+abbrev pub under_after : Under → Beat → ℕ → List ℕ → Under
+under_after under (A beat) known lanes = ask_crossed under beat lanes
+under_after under (D beat) known lanes = reply_crossed under beat known lanes
+
+-- ---- slaves
+
+-- requests to this port take effect as they are seen at this link: a port's own where the ports' links are watched,
+-- else, and for the error port, all masters'. (What a request leaves and what it is answered does not depend on its
+-- source.)
+abbrev pub takes_effect : Layout → Link → ℕ → Bool
+takes_effect layout (Port p) port = true
+takes_effect layout (Master m) port = if crosses layout port then false else true
+
+-- the request that takes effect as it is accepted, with the beat that ends it
+abbrev pub effect : Layout → Link → Scene → Beat → List ℕ → Option Request
+effect layout link scene (A beat) lanes =
+    effect_by (takes_effect layout link scene.port) (effect_at_acceptance scene.slave (ask_by scene.under beat lanes))
+effect layout link scene (D beat) lanes = None
+
+-- no beat of a reply is under way
+abbrev pub begins_reply : Option ReplyBegun → Bool
+begins_reply None = true
+begins_reply (Some begun) = false
+
+-- the request of this port that takes effect as it is answered, with the first beat of its reply
+abbrev pub late_effect : Layout → Link → ℕ → PortSlave → Option ReplyBegun → Turn → Option Request
+late_effect layout link port slave begun turn =
+    effect_by (takes_effect layout link port && begins_reply begun) (effect_at_reply slave (asked turn))
+
+-- ---- what a beat finds, once the request that it answers has taken effect
+
+abbrev pub answering : Layout → Link → Scene → Beat → Scene
+answering layout link scene (A beat) = scene
+answering layout link scene (D beat) =
+    let ask = late_effect layout link scene.port scene.slave scene.under.replying scene.flight.turn in
+    record scene {
+      flight = flight_due scene.flight (answer_by scene.port scene.slave ask);
+      slave = slave_by scene.slave ask;
+    }
+
+-- ---- what is in flight
+
+-- a source is in flight from the first beat of its request to the last beat of its reply
+abbrev pub turn_by : ℕ → Option Request → Turn
+turn_by number None = Asking number
+turn_by number (Some ask) = Asked number ask
+
+abbrev pub flight_after : Layout → Link → Scene → Beat → List ℕ → Flight
+flight_after layout link scene (A beat) lanes = record {
+  turn = turn_by (number_of link) (ask_by scene.under beat lanes);
+  due = answer_by scene.port scene.slave (effect layout link scene (A beat) lanes);
+}
+flight_after layout link scene (D beat) lanes =
+    if ends_reply scene.under.bus scene.under.replying beat then idle else scene.flight
+
+-- ---- crossing
+
+-- the port gives this captured reply, where one is due
+abbrev pub given_by : Option Answer → Pattern → Crossing → Crossing
+given_by None reply before = before
+given_by (Some answer) reply before = Given (record answer { reply = reply })
+
+-- how far a request has come: it waits at its master's link, a port has taken it, the port has given its reply
+abbrev pub crossing_after : Link → Scene → Beat → ℕ → List ℕ → Crossing
+crossing_after (Master m) scene (A beat) known lanes = Waiting
+crossing_after (Master m) scene (D beat) known lanes = scene.crossing
+crossing_after (Port p) scene (A beat) known lanes =
+    if ends_ask scene.under.bus scene.under.asking beat then Crossed else scene.crossing
+crossing_after (Port p) scene (D beat) known lanes =
+    if ends_reply scene.under.bus scene.under.replying beat
+    then given_by scene.flight.due (captured scene.under scene.flight.turn beat known lanes) scene.crossing
+    else scene.crossing
+
+-- ---- the reply that must come
+
+-- the reply that must come is the one that the port gave
+abbrev pub is_given : Layout → Link → ℕ → Bool
+is_given layout (Master m) port = crosses layout port
+is_given layout (Port p) port = false
+
+-- what the port gave, or else what its slave expects
+abbrev pub must_by : Bool → Crossing → Option Answer → Option Answer
+must_by true crossing due = given crossing
+must_by false crossing due = due
+
+-- ---- what a beat ends
+
+abbrev pub entry_of : Request → Pattern → Answer → Entry
+entry_of ask reply answer = record { ask = ask; reply = reply; port = answer.port; index = answer.index }
+
+-- the reply to what is in flight, where this is due
+abbrev pub seen_reply : Turn → Pattern → Option Answer → Seen
+seen_reply (Asked number ask) reply (Some answer) = WholeReply (entry_of ask reply answer)
+seen_reply (Asked number ask) reply None = Part
+seen_reply (Asking number) reply answer = Part
+seen_reply Idle reply answer = Part
+
+abbrev pub seen_ask : Option Request → Seen
+seen_ask None = Part
+seen_ask (Some ask) = WholeAsk
+
+-- what the beat ends: a part of a message ends none, a request, or a reply, told with its request
+abbrev pub seen : Layout → Link → Scene → Beat → ℕ → List ℕ → Seen
+seen layout link scene (A beat) known lanes = seen_ask (ask_by scene.under beat lanes)
+seen layout link scene (D beat) known lanes =
+    if ends_reply scene.under.bus scene.under.replying beat
+    then seen_reply scene.flight.turn (captured scene.under scene.flight.turn beat known lanes)
+    (must_by (is_given layout link scene.port) scene.crossing scene.flight.due)
+    else Part
+
+-- the same, without the reply
+abbrev pub ended : Seen → Ended
+ended Part = ends.Part
+ended WholeAsk = ends.Ask
+ended (WholeReply entry) = ends.Reply

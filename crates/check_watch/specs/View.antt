@@ -1,0 +1,232 @@
+-- What a judge keeps of the beats so far. It is this project's own.
+use Rattle.std.specs.Prelude.{◌≡◌, ℕ, ◌+◌, ◌<◌, Bool, true, false, ◌&&◌, if◌then◌else◌, List, length, Option, Some, None, slice_get, slice_set, unwrap_or}
+use Rattle.tl_types.specs.Request.{Request}
+use Rattle.check_map.specs.Owner.{IsOwned}
+use Rattle.check_cells.specs.Pattern.{Pattern}
+use Rattle.check_beats.specs.Form.{FitsAsk, FitsReply}
+use Rattle.check_beats.specs.State.{Under, first_ask, first_reply, ends_ask, ends_reply}
+use Rattle.check_beats.specs.declared.beat.AskHead.{AskHead}
+use Rattle.check_beats.specs.declared.beat.ReplyHead.{ReplyHead}
+use Rattle.check_beats.specs.declared.bus.Bus.{Bus}
+use Rattle.check_flight.specs.declared.answer.Answer.{Answer}
+use Rattle.check_flight.specs.declared.place.Place.{Place}
+use Rattle.check_flight.specs.Crossing.{Crossing}
+use Rattle.check_flight.specs.Crossing.Crossing.{Waiting, Crossed, Given}
+use Rattle.check_flight.specs.Flight.{Flight, idle, due_by}
+use Rattle.check_flight.specs.Order.{effect_by}
+use Rattle.check_flight.specs.PortSlave.{PortSlave, served_by, answer_by, effect_at_acceptance}
+use Rattle.check_flight.specs.Side.{SideView, bus_at, under_at, flight_at, side_with, side_under, side_due, ask_crossed, reply_crossed}
+use Rattle.check_watch.specs.declared.beat.Beat.{Beat}
+use Rattle.check_watch.specs.declared.beat.Beat.TheVariants.{A, D}
+use Rattle.check_watch.specs.declared.beat.Link.{Link}
+use Rattle.check_watch.specs.declared.beat.Link.TheVariants.{Master, Port}
+use Rattle.check_watch.specs.Plan.{Layout, Plan, IsPlan, Sighting, IsWideAt, Side, side_of, number_of, source_of}
+use Rattle.check_watch.specs.Plan.Side.{AtMasters, AtPorts}
+use Rattle.check_watch.specs.Scene.{Scene, takes_effect, begins_reply, late_effect, ask_by, turn_by, captured}
+use Rattle.check_watch.specs.Past.{State, slave_at, port_of, scene_of, state}
+use Rattle.check_watch.specs.Lawful.{IsLawful}
+
+pub record View : Type 0 where
+  pub layout : Layout
+  pub masters : SideView
+  pub ports : SideView
+  pub crossings : List Crossing
+  pub slaves : List PortSlave
+
+-- how many wide sources are kept
+abbrev pub wides_in : View → ℕ
+wides_in view = length view.crossings
+
+-- each link has its bus
+abbrev pub HaveBuses : List Under → List Bus → Type 0
+HaveBuses links buses = (number : ℕ) → (under_at links number).bus ≡ bus_at buses number
+
+-- a link for each master and each port, each with its bus, a slave for each port and the error port, and room for each
+-- wide source that somebody has
+pub record IsSized (view : View) : Type 0 where
+  pub masters : length view.masters.links ≡ length view.layout.owners
+  pub ports : length view.ports.links ≡ length view.layout.ports
+  pub master_buses : HaveBuses view.masters.links view.layout.master_buses
+  pub port_buses : HaveBuses view.ports.links view.layout.port_buses
+  pub slaves : length view.slaves ≡ length view.layout.ports + 1
+  pub at_masters : length view.masters.flights ≡ wides_in view
+  pub at_ports : length view.ports.flights ≡ wides_in view
+  pub owned : (wide : ℕ) → IsOwned view.layout.owners wide → wide < wides_in view
+
+-- ---- what stands at a place, and something for places that are not there
+
+abbrev pub crossing_at : List Crossing → ℕ → Crossing
+crossing_at crossings wide = unwrap_or (slice_get crossings wide) Waiting
+
+abbrev pub side_in : View → Side → SideView
+side_in view AtMasters = view.masters
+side_in view AtPorts = view.ports
+
+-- the side of a link
+abbrev pub own_side : View → Link → SideView
+own_side view link = side_in view (side_of link)
+
+abbrev pub under_in : View → Link → Under
+under_in view link = under_at (own_side view link).links (number_of link)
+
+abbrev pub flight_in : View → Link → ℕ → Flight
+flight_in view link wide = flight_at (own_side view link).flights wide
+
+-- the state that this is
+abbrev pub state_in : View → State
+state_in view = record {
+  links = λ side number. under_at (side_in view side).links number;
+  flights = λ side wide. flight_at (side_in view side).flights wide;
+  crossings = λ wide. crossing_at view.crossings wide;
+  slaves = λ port. slave_at view.slaves port;
+}
+
+-- what a beat finds at its link
+abbrev pub scene_in : Plan → View → Link → Beat → Scene
+scene_in plan view link beat = scene_of plan (state_in view) link beat
+
+-- requests to a port take effect as the next beat of channel D crosses at a link, if they do so as they are answered
+abbrev pub is_late_in : View → Link → ℕ → Bool
+is_late_in view link port = takes_effect view.layout link port && begins_reply (under_in view link).replying
+
+-- the request in flight of a wide source that takes effect as its reply begins at a link
+abbrev pub late_in : View → Link → ℕ → ℕ → Option Request
+late_in view link wide port =
+    late_effect view.layout link port (slave_at view.slaves port) (under_in view link).replying
+    (flight_in view link wide).turn
+
+-- its answer, if it takes effect now
+abbrev pub late_answer : View → Link → ℕ → ℕ → Option Answer
+late_answer view link wide port = answer_by port (slave_at view.slaves port) (late_in view link wide port)
+
+-- the reply that the port's slave expects
+abbrev pub due_in : View → Link → ℕ → ℕ → Option Answer
+due_in view link wide port = due_by (flight_in view link wide).due (late_answer view link wide port)
+
+-- the reply that a beat ends to what is in flight of a wide source, as it was captured
+abbrev pub captured_in : View → Link → ℕ → ReplyHead → ℕ → List ℕ → Pattern
+captured_in view link wide beat known lanes =
+    captured (under_in view link) (flight_in view link wide).turn beat known lanes
+
+-- two states say the same of each place
+pub record AreSame (a b : State) : Type 0 where
+  pub links : (side : Side) (number : ℕ) → a.links side number ≡ b.links side number
+  pub flights : (side : Side) (wide : ℕ) → a.flights side wide ≡ b.flights side wide
+  pub crossings : (wide : ℕ) → a.crossings wide ≡ b.crossings wide
+  pub slaves : (port : ℕ) → a.slaves port ≡ b.slaves port
+
+-- the judge is one for this plan
+pub record Suits (plan : Plan) (view : View) : Type 0 where
+  pub lawful : IsPlan plan
+  pub layout : view.layout ≡ plan.layout
+
+-- the past is lawful, and this is kept of it
+pub record Keeps (plan : Plan) (past : List Sighting) (view : View) : Type 0 where
+  pub suits : Suits plan view
+  pub lawful : IsLawful plan past
+  pub state : AreSame (state_in view) (state plan past)
+
+-- ---- the place of a beat
+
+-- the beat is one of the message under way
+abbrev pub FitsBeat : Under → Beat → Type 0
+FitsBeat under (A beat) = FitsAsk under.bus (first_ask under.asking) beat
+FitsBeat under (D beat) = FitsReply (first_reply under.replying) beat
+
+-- the number of a beat's link, its wide source, and the port of its request; and the beat is one of its message
+pub record IsPlace (view : View) (link : Link) (beat : Beat) (place : Place) : Type 0 where
+  pub at : place.link ≡ number_of link
+  pub wide : IsWideAt view.layout link (source_of beat) place.wide
+  pub in_limit : place.wide < wides_in view
+  pub port : (plan : Plan) → Suits plan view → place.port ≡ port_of plan link (flight_in view link place.wide).turn beat
+  pub in_ports : place.port < length view.slaves
+  pub fits : FitsBeat (under_in view link) beat
+
+-- ---- steps
+
+-- this is the side of a link from then on
+abbrev pub with_side : View → Link → SideView → View
+with_side view (Master m) side = record view { masters = side }
+with_side view (Port p) side = record view { ports = side }
+
+-- this request is served, if there is one
+abbrev pub slaves_with : List PortSlave → ℕ → Option Request → List PortSlave
+slaves_with slaves port None = slaves
+slaves_with slaves port (Some ask) = slice_set slaves port (served_by (slave_at slaves port) ask)
+
+-- a port takes a request, if it ends
+abbrev pub crossings_taken : List Crossing → ℕ → Bool → List Crossing
+crossings_taken crossings wide false = crossings
+crossings_taken crossings wide true = slice_set crossings wide Crossed
+
+-- a beat of a request crosses at a master's link, or at a port's
+abbrev pub crossings_asked : List Crossing → Link → ℕ → Bool → List Crossing
+crossings_asked crossings (Master m) wide ends = slice_set crossings wide Waiting
+crossings_asked crossings (Port p) wide ends = crossings_taken crossings wide ends
+
+-- the port gives this captured reply, if one is due
+abbrev pub crossings_given : List Crossing → ℕ → Option Answer → Pattern → List Crossing
+crossings_given crossings wide None reply = crossings
+crossings_given crossings wide (Some answer) reply = slice_set crossings wide (Given (record answer { reply = reply }))
+
+-- a reply ends at a master's link, or at a port's
+abbrev pub crossings_replied : List Crossing → Link → ℕ → Option Answer → Pattern → List Crossing
+crossings_replied crossings (Master m) wide due reply = crossings
+crossings_replied crossings (Port p) wide due reply = crossings_given crossings wide due reply
+
+-- the request that takes effect as it is accepted
+abbrev pub effect_in : View → Link → ℕ → Option Request → Option Request
+effect_in view link port ask =
+    effect_by (takes_effect view.layout link port) (effect_at_acceptance (slave_at view.slaves port) ask)
+
+abbrev pub asked_flight : View → Link → ℕ → Option Request → Flight
+asked_flight view link port ask = record {
+  turn = turn_by (number_of link) ask;
+  due = answer_by port (slave_at view.slaves port) (effect_in view link port ask);
+}
+
+-- this is under way at a link, and this is in flight there, from then on, and this request has been served
+abbrev pub with_message : View → Link → ℕ → ℕ → Under → Flight → Option Request → View
+with_message view link wide port under flight effect =
+    record (with_side view link (side_with (own_side view link) (number_of link) under wide flight)) {
+      slaves = slaves_with view.slaves port effect;
+    }
+
+-- a beat of a request crosses
+abbrev pub with_ask : View → Link → ℕ → ℕ → AskHead → List ℕ → View
+with_ask view link wide port beat lanes =
+    let under = under_in view link in
+    let ask = ask_by under beat lanes in
+    record (with_message view link wide port (ask_crossed under beat lanes)
+    (asked_flight view link port ask) (effect_in view link port ask)) {
+      crossings = crossings_asked view.crossings link wide (ends_ask under.bus under.asking beat);
+    }
+
+-- the request in flight takes effect, if it does so as its reply begins
+abbrev pub with_late : View → Link → ℕ → ℕ → View
+with_late view link wide port =
+    record (with_side view link (side_due (own_side view link) wide (late_answer view link wide port))) {
+      slaves = slaves_with view.slaves port (late_in view link wide port);
+    }
+
+-- a beat of a reply crosses that does not end it
+abbrev pub with_part : View → Link → ReplyHead → ℕ → List ℕ → View
+with_part view link beat known lanes =
+    with_side view link
+    (side_under (own_side view link) (number_of link) (reply_crossed (under_in view link) beat known lanes))
+
+-- a beat of a reply crosses that ends it
+abbrev pub with_end : View → Link → ℕ → ReplyHead → ℕ → List ℕ → View
+with_end view link wide beat known lanes =
+    record (with_side view link (side_with (own_side view link) (number_of link)
+    (reply_crossed (under_in view link) beat known lanes) wide idle)) {
+      crossings = crossings_replied view.crossings link wide (flight_in view link wide).due
+          (captured_in view link wide beat known lanes);
+    }
+
+-- a beat of a reply crosses
+abbrev pub with_reply : View → Link → ℕ → ℕ → ReplyHead → ℕ → List ℕ → View
+with_reply view link wide port beat known lanes =
+    let served = with_late view link wide port in
+    if ends_reply (under_in view link).bus (under_in view link).replying beat
+    then with_end served link wide beat known lanes else with_part served link beat known lanes

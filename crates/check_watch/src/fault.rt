@@ -1,0 +1,87 @@
+//! Why no lawful crossbar could have shown a beat.
+
+ghost use Rattle.std.specs.Prelude.{◌≡◌};
+ghost use Rattle.check_watch.specs.declared.fault.Reason.TheVariants as reasons;
+ghost use Rattle.check_watch.specs.Faults.{reason_of};
+
+use check_beats::FormFault;
+use check_cells::Pattern;
+use thiserror::Error;
+
+/// Why a beat is not lawful after those before it, in the order in which reasons are tried. It tells no reply: a judge
+/// hands it on, and a [`Fault`] is made of it where it is asked for.
+#[derive(Debug, Clone, Copy, PartialEq, Eq)]
+pub enum Reason {
+    Form(FormFault),
+    NoSuchSource,
+    SourceBusy,
+    WrongPort,
+    NoRequest,
+    EarlyReply,
+    WrongSize,
+    WrongOpcode,
+    UnknownData,
+    NotSent,
+    NotGiven,
+    WrongReply,
+}
+
+/// The first reason why a beat is not lawful, told in full.
+#[derive(Debug, Drop, Error)]
+pub enum Fault {
+    #[error("{0}")]
+    Form(FormFault),
+    #[error("no such source")]
+    NoSuchSource,
+    #[error("source in flight")]
+    SourceBusy,
+    #[error("not this port's address")]
+    WrongPort,
+    #[error("reply without request")]
+    NoRequest,
+    #[error("reply before its request ended")]
+    EarlyReply,
+    #[error("size of another request")]
+    WrongSize,
+    #[error("opcode of another operation")]
+    WrongOpcode,
+    #[error("unknown data")]
+    UnknownData,
+    #[error("no master sent this request")]
+    NotSent,
+    #[error("the port gave no such reply")]
+    NotGiven,
+    /// What was expected, and the reply that was captured.
+    #[error("wrong reply")]
+    WrongReply(Pattern, Pattern),
+}
+
+/// Why a step is not taken.
+#[derive(Debug, Drop, Error)]
+pub enum StepError {
+    /// The beat is not lawful after those before it.
+    #[error("{0}")]
+    Unlawful(Fault),
+    /// It is lawful: what would be kept of it has no room.
+    #[error("memory refused")]
+    Memory,
+}
+
+/// The fault that this reason is, if it tells no reply.
+pub fn fault_of(reason: Reason) -> Fault
+    ensures { (reason ≡ reasons.WrongReply → ⊥) → reason_of result ≡ reason }
+{
+    match reason {
+        Reason::Form(fault) => Fault::Form(fault),
+        Reason::NoSuchSource => Fault::NoSuchSource,
+        Reason::SourceBusy => Fault::SourceBusy,
+        Reason::WrongPort => Fault::WrongPort,
+        Reason::NoRequest => Fault::NoRequest,
+        Reason::EarlyReply => Fault::EarlyReply,
+        Reason::WrongSize => Fault::WrongSize,
+        Reason::WrongOpcode => Fault::WrongOpcode,
+        Reason::UnknownData => Fault::UnknownData,
+        Reason::NotSent => Fault::NotSent,
+        Reason::NotGiven | Reason::WrongReply => Fault::NotGiven,
+    }
+}

@@ -1,0 +1,435 @@
+//! The judge of what crossed the links of a crossbar.
+ghost use Rattle.std.specs.Prelude.{◌≡◌, ◌<◌, ◌≤◌, ◌↔◌, ◌+◌, ◌∷◌, ℕ, List, [], length, Some, Err, IsTrue, IfOk, OnOk, OnErr, IfErr, IsOk, IfSome, IfNone, IsSome, OnSome, option_map};
+ghost use Rattle.tl_types.specs.declared.limits.TheConstants.{MAX_SIZE};
+ghost use Rattle.check_map.specs.Owner.{IsOwned};
+ghost use Rattle.check_map.specs.Ranges.{RoutesBytes};
+ghost use Rattle.check_beats.specs.Bus.{bus_bytes};
+ghost use Rattle.check_beats.specs.State.{ends_reply};
+ghost use Rattle.check_beats.specs.Form.{FitsReply};
+ghost use Rattle.check_beats.specs.State.{first_reply};
+ghost use Rattle.check_flight.specs.Crossing.Crossing.{Waiting};
+ghost use Rattle.check_flight.specs.Side.{flight_at};
+ghost use Rattle.check_watch.specs.declared.beat.Beat.TheVariants.{D};
+ghost use Rattle.check_beats.specs.declared.beat.ReplyHead.{ReplyHead};
+ghost use Rattle.check_watch.specs.Past.{port_of, slave_at};
+ghost use Rattle.check_watch.specs.Plan.{Plan, IsPlan, HasLink, IsWideAt, IsWatched, are_both, bus_of, crosses};
+ghost use Rattle.check_watch.specs.Scene.{takes_effect, is_given, must_by};
+ghost use Rattle.check_watch.specs.View.{View, IsSized, IsPlace, wides_in, Suits, Keeps, own_side, under_in, flight_in, crossing_at, is_late_in, due_in, captured_in};
+
+use crate::beat::Link;
+use crate::links::Links;
+use check_beats::{Bus, ReplyHead, UnderWay};
+use check_cells::Pattern;
+use check_flight::{Answer, Crossing, Flight, Order, Place, PortSlave, Side};
+use check_map::{Map, Sources};
+use std::alloc::{AllocError, Global};
+use std::marker::Model;
+use tl_types::MAX_SIZE;
+
+/// What a judge keeps of the beats so far.
+#[derive(Drop)]
+pub struct Watch {
+    links: Links,
+    map: Map,
+    sources: Sources,
+    master_buses: Vec<Bus>,
+    port_buses: Vec<Bus>,
+    pub(crate) masters: Side,
+    pub(crate) ports: Side,
+    pub(crate) crossings: Vec<Crossing>,
+    pub(crate) slaves: Vec<PortSlave>,
+}
+
+impl Model for Watch {
+    ghost use Rattle.check_watch.specs.View.{View, IsSized};
+
+    ghost Value = { View };
+
+    ghost view = { λ w. record {
+      layout = record {
+        links = w.links;
+        owners = w.sources;
+        ports = w.map;
+        master_buses = w.master_buses.items;
+        port_buses = w.port_buses.items;
+      };
+      masters = w.masters;
+      ports = w.ports;
+      crossings = w.crossings.items;
+      slaves = w.slaves.items;
+    } };
+
+    ghost invariant = { λ w. IsSized (record {
+      layout = record {
+        links = w.links;
+        owners = w.sources;
+        ports = w.map;
+        master_buses = w.master_buses.items;
+        port_buses = w.port_buses.items;
+      };
+      masters = w.masters;
+      ports = w.ports;
+      crossings = w.crossings.items;
+      slaves = w.slaves.items;
+    }) };
+}
+
+/// A wide source, if a master has it.
+fn owned(sources: &Sources, source: u16) -> Option<u16>
+    ensures { (wide : ℕ) → (result ≡ Some wide) ↔ ((wide ≡ source) × IsOwned sources.now source) }
+{
+    if sources.is_owned(source) {
+        Some(source)
+    } else {
+        None
+    }
+}
+
+/// No request has come across of so many wide sources.
+fn fresh_crossings(alloc: Global, count: usize) -> Result<Vec<Crossing>, AllocError>
+    ensures counted { IfOk result (λ crossings. length crossings.items ≡ count) }
+    ensures fresh { IfOk result (λ crossings. (wide : ℕ) → crossing_at crossings.items wide ≡ Waiting) }
+{
+    let mut crossings = Vec::with_capacity(alloc, count)?;
+    for _wide in 0..count {
+        crossings.push(Crossing::waiting())?;
+    }
+    Ok(crossings)
+}
+
+impl Watch {
+    /// The judge of a crossbar with these ports and sources, before any beat. There is a slave for each port, the error
+    /// port's last, as it is at reset; a bus for each master's link, and one for each port's.
+    pub fn new(
+        alloc: Global,
+        links: Links,
+        map: Map,
+        sources: Sources,
+        master_buses: Vec<Bus>,
+        port_buses: Vec<Bus>,
+        slaves: Vec<PortSlave>,
+    ) -> Result<Watch, AllocError>
+        requires slaves { length slaves.items ≡ length map + 1 }
+        requires masters { length master_buses.items ≡ length sources }
+        requires ports { length port_buses.items ≡ length map }
+        ensures layout { IfOk result (λ watch. watch.layout ≡ record {
+          links = links;
+          owners = sources;
+          ports = map;
+          master_buses = master_buses.items;
+          port_buses = port_buses.items;
+        }) }
+        ensures plan { IfOk result (λ watch. (plan : Plan) × (plan.resets ≡ slaves.items) × Keeps plan [] watch) }
+        ensures keeps { (plan : Plan) → IsPlan plan
+            → plan.layout ≡ record {
+              links = links;
+              owners = sources;
+              ports = map;
+              master_buses = master_buses.items;
+              port_buses = port_buses.items;
+            }
+            → plan.resets ≡ slaves.items → IfOk result (Keeps plan []) }
+    {
+        // these two are called for their clauses: no two masters share a source, and each request has one port
+        let _owners = sources.masters();
+        let _slots = map.ports();
+        let wides = sources.wides();
+        let masters = Side::new(alloc, &master_buses, wides)?;
+        let ports = Side::new(alloc, &port_buses, wides)?;
+        let crossings = fresh_crossings(alloc, wides)?;
+        Ok(Watch {
+            links,
+            map,
+            sources,
+            master_buses,
+            port_buses,
+            masters,
+            ports,
+            crossings,
+            slaves,
+        })
+    }
+
+    /// Whether the crossbar has a link, and it is watched.
+    pub fn watches(&self, link: Link) -> bool
+        ensures { IsTrue result
+            ↔ (HasLink self.now.layout link × IsWatched self.now.layout.links link) }
+    {
+        match (link, self.links) {
+            (Link::Master(master), Links::Both | Links::Masters) => master < self.sources.masters(),
+            (Link::Port(port), Links::Both | Links::Ports) => port < self.map.ports() - 1,
+            (Link::Master(_), Links::Ports) | (Link::Port(_), Links::Masters) => false,
+        }
+    }
+
+    /// The links that are watched.
+    pub fn links(&self) -> Links
+        ensures { result ≡ self.now.layout.links }
+    {
+        self.links
+    }
+
+    /// The wide sources of the masters.
+    pub fn sources(&self) -> &Sources
+        ensures { result.now ≡ self.now.layout.owners }
+    {
+        &self.sources
+    }
+
+    /// The address map of the ports.
+    pub fn map(&self) -> &Map
+        ensures { result.now ≡ self.now.layout.ports }
+    {
+        &self.map
+    }
+
+    /// The bus of a link.
+    pub fn bus(&self, link: Link) -> Bus
+        requires { HasLink self.now.layout link }
+        ensures { bus_bytes result ≡ bus_of self.now.layout link }
+    {
+        self.sized();
+        self.link(link).bus()
+    }
+
+    /// When requests of a port take effect.
+    pub fn order(&self, port: usize) -> Order
+        requires { port < length self.now.slaves }
+        ensures { result ≡ (slave_at self.now.slaves port).order }
+    {
+        self.slave(port).order()
+    }
+
+    /// The slave of a port.
+    pub(crate) fn slave(&self, port: usize) -> &PortSlave
+        requires { port < length self.now.slaves }
+        ensures { result.now ≡ slave_at self.now.slaves port }
+    {
+        &self.slaves[port]
+    }
+
+    /// The side that a link is on.
+    fn side(&self, link: Link) -> &Side
+        ensures { result.now ≡ own_side self.now link }
+    {
+        match link {
+            Link::Master(_) => &self.masters,
+            Link::Port(_) => &self.ports,
+        }
+    }
+
+    /// The messages under way at a link.
+    pub(crate) fn link(&self, link: Link) -> &UnderWay
+        requires { HasLink self.now.layout link }
+        ensures { result.now ≡ under_in self.now link }
+    {
+        match link {
+            Link::Master(number) => self.masters.link(number),
+            Link::Port(number) => self.ports.link(number),
+        }
+    }
+
+    /// What is in flight of a wide source, on the side that a link is on.
+    pub(crate) fn flight(&self, link: Link, wide: usize) -> &Flight
+        requires { wide < wides_in self.now }
+        ensures { result.now ≡ flight_in self.now link wide }
+    {
+        self.sized();
+        self.side(link).flight(wide)
+    }
+
+    /// What is in flight of a wide source on the masters' side.
+    pub(crate) fn sent(&self, wide: usize) -> &Flight
+        requires { wide < wides_in self.now }
+        ensures { result.now ≡ flight_at self.now.masters.flights wide }
+    {
+        self.sized();
+        self.masters.flight(wide)
+    }
+
+    /// How far the request of a wide source has come across.
+    pub(crate) fn crossing(&self, wide: usize) -> &Crossing
+        requires { wide < wides_in self.now }
+        ensures { result.now ≡ crossing_at self.now.crossings wide }
+    {
+        &self.crossings[wide]
+    }
+
+    /// The wide source of a source at a link, if the link has it.
+    pub(crate) fn wide(&self, link: Link, source: u16) -> Option<u16>
+        ensures wide { (wide : ℕ) → (result ≡ Some wide) ↔ IsWideAt self.now.layout link source wide }
+        ensures in_limit { IfSome result (λ wide. wide < wides_in self.now) }
+    {
+        self.sized();
+        match link {
+            Link::Master(master) => self.sources.widen(master, source),
+            Link::Port(_) => owned(&self.sources, source),
+        }
+    }
+
+    /// The port that requests at a link go to, of this address and size.
+    pub(crate) fn port(&self, link: Link, address: u64, size: u8) -> usize
+        requires known { HasLink self.now.layout link }
+        requires in_limit { size ≤ MAX_SIZE }
+        ensures master { (number port : ℕ) → link ≡ Link.Master number
+            → (result ≡ port) ↔ RoutesBytes self.now.layout.ports address size port }
+        ensures port { (number : ℕ) → link ≡ Link.Port number → result ≡ number }
+        ensures in_ports { result < length self.now.slaves }
+    {
+        match link {
+            Link::Master(_) => self.map.route_bytes(address, size),
+            Link::Port(port) => port,
+        }
+    }
+
+    /// The port of the request in flight of a wide source at a link.
+    pub(crate) fn port_in_flight(&self, link: Link, wide: usize) -> usize
+        requires known { HasLink self.now.layout link }
+        requires wide { wide < wides_in self.now }
+        ensures port { (plan : Plan) (beat : ReplyHead) → Suits plan self.now
+            → result ≡ port_of plan link (flight_in self.now link wide).turn (D beat) }
+        ensures in_ports { result < length self.now.slaves }
+    {
+        self.sized();
+        match (self.flight(link, wide).asked(), link) {
+            (Some(ask), _) => self.port(link, ask.address(), ask.size()),
+            (None, Link::Port(port)) => port,
+            (None, Link::Master(_)) => 0,
+        }
+    }
+
+    /// Whether the address map has bytes with the port of a link.
+    pub(crate) fn is_at_port(&self, port: usize, address: u64, size: u8) -> bool
+        requires { size ≤ MAX_SIZE }
+        ensures { IsTrue result ↔ RoutesBytes self.now.layout.ports address size port }
+    {
+        self.map.route_bytes(address, size) == port
+    }
+
+    /// Whether both sides are watched.
+    pub(crate) fn watches_both(&self) -> bool
+        ensures value { result ≡ are_both self.now.layout.links }
+        ensures both { IsTrue result ↔ (self.now.layout.links ≡ Links.Both) }
+    {
+        matches!(self.links, Links::Both)
+    }
+
+    /// Whether requests to a port are seen on both sides.
+    fn crosses(&self, port: usize) -> bool
+        ensures { result ≡ crosses self.now.layout port }
+    {
+        matches!(self.links, Links::Both) && port < self.map.ports() - 1
+    }
+
+    /// Whether the reply that must come at a link is what a port gave.
+    pub(crate) fn is_given(&self, link: Link, port: usize) -> bool
+        ensures { result ≡ is_given self.now.layout link port }
+    {
+        match link {
+            Link::Master(_) => self.crosses(port),
+            Link::Port(_) => false,
+        }
+    }
+
+    /// Whether requests to a port take effect at a link, as they are accepted or as they are answered.
+    pub(crate) fn takes_effect(&self, link: Link, port: usize) -> bool
+        ensures { result ≡ takes_effect self.now.layout link port }
+    {
+        match link {
+            Link::Master(_) => !self.crosses(port),
+            Link::Port(_) => true,
+        }
+    }
+
+    /// Whether requests to a port take effect as the next beat of channel D crosses at a link, if they do so as they are
+    /// answered.
+    pub(crate) fn is_late(&self, link: Link, port: usize) -> bool
+        requires { HasLink self.now.layout link }
+        ensures { result ≡ is_late_in self.now link port }
+    {
+        self.takes_effect(link, port) && self.link(link).begins_reply()
+    }
+
+    /// What the reply has to fit to what is in flight of a wide source, which goes to this port. Where the request takes
+    /// effect as its reply begins, and that begins now, the answer is written into the room.
+    pub(crate) fn due<'a>(
+        &'a self,
+        link: Link,
+        wide: usize,
+        port: usize,
+        room: &'a mut Answer,
+    ) -> Option<&'a Answer>
+        requires known { HasLink self.now.layout link }
+        requires wide { wide < wides_in self.now }
+        requires port { port < length self.now.slaves }
+        ensures { option_map (λ answer. answer.now) result ≡ due_in self.now link wide port }
+    {
+        let flight = self.flight(link, wide);
+        let slave = self.slave(port);
+        if !self.is_late(link, port) || !slave.order().is_at_reply() {
+            return flight.due();
+        }
+        match flight.asked() {
+            Some(ask) => {
+                slave.answer_into(port, ask, room);
+                Some(room)
+            }
+            None => flight.due(),
+        }
+    }
+
+    /// What the port gave to what is in flight of a wide source, where that must come, or what the reply has to fit.
+    pub(crate) fn must<'a>(
+        &'a self,
+        link: Link,
+        place: Place,
+        room: &'a mut Answer,
+    ) -> Option<&'a Answer>
+        requires known { HasLink self.now.layout link }
+        requires wide { place.wide < wides_in self.now }
+        requires port { place.port < length self.now.slaves }
+        ensures { option_map (λ answer. answer.now) result
+            ≡ must_by (is_given self.now.layout link place.port) (crossing_at self.now.crossings place.wide)
+            (due_in self.now link place.wide place.port) }
+    {
+        if self.is_given(link, place.port) {
+            return self.crossing(place.wide).given();
+        }
+        self.due(link, place.wide, place.port, room)
+    }
+
+    /// Puts the reply that a beat ends to what is in flight of a wide source, as it was captured, in the place of another.
+    pub(crate) fn capture(
+        &self,
+        link: Link,
+        wide: usize,
+        beat: &ReplyHead,
+        known: u64,
+        lanes: &[u8],
+        reply: &mut Pattern,
+    )
+        requires known { HasLink self.now.layout link }
+        requires wide { wide < wides_in self.now }
+        requires fits { FitsReply (first_reply (under_in self.now link).replying) beat.now }
+        requires ends { let under = under_in self.now link in IsTrue (ends_reply under.bus under.replying beat.now) }
+        requires lanes { (under_in self.now link).bus ≤ length lanes.now }
+        ensures { reply.new ≡ captured_in self.now link wide beat.now known lanes.now }
+    {
+        let address = match self.flight(link, wide).asked() {
+            Some(ask) => ask.address(),
+            None => 0,
+        };
+        self.link(link)
+            .reply_into(beat, address, known, lanes, reply);
+    }
+
+    /// That what is kept is of its sizes: it is called for its clauses alone.
+    pub(crate) fn sized(&self)
+        ensures sized { IsSized self.now }
+        ensures masters { length self.now.masters.flights ≡ wides_in self.now }
+        ensures ports { length self.now.ports.flights ≡ wides_in self.now }
+    {
+        // an invariant is known once a field is used
+        let _ = &self.links;
+    }
+}
