@@ -85,7 +85,9 @@ fn outcome_of(rt: &impl Abort, alloc: Global, system: &[u8], reader: Trickle<'_>
         Err(fault) => return Outcome::Signal(fault),
     };
     for (slot, code) in resolved.codes.iter().enumerate() {
-        assert!(rt; dump.keep(alloc, code, slot).is_ok());
+        if let Some(code) = code {
+            assert!(rt; dump.keep(alloc, code, slot).is_ok());
+        }
     }
     let sampler = Sampler::new(resolved.probes, resolved.values);
     outcome_of_rows(Rows::new(dump, sampler), alloc)

@@ -55,7 +55,9 @@ fn rows_of(rt: &impl Abort, alloc: Global) -> Option<Vec<u8>> {
         }
     };
     for (slot, code) in resolved.codes.iter().enumerate() {
-        if dump.keep(alloc, code, slot).is_err() {
+        if let Some(code) = code
+            && dump.keep(alloc, code, slot).is_err()
+        {
             return None;
         }
     }
