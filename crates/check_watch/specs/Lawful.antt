@@ -1,6 +1,6 @@
 -- Which lists of sightings are lawful, the latest first: each beat is lawful after those before it, so a beginning of a
 -- lawful list is lawful.
-use Rattle.std.specs.Prelude.{◌≡◌, List, [], ◌∷◌}
+use Rattle.std.specs.Prelude.{IsSome, ◌≡◌, List, [], ◌∷◌}
 use Rattle.check_watch.specs.declared.beat.Beat.{Beat}
 use Rattle.check_watch.specs.declared.beat.Beat.TheVariants.{A, D}
 use Rattle.check_watch.specs.declared.fault.Fault.{Fault}
@@ -10,8 +10,8 @@ use Rattle.check_watch.specs.declared.fault.StepError.{StepError}
 use Rattle.check_watch.specs.declared.fault.StepError.TheVariants.{Unlawful, Memory}
 use Rattle.check_watch.specs.declared.seen.Seen.{Seen}
 use Rattle.check_watch.specs.Plan.{Plan, Sighting}
-use Rattle.check_watch.specs.Scene.{Scene, seen}
-use Rattle.check_watch.specs.Past.{scene}
+use Rattle.check_watch.specs.Scene.{Scene, seen, serving}
+use Rattle.check_watch.specs.Past.{found_in, scene, state}
 use Rattle.check_watch.specs.Allowed.{IsAllowedAsk, IsAllowedReply}
 use Rattle.check_watch.specs.Faults.{IsFirstAskReason, IsFirstReplyReason, reason_of, IsWrongReply}
 
@@ -53,7 +53,12 @@ abbrev pub OfFault : (Fault → Type 0) → StepError → Type 0
 OfFault Is (Unlawful fault) = Is fault
 OfFault Is Memory = Unit {0}
 
--- ---- what is seen
+-- ---- what a beat does
+
+-- a request takes effect with a beat after this past
+abbrev pub IsServed : Plan → List Sighting → Sighting → Type 0
+IsServed plan past x =
+    IsSome (serving plan.layout x.link (found_in plan (state plan past) x.link x.beat) x.beat x.lanes)
 
 -- what a beat ends after this past
 abbrev pub what_is_seen : Plan → List Sighting → Sighting → Seen

@@ -83,6 +83,12 @@ abbrev pub late_effect : Layout → Link → ℕ → PortSlave → Option ReplyB
 late_effect layout link port slave begun turn =
     effect_by (takes_effect layout link port && begins_reply begun) (effect_at_reply slave (asked turn))
 
+-- the request that takes effect with a beat, by what the beat finds
+abbrev pub serving : Layout → Link → Scene → Beat → List ℕ → Option Request
+serving layout link scene (A beat) lanes = effect layout link scene (A beat) lanes
+serving layout link scene (D beat) lanes =
+    late_effect layout link scene.port scene.slave scene.under.replying scene.flight.turn
+
 -- ---- what a beat finds, once the request that it answers has taken effect
 
 abbrev pub answering : Layout → Link → Scene → Beat → Scene

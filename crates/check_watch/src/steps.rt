@@ -7,11 +7,11 @@ ghost use Rattle.check_flight.specs.Flight.{asked, idle};
 ghost use Rattle.check_flight.specs.PortSlave.{answer_by, effect_at_acceptance, effect_at_reply};
 ghost use Rattle.check_flight.specs.Side.{ask_crossed, ask_ended, flight_at, reply_ended, side_due, side_with};
 ghost use Rattle.check_watch.specs.declared.beat.Beat.TheVariants.{A, D};
-ghost use Rattle.check_watch.specs.Lawful.{IsAllowed, IsLawful, IsFirstReason, IsFirstFault, OfFault, what_is_seen};
-ghost use Rattle.check_watch.specs.Past.{scene, slave_at};
+ghost use Rattle.check_watch.specs.Lawful.{IsLawful, IsServed, IsFirstReason, IsFirstFault, OfFault, what_is_seen};
+ghost use Rattle.check_watch.specs.Past.{slave_at};
 ghost use Rattle.check_watch.specs.Plan.{Plan, Sighting, number_of, HasLink, IsWatched, bus_of, seen_at};
-ghost use Rattle.check_watch.specs.Scene.{ended};
-ghost use Rattle.check_watch.specs.View.{IsPlace, wides_in, Keeps, own_side, under_in, flight_in, captured_in, crossings_asked, crossings_given, crossings_replied, slaves_with, with_side, with_message, with_ask, with_late, with_part, with_end, with_reply};
+ghost use Rattle.check_watch.specs.Scene.{ask_by, ended};
+ghost use Rattle.check_watch.specs.View.{IsPlace, wides_in, Keeps, own_side, under_in, flight_in, captured_in, crossings_asked, crossings_given, crossings_replied, effect_in, is_late_in, slaves_with, with_side, with_message, with_ask, with_late, with_part, with_end, with_reply};
 
 use crate::asks::judge_ask;
 use crate::beat::{Beat, Link};
@@ -130,12 +130,14 @@ impl Watch {
         ensures after { OnOk result (self.new ≡ with_ask self.old link place.wide place.port beat.now lanes.now) }
         ensures ends { let under = under_in self.old link in
             IfOk result (λ ends. ends ≡ ends_ask under.bus under.asking beat.now) }
+        ensures served { OnErr result
+            (IsSome (effect_in self.old link place.port (ask_by (under_in self.old link) beat.now lanes.now))) }
         ensures err { OnErr result (self.new ≡ self.old) }
     {
         let ends = self.link(link).ends_ask(beat);
         if !ends {
             self.begin_ask(link, place, beat, lanes);
-        } else if self.takes_effect(link, place.port) {
+        } else if self.is_accepted(link, place.port) {
             self.accept(alloc, link, place, beat, lanes)?;
         } else {
             self.end_ask(link, place, beat, lanes);
@@ -174,6 +176,7 @@ impl Watch {
         ensures layout { self.new.layout ≡ self.old.layout }
         ensures under { under_in self.new link ≡ under_in self.old link }
         ensures wides { wides_in self.new ≡ wides_in self.old }
+        ensures served { OnErr result (IsTrue (is_late_in self.old link place.port)) }
         ensures err { OnErr result (self.new ≡ self.old) }
     {
         if self.is_late(link, place.port) {
@@ -280,6 +283,7 @@ impl Watch {
             (self.new ≡ with_reply self.old link place.wide place.port beat.now known lanes.now) }
         ensures ends { let under = under_in self.old link in
             IfOk result (λ ends. ends ≡ ends_reply under.bus under.replying beat.now) }
+        ensures served { OnErr result (IsTrue (is_late_in self.old link place.port)) }
         ensures err { OnErr result (self.new ≡ self.old) }
     {
         let ends = self.link(link).ends_reply(beat);
@@ -329,6 +333,9 @@ impl Watch {
         ensures ended { (plan : Plan) (past : List Sighting) → Keeps plan past self.old
             → IsLawful plan (seen_at link beat.now known lanes.now ∷ past)
             → IfOk result (λ e. e ≡ ended (what_is_seen plan past (seen_at link beat.now known lanes.now))) }
+        ensures served { (plan : Plan) (past : List Sighting) → Keeps plan past self.old
+            → IsLawful plan (seen_at link beat.now known lanes.now ∷ past)
+            → OnErr result (IsServed plan past (seen_at link beat.now known lanes.now)) }
         ensures err { OnErr result (self.new ≡ self.old) }
         ensures layout { self.new.layout ≡ self.old.layout }
     {
@@ -385,7 +392,7 @@ impl Watch {
     }
 
     /// Takes one beat more, at a link that is watched, if it is lawful: what it ends. `None` says that it is not. Then
-    /// nothing changes, nor if memory is refused to a lawful one. There are as many lanes as the link's bus has, or more;
+    /// nothing changes, nor if memory is refused to a lawful one, with which a request takes effect. There are as many lanes as the link's bus has, or more;
     /// those past the bus are not looked at.
     ///
     /// It costs less than [`Watch::step`], which makes the fault or the reply that a beat ends, too.
@@ -410,6 +417,8 @@ impl Watch {
         ensures none { IfOk result (λ end. IfNone end (self.new ≡ self.old)) }
         ensures memory { (plan : Plan) (past : List Sighting) → Keeps plan past self.old
             → OnErr result (IsLawful plan (seen_at link beat.now known lanes.now ∷ past)) }
+        ensures served { (plan : Plan) (past : List Sighting) → Keeps plan past self.old
+            → OnErr result (IsServed plan past (seen_at link beat.now known lanes.now)) }
         ensures err { OnErr result (self.new ≡ self.old) }
         ensures layout { self.new.layout ≡ self.old.layout }
     {
@@ -422,7 +431,7 @@ impl Watch {
     }
 
     /// Judges one beat more, at a link that is watched: what it ends, or its first fault. An `Err` changes nothing, and
-    /// [`StepError::Memory`] says that the beat is lawful. There are as many lanes as the link's bus has, or more; those
+    /// [`StepError::Memory`] says that the beat is lawful, and that a request takes effect with it. There are as many lanes as the link's bus has, or more; those
     /// past the bus are not looked at.
     pub fn step(
         &mut self,
@@ -447,6 +456,9 @@ impl Watch {
         ensures memory { (plan : Plan) (past : List Sighting) → Keeps plan past self.old
             → result ≡ Err StepError.Memory
             → IsLawful plan (seen_at link beat.now known lanes.now ∷ past) }
+        ensures served { (plan : Plan) (past : List Sighting) → Keeps plan past self.old
+            → result ≡ Err StepError.Memory
+            → IsServed plan past (seen_at link beat.now known lanes.now) }
         ensures err { OnErr result (self.new ≡ self.old) }
         ensures layout { self.new.layout ≡ self.old.layout }
     {

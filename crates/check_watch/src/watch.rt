@@ -14,7 +14,7 @@ ghost use Rattle.check_beats.specs.declared.beat.ReplyHead.{ReplyHead};
 ghost use Rattle.check_watch.specs.Past.{port_of, slave_at};
 ghost use Rattle.check_watch.specs.Plan.{Plan, IsPlan, HasLink, IsWideAt, IsWatched, are_both, bus_of, crosses};
 ghost use Rattle.check_watch.specs.Scene.{takes_effect, is_given, must_by};
-ghost use Rattle.check_watch.specs.View.{View, IsSized, IsPlace, wides_in, Suits, Keeps, own_side, under_in, flight_in, crossing_at, is_late_in, due_in, captured_in};
+ghost use Rattle.check_watch.specs.View.{View, IsSized, IsPlace, wides_in, Suits, Keeps, own_side, under_in, flight_in, crossing_at, is_accepted_in, is_late_in, due_in, captured_in};
 
 use crate::beat::Link;
 use crate::links::Links;
@@ -332,7 +332,7 @@ impl Watch {
     }
 
     /// Whether requests to a port take effect at a link, as they are accepted or as they are answered.
-    pub(crate) fn takes_effect(&self, link: Link, port: usize) -> bool
+    fn takes_effect(&self, link: Link, port: usize) -> bool
         ensures { result ≡ takes_effect self.now.layout link port }
     {
         match link {
@@ -341,13 +341,23 @@ impl Watch {
         }
     }
 
-    /// Whether requests to a port take effect as the next beat of channel D crosses at a link, if they do so as they are
-    /// answered.
+    /// Whether requests to a port take effect at a link as they are accepted.
+    pub(crate) fn is_accepted(&self, link: Link, port: usize) -> bool
+        requires { port < length self.now.slaves }
+        ensures { result ≡ is_accepted_in self.now link port }
+    {
+        self.takes_effect(link, port) && self.slave(port).order().is_at_acceptance()
+    }
+
+    /// Whether requests to a port take effect as the next beat of channel D crosses at a link.
     pub(crate) fn is_late(&self, link: Link, port: usize) -> bool
-        requires { HasLink self.now.layout link }
+        requires known { HasLink self.now.layout link }
+        requires port { port < length self.now.slaves }
         ensures { result ≡ is_late_in self.now link port }
     {
-        self.takes_effect(link, port) && self.link(link).begins_reply()
+        self.takes_effect(link, port)
+            && self.link(link).begins_reply()
+            && self.slave(port).order().is_at_reply()
     }
 
     /// What the reply has to fit to what is in flight of a wide source, which goes to this port. Where the request takes
@@ -365,13 +375,12 @@ impl Watch {
         ensures { option_map (λ answer. answer.now) result ≡ due_in self.now link wide port }
     {
         let flight = self.flight(link, wide);
-        let slave = self.slave(port);
-        if !self.is_late(link, port) || !slave.order().is_at_reply() {
+        if !self.is_late(link, port) {
             return flight.due();
         }
         match flight.asked() {
             Some(ask) => {
-                slave.answer_into(port, ask, room);
+                self.slave(port).answer_into(port, ask, room);
                 Some(room)
             }
             None => flight.due(),
