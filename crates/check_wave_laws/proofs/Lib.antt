@@ -5,3 +5,7 @@ pub mod Columns
 pub mod Beats
 pub mod Text
 pub mod Dumps
+pub mod Found
+pub mod Kept
+pub mod Counts
+pub mod Systems

@@ -1,0 +1,283 @@
+-- A system has as many links as its file gives names for, none or all of a link.
+use Rattle.std.proofs.Common.{◌≡◌, ◌∙◌, ℕ, ◌<◌, ◌≤◌, ◌^◌, nat_lt, Bool, true, false, cond, List, [], ◌∷◌, length, Option, Some, None, Result, Ok, Err, ok_or, arith, refl, sym, ap}
+use Rattle.std.proofs.lemmas.Bool.{ltb-false}
+use Rattle.std.specs.List.{list_any}
+use Rattle.std.specs.Str.{is_utf8}
+use Rattle.toml.specs.Data.{Data, Items, Members, as_array, get_member}
+use Rattle.toml.specs.Parse.{parse_document}
+use Rattle.tl_script.specs.Value.{list_of}
+use Rattle.check_map.specs.declared.limits.TheConstants.{MAX_MASTERS, MAX_PORTS}
+use Rattle.check_signals.specs.Names as signals
+use Rattle.check_signals.specs.Names.{Names, all_names, clock_in, is_low_in, link_of, links_by, links_in, names_of_file, optional_text}
+use Rattle.check_signals.specs.declared.fault.Key.{Key}
+use Rattle.check_signals.specs.declared.fault.Key.TheVariants as key
+use Rattle.check_signals.specs.declared.fault.KeyFault.{KeyFault}
+use Rattle.check_signals.specs.declared.fault.KeyFault.TheVariants as key_fault
+use Rattle.check_system.specs.File.{Parts, Spells, document_of, parts_in, parts_of}
+use Rattle.check_system.specs.Key as system_key
+use Rattle.check_system.specs.Master.{Master, has_first, master_of, master_tables, masters_of}
+use Rattle.check_system.specs.Port.{Port, port_of, port_tables, ports_of}
+use Rattle.check_system.specs.Reading.{◌>>=◌, each}
+use Rattle.check_system.specs.System.{System}
+use Rattle.check_system.specs.Value.{list_at, one_up_to, table_of, tables_of, up_to, value_at}
+use Rattle.check_system.specs.declared.fault.Key as part_key
+use Rattle.check_system.specs.declared.fault.Key.TheVariants as part
+use Rattle.check_system.specs.declared.fault.SystemFault.{SystemFault}
+use Rattle.check_system.specs.declared.fault.SystemFault.TheVariants as fault
+use Rattle.check_system.specs.declared.read.TheConstants.{MAX_SYSTEM}
+
+-- ---- each of a list
+
+each-counts : {A B F : Type 0} → (f : A → Result B F) (xs : List A) (ys : List B) → each f xs ≡ Ok ys
+    → length xs ≡ length ys
+each-counts {A} {B} {F} f [] ys is = let none : [] ≡ ys = cc in ap length none
+each-counts {A} {B} {F} f (x ∷ xs) ys is = go (f x) (each f xs) (λ zs same. each-counts f xs zs same) is
+  where
+    go : (r : Result B F) (rest : Result (List B) F) → ((zs : List B) → rest ≡ Ok zs → length xs ≡ length zs)
+        → (r >>= (λ y. rest >>= (λ zs. Ok (y ∷ zs)))) ≡ Ok ys → length (x ∷ xs) ≡ length ys
+    go (Err e) rest more same = absurd (cc)
+    go (Ok y) (Err e) more same = absurd (cc)
+    go (Ok y) (Ok zs) more same =
+        let all : y ∷ zs ≡ ys = cc in
+        omega (arith, more zs refl, ap length all)
+
+names-counts : {A B : Type 0} → (f : A → Result B KeyFault) (xs : List A) (ys : List B) → signals.each f xs ≡ Ok ys
+    → length xs ≡ length ys
+names-counts {A} {B} f [] ys is = let none : [] ≡ ys = cc in ap length none
+names-counts {A} {B} f (x ∷ xs) ys is =
+    go (f x) (signals.each f xs) (λ zs same. names-counts f xs zs same) is
+  where
+    go : (r : Result B KeyFault) (rest : Result (List B) KeyFault)
+        → ((zs : List B) → rest ≡ Ok zs → length xs ≡ length zs)
+        → (signals.◌>>=◌ r (λ y. signals.◌>>=◌ rest (λ zs. Ok (y ∷ zs)))) ≡ Ok ys → length (x ∷ xs) ≡ length ys
+    go (Err e) rest more same = absurd (cc)
+    go (Ok y) (Err e) more same = absurd (cc)
+    go (Ok y) (Ok zs) more same =
+        let all : y ∷ zs ≡ ys = cc in
+        omega (arith, more zs refl, ap length all)
+
+-- ---- one document
+
+-- both read the table of one document
+record Table (file : List ℕ) (names : Names) (parts : Parts) : Type 0 where
+  members : Members
+  named : all_names members ≡ Ok names
+  divided : parts_in members ≡ Ok parts
+
+one-table : (file : List ℕ) (names : Names) (parts : Parts) → names_of_file file ≡ Ok names
+    → parts_of file ≡ Ok parts → Table file names parts
+unfolding names_of_file document_of
+one-table file names parts named divided =
+    go (nat_lt MAX_SYSTEM (length file)) (is_utf8 file) (parse_document file) named divided
+  where
+    go : (long text : Bool) (read : Option Members)
+        → cond text (signals.◌>>=◌ (ok_or read key_fault.NotToml) all_names) (Err key_fault.NotToml) ≡ Ok names
+        → (cond long (Err fault.TooLong) (cond text (ok_or read fault.NotToml) (Err fault.NotToml)) >>= parts_in)
+        ≡ Ok parts
+        → Table file names parts
+    go true text read x y = absurd (cc)
+    go false true None x y = absurd (cc)
+    go false true (Some members) x y = record { members = members; named = x; divided = y }
+    go false false read x y = absurd (cc)
+
+-- the links of each kind
+record Links (members : Members) (names : Names) : Type 0 where
+  ports : links_in key.Port members ≡ Ok names.ports
+  masters : links_in key.Master members ≡ Ok names.masters
+
+links-are : (members : Members) (names : Names) → all_names members ≡ Ok names → Links members names
+unfolding all_names
+links-are members names is =
+    go (clock_in members) (optional_text key.Reset members) (is_low_in members) (links_in key.Port members)
+    (links_in key.Master members) refl refl is
+  where
+    go : (c : Result (List ℕ) KeyFault) (r : Result (Option (List ℕ)) KeyFault) (l : Result Bool KeyFault)
+        (p m : Result (List (Option (List (List ℕ)))) KeyFault)
+        → links_in key.Port members ≡ p → links_in key.Master members ≡ m
+        → signals.◌>>=◌ c (λ clock. signals.◌>>=◌ r (λ reset. signals.◌>>=◌ l (λ is_low. signals.◌>>=◌ p
+        (λ of_ports. signals.◌>>=◌ m (λ of_masters. Ok (record {
+          clock = clock;
+          reset = reset;
+          is_low = is_low;
+          ports = of_ports;
+          masters = of_masters;
+        })))))) ≡ Ok names
+        → Links members names
+    go (Err e) r l p m x y w = absurd (cc)
+    go (Ok c) (Err e) l p m x y w = absurd (cc)
+    go (Ok c) (Ok r) (Err e) p m x y w = absurd (cc)
+    go (Ok c) (Ok r) (Ok l) (Err e) m x y w = absurd (cc)
+    go (Ok c) (Ok r) (Ok l) (Ok p) (Err e) x y w = absurd (cc)
+    go (Ok c) (Ok r) (Ok l) (Ok p) (Ok m) x y w =
+        let made : Names = record { clock = c; reset = r; is_low = l; ports = p; masters = m } in
+        let same : made ≡ names = cc in
+        record {
+          ports = x ∙ ap (λ (n : Names). Ok n.ports) same;
+          masters = y ∙ ap (λ (n : Names). Ok n.masters) same;
+        }
+
+-- the parts of each kind
+record Divided (members : Members) (parts : Parts) : Type 0 where
+  ports : ports_of members ≡ Ok parts.ports
+  masters : masters_of members ≡ Ok parts.masters
+
+parts-are : (members : Members) (parts : Parts) → parts_in members ≡ Ok parts → Divided members parts
+unfolding parts_in
+parts-are members parts is = go (ports_of members) (masters_of members) refl refl is
+  where
+    go : (p : Result (List Port) SystemFault) (m : Result (List Master) SystemFault)
+        → ports_of members ≡ p → masters_of members ≡ m
+        → (p >>= (λ of_ports. m >>= (λ of_masters. Ok (record { ports = of_ports; masters = of_masters })))) ≡ Ok parts
+        → Divided members parts
+    go (Err e) m x y w = absurd (cc)
+    go (Ok p) (Err e) x y w = absurd (cc)
+    go (Ok p) (Ok m) x y w =
+        let made : Parts = record { ports = p; masters = m } in
+        let same : made ≡ parts = cc in
+        record {
+          ports = x ∙ ap (λ (n : Parts). Ok n.ports) same;
+          masters = y ∙ ap (λ (n : Parts). Ok n.masters) same;
+        }
+
+-- ---- the values at a key
+
+-- as many links as the array at a key has values
+link-values : (which : Key) (value : Data) (links : List (Option (List (List ℕ)))) → links_by which (Some value) ≡ Ok links
+    → (items : Items) × (as_array value ≡ Some items) × (length (list_of items) ≡ length links)
+link-values which value links is = go (as_array value) refl is
+  where
+    go : (o : Option Items) → as_array value ≡ o
+        → signals.◌>>=◌ (ok_or o (key_fault.WrongType which)) (λ items. signals.each (link_of which) (list_of items))
+        ≡ Ok links
+        → (items : Items) × (as_array value ≡ Some items) × (length (list_of items) ≡ length links)
+    go None x y = absurd (cc)
+    go (Some items) x y = (items, x, names-counts (link_of which) (list_of items) links y)
+
+-- as many tables, if they are tables
+table-values : (value : Data) (which : part_key.Key) (tables : List Members) (items : Items)
+    → as_array value ≡ Some items → tables_of which value ≡ Ok tables → length (list_of items) ≡ length tables
+unfolding list_at
+table-values value which tables items is named =
+    each-counts (table_of which) (list_of items) tables (go (as_array value) is named)
+  where
+    go : (o : Option Items) → o ≡ Some items
+        → ((ok_or o (fault.WrongType which) >>= (λ xs. Ok (list_of xs))) >>= each (table_of which)) ≡ Ok tables
+        → each (table_of which) (list_of items) ≡ Ok tables
+    go None x y = absurd (cc)
+    go (Some others) x y =
+        let same : others ≡ items = cc in
+        ap (λ (xs : Items). each (table_of which) (list_of xs)) (sym same) ∙ y
+
+few : {A : Type 0} → (which : part_key.Key) (most : ℕ) (xs ys : List A) → up_to which most xs ≡ Ok ys
+    → (xs ≡ ys) × (length ys ≤ most)
+few which most xs ys is = go (nat_lt most (length xs)) refl is
+  where
+    go : (t : Bool) → nat_lt most (length xs) ≡ t → cond t (Err (fault.OutOfRange which)) (Ok xs) ≡ Ok ys
+        → (xs ≡ ys) × (length ys ≤ most)
+    go true x y = absurd (cc)
+    go false x y =
+        let same : xs ≡ ys = cc in
+        (same, omega (arith, ltb-false most (length xs) x, ap length same))
+
+-- ---- the counts
+
+ports-same : (members : Members) (links : List (Option (List (List ℕ)))) (of_ports : List Port)
+    → links_in key.Port members ≡ Ok links → ports_of members ≡ Ok of_ports
+    → (length links ≡ length of_ports) × (length of_ports ≤ MAX_PORTS)
+unfolding links_in ports_of
+ports-same members links of_ports named divided = go (get_member (system_key.key_name part.Port) members) named divided
+  where
+    by : (value : Data) → links_by key.Port (Some value) ≡ Ok links → (r : Result (List Members) SystemFault)
+        → tables_of part.Port value ≡ r → ((r >>= up_to part.Port MAX_PORTS) >>= each port_of) ≡ Ok of_ports
+        → (length links ≡ length of_ports) × (length of_ports ≤ MAX_PORTS)
+    by value x (Err e) at y = absurd (cc)
+    by value x (Ok tables) at y = then (up_to part.Port MAX_PORTS tables) refl y
+      where
+        then : (r : Result (List Members) SystemFault) → up_to part.Port MAX_PORTS tables ≡ r
+            → (r >>= each port_of) ≡ Ok of_ports → (length links ≡ length of_ports) × (length of_ports ≤ MAX_PORTS)
+        then (Err e) z w = absurd (cc)
+        then (Ok some) z w =
+            let found = link-values key.Port value links x in
+            let are = few part.Port MAX_PORTS tables some z in
+            let count = table-values value part.Port tables found.0 found.1 at in
+            let parts = each-counts port_of some of_ports w in
+            (omega (arith, found.2, count, ap length are.0, parts), omega (arith, are.1, parts))
+
+    go : (o : Option Data) → links_by key.Port o ≡ Ok links → (port_tables o >>= each port_of) ≡ Ok of_ports
+        → (length links ≡ length of_ports) × (length of_ports ≤ MAX_PORTS)
+    go None x y =
+        let one : [] ≡ links = cc in
+        let two : [] ≡ of_ports = cc in
+        (ap length (sym one) ∙ ap length two, omega (arith, ap length two))
+    go (Some value) x y = by value x (tables_of part.Port value) refl y
+
+-- the tables of an array of masters
+abbrev counted : Data → Result (List Members) SystemFault
+counted value = tables_of part.Master value >>= one_up_to part.Master MAX_MASTERS
+
+masters-same : (members : Members) (links : List (Option (List (List ℕ)))) (of_masters : List Master)
+    → links_in key.Master members ≡ Ok links → masters_of members ≡ Ok of_masters
+    → (length links ≡ length of_masters) × (length of_masters ≤ MAX_MASTERS)
+unfolding links_in masters_of master_tables value_at
+masters-same members links of_masters named divided =
+    go (get_member (system_key.key_name part.Master) members) named divided
+  where
+    by : (value : Data) → links_by key.Master (Some value) ≡ Ok links → (r : Result (List Members) SystemFault)
+        → tables_of part.Master value ≡ r
+        → ((r >>= one_up_to part.Master MAX_MASTERS)
+        >>= (λ tables. each (master_of (list_any has_first tables)) tables)) ≡ Ok of_masters
+        → (length links ≡ length of_masters) × (length of_masters ≤ MAX_MASTERS)
+    by value x (Err e) at y = absurd (cc)
+    by value x (Ok tables) at y = then (nat_lt (length tables) 1) (up_to part.Master MAX_MASTERS tables) refl y
+      where
+        then : (t : Bool) (r : Result (List Members) SystemFault) → up_to part.Master MAX_MASTERS tables ≡ r
+            → ((cond t (Err (fault.OutOfRange part.Master)) (Ok tables) >>= up_to part.Master MAX_MASTERS)
+            >>= (λ some. each (master_of (list_any has_first some)) some)) ≡ Ok of_masters
+            → (length links ≡ length of_masters) × (length of_masters ≤ MAX_MASTERS)
+        then true r z w = absurd (cc)
+        then false r z w =
+            last r z
+            (ap (λ (q : Result (List Members) SystemFault). q >>= (λ some. each (master_of (list_any has_first some)) some))
+            (sym z) ∙ w)
+          where
+            last : (r : Result (List Members) SystemFault) → up_to part.Master MAX_MASTERS tables ≡ r
+                → (r >>= (λ some. each (master_of (list_any has_first some)) some)) ≡ Ok of_masters
+                → (length links ≡ length of_masters) × (length of_masters ≤ MAX_MASTERS)
+            last (Err e) z w = absurd (cc)
+            last (Ok some) z w =
+                let found = link-values key.Master value links x in
+                let are = few part.Master MAX_MASTERS tables some z in
+                let count = table-values value part.Master tables found.0 found.1 at in
+                let parts = each-counts (master_of (list_any has_first some)) some of_masters w in
+                (omega (arith, found.2, count, ap length are.0, parts), omega (arith, are.1, parts))
+
+    go : (o : Option Data) → links_by key.Master o ≡ Ok links
+        → ((ok_or o (fault.Missing part.Master) >>= counted)
+        >>= (λ tables. each (master_of (list_any has_first tables)) tables)) ≡ Ok of_masters
+        → (length links ≡ length of_masters) × (length of_masters ≤ MAX_MASTERS)
+    go None x y = absurd (cc)
+    go (Some value) x y = by value x (tables_of part.Master value) refl y
+
+-- as many names as links, of which there are few
+pub record SameCounts (names : Names) (system : System) : Type 0 where
+  pub ports : length names.ports ≡ length system.ports
+  pub masters : length names.masters ≡ length system.masters
+  pub few_ports : length system.ports < 2 ^ 64
+  pub few_masters : length system.masters < 2 ^ 64
+
+pub same-counts : (file : List ℕ) (names : Names) (system : System) → Spells file system
+    → names_of_file file ≡ Ok names → SameCounts names system
+same-counts file names system spelled named =
+    let table = one-table file names spelled.parts named spelled.named in
+    let links = links-are table.members names table.named in
+    let divided = parts-are table.members spelled.parts table.divided in
+    let of_ports = ports-same table.members names.ports spelled.parts.ports links.ports divided.ports in
+    let of_masters = masters-same table.members names.masters spelled.parts.masters links.masters divided.masters in
+    let ports_are = ap (λ (xs : List Port). length xs) spelled.makes.ports in
+    let masters_are = ap (λ (xs : List Master). length xs) spelled.makes.masters in
+    record {
+      ports = of_ports.0 ∙ sym ports_are;
+      masters = of_masters.0 ∙ sym masters_are;
+      few_ports = omega (arith, of_ports.1, ports_are);
+      few_masters = omega (arith, of_masters.1, masters_are);
+    }

@@ -1,0 +1,288 @@
+-- What the names of a system find has no more bits than its columns have room for.
+use Rattle.std.proofs.Common.{◌≡◌, ℕ, zero, suc, ◌+◌, ◌-◌, ◌<◌, ◌≤◌, nat_le, nat_lt, Bool, true, false, ◌&&◌, not, cond, List, [], ◌∷◌, ◌++◌, length, map, Option, Some, None, Result, Ok, Err, Contains, arith, refl, subst}
+use Rattle.std.specs.Prelude.{⊤}
+use Rattle.std.specs.List.{cons_option, list_any}
+use Rattle.std.specs.Option.{option_and_then}
+use Rattle.std.specs.Str.{bytes_eq}
+use Rattle.std.proofs.lemmas.Bool.{ltb-false}
+use Rattle.std.proofs.lemmas.Bool.Decides.{nat_tests}
+use Rattle.check_vcd.specs.Header.{Var}
+use Rattle.check_vcd.specs.declared.range.Span.{Span}
+use Rattle.check_capture.specs.Columns.{IsLinkOf}
+use Rattle.check_samples.specs.declared.signal.Signal.{Signal}
+use Rattle.check_samples.specs.declared.signal.Signal.TheVariants as signal
+use Rattle.check_signals.specs.Found.{LinkSources, asked_by, asked_of, each, link_at, link_sources, links_from, numbered, owner_of, sources_of, width_in, ◌>>=◌}
+use Rattle.check_signals.specs.Source.{Asked, Changing, Constant, Fault, Kept, Source, Twice, alone, constant_of, digit_in, measured, missing, source_by, source_in, too_wide, width_of, within}
+use Rattle.check_signals.specs.Wanted.{bits_fit, count_of, wanted_of}
+use Rattle.check_signals.specs.Wires.{Wire, first_of, places_in, sought, wire_at, wire_by, wire_of, wires, wires_called}
+use Rattle.check_signals.specs.declared.keys.TheConstants.{SIGNALS}
+use Rattle.check_signals.specs.declared.links.TheConstants.{BUS}
+use Rattle.check_signals.specs.declared.signal_fault.Owner.{Owner}
+use Rattle.check_signals.specs.declared.source.TheConstants.{MAX_WIDTH}
+use Rattle.check_signals.specs.declared.wanted.Wanted.{Wanted}
+use Rattle.check_signals.specs.declared.wanted.Wanted.TheVariants.{Exactly, AtMost}
+use Rattle.check_signals.specs.declared.wires.Places.{Places}
+
+-- ---- lists
+
+-- it holds of each element
+abbrev pub Each : {A : Type 0} → (A → Type 0) → List A → Type 0
+Each P [] = ⊤
+Each P (x ∷ xs) = P x × Each P xs
+
+pub each-append : {A : Type 0} → (P : A → Type 0) (xs ys : List A) → Each P xs → Each P ys → Each P (xs ++ ys)
+each-append P [] ys one two = two
+each-append P (x ∷ xs) ys one two = (one.0, each-append P xs ys one.1 two)
+
+pub each-first : {A : Type 0} → (P : A → Type 0) (xs ys : List A) → Each P (xs ++ ys) → Each P xs
+each-first P [] ys all = tt
+each-first P (x ∷ xs) ys all = (all.0, each-first P xs ys all.1)
+
+pub each-second : {A : Type 0} → (P : A → Type 0) (xs ys : List A) → Each P (xs ++ ys) → Each P ys
+each-second P [] ys all = all
+each-second P (x ∷ xs) ys all = each-second P xs ys all.1
+
+pub each-map : {A B : Type 0} → (P : A → Type 0) (Q : B → Type 0) (f : A → B) (xs : List A)
+    → ((x : A) → P x → Q (f x)) → Each P xs → Each Q (map f xs)
+each-map P Q f [] gives all = tt
+each-map P Q f (x ∷ xs) gives all = (gives x all.0, each-map P Q f xs gives all.1)
+
+pub each-has : {A : Type 0} → (P : A → Type 0) (xs : List A) (x : A) → Each P xs → Contains xs x → P x
+each-has {A} P [] x all has = absurd (omega (arith, has.1))
+each-has {A} P (y ∷ ys) x all (zero, inside, is) = subst P is all.0
+each-has {A} P (y ∷ ys) x all (suc k, inside, is) = each-has P ys x all.1 (k, omega (arith, inside), is)
+
+-- ---- one name
+
+-- so many bits are as many as are wanted
+abbrev HasBits : Wanted → ℕ → Type 0
+HasBits (Exactly count) bits = bits ≡ count
+HasBits (AtMost count) bits = bits ≤ count
+
+bits-fit : (wanted : Wanted) (bits : ℕ) → bits_fit wanted bits ≡ true → HasBits wanted bits
+bits-fit (Exactly count) bits is = grind (arith, nat_tests)
+bits-fit (AtMost count) bits is = grind (arith, nat_tests)
+
+-- the values of an identifier have its width, and a constant has a digit
+abbrev pub KeptFits : List Var → Kept → Type 0
+KeptFits vars (Changing code width) = width ≡ width_of vars code
+KeptFits vars (Constant digit width) = 0 < width
+
+-- a source has as many bits as are wanted, within its value
+pub record SourceFits (vars : List Var) (wanted : Wanted) (s : Source) : Type 0 where
+  pub kept : KeptFits vars s.kept
+  pub from : s.from ≤ s.to
+  pub inside : s.to ≤ width_in s.kept
+  pub bits : HasBits wanted (s.to - s.from)
+
+constant-fits : (vars : List Var) (wanted : Wanted) (digit : ℕ) → 0 < count_of wanted
+    → SourceFits vars wanted (constant_of digit (count_of wanted))
+constant-fits vars (Exactly count) digit some =
+    record { kept = some; from = omega arith; inside = omega arith; bits = omega arith }
+constant-fits vars (AtMost count) digit some =
+    record { kept = some; from = omega arith; inside = omega arith; bits = omega arith }
+
+-- the signal of a wire has its bits
+abbrev WireFits : Wire → Type 0
+WireFits wire = (wire.places.from ≤ wire.places.to) × (wire.places.to ≤ wire.var.width)
+
+wire-at-fits : (var : Var) (places : Option Places) (wire : Wire) → wire_at var places ≡ Some wire → WireFits wire
+wire-at-fits var None wire is = absurd (cc)
+wire-at-fits var (Some places) wire is =
+    go (nat_le places.from places.to) (nat_le places.to var.width) refl refl is
+  where
+    go : (a b : Bool) → nat_le places.from places.to ≡ a → nat_le places.to var.width ≡ b
+        → cond (a && b) (Some (record { var = var; places = places })) None ≡ Some wire → WireFits wire
+    go true true x y e =
+        let same : record { var = var; places = places } ≡ wire = cc in
+        subst WireFits same (grind (arith, nat_tests), grind (arith, nat_tests))
+    go true false x y e = absurd (cc)
+    go false b x y e = absurd (cc)
+
+wire-fits : (name : List ℕ) (part : Option Span) (var : Var) (wire : Wire) → wire_of name part var ≡ Some wire
+    → WireFits wire
+wire-fits name part var wire is = go (bytes_eq var.name name) part is
+  where
+    go : (t : Bool) (part : Option Span) → cond t (wire_by part var) None ≡ Some wire → WireFits wire
+    go false part e = absurd (cc)
+    go true None e =
+        let whole : Wire = record { var = var; places = record { from = 0; to = var.width } } in
+        let same : whole ≡ wire = cc in
+        subst WireFits same (omega arith, omega arith)
+    go true (Some part) e = wire-at-fits var (option_and_then (λ span. places_in span part) var.span) wire e
+
+first-fits : (name : List ℕ) (part : Option Span) (vars : List Var) (wire : Wire)
+    → first_of (wires name part vars) ≡ Some wire → WireFits wire
+first-fits name part [] wire is = absurd (cc)
+first-fits name part (var ∷ vars) wire is =
+    go (wire_of name part var) refl (λ rest. first-fits name part vars wire rest) is
+  where
+    go : (o : Option Wire) → wire_of name part var ≡ o → (first_of (wires name part vars) ≡ Some wire → WireFits wire)
+        → first_of (cons_option o (wires name part vars)) ≡ Some wire → WireFits wire
+    go None x others e = others e
+    go (Some found) x others e =
+        let same : found ≡ wire = cc in
+        subst WireFits same (wire-fits name part var found x)
+
+within-fits : (vars : List Var) (asked : Asked) (wire : Wire) (width : ℕ) (s : Source)
+    → width ≡ width_of vars wire.var.code → WireFits wire → HasBits asked.wanted (wire.places.to - wire.places.from)
+    → within vars asked wire width ≡ Ok s → SourceFits vars asked.wanted s
+within-fits vars asked wire width s has fits bits is =
+    go (nat_lt MAX_WIDTH width) (nat_lt width wire.var.width) refl is
+  where
+    go : (a b : Bool) → nat_lt width wire.var.width ≡ b
+        → cond a (Err (too_wide asked width MAX_WIDTH)) (cond b (Err (missing vars asked)) (Ok (record {
+          kept = Changing wire.var.code width;
+          from = (width - wire.var.width) + wire.places.from;
+          to = (width - wire.var.width) + wire.places.to;
+        }))) ≡ Ok s
+        → SourceFits vars asked.wanted s
+    go true b x e = absurd (cc)
+    go false true x e = absurd (cc)
+    go false false x e =
+        let room : wire.var.width ≤ width = ltb-false width wire.var.width x in
+        let made : Source = record {
+          kept = Changing wire.var.code width;
+          from = (width - wire.var.width) + wire.places.from;
+          to = (width - wire.var.width) + wire.places.to;
+        } in
+        let same : made ≡ s = cc in
+        let count : wire.places.to - wire.places.from ≡ made.to - made.from = omega arith in
+        subst (SourceFits vars asked.wanted) same (record {
+          kept = has;
+          from = omega (arith, fits.0);
+          inside = omega (arith, fits.1, room);
+          bits = subst (HasBits asked.wanted) count bits;
+        })
+
+measured-fits : (vars : List Var) (asked : Asked) (wire : Wire) (s : Source) → WireFits wire
+    → measured vars asked wire ≡ Ok s → SourceFits vars asked.wanted s
+measured-fits vars asked wire s fits is = go (bits_fit asked.wanted (wire.places.to - wire.places.from)) refl is
+  where
+    go : (t : Bool) → bits_fit asked.wanted (wire.places.to - wire.places.from) ≡ t
+        → cond t (within vars asked wire (width_of vars wire.var.code))
+        (Err (too_wide asked (wire.places.to - wire.places.from) (count_of asked.wanted))) ≡ Ok s
+        → SourceFits vars asked.wanted s
+    go true x e =
+        within-fits vars asked wire (width_of vars wire.var.code) s refl fits
+        (bits-fit asked.wanted (wire.places.to - wire.places.from) x) e
+    go false x e = absurd (cc)
+
+alone-fits : (vars : List Var) (asked : Asked) (some : List Wire) (first : Option Wire) (s : Source)
+    → ((wire : Wire) → first ≡ Some wire → WireFits wire) → alone vars asked some first ≡ Ok s
+    → SourceFits vars asked.wanted s
+alone-fits vars asked some None s fits is = absurd (cc)
+alone-fits vars asked some (Some wire) s fits is =
+    go (list_any (λ other. not (bytes_eq other.var.code wire.var.code)) some) is
+  where
+    go : (t : Bool) → cond t (Err (Twice asked.owner asked.name)) (measured vars asked wire) ≡ Ok s
+        → SourceFits vars asked.wanted s
+    go true e = absurd (cc)
+    go false e = measured-fits vars asked wire s (fits wire refl) e
+
+pub source-fits : (vars : List Var) (asked : Asked) (s : Source) → 0 < count_of asked.wanted
+    → source_in vars asked ≡ Ok s → SourceFits vars asked.wanted s
+unfolding source_in
+source-fits vars asked s some is = go (digit_in asked.name) is
+  where
+    go : (d : Option ℕ) → source_by vars asked d ≡ Ok s → SourceFits vars asked.wanted s
+    go (Some digit) e =
+        let same : constant_of digit (count_of asked.wanted) ≡ s = cc in
+        subst (SourceFits vars asked.wanted) same (constant-fits vars asked.wanted digit some)
+    go None e =
+        let looked = sought vars asked.name in
+        alone-fits vars asked (wires_called vars asked.name) (first_of (wires_called vars asked.name)) s
+        (λ wire is. first-fits looked.0 looked.1 vars wire is) e
+
+-- ---- the names of a link
+
+-- the sources of signals, each with as many bits as its signal has
+abbrev pub FitsAll : List Var → List Signal → List Source → Type 0
+FitsAll vars signals [] = ⊤
+FitsAll vars [] (s ∷ sources) = ⊥
+FitsAll vars (which ∷ signals) (s ∷ sources) = SourceFits vars (wanted_of which BUS) s × FitsAll vars signals sources
+
+wanted-some : (which : Signal) → 0 < count_of (wanted_of which BUS)
+wanted-some signal.AValid = omega arith
+wanted-some signal.AReady = omega arith
+wanted-some signal.AOpcode = omega arith
+wanted-some signal.AParam = omega arith
+wanted-some signal.ASize = omega arith
+wanted-some signal.ASource = omega arith
+wanted-some signal.AAddress = omega arith
+wanted-some signal.AMask = omega arith
+wanted-some signal.AData = omega arith
+wanted-some signal.DValid = omega arith
+wanted-some signal.DReady = omega arith
+wanted-some signal.DOpcode = omega arith
+wanted-some signal.DSize = omega arith
+wanted-some signal.DSource = omega arith
+wanted-some signal.DData = omega arith
+wanted-some signal.DDenied = omega arith
+wanted-some signal.DCorrupt = omega arith
+
+all-fit : (vars : List Var) (owner : Owner) (signals : List Signal) (names : List (List ℕ)) (sources : List Source)
+    → each (source_in vars) (asked_of owner signals names) ≡ Ok sources → FitsAll vars signals sources
+all-fit vars owner [] names sources is =
+    let same : [] ≡ sources = cc in subst (FitsAll vars []) same tt
+all-fit vars owner (which ∷ signals) [] sources is =
+    let same : [] ≡ sources = cc in subst (FitsAll vars (which ∷ signals)) same tt
+all-fit vars owner (which ∷ signals) (name ∷ names) sources is =
+    go (source_in vars (asked_by owner (which, name))) (each (source_in vars) (asked_of owner signals names)) refl
+    (λ more fits. all-fit vars owner signals names more fits) is
+  where
+    go : (r : Result Source Fault) (rest : Result (List Source) Fault)
+        → source_in vars (asked_by owner (which, name)) ≡ r
+        → ((more : List Source) → rest ≡ Ok more → FitsAll vars signals more)
+        → (r >>= (λ y. rest >>= (λ ys. Ok (y ∷ ys)))) ≡ Ok sources → FitsAll vars (which ∷ signals) sources
+    go (Err fault) rest x y e = absurd (cc)
+    go (Ok s) (Err fault) x y e = absurd (cc)
+    go (Ok s) (Ok more) x y e =
+        let same : s ∷ more ≡ sources = cc in
+        subst (FitsAll vars (which ∷ signals)) same (
+          source-fits vars (asked_by owner (which, name)) s (wanted-some which) x,
+          y more refl,
+        )
+
+-- a link that the system has, whose signals' sources fit
+pub record LinkFits (vars : List Var) (masters ports : ℕ) (found : LinkSources) : Type 0 where
+  pub link : IsLinkOf masters ports found.link
+  pub sources : FitsAll vars SIGNALS found.sources
+
+named-fit : (vars : List Var) (masters ports : ℕ) (is_port : Bool) (n : ℕ) (links : List (Option (List (List ℕ))))
+    (found : List LinkSources) → ((k : ℕ) → k < n + length links → IsLinkOf masters ports (link_at is_port k))
+    → each (link_sources vars) (numbered is_port n links) ≡ Ok found → Each (LinkFits vars masters ports) found
+named-fit vars masters ports is_port n [] found inside is =
+    let same : [] ≡ found = cc in subst (Each (LinkFits vars masters ports)) same tt
+named-fit vars masters ports is_port n (None ∷ links) found inside is =
+    named-fit vars masters ports is_port (n + 1) links found (λ k h. inside k (omega (arith, h))) is
+named-fit vars masters ports is_port n (Some names ∷ links) found inside is =
+    go (sources_of vars (owner_of (link_at is_port n)) names)
+    (each (link_sources vars) (numbered is_port (n + 1) links)) refl
+    (λ more fits. named-fit vars masters ports is_port (n + 1) links more (λ k h. inside k (omega (arith, h))) fits) is
+  where
+    go : (r : Result (List Source) Fault) (rest : Result (List LinkSources) Fault)
+        → sources_of vars (owner_of (link_at is_port n)) names ≡ r
+        → ((more : List LinkSources) → rest ≡ Ok more → Each (LinkFits vars masters ports) more)
+        → ((r >>= (λ sources. Ok (record { link = link_at is_port n; sources = sources })))
+        >>= (λ y. rest >>= (λ ys. Ok (y ∷ ys)))) ≡ Ok found
+        → Each (LinkFits vars masters ports) found
+    go (Err fault) rest x y e = absurd (cc)
+    go (Ok sources) (Err fault) x y e = absurd (cc)
+    go (Ok sources) (Ok more) x y e =
+        let one : LinkSources = record { link = link_at is_port n; sources = sources } in
+        let same : one ∷ more ≡ found = cc in
+        subst (Each (LinkFits vars masters ports)) same (
+          record {
+            link = inside n (omega arith);
+            sources = all-fit vars (owner_of (link_at is_port n)) SIGNALS names sources x;
+          },
+          y more refl,
+        )
+
+pub links-fit : (vars : List Var) (masters ports : ℕ) (is_port : Bool) (links : List (Option (List (List ℕ))))
+    (found : List LinkSources) → ((k : ℕ) → k < length links → IsLinkOf masters ports (link_at is_port k))
+    → links_from vars is_port 0 links ≡ Ok found → Each (LinkFits vars masters ports) found
+unfolding links_from
+links-fit vars masters ports is_port links found inside is =
+    named-fit vars masters ports is_port 0 links found (λ k h. inside k (omega (arith, h))) is
