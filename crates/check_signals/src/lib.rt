@@ -1,8 +1,9 @@
 //! Where the signals of a crossbar are in a dump.
 //!
 //! [`read_names`] reads the names that a system file gives (`specs/Names.antt`): those of the clock and of the reset, and
-//! of the signals of each link. [`find_signals`] finds them among the signals that a dump declares, checks how many bits each
-//! has (`specs/Wanted.antt`), and answers what has to be looked at and kept.
+//! of the signals of each link. [`find_signals`] finds them among the signals that a dump declares. What one name finds is in
+//! `specs/Source.antt`, with the wires that it means (`specs/Wires.antt`) and how many bits each signal has
+//! (`specs/Wanted.antt`). What is then looked at and kept, or the first fault, is in `specs/Found.antt`.
 //!
 //! Read on in `docs/CAPTURE.md`, "Your own design".
 #![tactic(auto)]

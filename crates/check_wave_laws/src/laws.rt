@@ -33,8 +33,8 @@ pub fn rows_of_dumps_are_rows()
         → HasRows masters ports s.probes.channels line (rows_from (happenings find words start) s).text }
 {}
 
-/// What `tlvcd` writes behind the header of a capture is rows of captures of its system, whatever the two files are: the
-/// rows of what happens behind the header of a dump, if the names of a system file find their signals there.
+/// What `tlvcd` writes after the header of a capture is rows of captures of its system, whatever the two files are: the
+/// rows of what happens after the header of a dump, if the names of a system file find their signals there.
 pub fn rows_of_systems_are_rows()
     ensures { (line : ℕ) (file text : List ℕ) (system : System) (names : Names) (vars : List Var) (words : List Word)
         (found : Found) → Spells file system → names_of_file file ≡ Ok names

@@ -33,7 +33,7 @@ use Rattle.check_system.specs.declared.read.TheConstants.{MAX_SYSTEM}
 use Rattle.tl_streams.specs.Streams.{ReadsUpTo}
 use Rattle.tl_streams.specs.declared.streams.ReadFault.{ReadFault}
 use Rattle.tl_streams.specs.declared.streams.ReadFault.TheVariants as read
-use Rattle.tlvcd.specs.Capture.{GivesNames, IsCapture, IsNoHeader, IsOfSystem, IsOpened, IsUnopened, NotFound, rows_behind, rows_found, rows_in}
+use Rattle.tlvcd.specs.Capture.{GivesNames, IsCapture, IsNoHeader, IsOfSystem, IsOpened, IsUnopened, NotFound, rows_after, rows_found, rows_in}
 use Rattle.tlvcd.specs.Out.{IsOut, capture_of}
 use Rattle.tlvcd.specs.Fault.{of_dump, of_keys, of_read, of_signal, of_system}
 use Rattle.tlvcd.specs.declared.fault.WaveFault.{WaveFault}
@@ -84,7 +84,7 @@ opened : (names : Names) (text : List ℕ) (vars : List Var) (words : Option (Li
 unfolding rows_in
 opened names text vars None find body found s both is finds fresh has = absurd both
 opened names text vars (Some w) find body found s both is finds fresh has =
-    ap (rows_behind names) both
+    ap (rows_after names) both
     ∙ ap (rows_found vars w) has
     ∙ ap (λ (l : Left). Ok l) (sym (ap (λ (b : Body). left_of (happenings find w b) s false) is
     ∙ ap (λ (f : Find). left_of (happenings f w start) s false) finds
@@ -98,7 +98,7 @@ find-is vars first now codes found opens finds are =
     fun_ext (λ code. finds code ∙ slots-same codes 0 first (coded_in vars) opens code
     ∙ ap (λ (all : List (Option (List ℕ))). slots_from all 0 (coded_in vars) code) are)
 
--- the rows of a dump behind its header, if these identifiers are kept
+-- the rows of a dump after its header, if these identifiers are kept
 pub opened-rows : (names : Names) (text : Option (List ℕ)) (vars : List Var) (first dump : Dumping)
     (codes : List (Option (List ℕ))) (found : Found) (s : Sampling)
     → Opens text vars first → dump.words ≡ first.words → dump.body ≡ first.body
@@ -130,8 +130,8 @@ keeps-on first now next all here rest slot code is so_far one o =
 wrong-header : (names : Names) (text : List ℕ) (line : ℕ) (mistake : Mistake)
     → IsNoDump (Some text) line mistake → IsNoHeader names text line mistake
 unfolding rows_in
-wrong-header names text line mistake (inl refused) = inl (ap (rows_behind names) refused)
-wrong-header names text line mistake (inr cut) = inr (ap (rows_behind names) cut.0, cut.1)
+wrong-header names text line mistake (inl refused) = inl (ap (rows_after names) refused)
+wrong-header names text line mistake (inr cut) = inr (ap (rows_after names) cut.0, cut.1)
 
 pub unopened-dump : (names : Names) (text : Option (List ℕ)) (fault : DumpFault)
     → ((line : ℕ) (mistake : Mistake) → fault ≡ dump.At line mistake → IsNoDump text line mistake)
@@ -154,7 +154,7 @@ rest-of xs i x lt is =
     let all : drop i xs ≡ x ∷ drop (suc i) xs = drop-cons xs i x lt ∙ ap (λ h. h ∷ drop (suc i) xs) (sym is) in
     rw add-one all
 
--- the first signal that is not found behind a header
+-- the first signal that is not found after a header
 pub unopened-signal : (names : Names) (text : Option (List ℕ)) (vars : List Var) (first : Dumping) (fault : SignalFault)
     → Opens text vars first → (fault ≢ signal.Memory → found_in vars names ≡ Err (fault_view fault))
     → IfSome text (IsUnopened names (of_signal fault))
@@ -165,7 +165,7 @@ unopened-signal names (Some text) vars first fault opens finds = by fault finds
     behind : (words : Option (List Word)) (f : Fault) → Both (Some (words_of text)) words (λ from to. opening from blank ≡ Opened vars to)
         → found_in vars names ≡ Err f → rows_in names text ≡ Err (NotFound f)
     behind None f both is = absurd both
-    behind (Some words) f both is = ap (rows_behind names) both ∙ ap (rows_found vars words) is
+    behind (Some words) f both is = ap (rows_after names) both ∙ ap (rows_found vars words) is
 
     by : (f : SignalFault) → (f ≢ signal.Memory → found_in vars names ≡ Err (fault_view f))
         → IsUnopened names (of_signal f) text

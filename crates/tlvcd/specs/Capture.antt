@@ -26,7 +26,7 @@ pub data NoRows : Type 0 where
   CutHeader : NoRows
   NotFound : Fault → NoRows
 
--- the rows of what happens behind a header, if this is looked at
+-- the rows of what happens after a header, if this is looked at
 abbrev pub rows_of : List Var → List Word → Found → Left
 rows_of vars words found = left_of (happenings (find_of vars found) words start) (sampling_of found) false
 
@@ -34,14 +34,14 @@ abbrev pub rows_found : List Var → List Word → Result Found Fault → Result
 rows_found vars words (Ok found) = Ok (rows_of vars words found)
 rows_found vars words (Err fault) = Err (NotFound fault)
 
-abbrev pub rows_behind : Names → Opening → Result Left NoRows
-rows_behind names (Opened vars words) = rows_found vars words (found_in vars names)
-rows_behind names (Refused line mistake) = Err (WrongHeader line mistake)
-rows_behind names Cut = Err CutHeader
+abbrev pub rows_after : Names → Opening → Result Left NoRows
+rows_after names (Opened vars words) = rows_found vars words (found_in vars names)
+rows_after names (Refused line mistake) = Err (WrongHeader line mistake)
+rows_after names Cut = Err CutHeader
 
 -- the rows of a text and what they end with, if a system gives these names of signals; or why there are none
 unfoldable pub rows_in : Names → List ℕ → Result Left NoRows
-rows_in names text = rows_behind names (opening (words_of text) blank)
+rows_in names text = rows_after names (opening (words_of text) blank)
 
 -- ---- the system
 
@@ -70,13 +70,13 @@ pub record HasKeyFault (old new : Option (List ℕ)) (fault : KeyFault) : Type 0
 
 -- ---- the dump
 
--- why there are no rows: the header is wrong, or it is cut; the first signal that is not found; or it is nothing of the
--- dump's text
+-- the header is wrong so, or it is cut
 abbrev pub IsNoHeader : Names → List ℕ → ℕ → Mistake → Type 0
 IsNoHeader names text line mistake =
     (rows_in names text ≡ Err (WrongHeader line mistake))
     ⊎ ((rows_in names text ≡ Err CutHeader) × (mistake ≡ CutInHeader))
 
+-- why there are no rows: the header is wrong; the first signal that is not found; or it is nothing of the dump's text
 abbrev pub IsUnopened : Names → WaveFault → List ℕ → Type 0
 IsUnopened names (wave.System fault) text = ⊥
 IsUnopened names (wave.Keys fault) text = ⊥
