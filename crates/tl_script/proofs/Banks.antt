@@ -1,10 +1,9 @@
 -- The devices of a lawful system make lawful banks.
-use Rattle.std.proofs.Common.{◌≡◌, ℕ, ◌+◌, ◌^◌, ◌<◌, ◌≤◌, List, length, map, All, slice_index_or, sym, ◌∙◌, ap, subst, arith}
+use Rattle.std.proofs.Common.{◌≡◌, ◌+◌, ◌^◌, ◌<◌, ◌≤◌, List, length, map, All, slice_index_or, sym, ◌∙◌, ap, subst, arith}
 use Rattle.std.proofs.lemmas.List.{get_or-map, length-map}
 use Rattle.tl_map.specs.Map.{IsLawfulMap}
 use Rattle.tl_map.specs.Range.{IsPastEnd}
 use Rattle.tl_map.specs.declared.map.Range.{Range}
-use Rattle.tl_ops.specs.Bank.{IsLawfulBank}
 use Rattle.tl_ops.specs.Store.{Store}
 use Rattle.tl_ops.specs.declared.bank.TheConstants.{MAX_LENGTH}
 use Rattle.tl_script.specs.System.{IsLawfulDevice, range_of, store_of}

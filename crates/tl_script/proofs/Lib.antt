@@ -9,3 +9,4 @@ pub mod Pooled
 pub mod Lines
 pub mod Banks
 pub mod Plain
+pub mod Appended

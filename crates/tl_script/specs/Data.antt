@@ -1,5 +1,5 @@
 -- The bytes of an operation, as a word spells them: two hexadecimal digits a byte, and `--` for an unset one.
-use Rattle.std.specs.Prelude.{ℕ, ◌+◌, ◌*◌, ◌/◌, ◌%◌, false, ◌&&◌, List, [], ◌∷◌, ◌==◌, Option, Some, None, if◌then◌else◌, option_and_then, option_map, flat_map}
+use Rattle.std.specs.Prelude.{ℕ, ◌/◌, ◌%◌, false, ◌&&◌, List, [], ◌∷◌, ◌==◌, Option, Some, None, if◌then◌else◌, option_and_then, option_map, flat_map}
 use Rattle.std.specs.Fmt.{digit_glyph}
 use Rattle.tl_text.specs.Number.{pair_of}
 

@@ -1,0 +1,18 @@
+-- What a failed call leaves of a text that was appended to before it.
+use Rattle.std.proofs.Common.{◌≡◌, ◌∙◌, ap, ℕ, List, ◌++◌, Ok, Err, append_assoc}
+use Rattle.std.specs.Result.{OnErr}
+use Rattle.std.specs.declared.result.Result.{Result}
+use Rattle.tl_text.specs.Text.{BeginsWith}
+use Rattle.tl_text.proofs.TextLemmas.{begins_appended}
+
+-- what holds, holds if there is an error
+pub on_err : {T E : Type 0} {P : Type 0} (r : Result T E) → P → OnErr r P
+on_err (Ok x) holds = tt
+on_err (Err e) holds = holds
+
+-- two texts were appended, or three
+pub twice : (old a b new : List ℕ) → new ≡ old ++ a ++ b → BeginsWith old new
+twice old a b new is = begins_appended old (a ++ b) new (is ∙ append_assoc old a b)
+
+pub thrice : (old a b c new : List ℕ) → new ≡ old ++ a ++ b ++ c → BeginsWith old new
+thrice old a b c new is = twice old (a ++ b) c new (is ∙ ap (λ t. t ++ c) (append_assoc old a b))

@@ -1,0 +1,75 @@
+-- What was written so far, appended to what there was.
+use Rattle.std.proofs.Common.{rules}
+use Rattle.tl_text.proofs.TextLemmas.{begins_appended, begins_before, begins_with_itself}
+use Rattle.tl_script.proofs.Appended.{on_err, twice}
+use Rattle.tl_script.proofs.print.push_entry.Goals as goal
+
+pub returns-in_err-push_field-clause-ok : goal.returns-in_err-push_field-clause-ok
+returns-in_err-push_field-clause-ok c = search rules
+
+pub returns-in_err-push_field-clause-err : goal.returns-in_err-push_field-clause-err
+returns-in_err-push_field-clause-err c =
+    on_err c.from_residual.result c.in_err-push_field.ensures.err
+
+pub returns-in_err-push_field-2-clause-ok : goal.returns-in_err-push_field-2-clause-ok
+returns-in_err-push_field-2-clause-ok c = search rules
+
+pub returns-in_err-push_field-2-clause-err : goal.returns-in_err-push_field-2-clause-err
+returns-in_err-push_field-2-clause-err c =
+    let b0 = twice _ _ _ _ c.in_ok-push_field.ensures.ok in
+    on_err c.from_residual-in_err-push_field-2.result (begins_before _ _ _ c.in_err-push_field-2.ensures.err b0)
+
+pub returns-in_err-push-clause-ok : goal.returns-in_err-push-clause-ok
+returns-in_err-push-clause-ok c = search rules
+
+pub returns-in_err-push-clause-err : goal.returns-in_err-push-clause-err
+returns-in_err-push-clause-err c =
+    let b0 = twice _ _ _ _ c.in_ok-push_field.ensures.ok in
+    let b1 = begins_before _ _ _ (twice _ _ _ _ c.in_ok-push_field-2.ensures.ok) b0 in
+    on_err c.from_residual-in_err-push.result (begins_before _ _ _ (begins_with_itself _ _ c.in_err-push.ensures.items) b1)
+
+pub returns-in_err-push_message-clause-ok : goal.returns-in_err-push_message-clause-ok
+returns-in_err-push_message-clause-ok c = search rules
+
+pub returns-in_err-push_message-clause-err : goal.returns-in_err-push_message-clause-err
+returns-in_err-push_message-clause-err c =
+    let b0 = twice _ _ _ _ c.in_ok-push_field.ensures.ok in
+    let b1 = begins_before _ _ _ (twice _ _ _ _ c.in_ok-push_field-2.ensures.ok) b0 in
+    let b2 = begins_before _ _ _ (begins_appended _ _ _ c.in_ok-push.ensures.items) b1 in
+    on_err c.from_residual-in_err-push_message.result (begins_before _ _ _ c.in_err-push_message.ensures.err b2)
+
+pub returns-in_err-push_field-3-clause-ok : goal.returns-in_err-push_field-3-clause-ok
+returns-in_err-push_field-3-clause-ok c = search rules
+
+pub returns-in_err-push_field-3-clause-err : goal.returns-in_err-push_field-3-clause-err
+returns-in_err-push_field-3-clause-err c =
+    let b0 = twice _ _ _ _ c.in_ok-push_field.ensures.ok in
+    let b1 = begins_before _ _ _ (twice _ _ _ _ c.in_ok-push_field-2.ensures.ok) b0 in
+    let b2 = begins_before _ _ _ (begins_appended _ _ _ c.in_ok-push.ensures.items) b1 in
+    let b3 = begins_before _ _ _ (begins_appended _ _ _ c.in_ok-push_message.ensures.ok) b2 in
+    on_err c.from_residual-in_err-push_field-3.result (begins_before _ _ _ c.in_err-push_field-3.ensures.err b3)
+
+pub returns-in_err-push_field-4-clause-ok : goal.returns-in_err-push_field-4-clause-ok
+returns-in_err-push_field-4-clause-ok c = search rules
+
+pub returns-in_err-push_field-4-clause-err : goal.returns-in_err-push_field-4-clause-err
+returns-in_err-push_field-4-clause-err c =
+    let b0 = twice _ _ _ _ c.in_ok-push_field.ensures.ok in
+    let b1 = begins_before _ _ _ (twice _ _ _ _ c.in_ok-push_field-2.ensures.ok) b0 in
+    let b2 = begins_before _ _ _ (begins_appended _ _ _ c.in_ok-push.ensures.items) b1 in
+    let b3 = begins_before _ _ _ (begins_appended _ _ _ c.in_ok-push_message.ensures.ok) b2 in
+    let b4 = begins_before _ _ _ (twice _ _ _ _ c.in_ok-push_field-3.ensures.ok) b3 in
+    on_err c.from_residual-in_err-push_field-4.result (begins_before _ _ _ c.in_err-push_field-4.ensures.err b4)
+
+pub returns-in_err-push-2-clause-ok : goal.returns-in_err-push-2-clause-ok
+returns-in_err-push-2-clause-ok c = search rules
+
+pub returns-in_err-push-2-clause-err : goal.returns-in_err-push-2-clause-err
+returns-in_err-push-2-clause-err c =
+    let b0 = twice _ _ _ _ c.in_ok-push_field.ensures.ok in
+    let b1 = begins_before _ _ _ (twice _ _ _ _ c.in_ok-push_field-2.ensures.ok) b0 in
+    let b2 = begins_before _ _ _ (begins_appended _ _ _ c.in_ok-push.ensures.items) b1 in
+    let b3 = begins_before _ _ _ (begins_appended _ _ _ c.in_ok-push_message.ensures.ok) b2 in
+    let b4 = begins_before _ _ _ (twice _ _ _ _ c.in_ok-push_field-3.ensures.ok) b3 in
+    let b5 = begins_before _ _ _ (twice _ _ _ _ c.in_ok-push_field-4.ensures.ok) b4 in
+    on_err c.from_residual-in_err-push-2.result (begins_before _ _ _ (begins_with_itself _ _ c.in_err-push-2.ensures.items) b5)
