@@ -1,11 +1,11 @@
-mod Earlier
-mod Wides
-mod Served
-mod Sized
-mod Codes
-mod Judging
-mod Replying
-mod Keeping
-mod Beginning
-mod InFlight
-mod Changes
+pub mod Earlier
+pub mod Wides
+pub mod Served
+pub mod Sized
+pub mod Codes
+pub mod Judging
+pub mod Replying
+pub mod Keeping
+pub mod Beginning
+pub mod InFlight
+pub mod Changes
