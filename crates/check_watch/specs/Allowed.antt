@@ -35,7 +35,7 @@ IsAskedAs Idle ask = ⊥
 IsAskedAs (Asking number) ask = ⊥
 IsAskedAs (Asked number sent) ask = record sent { source = ask.source } ≡ ask
 
--- a request at a port's link, where both sides are watched: the master that owns its source has it in flight, ended,
+-- a request at a port's link, if both sides are watched: the master that owns its source has it in flight, ended,
 -- and it has not crossed before
 abbrev pub IsSent : Layout → Link → Turn → Crossing → Request → Type 0
 IsSent layout (Master m) sent crossing ask = Unit {0}
@@ -46,7 +46,7 @@ abbrev pub is_second : Layout → Link → Bool
 is_second layout (Master m) = false
 is_second layout (Port p) = are_both layout.links
 
--- a request begins where none of its source is in flight on this side
+-- a request begins while none of its source is in flight on this side
 abbrev pub BeginsFree : Scene → Type 0
 BeginsFree scene = scene.under.asking ≡ None → scene.flight.turn ≡ Idle
 
@@ -73,13 +73,13 @@ pub record IsAllowedAsk (layout : Layout) (link : Link) (scene : Scene) (beat : 
 
 -- ---- replies
 
--- what is said of the request of the source that has ended at this link, where there is one in flight
+-- what is said of the request of the source that has ended at this link, if there is one in flight
 abbrev pub OfAsked : ℕ → Turn → (Request → Type 0) → Type 0
 OfAsked number Idle P = ⊥
 OfAsked number (Asking at) P = ⊥
 OfAsked number (Asked at ask) P = (at ≡ number) × P ask
 
--- each lane that carries a byte of the reply is known, where the slave may not leave one unknown
+-- each lane that carries a byte of the reply is known, if the slave may leave none unknown
 abbrev pub HasKnownLanes : ℕ → Bool → Request → ReplyHead → ℕ → Type 0
 HasKnownLanes bus unknown ask beat known = unknown ≡ false → IsKnownReply bus ask.address beat known
 

@@ -1,4 +1,4 @@
--- Why a beat is not lawful, by what it finds. Which fault is named where several apply is this project's own.
+-- Why a beat is not lawful, by what it finds. Which fault is named if several apply is this project's own.
 use Rattle.std.specs.Prelude.{◌≡◌, ◌≢◌, ℕ, ◌⊎◌, Bool, false, List, Option, None, IsTrue, IsSome, IsSomeAnd}
 use Rattle.tl_types.specs.Fault.{IsFirstOf}
 use Rattle.tl_types.specs.Operation.{reply_op_of}
@@ -57,7 +57,7 @@ HasAnswerReason number turn bus unknown beat known NotGiven = ⊥
 HasAnswerReason number turn bus unknown beat known WrongReply = ⊥
 
 -- a whole reply is not the one that must come, for this reason. `NotGiven` is for what crosses both watched sides,
--- `WrongReply` for what a slave expects; where nothing is expected at all, nothing was given.
+-- `WrongReply` for what a slave expects; if nothing is expected at all, nothing was given.
 abbrev pub HasEndReason : Bool → Crossing → Option Answer → Pattern → Reason → Type 0
 HasEndReason given crossing due reply (Form fault) = ⊥
 HasEndReason given crossing due reply NoSuchSource = ⊥

@@ -19,7 +19,7 @@ abbrev pub IsAllowedBeat : Plan → Scene → Sighting → Beat → Type 0
 IsAllowedBeat plan here x (A beat) = IsAllowedAsk plan.layout x.link here beat x.known x.lanes
 IsAllowedBeat plan here x (D beat) = IsAllowedReply plan.layout x.link here beat x.known x.lanes
 
--- the beat is lawful where it finds this
+-- the beat is lawful if it finds this
 abbrev pub IsAllowed : Plan → Scene → Sighting → Type 0
 IsAllowed plan here x = IsAllowedBeat plan here x x.beat
 
@@ -48,7 +48,7 @@ pub record IsFirstFault (plan : Plan) (past : List Sighting) (x : Sighting) (fau
   pub reason : IsFirstReason plan past x (reason_of fault)
   pub replies : TellsReplies (scene plan past x) x x.beat fault
 
--- what is said of the fault, where a step is refused for one
+-- what is said of the fault, if a step is refused for one
 abbrev pub OfFault : (Fault → Type 0) → StepError → Type 0
 OfFault Is (Unlawful fault) = Is fault
 OfFault Is Memory = Unit {0}

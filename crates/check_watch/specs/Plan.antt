@@ -99,7 +99,7 @@ abbrev pub wide_of : Plan → Link → ℕ → ℕ
 wide_of plan (Master m) source = plan.wide m source
 wide_of plan (Port p) source = source
 
--- the same, where the link has the source: a master's link has those of the master, a port's link those of all masters
+-- the same, if the link has the source: a master's link has those of the master, a port's link those of all masters
 abbrev pub IsWideAt : Layout → Link → ℕ → ℕ → Type 0
 IsWideAt layout (Master m) source wide = IsWide layout.owners m source wide
 IsWideAt layout (Port p) source wide = (wide ≡ source) × IsOwned layout.owners source

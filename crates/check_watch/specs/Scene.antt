@@ -43,7 +43,7 @@ abbrev pub ask_by : Under → AskHead → List ℕ → Option Request
 ask_by under beat lanes =
     if ends_ask under.bus under.asking beat then Some (ask_of under.bus under.asking beat lanes) else None
 
--- the address of the request in flight, where it has ended
+-- the address of the request in flight, if it has ended
 abbrev pub address_in : Turn → ℕ
 address_in Idle = 0
 address_in (Asking number) = 0
@@ -60,7 +60,7 @@ under_after under (D beat) known lanes = reply_crossed under beat known lanes
 
 -- ---- slaves
 
--- requests to this port take effect as they are seen at this link: a port's own where the ports' links are watched,
+-- requests to this port take effect as they are seen at this link: a port's own if the ports' links are watched,
 -- else, and for the error port, all masters'. (What a request leaves and what it is answered does not depend on its
 -- source.)
 abbrev pub takes_effect : Layout → Link → ℕ → Bool
@@ -117,7 +117,7 @@ flight_after layout link scene (D beat) lanes =
 
 -- ---- crossing
 
--- the port gives this captured reply, where one is due
+-- the port gives this captured reply, if one is due
 abbrev pub given_by : Option Answer → Pattern → Crossing → Crossing
 given_by None reply before = before
 given_by (Some answer) reply before = Given (record answer { reply = reply })
@@ -150,7 +150,7 @@ must_by false crossing due = due
 abbrev pub entry_of : Request → Pattern → Answer → Entry
 entry_of ask reply answer = record { ask = ask; reply = reply; port = answer.port; index = answer.index }
 
--- the reply to what is in flight, where this is due
+-- the reply to what is in flight, if this is due
 abbrev pub seen_reply : Turn → Pattern → Option Answer → Seen
 seen_reply (Asked number ask) reply (Some answer) = WholeReply (entry_of ask reply answer)
 seen_reply (Asked number ask) reply None = Part

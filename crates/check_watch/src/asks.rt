@@ -58,7 +58,7 @@ fn is_sent(watch: &Watch, wide: usize, ask: &Ask) -> bool
     is_asked_as(watch.sent(wide), ask) && watch.crossing(wide).is_waiting()
 }
 
-/// Whether requests at a link are to be sent at another first: at a port's, where both sides are watched.
+/// Whether requests at a link are to be sent at another first: at a port's, if both sides are watched.
 fn is_second(watch: &Watch, link: Link) -> bool
     ensures { result ≡ is_second watch.now.layout link }
 {
@@ -68,7 +68,7 @@ fn is_second(watch: &Watch, link: Link) -> bool
     }
 }
 
-/// Whether a beat of a request finds its source free, where it begins one.
+/// Whether a beat of a request finds its source free, if it begins one.
 fn begins_free(watch: &Watch, link: Link, wide: usize) -> bool
     requires known { HasLink watch.now.layout link }
     requires wide { wide < wides_in watch.now }
@@ -89,7 +89,7 @@ fn is_placed(watch: &Watch, link: Link, beat: &AskHead) -> bool
     }
 }
 
-/// Whether a beat of a request is at its port, where it begins one.
+/// Whether a beat of a request is at its port, if it begins one.
 fn begins_placed(watch: &Watch, link: Link, beat: &AskHead) -> bool
     requires known { HasLink watch.now.layout link }
     requires in_limit { beat.now.size ≤ MAX_SIZE }
@@ -117,7 +117,7 @@ fn is_whole_sent(watch: &Watch, wide: usize, under: &UnderWay, beat: &AskHead, l
     is_sent(watch, wide, &ask)
 }
 
-/// Whether a master has sent the request that a beat ends, where it ends one.
+/// Whether a master has sent the request that a beat ends, if it ends one.
 fn ends_sent(watch: &Watch, link: Link, wide: usize, beat: &AskHead, lanes: &[u8]) -> bool
     requires known { HasLink watch.now.layout link }
     requires wide { wide < wides_in watch.now }

@@ -9,7 +9,7 @@ use check_cells::Pattern;
 use thiserror::Error;
 
 /// Why a beat is not lawful after those before it, in the order in which reasons are tried. It tells no reply: a judge
-/// hands it on, and a [`Fault`] is made of it where it is asked for.
+/// hands it on, and a [`Fault`] is made of it if it is asked for.
 #[derive(Debug, Clone, Copy, PartialEq, Eq)]
 pub enum Reason {
     Form(FormFault),

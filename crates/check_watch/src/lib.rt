@@ -3,7 +3,7 @@
 //!
 //! A [`Watch`] is made of a system's address map, its sources, the bus of each link, the slave of each port at reset, and
 //! of which links are watched ([`Links`]). Sources and ports are as `check_map` has them. [`Watch::step`] takes one beat
-//! more. For every past that the judge keeps it answers `Ok` exactly where the list with this beat is lawful, and keeps
+//! more. For every past that the judge keeps it answers `Ok` exactly if the list with this beat is lawful, and keeps
 //! that list then; an `Err` changes nothing, and is the first [`Fault`] that the beat has, or want of memory. An `Ok`
 //! says what the beat ends ([`Seen`]). [`Watch::take`] takes a lawful beat too, and makes neither the fault nor the
 //! reply. Both judge a beat by the same private path, and take it afterwards.

@@ -32,7 +32,7 @@ fn copy_of(reply: &Pattern) -> Pattern
     copy
 }
 
-/// Whether each lane that carries a byte of the reply to a request is known, where the slave may not leave one unknown.
+/// Whether each lane that carries a byte of the reply to a request is known, if the slave may leave none unknown.
 fn has_known_lanes(under: &UnderWay, unknown: bool, ask: &Ask, beat: &ReplyHead, known: u64) -> bool
     requires { FitsReply (first_reply under.now.replying) beat.now }
     ensures { IsTrue result ↔ HasKnownLanes under.now.bus unknown ask.now beat.now known }

@@ -387,7 +387,7 @@ impl Watch {
         }
     }
 
-    /// What the port gave to what is in flight of a wide source, where that must come, or what the reply has to fit.
+    /// What the port gave to what is in flight of a wide source, if that must come, or what the reply has to fit.
     pub(crate) fn must<'a>(
         &'a self,
         link: Link,
