@@ -108,7 +108,7 @@ struct tlx_request {
   uint8_t set[TLX_ROOM];
 };
 
-/* What a request is answered. `bytes` holds `count` bytes, zero in those of a denied reply; behind them it is as it was. */
+/* What a request is answered. `bytes` holds `count` bytes, zero in those of a denied reply; after them it is as it was. */
 struct tlx_answer {
   uint64_t port;   /* the port that served it */
   uint64_t place;  /* how many requests that port had served before */
@@ -168,7 +168,7 @@ uint8_t tlx_largest_size(void);
 /* The version of the header that the library was built for: TLX_VERSION of that header. */
 uint32_t tlx_version(void);
 
-/* Texts. A text call writes as much of the text as fits with a zero byte behind it, and answers the length of what it wrote without
+/* Texts. A text call writes as much of the text as fits with a zero byte after it, and answers the length of what it wrote without
  * that byte; with no room (or no buffer) it writes nothing and answers 0. The longest text has under 1,600 bytes. */
 
 /* The words of a fault's number, as `tlx` and `tlcheck` say them; `unknown fault` of a number that is none. */

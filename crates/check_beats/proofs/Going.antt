@@ -83,9 +83,9 @@ whole_words w lanes wide eight = go (cases_lt w 3)
         let power : 2 ^ w ≡ 2 ^ (w - 3) * 2 ^ 3 = split_power 3 (w - 3) w (omega (arith, large)) in
         ap (λ n. n % 8) (wide ∙ power) ∙ mul-mod_left (2 ^ (w - 3)) 8
 
--- ---- a beat behind the first
+-- ---- a beat after the first
 
--- a beat behind the first of a request: it is of a long one, and there is room for it
+-- a beat after the first of a request: it is of a long one, and there is room for it
 pub record Goes (w beats : ℕ) (bytes : List (Option ℕ)) (beat : AskHead) (lanes : List ℕ) : Type 0 where
   pub long_is : IsLong w (nat_lt beat.opcode 4) beat.size
   pub part : given_at beat.mask lanes 0 (length lanes) ≡ ask_part (2 ^ w) beat lanes

@@ -39,7 +39,7 @@ pub first_reply_of : (first : Option ReplyHead) (beats : ℕ) (bytes : List (Opt
 first_reply_of None beats bytes = refl
 first_reply_of (Some head) beats bytes = refl
 
--- ---- a beat behind the first
+-- ---- a beat after the first
 
 pub record Returns (w beats : ℕ) (bytes : List (Option ℕ)) (beat : ReplyHead) (known : ℕ) (lanes : List ℕ) : Type 0 where
   pub long_is : IsLong w (beat.opcode == 1) beat.size

@@ -33,7 +33,7 @@ arith_of param =
 abbrev pub logic_of : ℕ → Logic
 logic_of param = if param == 0 then Xor else if param == 1 then Or else if param == 2 then And else Swap
 
--- the operation that an opcode and a parameter stand for, where they stand for one
+-- the operation that an opcode and a parameter stand for, if they stand for one
 abbrev pub op_of : ℕ → ℕ → AskOp
 op_of opcode param =
     if opcode == 0 then PutFull
@@ -43,7 +43,7 @@ op_of opcode param =
     else if opcode == 4 then Get
     else Intent (if param == 0 then PrefetchRead else PrefetchWrite)
 
--- the opcode that a number on channel D stands for, where it stands for one
+-- the opcode that a number on channel D stands for, if it stands for one
 abbrev pub reply_op_of_number : ℕ → ReplyOp
 reply_op_of_number opcode = if opcode == 0 then AccessAck else if opcode == 1 then AccessAckData else HintAck
 

@@ -177,7 +177,7 @@ impl Asking {
         }
     }
 
-    /// Puts the request that a beat ends, behind those that have begun it, in the place of another.
+    /// Puts the request that a beat ends, after those that have begun it, in the place of another.
     #[inline(never)]
     fn put_long(&self, beat: &AskHead, lanes: &[u8], ask: &mut Ask)
         requires fits { FitsAsk self.now.bus (first_ask self.now.begun) beat.now }

@@ -173,7 +173,7 @@ impl Replying {
         }
     }
 
-    /// Puts the reply that a beat ends, behind those that have begun it, in the place of another.
+    /// Puts the reply that a beat ends, after those that have begun it, in the place of another.
     // it fills the bus, whatever the address
     #[inline(never)]
     fn put_long(&self, beat: &ReplyHead, known: u64, lanes: &[u8], reply: &mut Pattern)

@@ -26,7 +26,7 @@ unfolding Cross
 cross-lower low higher [] below cross = tt
 cross-lower low higher (row ∷ more) below cross = let first = cross.0 in (omega (arith, below, first), cross.1)
 
--- the first row behind a place
+-- the first row after a place
 cross-behind : (row : Row) (rows : List Row) (low : ℕ) (d : Row) → Cross low rows
     → (0 < length rows → place_of row < place_of (get_or rows 0 d))
     → Cross (place_of row + 1) rows
@@ -34,7 +34,7 @@ unfolding Cross
 cross-behind row [] low d cross behind = tt
 cross-behind row (first ∷ more) low d cross behind = let here = behind (omega arith) in (omega (arith, here), cross.1)
 
--- what stands among them stands at `low` or behind it
+-- what stands among them stands at `low` or after it
 cross-low : (low : ℕ) (rows : List Row) (i : ℕ) (d : Row) → Cross low rows → i < length rows
     → low ≤ place_of (get_or rows i d)
 unfolding Cross
@@ -45,7 +45,7 @@ cross-low low (row ∷ more) (suc i) d cross inside =
     let first = cross.0 in
     omega (arith, next, first)
 
--- a row behind the first i, of which the last is nearest, is behind the first
+-- a row after the first i, of which the last is nearest, is after the first
 cross-first : (low : ℕ) (first row d : Row) (more : List Row) (i : ℕ) → Cross low (first ∷ more) → i ≤ length more
     → place_of (get_or (first ∷ more) i d) < place_of row → place_of first < place_of row
 unfolding Cross

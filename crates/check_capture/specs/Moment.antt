@@ -26,7 +26,7 @@ place_at (Master number) (D beat) = MAX_MASTERS + 2 * MAX_PORTS + number
 abbrev pub place_of : Row → ℕ
 place_of row = place_at row.sighting.link row.sighting.beat
 
--- each row crosses after those before it, and the first stands at `low` or behind it
+-- each row crosses after those before it, and the first stands at `low` or after it
 unfoldable pub Cross : ℕ → List Row → Type 0
 Cross low [] = ⊤
 Cross low (row ∷ more) = (low ≤ place_of row) × Cross (place_of row + 1) more
@@ -69,7 +69,7 @@ Puts moment row next false = (moment.time < row.time) × (next ≡ moment)
 
 -- ---- for the proofs of `put`
 
--- so many rows cross before a place, the others behind it, and none there
+-- so many rows cross before a place, the others after it, and none there
 pub record IsGap (rows : List Row) (place i : ℕ) : Type 0 where
   pub inside : i ≤ length rows
   pub before : (k : ℕ) (row : Row) → k + 1 ≡ i → place_of (get_or rows k row) < place

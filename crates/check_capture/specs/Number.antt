@@ -1,4 +1,4 @@
--- Numbers, as columns spell them: digits first, their value behind. This project's own.
+-- Numbers, as columns spell them: digits first, their value after them. This project's own.
 use Rattle.std.specs.Prelude.{ℕ, List, [], ◌∷◌, length, nat_le, Result, Ok, Err, if◌then◌else◌, ok_or}
 use Rattle.tl_text.specs.Number.{digits_of, pair_of}
 use Rattle.check_capture.specs.Reading.{◌>>=◌}

@@ -92,7 +92,7 @@ fn part_length(text: &[u8]) -> usize
     text.len()
 }
 
-/// What stands before the first comma of a text, and what behind it, if it has one.
+/// What stands before the first comma of a text, and what after it, if it has one.
 #[inline(always)]
 fn cut_part(text: &[u8]) -> Option<(&[u8], &[u8])>
     ensures some { IfSome result (λ cut. parts_of text.now ≡ cut.0.now ∷ parts_of cut.1.now) }

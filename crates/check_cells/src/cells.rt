@@ -308,7 +308,7 @@ fn word_of(bytes: &[u8]) -> u64
     ])
 }
 
-/// Whether a byte, where it is known, is known there too and is the same.
+/// Whether a byte, if it is known, is known there too and is the same.
 fn is_kept(less: Option<u8>, more: Option<u8>) -> bool
     ensures { IsTrue result ↔ ((byte : ℕ) → less ≡ Some byte → more ≡ Some byte) }
 {

@@ -157,7 +157,7 @@ impl Pattern {
     }
 }
 
-/// Puts the bytes of a captured reply in the place of others: zeros, where it is denied.
+/// Puts the bytes of a captured reply in the place of others: zeros, if it is denied.
 fn put_captured(cells: &mut Cells, denied: bool, bytes: &[Option<u8>])
     requires { length bytes.now ≤ MAX_BYTES }
     ensures { cells.new ≡ captured_bytes denied bytes.now }
@@ -169,7 +169,7 @@ fn put_captured(cells: &mut Cells, denied: bool, bytes: &[Option<u8>])
     }
 }
 
-/// Whether a flag, where it is known, is known there too and is the same.
+/// Whether a flag, if it is known, is known there too and is the same.
 fn is_flag_kept(less: Option<bool>, more: Option<bool>) -> bool
     ensures { IsTrue result ↔ ((flag : Bool) → less ≡ Some flag → more ≡ Some flag) }
 {

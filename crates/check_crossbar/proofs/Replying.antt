@@ -279,7 +279,7 @@ module _ (layout : Layout) (link : Link) (scene : Scene) (beat : DBeat) (known :
   none_before_wrong expected captured answers has NotSent lower other = other
   none_before_wrong expected captured answers has (WrongReply e r) lower other = omega (arith, lower)
 
-  -- what is said of the request in flight, where it is known
+  -- what is said of the request in flight, if it is known
   pub of_asked : (turn : Turn) (at : ℕ) (ask : Request) → turn ≡ Asked at ask → (Q P : Request → Type 0)
       → OfAsked (number_of link) turn Q → P ask → OfAsked (number_of link) turn P
   of_asked Idle at ask is Q P answers holds = absurd answers

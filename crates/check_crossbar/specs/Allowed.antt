@@ -72,7 +72,7 @@ pub record IsAllowedAsk (layout : Layout) (link : Link) (scene : Scene) (beat : 
 
 -- ---- replies
 
--- what is said of the request of the source that has ended at this link, where there is one in flight
+-- what is said of the request of the source that has ended at this link, if there is one in flight
 abbrev pub OfAsked : ℕ → Turn → (Request → Type 0) → Type 0
 OfAsked number Idle P = ⊥
 OfAsked number (Asking at) P = ⊥

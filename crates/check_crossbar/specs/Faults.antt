@@ -52,7 +52,7 @@ HasAnswerFault number turn beat known NotSent = ⊥
 HasAnswerFault number turn beat known NotGiven = ⊥
 HasAnswerFault number turn beat known (WrongReply expected captured) = ⊥
 
--- a whole reply, where this one must come, has this fault. `NotGiven` is for what crosses both watched sides,
+-- a whole reply, if this one must come, has this fault. `NotGiven` is for what crosses both watched sides,
 -- `WrongReply` for what a memory has to give; where nothing must come at all, nothing was given.
 abbrev pub HasEndFault : Bool → Option Answer → Response → Fault → Type 0
 HasEndFault given due captured (Form fault) = ⊥

@@ -69,7 +69,7 @@ fn is_second(watch: &Watch, link: Link) -> bool
     }
 }
 
-/// Whether a beat of a request finds its source free, where it begins one.
+/// Whether a beat of a request finds its source free, if it begins one.
 fn begins_free(watch: &Watch, link: Link, wide: u16) -> bool
     requires known { HasLink watch.now.layout link }
     requires wide { wide < wides_in watch.now }
@@ -90,7 +90,7 @@ fn is_placed(watch: &Watch, link: Link, beat: &ABeat) -> bool
     }
 }
 
-/// Whether a beat of a request is at its port, where it begins one.
+/// Whether a beat of a request is at its port, if it begins one.
 fn begins_placed(watch: &Watch, link: Link, beat: &ABeat) -> bool
     requires known { HasLink watch.now.layout link }
     requires in_limit { beat.now.size ≤ MAX_SIZE }
@@ -100,7 +100,7 @@ fn begins_placed(watch: &Watch, link: Link, beat: &ABeat) -> bool
     !watch.link(link).begins_ask() || is_placed(watch, link, beat)
 }
 
-/// Whether a master has sent the request that a beat ends behind those under way, and it has not crossed before.
+/// Whether a master has sent the request that a beat ends after those under way, and it has not crossed before.
 // apart from `ends_sent`, so that other beats pay for no room of a long request
 #[inline(never)]
 fn is_whole_sent(watch: &Watch, wide: u16, under: &UnderWay, beat: &ABeat) -> bool
@@ -117,7 +117,7 @@ fn is_whole_sent(watch: &Watch, wide: u16, under: &UnderWay, beat: &ABeat) -> bo
     is_sent(watch, wide, &ask)
 }
 
-/// Whether a master has sent the request that a beat ends, where it ends one.
+/// Whether a master has sent the request that a beat ends, if it ends one.
 fn ends_sent(watch: &Watch, link: Link, wide: u16, beat: &ABeat) -> bool
     requires known { HasLink watch.now.layout link }
     requires wide { wide < wides_in watch.now }

@@ -535,7 +535,7 @@ impl Watch {
         Ok(seen)
     }
 
-    /// Takes one beat more of channel A, where it is lawful: what it ends.
+    /// Takes one beat more of channel A, if it is lawful: what it ends.
     fn admit_ask(&mut self, link: Link, beat: &ABeat, known: u8) -> Option<Ended>
         requires { HasLink self.old.layout link }
         ensures fault { (plan : Plan) (past : List Sighting) → Keeps plan past self.old
@@ -559,7 +559,7 @@ impl Watch {
         }
     }
 
-    /// Takes one beat more of channel D, where it is lawful: what it ends.
+    /// Takes one beat more of channel D, if it is lawful: what it ends.
     fn admit_reply(&mut self, link: Link, beat: &DBeat, known: u8) -> Option<Ended>
         requires { HasLink self.old.layout link }
         ensures fault { (plan : Plan) (past : List Sighting) → Keeps plan past self.old
@@ -585,7 +585,7 @@ impl Watch {
         Some(Ended::Reply)
     }
 
-    /// Takes one beat more, at a link that is watched, where it is lawful: what it ends.
+    /// Takes one beat more, at a link that is watched, if it is lawful: what it ends.
     pub fn admit(&mut self, sighting: &Sighting) -> Option<Ended>
         requires known { HasLink self.old.layout sighting.now.link }
         requires watched { IsWatched self.old.layout.links sighting.now.link }
@@ -625,7 +625,7 @@ impl Watch {
         }
     }
 
-    /// Takes one beat more, at a link that is watched, where it is lawful: what it ends. `None` says that it is not. Then
+    /// Takes one beat more, at a link that is watched, if it is lawful: what it ends. `None` says that it is not. Then
     /// nothing changes, nor where memory is refused.
     ///
     /// It costs less than [`Watch::step`], which makes the fault or the reply that a beat ends, too.

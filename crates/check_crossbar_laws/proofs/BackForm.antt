@@ -39,7 +39,7 @@ slice_front : {X : Type 0} (xs : List X) (y first : X) (rest : List X) → slice
 slice_front [] y first rest at = absurd (cc)
 slice_front (x ∷ xs) y first rest at = at
 
--- a beat of a request that is spelled fits behind those before it
+-- a beat of a request that is spelled fits after those before it
 spelled_fits : (ask : Request) (begun : List ABeat) (beat : ABeat) (rest : List ABeat)
     → IsSpelled (ask, (begun ++ beat ∷ []) ++ rest) → FitsAsk begun beat
 spelled_fits ask begun beat rest is =

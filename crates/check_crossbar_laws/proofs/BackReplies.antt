@@ -53,7 +53,7 @@ lawful_is_told store (entry ∷ history) lawful =
     (lawful_is_told (memory_after store entry.0) history (λ k ask response at. lawful (suc k) ask response at))
     ∙ sym (told_cons store entry.0 (asks_of history))
 
--- the entry of the last exchange is the one behind those of the others
+-- the entry of the last exchange is the one after those of the others
 last_entry_of : (wide : ℕ) (seen : List (AskSeen × ReplySeen)) (last : AskSeen × ReplySeen)
     (front rest : List (Request × Response)) → AreMatched wide seen front
     → AreEntries wide (seen ++ last ∷ []) (front ++ rest)

@@ -56,7 +56,7 @@ some_first : (begun : List ABeat) (beat : ABeat) → (first : ABeat) × (more : 
 some_first [] beat = (beat, [], refl)
 some_first (b ∷ begun) beat = (b, begun ++ beat ∷ [], refl)
 
--- its own request is under way, where it does not end it
+-- its own request is under way, if it does not end it
 pub asks_own : (plan : Plan) (past : List Sighting) (link : Link) (known : ℕ) (beat : ABeat)
     → Continues SameFields (asking (beats_at link past)) beat → ends_ask (asking (beats_at link past)) beat ≡ false
     → AsksAt plan (ask_at link known beat ∷ past) (wide_of plan link beat.source) link

@@ -165,7 +165,7 @@ module _ (plan : Plan) (s : State) (past : List Sighting) (linked : LinksAre s p
     same : Continues SameReplyFields (replying (beats_at link past)) beat
     same = subst (λ (l : List DBeat). Continues SameReplyFields l beat) under_is allowed.fits.same
 
-    -- its own reply is under way, where it does not end it
+    -- its own reply is under way, if it does not end it
     own_replying : ends_reply (replying (beats_at link past)) beat ≡ false
         → IsReplying plan (reply_at link known beat ∷ past) (wide_of plan link beat.source) link
     own_replying goes_on =

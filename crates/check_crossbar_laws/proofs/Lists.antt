@@ -17,7 +17,7 @@ zip_more [] (v ∷ ys) x y same = absurd (omega (arith, same))
 zip_more (u ∷ xs) [] x y same = absurd (omega (arith, same))
 zip_more (u ∷ xs) (v ∷ ys) x y same = ap (λ l. (u, v) ∷ l) (zip_more xs ys x y (omega (arith, same)))
 
--- the element behind a beginning of this length
+-- the element after a beginning of this length
 pub drop_front : {X : Type 0} (xs more : List X) (n : ℕ) → n ≡ length xs → drop n (xs ++ more) ≡ more
 drop_front [] more zero is = refl
 drop_front [] more (suc n) is = absurd (omega (arith, is))

@@ -254,7 +254,7 @@ module _ (plan : Plan) (wide : ℕ) where
   not_pending there p ask is none = let some : pending AtPorts (Asked p ask) ≡ [] =
       ap (λ t. pending AtPorts t) (sym is) ∙ none in absurd (cc)
 
-  -- what stands, where nothing is in flight at ports' links before and after
+  -- what stands, if nothing is in flight at ports' links before and after
   stands_free : (story : Story) (turn : Turn) (crossing : Crossing) (there later : Turn) → pending AtPorts there ≡ []
       → pending AtPorts later ≡ [] → Stands story turn crossing there → Stands story turn crossing later
   stands_free story Idle crossing there later none free stands =

@@ -35,7 +35,7 @@ pub record ReplySeen : Type 0 where
   pub link : Link
   pub beats : List DBeat
 
--- the request that a beat ends, after these beats of its link: the one that its beats spell, where it is their last
+-- the request that a beat ends, after these beats of its link: the one that its beats spell, if it is their last
 abbrev pub ask_ended : Link → List Beat → Beat → List AskSeen
 ask_ended link before (A beat) =
     if ends_ask (asking before) beat then record { link = link; ask = ask_of beat (asking before ++ beat ∷ []) }

@@ -15,7 +15,7 @@ abbrev pub is_at_reply : Order → Bool
 is_at_reply Accept = false
 is_at_reply Reply = true
 
--- the request, where there is one and it takes effect
+-- the request, if there is one and it takes effect
 abbrev pub effect_by : Bool → Option Request → Option Request
 effect_by true ask = ask
 effect_by false ask = None

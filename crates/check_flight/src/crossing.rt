@@ -22,7 +22,7 @@ pub enum Reach {
 #[derive(Debug, Drop)]
 pub struct Crossing {
     reach: Reach,
-    /// The reply that the port has given, where it has.
+    /// The reply that the port has given, if it has.
     answer: Answer,
 }
 
@@ -69,7 +69,7 @@ impl Crossing {
         matches!(self.reach, Reach::AtMaster)
     }
 
-    /// What the port has given, where it has.
+    /// What the port has given, if it has.
     pub fn given(&self) -> Option<&Answer>
         ensures { option_map (λ answer. answer.now) result ≡ given self.now }
     {

@@ -28,14 +28,14 @@ pub enum Stage {
     Ended(usize),
 }
 
-/// What is in flight of a source on one side, with what its reply has to fit, where it has taken effect there.
+/// What is in flight of a source on one side, with what its reply has to fit, if it has taken effect there.
 #[derive(Debug, Drop)]
 pub struct Flight {
     stage: Stage,
-    /// The request, where it has ended.
+    /// The request, if it has ended.
     ask: Ask,
     is_due: bool,
-    /// What the reply has to fit, where one is due.
+    /// What the reply has to fit, if one is due.
     due: Answer,
 }
 
@@ -77,7 +77,7 @@ impl Flight {
         }
     }
 
-    /// The request, where it has ended.
+    /// The request, if it has ended.
     pub fn asked(&self) -> Option<&Ask>
         ensures { option_map (λ ask. ask.now) result ≡ asked self.now.turn }
     {
@@ -87,7 +87,7 @@ impl Flight {
         }
     }
 
-    /// What the reply has to fit, where it is known.
+    /// What the reply has to fit, if it is known.
     pub fn due(&self) -> Option<&Answer>
         ensures { option_map (λ answer. answer.now) result ≡ self.now.due }
     {
@@ -102,7 +102,7 @@ impl Flight {
         self.is_due = false;
     }
 
-    /// The request has ended there, by a beat behind those under way, and takes no effect yet.
+    /// The request has ended there, by a beat after those under way, and takes no effect yet.
     pub fn end(&mut self, number: usize, under: &UnderWay, beat: &AskHead, lanes: &[u8])
         requires fits { FitsAsk under.now.bus (first_ask under.now.asking) beat.now }
         requires ends { IsTrue (ends_ask under.now.bus under.now.asking beat.now) }
@@ -115,7 +115,7 @@ impl Flight {
         self.is_due = false;
     }
 
-    /// The request has ended, by a beat behind those under way, and the slave of its port accepts it: the slave serves it
+    /// The request has ended, by a beat after those under way, and the slave of its port accepts it: the slave serves it
     /// now, if requests take effect there as they are accepted. Where there is no memory for a page, nothing is changed.
     pub fn accept(
         &mut self,
@@ -147,7 +147,7 @@ impl Flight {
         }
     }
 
-    /// The request has ended, by a beat behind those under way, and the slave of its port serves it. Where there is no
+    /// The request has ended, by a beat after those under way, and the slave of its port serves it. Where there is no
     /// memory for a page, nothing is changed.
     fn serve_whole(
         &mut self,

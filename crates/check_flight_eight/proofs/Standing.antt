@@ -17,7 +17,7 @@ in_parts kind bytes store stands =
     ∙ ap (λ (rest : List ℕ). rest ++ drop (length store.bytes) (drop store.base bytes)) stands.shows
     ∙ ap (λ (rest : List ℕ). store.bytes ++ rest) (drop-drop (length store.bytes) store.base bytes))
 
--- bytes of the front do not change with what is behind it
+-- bytes of the front do not change with what is after it
 front_same : (front one other : List ℕ) (start n : ℕ) → start + n ≤ length front
     → take n (drop start (front ++ one)) ≡ take n (drop start (front ++ other))
 front_same front one other start n within =

@@ -93,7 +93,7 @@ impl Flights {
         Ok(())
     }
 
-    /// A request has ended there, by a beat behind those under way.
+    /// A request has ended there, by a beat after those under way.
     pub fn end(
         &mut self,
         source: u16,

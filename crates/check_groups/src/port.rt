@@ -48,7 +48,7 @@ impl Model for PortLink {
     ghost view = { λ p. record { under = p.under; flights = p.flights; slave = p.slave } };
 }
 
-/// What a whole reply to a request is, where this answer must come.
+/// What a whole reply to a request is, if this answer must come.
 fn end_with(ask: &Ask, answer: Answer, captured: Reply) -> Result<Seen, Fault>
     ensures seen { IfOk result (λ seen. seen ≡ WholeReply (entry_of ask.now answer)) }
     ensures right { OnOk result (answer.reply ≡ captured) }

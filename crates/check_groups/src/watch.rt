@@ -200,7 +200,7 @@ impl Watch {
         self.shared.judge(sighting)
     }
 
-    /// Takes one beat more at a link that is judged with others, where it is lawful: what it ends.
+    /// Takes one beat more at a link that is judged with others, if it is lawful: what it ends.
     fn take_shared(&mut self, sighting: &Sighting) -> Option<Ended>
         requires shared { is_alone self.old.layout.links sighting.now.link ≡ false }
         requires known { HasLink self.old.layout sighting.now.link }
@@ -216,7 +216,7 @@ impl Watch {
         self.shared.admit(sighting)
     }
 
-    /// Takes one beat more, at a link that is watched, where it is lawful: what it ends. `None` says that it is not.
+    /// Takes one beat more, at a link that is watched, if it is lawful: what it ends. `None` says that it is not.
     /// Then nothing changes, nor where memory is refused. Only with `Links::Each` can memory be refused.
     ///
     /// It costs less than [`Watch::step`], which makes the fault or the reply that a beat ends, too.

@@ -74,7 +74,7 @@ HasReplyFormFault begun beat UnknownData = ⊥
 
 -- ---- the order of faults
 
--- the place of a fault in the order in which faults are tried. A beat behind the first of its message is compared with
+-- the place of a fault in the order in which faults are tried. A beat after the first of its message is compared with
 -- that one before all else, and a first beat has none to be compared with.
 abbrev pub form_rank : FormFault → ℕ
 form_rank Changed = 1

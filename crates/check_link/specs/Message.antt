@@ -31,7 +31,7 @@ arith_of param = if param == 0 then Min else if param == 1 then Max else if para
 abbrev pub logic_of : ℕ → Logic
 logic_of param = if param == 0 then Xor else if param == 1 then Or else if param == 2 then And else Swap
 
--- the operation that an opcode and a parameter stand for, where they stand for one
+-- the operation that an opcode and a parameter stand for, if they stand for one
 abbrev pub op_of : ℕ → ℕ → AskOp
 op_of opcode param =
     if opcode == 0 then PutFull

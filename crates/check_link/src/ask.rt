@@ -27,7 +27,7 @@ pub fn put_ask(message: &[ABeat], beat: &ABeat, ask: &mut Ask)
     assemble_ask_into(message, ask).unwrap();
 }
 
-/// Puts the request that this beat ends, behind those that have begun it, in the place of another.
+/// Puts the request that this beat ends, after those that have begun it, in the place of another.
 // apart from `put_ask`, so that a request of one beat pays for no room of a long one
 #[inline(never)]
 pub fn put_long_ask(begun: &[ABeat], beat: &ABeat, ask: &mut Ask)

@@ -35,7 +35,7 @@ pub fn put_reply(message: &[DBeat], beat: &DBeat, address: u64, reply: &mut Repl
     let _lawful = reply.bytes();
 }
 
-/// Puts the reply to a request at an address that this beat ends, behind those that have begun it, in the place of
+/// Puts the reply to a request at an address that this beat ends, after those that have begun it, in the place of
 /// another.
 #[inline(never)]
 pub fn put_long_reply(begun: &[DBeat], beat: &DBeat, address: u64, reply: &mut Reply)

@@ -64,7 +64,7 @@ impl Sizes {
         }
     }
 
-    /// The sizes of a kind, where no others are given.
+    /// The sizes of a kind, if no others are given.
     pub fn of(kind: Kind) -> Sizes
         ensures { result ≡ row_of kind }
     {

@@ -137,7 +137,7 @@ order_of word = if bytes_eq word (codes "reply") then Reply else Accept
 abbrev pub flag_of : Text → Bool
 flag_of word = bytes_eq word (codes "true")
 
--- the file that a word names, where it names one: `-` is standard input
+-- the file that a word names, if it names one: `-` is standard input
 abbrev pub file_of : Option Text → Option Text
 file_of None = None
 file_of (Some word) = if bytes_eq word (codes "-") then None else Some word

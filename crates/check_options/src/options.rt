@@ -91,7 +91,7 @@ fn read_flag(word: &str) -> bool
     word == "true"
 }
 
-/// The file that a word names, where it names one.
+/// The file that a word names, if it names one.
 fn read_file<'a>(word: Option<&'a str>) -> Option<&'a str>
     ensures { option_map (λ name. name.now) result
         ≡ file_of (option_map (λ name. name.now) word.entry) }

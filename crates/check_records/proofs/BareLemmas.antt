@@ -17,7 +17,7 @@ use Rattle.check_records.proofs.DraftLemmas.{ends-behind, ends-more, goes-more, 
 
 -- ---- what a byte does
 
--- a byte that begins a field does what it does behind a comma
+-- a byte that begins a field does what it does after a comma
 pub starts-field : (state : State) (byte : ℕ) → begins_field state byte ≡ true
     → step default_config state byte ≡ step default_config st.StartField byte
 starts-field st.StartRecord byte begins = rw (not-true (is_line_end byte) begins) refl
@@ -45,7 +45,7 @@ joins-first byte plain unquoted = rw (ne_eqb byte 34 unquoted) (joins byte plain
 
 -- ---- the bytes of a field
 
--- a record at the beginning of a field, behind these bytes of it
+-- a record at the beginning of a field, after these bytes of it
 abbrev pub within : Partial → List ℕ → Partial
 within p [] = p
 within p (byte ∷ bytes) = record {
@@ -71,7 +71,7 @@ acts : (p : Partial) (bytes : List ℕ) (byte : ℕ)
 acts p [] byte first plain unquoted = first refl ∙ joins-first byte plain (unquoted refl)
 acts p (b ∷ bytes) byte first plain unquoted = joins byte plain
 
--- a record at the beginning of a field, behind bytes of it and a byte that does this
+-- a record at the beginning of a field, after bytes of it and a byte that does this
 abbrev next : Partial → List ℕ → ℕ → State × Action → List ℕ → ℕ → Partial
 next p bytes byte does field size = record {
   state = does.0;
@@ -120,9 +120,9 @@ bare-more p bytes byte bare first plain unquoted =
           (goes-more p (within p bytes) bytes byte bare.goes on);
     }
 
--- ---- the byte behind a field
+-- ---- the byte after a field
 
--- what it does, where this is what it does in any field
+-- what it does, if this is what it does in any field
 acts-behind : (p : Partial) (bytes : List ℕ) (byte : ℕ) (does : State × Action)
     → (bytes ≡ [] → step default_config p.state byte ≡ step default_config st.StartField byte)
     → step default_config st.StartField byte ≡ does → step default_config st.InField byte ≡ does
@@ -130,7 +130,7 @@ acts-behind : (p : Partial) (bytes : List ℕ) (byte : ℕ) (does : State × Act
 acts-behind p [] byte does first start inside = first refl ∙ start
 acts-behind p (b ∷ bytes) byte does first start inside = inside
 
--- a record behind a whole field and its comma
+-- a record after a whole field and its comma
 abbrev pub behind_comma : Partial → List ℕ → Partial
 behind_comma p bytes = record {
   state = st.StartField;
@@ -189,7 +189,7 @@ bare-end p bytes byte bare first ends other =
 
 -- ---- the fields of a text
 
--- a record behind so many bytes, which are whole fields and their commas
+-- a record after so many bytes, which are whole fields and their commas
 abbrev pub behind_fields : Partial → List (List ℕ) → ℕ → Partial
 behind_fields p fields count = record {
   state = if count == 0 then p.state else st.StartField;
@@ -245,7 +245,7 @@ text-more p text start i low inside begins bare plain unquoted =
     (bare-more p (slice_range text start i) (get_or text i 0) bare (first-acts p text start i low inside begins) plain
     (λ none. unquoted (first-place text start i low inside none)))
 
--- a byte of the text behind a place, by its place in the text
+-- a byte of the text after a place, by its place in the text
 byte-behind : (text : List ℕ) (start k : ℕ) → start ≤ length text
     → get_or (slice_range text start (length text)) k 0 ≡ get_or text (start + k) 0
 byte-behind text start k inside =
@@ -296,7 +296,7 @@ text-feeds text start (suc k) inside none plain =
     ∙ feeds-no text (start + k) (omega (arith, inside)) (no-feed (get_or text (start + k) 0) (plain k (omega arith)))
     ∙ text-feeds text start k (omega (arith, inside)) none (λ j below. plain j (omega (arith, below)))
 
--- the bytes before a field, those of the field, and the one behind it
+-- the bytes before a field, those of the field, and the one after it
 parts : (text : List ℕ) (start i : ℕ) → start ≤ i → i < length text
     → take (i + 1) text ≡ take start text ++ (slice_range text start i ++ get_or text i 0 ∷ [])
 parts text start i low inside =
@@ -305,7 +305,7 @@ parts text start i low inside =
     (ap (λ (n : ℕ). take n text) (omega arith) ∙ take-add start (i - start) text)
     ∙ append_assoc (take start text) (slice_range text start i) (get_or text i 0 ∷ [])
 
--- a whole field, and the comma behind it
+-- a whole field, and the comma after it
 pub text-comma : (o : Partial) (fields : List (List ℕ)) (text : List ℕ) (start i : ℕ) → start ≤ i → i < length text
     → begins_field (behind_fields o fields start).state (get_or text start 0) ≡ true
     → IsBare (behind_fields o fields start) (slice_range text start i)
@@ -332,7 +332,7 @@ text-comma o fields text start i low inside begins bare so_far comma =
     (subst (λ (xs : List ℕ). GoesOn o xs (behind_comma p hand)) front
     (goes-trans o p (behind_comma p hand) (take start text) (hand ++ 44 ∷ []) so_far (bare-comma p hand bare first)))
 
--- a whole field, and the end of a line behind it
+-- a whole field, and the end of a line after it
 pub text-end : (o p : Partial) (text : List ℕ) (start i : ℕ) → start ≤ i → i < length text
     → begins_field p.state (get_or text start 0) ≡ true → IsBare p (slice_range text start i)
     → GoesOn o (take start text) p → ends_field (get_or text i 0) ≡ true → get_or text i 0 ≢ 44

@@ -59,7 +59,7 @@ keeps-read None b bytes taken = tt
 keeps-read (Some x) None bytes taken = absurd taken
 keeps-read (Some x) (Some y) bytes taken = sym taken
 
--- a read behind one that took nothing
+-- a read after one that took nothing
 pub consumes-behind : (a b c : Option (List ℕ)) (bytes : List ℕ) → Keeps a b → Consumes b c bytes → Consumes a c bytes
 consumes-behind None b c bytes kept taken = tt
 consumes-behind (Some x) None c bytes kept taken = absurd kept

@@ -18,7 +18,7 @@ use Rattle.check_records.proofs.WithinLemmas.{blank}
 
 -- ---- what a byte does
 
--- the state behind a record that this byte ends
+-- the state after a record that this byte ends
 abbrev after : ℕ → State
 after byte = cond (byte == 13) st.AfterCr st.StartRecord
 

@@ -200,7 +200,7 @@ ends-at-end remaining from source p row so_far none end ends =
     (λ x y z within carry. carry x within) so_far
     (at-end remaining source (Carries p row Ends) none end (λ x within. ends-last x p row source.line within ends))
 
--- behind ends of lines
+-- after ends of lines
 pub ends-behind-lines : {R : Type 0} (remaining : R → Option (List ℕ)) (from : Left) (source : Source R)
     → Between from (left remaining source) HasSameNext → HasFirst remaining source false
     → Between from (left remaining source) Ends
@@ -209,7 +209,7 @@ ends-behind-lines remaining from source same first =
     (λ x y z. ends-same x y z) same
     (at-end remaining source Ends first.0 first.1 (ends-none source.line))
 
--- a record behind them
+-- a record after them
 pub gives-behind-lines : (from here to : Left) (row : Row) → Between from here HasSameNext
     → Between here to (λ a b. Gives a row b)
     → Between from to (λ a b. Gives a row b)

@@ -123,6 +123,6 @@ same-trans a b c one two = record {
 
 -- ---- parts of a text
 
--- the byte at a place, and what stands before and behind it
+-- the byte at a place, and what stands before and after it
 pub split-at : (xs : List ℕ) (i : ℕ) → i < length xs → xs ≡ take i xs ++ (get_or xs i 0 ∷ drop (i + 1) xs)
 split-at xs i h = sym (take-append-drop i xs) ∙ ap (λ (rest : List ℕ). take i xs ++ rest) (drop_more xs i 0 h)

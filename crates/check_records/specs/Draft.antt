@@ -42,7 +42,7 @@ full_size p text = p.size + length (bytes_from p.state text)
 abbrev pub action_at : Partial → ℕ → Action
 action_at p byte = (step default_config p.state byte).1
 
--- it, behind a byte that does not end it
+-- it, after a byte that does not end it
 abbrev pub behind : Partial → ℕ → Partial
 behind p byte = record {
   state = (step default_config p.state byte).0;
@@ -84,7 +84,7 @@ TakesByte old byte new true =
 TakesByte old byte new false =
     (is_end (action_at (partial old) byte) ≡ false) × (partial new ≡ behind (partial old) byte) × IsDraft new
 
--- so many bytes of a text end it, with no more bytes than it may have, or else it goes on behind all of them
+-- so many bytes of a text end it, with no more bytes than it may have, or else it goes on after all of them
 abbrev pub FeedsTo : Draft → List ℕ → Draft → Fed → Bool → Type 0
 FeedsTo old text new fed true =
     (size : ℕ) × EndsWith (partial old) (take fed.taken text) (fields_of new.columns) size × (size ≤ MAX_ROW)

@@ -25,7 +25,7 @@ Both None new P = ⊤
 Both (Some old) None P = ⊥
 Both (Some old) (Some new) P = P old new
 
--- a text that is left, where it is known, and the line on which it begins
+-- a text that is left, if it is known, and the line on which it begins
 pub record Left : Type 0 where
   pub line : ℕ
   pub text : Option (List ℕ)

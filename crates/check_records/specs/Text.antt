@@ -52,8 +52,8 @@ pub record Row : Type 0 where
   pub line : ℕ
   pub fields : List (List ℕ)
 
--- the next record is this row, it is short enough, and the text behind it is left; each line feed stands before a place
--- or behind it
+-- the next record is this row, it is short enough, and the text after it is left; each line feed stands before a place
+-- or after it
 pub record Gives (from : Place) (row : Row) (to : Place) : Type 0 where
   pub state : State
   pub reads : next_record default_config st.StartRecord [] [] from.text ≡ Some (row.fields, state, to.text)
@@ -78,7 +78,7 @@ unfoldable pub Reads : Place → List Row → Place → Type 0
 Reads from [] to = from ≡ to
 Reads from (row ∷ rows) to = (behind : Place) × Gives from row behind × Reads behind rows to
 
--- where a text begins: on line 1, behind a byte order mark
+-- where a text begins: on line 1, after a byte order mark
 abbrev pub start_of : List ℕ → Place
 start_of text = record { line = 1; text = strip_bom text }
 

@@ -11,7 +11,7 @@ pub(crate) enum State {
     StartRecord,
     /// Before the first byte of a field.
     StartField,
-    /// In a field without quotes, or behind the quotes of one that has them.
+    /// In a field without quotes, or after the quotes of one that has them.
     InField,
     /// Between quotes.
     InQuoted,
@@ -32,7 +32,7 @@ pub(crate) enum Action {
     EndRecord,
 }
 
-/// Whether a byte ends a field that it stands behind, outside of quotes.
+/// Whether a byte ends a field that it stands after, outside of quotes.
 #[inline(always)]
 pub(crate) fn ends_field(byte: u8) -> bool
     ensures { result ≡ ends_field byte }
@@ -82,7 +82,7 @@ fn start_record(byte: u8) -> (State, Action)
     }
 }
 
-/// The state behind a byte, and what the byte does.
+/// The state after a byte, and what the byte does.
 #[inline(always)]
 pub(crate) fn step(state: State, byte: u8) -> (State, Action)
     ensures { step_of result ≡ Csv.step default_config (state_of state) byte }

@@ -122,7 +122,7 @@ impl<R: Read + Drop> Records<R> {
         })
     }
 
-    /// Reads the next record; answers whether there was one. A fault stops the reader: each read behind it answers it
+    /// Reads the next record; answers whether there was one. A fault stops the reader: each read after it answers it
     /// again.
     pub fn read(&mut self) -> Result<bool, RecordFault>
         ensures ok { IfOk result (Answers self.old.left self.new.left self.new.row) }

@@ -178,7 +178,7 @@ impl<R: Read + Drop> Source<R> {
         Ok(())
     }
 
-    /// Reads more, where nothing is at hand; answers whether there was anything.
+    /// Reads more, if nothing is at hand; answers whether there was anything.
     pub(crate) fn refill(&mut self) -> Result<bool, RecordFault>
         requires { at_hand self.old ≡ [] }
         ensures text { OnOk result (Keeps (R.remaining self.old.reader) (left_of R.remaining self.new)) }
@@ -194,7 +194,7 @@ impl<R: Read + Drop> Source<R> {
         Ok(count > 0)
     }
 
-    /// Reads one byte behind those at the front of the chunk; answers whether there was one.
+    /// Reads one byte after those at the front of the chunk; answers whether there was one.
     fn read_byte(&mut self) -> Result<bool, RecordFault>
         requires front { self.old.next ≡ 0 }
         requires room { self.old.filled < 3 }

@@ -1,4 +1,4 @@
--- What is left of a dump's rows behind one thing that happens.
+-- What is left of a dump's rows after one thing that happens.
 use Rattle.std.proofs.Common.{◌≡◌, ◌∙◌, ℕ, Bool, true, false, ◌||◌, List, [], ◌∷◌, Option, Some, None, Result, Ok, Err, ap, append-nil, refl, sym, subst}
 use Rattle.std.specs.Option.{IfSome, option_map}
 use Rattle.check_vcd.specs.Body.{At, Happens, Wrong, happens_of}

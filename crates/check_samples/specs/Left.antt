@@ -40,7 +40,7 @@ pub record Left : Type 0 where
 abbrev pub left_by : Rows → End → Bool → Left
 left_by rows end rises = record { text = rows.text; end = end_by rows.fault end; rises = rises }
 
--- those of what is left to happen, where it is known whether the clock rose before
+-- those of what is left to happen, if it is known whether the clock rose before
 abbrev pub left_of : List Happens → Sampling → Bool → Left
 left_of happens s risen = left_by (rows_from happens s) (end_of happens) (risen || rises_in happens s)
 
@@ -49,7 +49,7 @@ left_in dump s risen = option_map (λ happens. left_of happens s risen) (happens
 
 -- ---- what calls answer
 
--- whether the clock rose at a time that is over, behind one thing more
+-- whether the clock rose at a time that is over, after one thing more
 abbrev pub risen_behind : Bool → Sampling → Event → Bool
 risen_behind risen s (event.Time time) = if is_at s time then risen else risen || rises_now s
 risen_behind risen s (event.Change slot) = risen

@@ -33,7 +33,7 @@ is_at s time = is_time s.time time
 abbrev pub at_time : Sampling → ℕ → Sampling
 at_time s time = if is_at s time then s else record s { before = s.now; time = Some time }
 
--- what is so behind one thing that happens
+-- what is so after one thing that happens
 abbrev pub behind : Happens → Sampling → Sampling
 behind (At time) s = at_time s time
 behind (Sets slot digits) s = with_value s slot digits
@@ -74,7 +74,7 @@ rises_in (Wrong line mistake ∷ happens) s = false
 -- ---- what calls answer
 
 -- the rows that were to come are those that were appended and those that are left to come; or the first beat that is
--- none was met, behind all rows before it; unless memory ran out
+-- none was met, after all rows before it; unless memory ran out
 abbrev pub Leads : Result Unit SampleFault → List ℕ → List ℕ → Rows → Rows → Type 0
 Leads (Ok done) old new before left = (new ++ left.text ≡ old ++ before.text) × (left.fault ≡ before.fault)
 Leads (Err (Unknown fault)) old new before left = (new ≡ old ++ before.text) × (before.fault ≡ Some fault)

@@ -81,7 +81,7 @@ fn risen_now(has_risen: bool, sampler: &Sampler) -> bool
     has_risen || sampler.rises()
 }
 
-/// Whether the clock rose at a time that is over behind what happens next.
+/// Whether the clock rose at a time that is over after what happens next.
 fn risen_behind(has_risen: bool, sampler: &Sampler, event: Event) -> bool
     ensures { result ≡ risen_behind has_risen sampler.now event }
 {
@@ -98,7 +98,7 @@ fn risen_behind(has_risen: bool, sampler: &Sampler, event: Event) -> bool
 }
 
 impl<R: Read + Drop> Rows<R> {
-    /// Those of a dump behind its header, by a sampler that has taken nothing.
+    /// Those of a dump after its header, by a sampler that has taken nothing.
     pub fn new(dump: Dump<R>, sampler: Sampler) -> Rows<R>
         ensures { result ≡ left_in dump sampler false }
     {

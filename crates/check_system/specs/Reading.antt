@@ -13,7 +13,7 @@ abbrev pub ◌>>=◌ : {A B F : Type 0} → Result A F → (A → Result B F) �
 (Ok x) >>= f = f x
 (Err e) >>= f = Err e
 
--- the value, where this does not fail
+-- the value, if this does not fail
 abbrev pub unless : {A F : Type 0} → Bool → F → A → Result A F
 unless fails fault x = if fails then Err fault else Ok x
 

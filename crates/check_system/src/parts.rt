@@ -20,7 +20,7 @@ pub struct Port {
     pub order: Option<Order>,
 }
 
-/// A master: its source `s` has the wide source `first + stride * s`, where it has a `first`.
+/// A master: its source `s` has the wide source `first + stride * s`, if it has a `first`.
 #[derive(Debug, Drop)]
 pub struct Master {
     pub name: Option<String>,

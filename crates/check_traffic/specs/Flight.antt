@@ -14,7 +14,7 @@ pub data Turn : Type 0 where
   Asking : ℕ → Turn
   Asked : ℕ → Request → Turn
 
--- what is in flight of a source on one side, with the reply that must come, where it takes effect there
+-- what is in flight of a source on one side, with the reply that must come, if it takes effect there
 pub record Flight : Type 0 where
   pub turn : Turn
   pub due : Option Answer

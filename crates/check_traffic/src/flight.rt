@@ -36,14 +36,14 @@ pub enum Stage {
     Ended(usize),
 }
 
-/// What is in flight of a source on one side, with the reply that must come, where it takes effect there.
+/// What is in flight of a source on one side, with the reply that must come, if it takes effect there.
 #[derive(Debug, Drop)]
 pub struct Flight {
     stage: Stage,
-    /// The request, where it has ended.
+    /// The request, if it has ended.
     ask: Ask,
     is_due: bool,
-    /// The reply that must come, where one is due.
+    /// The reply that must come, if one is due.
     due: Answer,
 }
 
@@ -62,7 +62,7 @@ pub enum Reach {
 #[derive(Debug, Drop)]
 pub struct Crossing {
     reach: Reach,
-    /// The reply that the port has given, where it has.
+    /// The reply that the port has given, if it has.
     answer: Answer,
 }
 
@@ -139,7 +139,7 @@ impl Flight {
         }
     }
 
-    /// The request, where it has ended.
+    /// The request, if it has ended.
     pub fn asked(&self) -> Option<&Ask>
         ensures { option_map (λ ask. ask.now) result ≡ asked self.now.turn }
     {
@@ -149,7 +149,7 @@ impl Flight {
         }
     }
 
-    /// The reply that must come, where it is known.
+    /// The reply that must come, if it is known.
     pub fn due(&self) -> Option<&Answer>
         ensures { option_map (λ answer. answer.now) result ≡ self.now.due }
     {
@@ -164,7 +164,7 @@ impl Flight {
         self.is_due = false;
     }
 
-    /// The request has ended there, by a beat behind those under way.
+    /// The request has ended there, by a beat after those under way.
     pub fn end(&mut self, number: usize, under: &UnderWay, beat: &ABeat)
         requires fits { FitsAsk under.now.asking beat.now }
         requires ends { IsTrue (ends_ask under.now.asking beat.now) }
@@ -217,7 +217,7 @@ impl Crossing {
         matches!(self.reach, Reach::AtMaster)
     }
 
-    /// What the port has given, where it has.
+    /// What the port has given, if it has.
     pub fn given(&self) -> Option<&Answer>
         ensures { option_map (λ answer. answer.now) result ≡ given self.now }
     {

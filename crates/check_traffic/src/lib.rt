@@ -3,7 +3,7 @@
 //!
 //! A [`Side`] has the messages under way at each link of the masters, or of the ports, and what is in flight there of
 //! each wide source. That is a [`Flight`]: nothing, a request that has begun, or one that has ended, with the reply
-//! that must come ([`Answer`]), where it is known. A [`Crossing`] says how far a source's request has come across, and
+//! that must come ([`Answer`]), if it is known. A [`Crossing`] says how far a source's request has come across, and
 //! what its port gave. A [`Slave`] is a port's memory in one or more ranges, which serves requests and counts them.
 //!
 //! Each step promises what is kept from then on, and that all else stays (`specs/Side.antt`, `specs/Flight.antt`,

@@ -26,7 +26,7 @@ opening-word : (word : Word) (words : List Word) (h : Header) (does : header.Ste
 unfolding opening
 opening-word word words h does is = ap (λ (step : header.Step). behind step word words (opening words)) is
 
--- the header, behind one word more
+-- the header, after one word more
 pub opens-on : (start old new : Option (List Word)) (word : Word) (h : Header) (does : header.Step)
     → Both start old (λ from to. opening from blank ≡ opening to h) → Both old new (λ from to. from ≡ word ∷ to)
     → header.step_of h word.bytes ≡ does
@@ -72,7 +72,7 @@ unfolding happenings
 happenings-word find word words b does is =
     ap (λ (step : body.Step). followed step word.line (happenings find words)) is
 
--- what happens, behind one word more
+-- what happens, after one word more
 pub happens-on : (find : Find) (start old new : Option (List Word)) (word : Word) (first b : Body) (does : body.Step)
     → Both start old (λ from to. happenings find from first ≡ happenings find to b)
     → Both old new (λ from to. from ≡ word ∷ to) → body.step_of find b word.size word.bytes ≡ does

@@ -35,7 +35,7 @@ took-letter old new byte next moved not fronts lines = (
       absurd (omega (arith, none, size))),
 )
 
--- a blank, behind a front or before the first byte of a word
+-- a blank, after a front or before the first byte of a word
 blank : {R : Type 0} (old new : Scanner R) (byte : ℕ) (ended : Bool) → HasNext old byte → HasMoved old new
     → is_blank byte ≡ true → IsFront (front old) → front new ≡ front old → new.line ≡ old.next_line
     → new.next_line ≡ line_after old.next_line byte

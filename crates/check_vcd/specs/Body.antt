@@ -20,7 +20,7 @@ use Rattle.check_vcd.specs.declared.token.Kind.TheVariants as kind
 
 -- ---- what happens
 
--- a time begins; the value in a slot becomes these digits, the highest first; or this line is wrong, and nothing behind
+-- a time begins; the value in a slot becomes these digits, the highest first; or this line is wrong, and nothing after
 -- it counts
 pub data Happens : Type 0 where
   At : ℕ → Happens
@@ -33,7 +33,7 @@ Find = List ℕ → Option Coded
 
 -- ---- one word
 
--- where a word stands: behind what, behind which value of how many digits, and behind which time
+-- where a word stands: after what, after which value of how many digits, and after which time
 pub record Body : Type 0 where
   pub place : Place
   pub value : List ℕ

@@ -11,7 +11,7 @@ use Rattle.check_vcd.specs.declared.codes.Codes.{Codes}
 use Rattle.check_vcd.specs.declared.fault.Mistake.{Mistake}
 use Rattle.check_vcd.specs.declared.fault.Mistake.TheVariants.{CutInHeader}
 
--- a dump behind its header: the words that are left, where the reader underneath tells its bytes; what is known of
+-- a dump after its header: the words that are left, where the reader underneath tells its bytes; what is known of
 -- identifiers; and where the next word stands
 pub record Dumping : Type 0 where
   pub words : Option (List Word)
@@ -36,7 +36,7 @@ IsWrongHeader words line mistake =
 abbrev pub IsRefused : Option (List Word) → ℕ → Mistake → Type 0
 IsRefused left line mistake = IfSome left (λ words. IsWrongHeader words line mistake)
 
--- the text of a reader begins with a header that declares these signals, and the dump is what stands behind it
+-- the text of a reader begins with a header that declares these signals, and the dump is what stands after it
 pub record Opens (text : Option (List ℕ)) (vars : List Var) (dump : Dumping) : Type 0 where
   pub words : Both (option_map words_of text) dump.words (λ from to. opening from blank ≡ Opened vars to)
   pub find : (code : List ℕ) → find_in dump.codes code ≡ coded_in vars code

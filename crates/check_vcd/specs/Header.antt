@@ -140,7 +140,7 @@ step_of header word = step_by header.command header word
 
 -- ---- all words
 
--- a header was read, with the words behind it; a word on this line is wrong; or the words end before it does
+-- a header was read, with the words after it; a word on this line is wrong; or the words end before it does
 pub data Opening : Type 0 where
   Opened : List Var → List Word → Opening
   Refused : ℕ → Mistake → Opening

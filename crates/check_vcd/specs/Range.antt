@@ -12,7 +12,7 @@ use Rattle.check_vcd.specs.declared.range.TheConstants.{INDEX_DIGITS}
 abbrev pub has_bits : Span → ℕ → Bool
 has_bits span count = nat_lt 0 count && (abs_diff span.left span.right == count - 1)
 
--- the index that a text begins with, of at most so many decimal digits, and what stands behind it
+-- the index that a text begins with, of at most so many decimal digits, and what stands after it
 abbrev pub index_of : List ℕ → Option (ℕ × List ℕ)
 index_of text =
     let len = prefix_len is_ascii_digit text in
@@ -23,14 +23,14 @@ abbrev pub closed : ℕ → ℕ → List ℕ → Option Span
 closed left right (c ∷ []) = if c == 93 then Some (record { left = left; right = right }) else None
 closed left right text = None
 
--- behind the first index: a colon and a second one, or the closing bracket
+-- after the first index: a colon and a second one, or the closing bracket
 abbrev pub behind_left : ℕ → List ℕ → Option Span
 behind_left left (c ∷ more) =
     if c == 58 then option_and_then (λ parts. closed left parts.0 parts.1) (index_of more)
     else closed left left (c ∷ more)
 behind_left left [] = None
 
--- the range that a text spells behind its opening bracket
+-- the range that a text spells after its opening bracket
 abbrev pub range_in : List ℕ → Option Span
 range_in text = option_and_then (λ parts. behind_left parts.0 parts.1) (index_of text)
 

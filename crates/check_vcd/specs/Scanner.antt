@@ -12,7 +12,7 @@ at_hand scanner = slice_range scanner.chunk.items scanner.next scanner.filled
 abbrev pub left_of : {R : Type 0} → (R → Option (List ℕ)) → Scanner R → Option (List ℕ)
 left_of remaining scanner = prepend_known (at_hand scanner) (remaining scanner.reader)
 
--- the words that are left behind a front
+-- the words that are left after a front
 abbrev pub left : {R : Type 0} → (R → Option (List ℕ)) → Scanner R → Front → Option (List Word)
 left remaining scanner front = option_map (words_from scanner.next_line front) (left_of remaining scanner)
 

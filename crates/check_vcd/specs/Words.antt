@@ -38,11 +38,11 @@ word_if_any line front =
     if front.size == 0 then []
     else record { line = line; bytes = front.bytes; size = front.size } ∷ []
 
--- the line behind a byte
+-- the line after a byte
 abbrev pub line_after : ℕ → ℕ → ℕ
 line_after line byte = if byte == 10 then line + 1 else line
 
--- the words of a text that begins on this line, behind this front of its first word
+-- the words of a text that begins on this line, after this front of its first word
 unfoldable pub words_from : ℕ → Front → List ℕ → List Word
 words_from line front [] = []
 words_from line front (byte ∷ text) =
@@ -71,7 +71,7 @@ abbrev pub Answers : Option (List Word) → Option (List Word) → Word → Bool
 Answers old new word true = Both old new (λ from to. from ≡ word ∷ to)
 Answers old new word false = Both old new (λ from to. (from ≡ []) × (to ≡ []))
 
--- all words of a text are left, where it is known
+-- all words of a text are left, if it is known
 abbrev pub HasWordsOf : Option (List ℕ) → Option (List Word) → Type 0
 HasWordsOf None left = ⊤
 HasWordsOf (Some text) left = left ≡ Some (words_of text)

@@ -52,7 +52,7 @@ fn read_header<R: Read + Drop>(alloc: Global, words: &mut Words<R>) -> Result<Ve
     Err(DumpFault::Read)
 }
 
-/// A dump behind its header.
+/// A dump after its header.
 #[derive(Drop)]
 pub struct Dump<R: Read + Drop> {
     words: Words<R>,

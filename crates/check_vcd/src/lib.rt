@@ -6,7 +6,7 @@
 //! time, or a change of a value that is wanted (`specs/Body.antt`). Each answer, and each fault with its line, is that
 //! of the definitions over the words of the whole text (`specs/Dump.antt`).
 //!
-//! Nothing is allocated behind the header, save room for the longest value. Read on in `docs/CAPTURE.md`, "Your own
+//! Nothing is allocated after the header, save room for the longest value. Read on in `docs/CAPTURE.md`, "Your own
 //! design".
 #![tactic(auto)]
 

@@ -37,7 +37,7 @@ fn digits_len(text: &[u8]) -> usize
     len
 }
 
-/// The index that a text begins with, and what stands behind it.
+/// The index that a text begins with, and what stands after it.
 fn read_index(text: &[u8]) -> Option<(u64, &[u8])>
     ensures { option_map rest_view result ≡ index_of text.now }
 {
@@ -48,7 +48,7 @@ fn read_index(text: &[u8]) -> Option<(u64, &[u8])>
     }
 }
 
-/// The range that a text spells behind its first bracket: one index, or two with a colon between.
+/// The range that a text spells after its first bracket: one index, or two with a colon between.
 fn read_inside(text: &[u8]) -> Option<Span>
     ensures { result ≡ range_in text.now }
 {

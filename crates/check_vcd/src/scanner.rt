@@ -97,7 +97,7 @@ impl<R: Read + Drop> Scanner<R> {
         })
     }
 
-    /// Reads more, where nothing is at hand; answers whether there was anything.
+    /// Reads more, if nothing is at hand; answers whether there was anything.
     fn refill(&mut self) -> Result<bool, DumpFault>
         requires { at_hand self.old ≡ [] }
         ensures text { OnOk result (Keeps (R.remaining self.old.reader) (left_of R.remaining self.new)) }

@@ -9,7 +9,7 @@ pub enum Kind {
     Ignored,
     Comment,
     Time,
-    /// A value of one bit, with its identifier behind it.
+    /// A value of one bit, with its identifier after it.
     Scalar,
     /// A value of several bits, whose identifier is the next word.
     Vector,

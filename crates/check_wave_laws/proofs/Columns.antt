@@ -22,7 +22,7 @@ use Rattle.check_wave_laws.proofs.Words.{IsWord, joined, word-decimal}
 
 -- ---- the words of a row
 
--- those behind the time
+-- those after the time
 abbrev pub ask_words : Link → AskCells → List ℕ → List ℕ → List (List ℕ)
 ask_words link cells mask lanes =
     link_text link ∷ (65 ∷ []) ∷ decimal cells.opcode ∷ decimal cells.param ∷ decimal cells.size ∷ decimal cells.source
@@ -33,7 +33,7 @@ reply_words link cells lanes =
     link_text link ∷ (68 ∷ []) ∷ decimal cells.opcode ∷ [] ∷ decimal cells.size ∷ decimal cells.source ∷ [] ∷ []
     ∷ hex_text lanes ∷ decimal cells.denied ∷ decimal cells.corrupt ∷ []
 
--- texts one behind the other, and some of them together
+-- texts one after the other, and some of them together
 regrouped : (t h i n o p q x y z e : List ℕ)
     → (t ++ h ++ i) ++ (n ++ o ++ p ++ q) ++ (x ++ y ++ z) ++ e
     ≡ t ++ (h ++ (i ++ (n ++ (o ++ (p ++ (q ++ (x ++ (y ++ (z ++ e)))))))))

@@ -189,7 +189,7 @@ words-from-fit line front (byte ∷ text) fits =
 words-fit : (text : List ℕ) → WordsFit (words_of text)
 words-fit text = words-from-fit 1 nothing text (omega arith)
 
--- the words behind a header
+-- the words after a header
 opened-fit : (words : List Word) (h : Header) (vars : List Var) (rest : List Word) → WordsFit words
     → opening words h ≡ Opened vars rest → WordsFit rest
 unfolding opening

@@ -12,7 +12,7 @@ use Rattle.check_capture.specs.Column.{parts_of}
 use Rattle.check_samples.specs.Row.{digit_by, digit_of, hex_text, hexes}
 use Rattle.check_wave_laws.specs.Rows.{IsPlain}
 
--- a word without commas, each of whose bytes is behind that of a comma
+-- a word without commas, each of whose bytes is after that of a comma
 abbrev pub IsWord : List ℕ → Type 0
 IsWord [] = ⊤
 IsWord (byte ∷ word) = (44 < byte) × IsWord word

@@ -77,7 +77,7 @@ places_all words xs wanted n c all =
 
 -- ---- the slots that masters hold
 
--- this is the master that the word names, where it names one
+-- this is the master that the word names, if it names one
 abbrev pub HoldsJust : ℕ → Option ℕ → Type 0
 HoldsJust word holder = (m : ℕ) → (holder ≡ Some m) ↔ IsHeldWord word m
 

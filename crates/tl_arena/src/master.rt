@@ -60,7 +60,7 @@ impl Arena {
         None
     }
 
-    /// Claims the slot, where it is free. It looks first: an exchange takes the word's cache line from its owner.
+    /// Claims the slot, if it is free. It looks first: an exchange takes the word's cache line from its owner.
     fn claim_at(&self, master: &mut MasterSeat, slot: usize) -> Option<Claim>
         requires arena { master.old.arena ≡ self.now }
         requires slot { slot < self.now.about.slots }
@@ -118,7 +118,7 @@ impl Arena {
         }
     }
 
-    /// Collects the reply to what was posted, where it is there.
+    /// Collects the reply to what was posted, if it is there.
     pub fn collect(&self, master: &mut MasterSeat, ticket: Ticket) -> Result<Served, Ticket>
         requires arena { master.old.arena ≡ self.now }
         requires ticket { hand_at master.old ticket.slot

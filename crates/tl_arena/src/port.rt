@@ -40,7 +40,7 @@ impl Arena {
         None
     }
 
-    /// Accepts the request in a slot, where one is posted there for this port. It looks first: an exchange takes the
+    /// Accepts the request in a slot, if one is posted there for this port. It looks first: an exchange takes the
     /// word's cache line from its owner.
     pub fn accept_at(&self, port: &mut PortSeat, slot: usize) -> Option<Accepted>
         requires arena { port.old.arena ≡ self.now }

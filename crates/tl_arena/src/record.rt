@@ -107,7 +107,7 @@ impl Record {
         assemble_reply_into(&self.replies, address, reply).unwrap();
     }
 
-    /// A byte of the reply, where there is one.
+    /// A byte of the reply, if there is one.
     pub(crate) fn reply_byte(&self, address: u64, place: usize) -> Option<u8>
         ensures { (reply : Response) → SpellsAnswer self.now address reply
             → result ≡ slice_get reply.bytes place }

@@ -51,7 +51,7 @@ abbrev pub times_named : List (List Entry) → ℕ → ℕ → ℕ
 times_named [] p i = 0
 times_named (trace ∷ traces) p i = times_in p i trace + times_named traces p i
 
--- the entry at place k of a trace stands behind one of the same source and port whose index is no smaller
+-- the entry at place k of a trace stands after one of the same source and port whose index is no smaller
 pub record IsOutOfOrder (trace : List Entry) (k : ℕ) : Type 0 where
   pub early : ℕ
   pub before : early < k

@@ -6,7 +6,7 @@ ghost use Rattle.tl_audit.specs.Order.{AreBlank, HaveCells, IsAtLeast};
 
 use tl_journal::{Trace, blank_entry};
 
-/// The last index of a source at a port, where there is one.
+/// The last index of a source at a port, if there is one.
 fn last(lasts: &[Vec<Option<usize>>], port: usize, source: u16) -> Option<usize>
     requires { IsSome (cell (rows_in lasts.now) port source) }
     ensures { cell (rows_in lasts.now) port source ≡ Some result }
@@ -34,7 +34,7 @@ fn keep(lasts: &mut [Vec<Option<usize>>], port: usize, source: u16, index: usize
     row[source as usize] = Some(index);
 }
 
-/// The first entry of a trace behind one of the same source and port whose index is no smaller.
+/// The first entry of a trace after one of the same source and port whose index is no smaller.
 pub(crate) fn first_out_of_order(lasts: &mut [Vec<Option<usize>>], trace: &Trace) -> Option<usize>
     requires blank { AreBlank (rows_in lasts.old) }
     requires cells { HaveCells (rows_in lasts.old) trace.now.items }

@@ -36,7 +36,7 @@ fn is_pair(pair: &(Ask, Reply), wide: u16, entry: &Entry) -> bool
     is_ask(&pair.0, wide, &entry.ask) && is_reply(&pair.1, wide, &entry.reply)
 }
 
-/// Puts the request and the reply at a place of a port's history in the place of others, where there is such a place.
+/// Puts the request and the reply at a place of a port's history in the place of others, if there is such a place.
 fn read_pair(histories: &[&Journal], port: usize, index: usize, pair: &mut (Ask, Reply)) -> bool
     ensures found { IsTrue result → pair_at (journals_in histories.now) port index ≡ Some pair.new }
     ensures none { result ≡ false → pair_at (journals_in histories.now) port index ≡ None }

@@ -30,15 +30,15 @@ pub record SameReplyFields (first beat : DBeat) : Type 0 where
   pub source : beat.source ≡ first.source
   pub denied : beat.denied ≡ first.denied
 
--- what is said of the first beat, where there is one
+-- what is said of the first beat, if there is one
 abbrev pub OfFirst : {B : Type 0} → List B → (B → Type 0) → Type 0
 OfFirst beats P = IsSomeAnd (slice_get beats 0) P
 
--- what is said of the first beat and the operation that it names, where it names one
+-- what is said of the first beat and the operation that it names, if it names one
 abbrev pub OfFirstOp : List ABeat → (ABeat → AskOp → Type 0) → Type 0
 OfFirstOp beats P = OfFirst beats (λ first. (op : AskOp) × IsCodeOf op first.opcode first.param × P first op)
 
--- what is said of the first beat and the reply's opcode that it names, where it names one
+-- what is said of the first beat and the reply's opcode that it names, if it names one
 abbrev pub OfFirstReplyOp : List DBeat → (DBeat → ReplyOp → Type 0) → Type 0
 OfFirstReplyOp beats P = OfFirst beats (λ first. (op : ReplyOp) × (reply_opcode_of op ≡ first.opcode) × P first op)
 

@@ -85,7 +85,7 @@ fn first_changed(beats: &[ABeat], first: &ABeat, from: usize) -> Option<usize>
 }
 
 /// Tries the beats of a request one by one, and names the first fault that shows.
-// An unlawful mask comes behind a changed field of a later beat, so the beats after it are tried for that alone.
+// An unlawful mask comes after a changed field of a later beat, so the beats after it are tried for that alone.
 fn check_beats(beats: &[ABeat], first: &ABeat, op: AskOp) -> Result<(), BeatFault>
     requires { first.now.size ≤ MAX_SIZE }
     ensures ok { OnOk result (AreFaultless beats.now first.now op) }
@@ -106,7 +106,7 @@ fn check_beats(beats: &[ABeat], first: &ABeat, op: AskOp) -> Result<(), BeatFaul
     Ok(())
 }
 
-/// Gathers the bytes that stand in the beats of a request, where there are none yet.
+/// Gathers the bytes that stand in the beats of a request, if there are none yet.
 fn gather_bytes(beats: &[ABeat], first: &ABeat, op: AskOp, bytes: &mut Bytes)
     requires in_limit { first.now.size ≤ MAX_SIZE }
     requires count { length beats.now ≡ beat_count (carries_bytes op) first.now.size }

@@ -58,7 +58,7 @@ fn first_changed(beats: &[DBeat], first: &DBeat, from: usize) -> Option<usize>
 }
 
 /// Tries the beats of a reply one by one, and names the first fault that shows.
-// An unlawful flag comes behind a changed field of a later beat, so the beats after it are tried for that alone.
+// An unlawful flag comes after a changed field of a later beat, so the beats after it are tried for that alone.
 fn check_reply_beats(beats: &[DBeat], first: &DBeat, op: ReplyOp) -> Result<(), BeatFault>
     ensures ok { OnOk result (AreFaultlessReply beats.now first.now op) }
     ensures fault { IfErr result (IsFaultOfReplyBeats beats.now first.now op) }

@@ -20,11 +20,11 @@ part-append start count xs ys within =
     let room : count ≤ length (drop start xs) = simp length-drop (omega (arith, within)) in
     ap (take count) (drop-append-le start xs ys (omega (arith, within))) ∙ take-append-le count (drop start xs) ys room
 
--- what is appended is the part behind the list
+-- what is appended is the part after the list
 part_behind : {A : Type 0} (xs ys : List A) → take (length ys) (drop (length xs) (xs ++ ys)) ≡ ys
 part_behind xs ys = ap (take (length ys)) (drop-append_seam xs ys) ∙ take_all (length ys) ys (omega arith)
 
--- pools that have what they had, and more behind it
+-- pools that have what they had, and more after it
 pub record Grow (old new : PoolsView) : Type 0 where
   pub whole_more : List ℕ
   pub partial_more : List (Option ℕ)

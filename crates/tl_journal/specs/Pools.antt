@@ -1,4 +1,4 @@
--- How the bytes of messages are kept: those of one behind those of the other in pools, those of partial puts, which may
+-- How the bytes of messages are kept: those of one after those of the other in pools, those of partial puts, which may
 -- leave some unset, in one of their own. This project's own.
 use Rattle.std.specs.Prelude.{◌≡◌, ℕ, ◌+◌, ◌≤◌, ◌++◌, Bool, true, false, List, length, map, take, drop, Option, Some}
 use Rattle.tl_types.specs.Bytes.{plain_of}
@@ -38,12 +38,12 @@ pub record AreIn (pools : PoolsView) (op : AskOp) (size start : ℕ) : Type 0 wh
   pub within : start + byte_count op size ≤ pool_len pools (may_leave_unset op)
   pub lawful : IsLawfulRequest op size (bytes_in pools (may_leave_unset op) start (byte_count op size))
 
--- bytes that are all given were appended to their pool, where they begin at this place
+-- bytes that are all given were appended to their pool, if they begin at this place
 abbrev pub IsPlainKept : List ℕ → PoolsView → PoolsView → ℕ → Type 0
 IsPlainKept bytes old new start =
     (new.whole ≡ old.whole ++ bytes) × (new.partial ≡ old.partial) × (start ≡ length old.whole)
 
--- bytes were appended to their pool, where they begin at this place
+-- bytes were appended to their pool, if they begin at this place
 abbrev pub IsKept : Bool → List (Option ℕ) → PoolsView → PoolsView → ℕ → Type 0
 IsKept true bytes old new start =
     (new.whole ≡ old.whole) × (new.partial ≡ old.partial ++ bytes) × (start ≡ length old.partial)

@@ -93,7 +93,7 @@ impl Journal {
         self.headers.is_empty()
     }
 
-    /// Makes room for one more entry, where there is none.
+    /// Makes room for one more entry, if there is none.
     fn reserve_one(&mut self) -> Result<(), AllocError>
         ensures items { self.new.items ≡ self.old.items }
         ensures room { OnOk result (self.new.room ≡ max self.old.room (length self.old.items + 1)) }
@@ -123,7 +123,7 @@ impl Journal {
         Ok(())
     }
 
-    /// Appends a request and its reply, each with this source, where there is room for one more.
+    /// Appends a request and its reply, each with this source, if there is room for one more.
     pub fn push_reserved(&mut self, source: u16, ask: &Ask, reply: &Reply)
         requires { length self.old.items < self.old.room }
         ensures items { self.new.items ≡ self.old.items

@@ -2,7 +2,7 @@
 //!
 //! A message in hand has room for the longest one. What is kept of many of them must not: a [`Journal`] is a list of
 //! requests with their replies, of which each takes a header and the bytes that it has. These stand in [`Pools`], those
-//! of one message behind those of the other, which also keep the operations of a script.
+//! of one message after those of the other, which also keep the operations of a script.
 //!
 //! Each call's contract says which list it leaves; what was appended is read back as it was. Where room for so many
 //! entries was made before, appending takes no memory.

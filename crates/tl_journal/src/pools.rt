@@ -1,4 +1,4 @@
-//! The bytes of messages, those of one behind those of the other.
+//! The bytes of messages, those of one after those of the other.
 ghost use Rattle.std.specs.Prelude.{◌≡◌, ◌+◌, ◌≤◌, ◌++◌, [], length, vec_len, vec_capacity, IfOk, OnErr, OnOk};
 ghost use Rattle.tl_types.specs.Operation.{byte_count, may_leave_unset};
 ghost use Rattle.tl_journal.specs.Pools.{AreIn, HasSameBytes, IsKept, IsPlainKept, KeepsRoom, bytes_in, plain_in, pool_len, pool_room};
@@ -7,7 +7,7 @@ use std::alloc::{AllocError, Global};
 use std::marker::Model;
 use tl_types::{Ask, AskOp, Bytes};
 
-/// The bytes that messages carry, those of one behind those of the other: of partial puts, which may leave some unset,
+/// The bytes that messages carry, those of one after those of the other: of partial puts, which may leave some unset,
 /// in a pool of their own.
 #[derive(Drop)]
 pub struct Pools {

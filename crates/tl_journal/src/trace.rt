@@ -61,7 +61,7 @@ impl Trace {
         self.len() == 0
     }
 
-    /// Appends the entry of a request and its reply, each with this source, where there is room for one more.
+    /// Appends the entry of a request and its reply, each with this source, if there is room for one more.
     pub fn push_reserved(&mut self, source: u16, ask: &Ask, reply: &Reply, place: Place)
         requires { length self.old.items < self.old.room }
         ensures items { self.new.items ≡ self.old.items

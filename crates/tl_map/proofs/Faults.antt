@@ -31,7 +31,7 @@ later_within ranges j i h =
     let found = some_that _ (slice_get ranges j) h in
     place_within _ ranges i found.2
 
--- behind the last range only memory can be wanting
+-- after the last range only memory can be wanting
 pub all_tried : (ranges : List Range) (p : ℕ) → length ranges ≤ p → length ranges ≤ MAX_RANGES
     → NoneBefore ranges (EmptyRange p) → NoneBefore ranges Memory
 all_tried ranges p past few none TooMany before has = omega (arith, few, has)

@@ -67,7 +67,7 @@ new_kept m start count owned got out trace sources wide fits =
       order = λ j k d e before at_j at_k source port. absurd (no_entry j d at_j);
     }
 
--- the same as the code goes: o is how many sources the master has, and w the wide source of source 0, where there are
+-- the same as the code goes: o is how many sources the master has, and w the wide source of source 0, if there are
 module _ (counts : List ℕ) (v : MasterView) (number start count : ℕ) (o w : Option ℕ)
     (same : counts ≡ v.arena.about.counts) (numbered : number ≡ v.number) (found : o ≡ slice_get counts number)
     (count_is : count ≡ unwrap_or o 0) (start_is : start ≡ unwrap_or w 0) where

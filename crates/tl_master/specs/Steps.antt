@@ -66,7 +66,7 @@ abbrev pub Issues : List Range → MasterState → Request → Result Issued Iss
 Issues ranges m q (Ok issued) n = IssuesOne ranges m q issued n
 Issues ranges m q (Err fault) n = (n ≡ m) × IsRefused m q fault
 
--- the request, where there is one of this source
+-- the request, if there is one of this source
 abbrev pub ask_of : ℕ → Request → List Request
 ask_of source q = cond (eqb q.source source) (q ∷ []) []
 

@@ -144,7 +144,7 @@ impl Master {
         Ok(issued)
     }
 
-    /// Collects the reply to what is out for a source, where it is there: appends its entry, with the master's own
+    /// Collects the reply to what is out for a source, if it is there: appends its entry, with the master's own
     /// source, and releases its slot.
     pub fn poll(&mut self, arena: &Arena, source: u16) -> Polled
         requires arena { self.old.seat.arena ≡ arena.now }
@@ -296,7 +296,7 @@ fn post_routed(
     (ticket, Issued { slot, port })
 }
 
-/// Collects the reply to what was posted, where it is there, puts its entry, with the master's own source, at the end
+/// Collects the reply to what was posted, if it is there, puts its entry, with the master's own source, at the end
 /// of a trace that has room for it, and releases its slot. The answer is the entry's place. Request and reply are read
 /// in the place of others.
 fn collect_entry(

@@ -20,7 +20,7 @@ pub struct Answer {
     pub place: usize,
 }
 
-/// A crossbar: its address map, its sources, and its slave ports with the error port behind them.
+/// A crossbar: its address map, its sources, and its slave ports with the error port after them.
 #[derive(Drop)]
 pub struct Crossbar {
     ranges: Map,
@@ -108,7 +108,7 @@ impl Crossbar {
         let _place = self.ports[port].serve_into(ask, reply);
     }
 
-    /// The byte that the slave of an address holds there, where it has one.
+    /// The byte that the slave of an address holds there, if it has one.
     pub fn byte(&self, address: u64) -> Option<u8>
         ensures { (port : ℕ) → RoutesBytes self.now.ranges address 0 port
             → IsSomeAnd (slice_get self.now.ports port)

@@ -12,7 +12,7 @@ use tl_types::Memory;
 /// The most requests that a port counts.
 pub const MAX_SERVED: usize = usize::MAX;
 
-/// The slave ports of these devices at reset, and the error port behind them.
+/// The slave ports of these devices at reset, and the error port after them.
 pub(crate) fn ports_of(alloc: Global, devices: &[Device]) -> Result<Vec<CountedBank>, Memory>
     requires { All IsLawfulDevice devices.now }
     ensures { IfOk result (λ ports. map state_of ports.items

@@ -363,7 +363,7 @@ has_items : (xs : List (Bor (List ℕ))) (t : List ℕ) → texts xs ≡ t ∷ [
 has_items [] t e = cc
 has_items (x ∷ xs) t e = omega arith
 
--- the text of a flag, where it has one, says true or false
+-- the text of a flag, if it has one, says true or false
 flag_text : (old : Command) (m : ArgMatches) → app_of old ≡ command_line → IsParsedFrom old m → (k : ℕ) (a : Arg)
     → IsOwn old k a → a.value_parser ≡ Some values.Bool
     → (id : List ℕ) → a.id.now ≡ id → (t : List ℕ) → one_text (found_of m) id ≡ Some t

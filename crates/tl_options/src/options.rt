@@ -27,7 +27,7 @@ write failed.";
 pub struct Options {
     /// Runs all masters one after the other, on one thread.
     pub serial: bool,
-    /// Prints the histories behind the traces.
+    /// Prints the histories after the traces.
     pub history: bool,
     /// How many threads serve each port, where the masters are threads.
     pub workers: usize,

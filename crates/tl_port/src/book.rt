@@ -229,7 +229,7 @@ impl Book {
         self.seat.number()
     }
 
-    /// The byte of the port's memory at an address, where there is one.
+    /// The byte of the port's memory at an address, if there is one.
     pub fn byte(&self, address: u64) -> Option<u8>
         ensures inside { self.now.store.base ≤ address
             → result ≡ slice_get self.now.store.bytes (address - self.now.store.base) }

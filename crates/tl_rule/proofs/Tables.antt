@@ -66,7 +66,7 @@ length_set [] i a = refl
 length_set (x ∷ xs) zero a = refl
 length_set (x ∷ xs) (suc i) a = ap suc (length_set xs i a)
 
--- the view of a master stands behind the dealer's, at its number
+-- the view of a master stands after the dealer's, at its number
 pub master_view : (a : About) (ms : List Hands) (ps : List Desk) (id : ℕ) (v : Hands)
     → get_elem? (views_of a ms ps) id ≡ some (Master v)
     → (j : ℕ) × (get_elem? ms j ≡ some v) × ((w : Hands)
@@ -122,7 +122,7 @@ set_left [] m = refl
 set_left (l ∷ ls) zero = refl
 set_left (l ∷ ls) (suc m) = ap (λ (w : List ℕ). leave_word l ∷ w) (set_left ls m)
 
--- a leave word stands behind those of all slots
+-- a leave word stands after those of all slots
 pub leaf_at : (fs : List Phase) (ls : List ℕ) (m : ℕ) → get_or (map word fs ++ ls) (length fs + m) 0 ≡ get_or ls m 0
 leaf_at [] ls m = let e : zero + m ≡ m = omega arith in ap (λ (k : ℕ). get_or ls k 0) e
 leaf_at (f ∷ fs) ls m = let e : length (f ∷ fs) + m ≡ suc (length fs + m) = omega arith in

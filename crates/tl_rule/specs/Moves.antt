@@ -73,8 +73,8 @@ IsUnsent m source = (i p known : ℕ) (ask : Request) → in_hand (as_master m.0
 
 -- ---- steps
 
--- the master and the port that a slot's word names, as `tl_slots` codes them: eight bits behind those of the phase, and
--- all behind these
+-- the master and the port that a slot's word names, as `tl_slots` codes them: eight bits after those of the phase, and
+-- all after these
 abbrev pub owner_in : ℕ → ℕ
 owner_in word = word / 8 % 256
 

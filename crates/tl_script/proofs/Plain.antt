@@ -9,7 +9,7 @@ pub digits_counted : (bytes : List ℕ) → length (data_text (map (λ byte. Som
 digits_counted [] = refl
 digits_counted (byte ∷ bytes) = omega (arith, digits_counted bytes)
 
--- a space more, where there are bytes
+-- a space more, if there are bytes
 pub part_counted : (bytes : List ℕ) → 0 < length bytes
     → length (bytes_part (map (λ byte. Some byte) bytes)) ≡ 1 + 2 * length bytes
 part_counted [] some = absurd (omega arith)

@@ -35,7 +35,7 @@ abbrev pub described : ℕ → List Device → List ℕ → List Range → List 
 described slots devices counts ranges jobs =
     record { slots = slots; stores = map store_of devices; counts = counts; ranges = ranges; jobs = jobs }
 
--- the slave behind the error port: it holds nothing and denies everything
+-- the slave of the error port: it holds nothing and denies everything
 abbrev pub error_store : Store
 error_store = record { kind = NoDevice; base = 0; bytes = [] }
 

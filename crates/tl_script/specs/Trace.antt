@@ -12,7 +12,7 @@ abbrev pub denied_text : Bool → List ℕ
 denied_text true = codes " denied"
 denied_text false = []
 
--- a space and DATA, where there are bytes
+-- a space and DATA, if there are bytes
 abbrev pub bytes_part : List (Option ℕ) → List ℕ
 bytes_part [] = []
 bytes_part (byte ∷ bytes) = codes " " ++ data_text (byte ∷ bytes)

@@ -40,7 +40,7 @@ fn push_data(text: &mut Vec<u8>, bytes: &Bytes) -> Result<(), AllocError>
     Ok(())
 }
 
-/// Appends bytes that are all given, where there is room for two digits of each.
+/// Appends bytes that are all given, if there is room for two digits of each.
 fn push_given(text: &mut Vec<u8>, bytes: &[u8])
     requires { vec_len text.old + 2 * length bytes.now ≤ vec_capacity text.old }
     ensures items { text.new.items

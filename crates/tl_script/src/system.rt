@@ -137,7 +137,7 @@ fn bank_of(alloc: Global, device: &Device) -> Result<Bank, Memory>
     }
 }
 
-/// What the slaves of these devices hold at reset, and the error port's behind them. Only memory can be refused, since
+/// What the slaves of these devices hold at reset, and the error port's after them. Only memory can be refused, since
 /// each device makes a lawful bank.
 pub fn banks_of(alloc: Global, devices: &[Device]) -> Result<Vec<Bank>, Memory>
     requires { All IsLawfulDevice devices.now }

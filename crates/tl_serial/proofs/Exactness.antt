@@ -58,14 +58,14 @@ seam [] y ys = refl
 seam (x ∷ xs) y ys = seam xs y ys
 
 module _ (s : System) (lawful : IsLawfulMap s.ranges) where
-  -- the entry behind these is served after them
+  -- the entry after these is served after them
   served_next : (before : List (ℕ × Entry)) (e : ℕ × Entry) (behind : List (ℕ × Entry))
       → AreServedInTurn s (before ++ e ∷ behind) → IsServedAfter s before e.1
   served_next before e behind served =
       let here = served (length before) e (seam before e behind) in
       rw (take_at before (e ∷ behind) (length before) refl) at here
 
-  -- behind the same entries, the same requests make the same entries
+  -- after the same entries, the same requests make the same entries
   one_rest : (before one other : List (ℕ × Entry)) → asked_in one ≡ asked_in other → AreServedInTurn s (before ++ one)
       → AreServedInTurn s (before ++ other) → one ≡ other
   one_rest before [] [] asked first second = refl

@@ -53,7 +53,7 @@ pub record Stand (s : System) (keeps : Bool) (log : List (ℕ × Entry)) (slaves
   pub wide : HaveWide s.counts log
   pub each : (port : ℕ) (slave : Slave) → slice_get slaves port ≡ Some slave → HasServed s keeps log port slave
 
--- a master's operations took the slaves from the ones to the others, and the lines of its entries were put behind the
+-- a master's operations took the slaves from the ones to the others, and the lines of its entries were put after the
 -- text
 pub record IsAppended (s : System) (master : ℕ) (jobs : List Job) (old new : List Slave)
     (before text : List ℕ) : Type 0 where

@@ -17,7 +17,7 @@ histories_from port (history ∷ histories) = history_text port history ++ histo
 abbrev pub histories_text : List (List (Request × Response)) → List ℕ
 histories_text histories = histories_from 0 histories
 
--- the text of a run: the traces and, where they are asked for, the histories
+-- the text of a run: the traces and, if they are asked for, the histories
 abbrev pub run_text : Bool → List (List Entry) → List (List (Request × Response)) → List ℕ
 run_text history traces histories = trace_text traces ++ (if history then histories_text histories else [])
 

@@ -31,7 +31,7 @@ pub(crate) struct Slave {
 }
 
 impl Slave {
-    /// Serves a request, and puts it into the history with its wide source, where that is kept. The answer is how many
+    /// Serves a request, and puts it into the history with its wide source, if that is kept. The answer is how many
     /// were served before it; the reply stands in the place of another.
     fn serve(&mut self, ask: &Ask, wide: u16, answer: &mut Reply) -> Result<usize, Memory>
         ensures bank { OnOk result (bank_of self.new ≡ after (bank_of self.old) ask.now) }
@@ -114,7 +114,7 @@ fn slave_of(alloc: Global, bank: Bank, keeps: bool) -> Slave
     }
 }
 
-/// The slave ports of these devices at reset, and the error port behind them. They keep histories or not.
+/// The slave ports of these devices at reset, and the error port after them. They keep histories or not.
 pub(crate) fn slaves_of(
     alloc: Global,
     devices: &[Device],

@@ -71,7 +71,7 @@ fn push_histories(text: &mut Vec<u8>, histories: &[Journal]) -> Result<(), Alloc
     Ok(())
 }
 
-/// The text of the run of a system by one thread: its traces and, where they are asked for, its histories.
+/// The text of the run of a system by one thread: its traces and, if they are asked for, its histories.
 pub fn write_serial(alloc: Global, system: &System, history: bool) -> Result<Vec<u8>, Memory>
     ensures { IfOk result (λ text. IsSerialText history system.now text.items) }
 {

@@ -1,6 +1,6 @@
 //! A reader that can be read, and a writer that can be interrupted, a bounded number of times.
 //!
-//! What reads a script or writes a text is handed nothing else. The streams behind are private to this file, each call
+//! What reads a script or writes a text is handed nothing else. The streams themselves are private to this file, each call
 //! needs one of the turns that are left and spends it, and nothing gives one back: so a bound on the turns is a bound
 //! on the calls, whatever a loop does with them.
 ghost use Rattle.std.specs.Prelude.{◌≡◌, ◌≢◌, ◌+◌, ◌<◌, ◌↔◌, IsTrue, IfErr, OnOk};

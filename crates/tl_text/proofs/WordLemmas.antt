@@ -38,7 +38,7 @@ pub part_more : (front : List ℕ) (b : ℕ) (rest : List ℕ) → is_blank b �
     → before_first front (slice_split is_blank (b ∷ rest)) ≡ before_first (front ++ b ∷ []) (slice_split is_blank rest)
 part_more front b rest inside = rw inside (before-onto front b (slice_split is_blank rest))
 
--- the first part is a word, where it has bytes
+-- the first part is a word, if it has bytes
 some_first : (part : List ℕ) (parts : List (List ℕ)) → 0 < length part
     → filter has_bytes (part ∷ parts) ≡ part ∷ filter has_bytes parts
 some_first part parts some =

@@ -41,7 +41,7 @@ fn word_len(line: &[u8]) -> usize
     len
 }
 
-/// The first word of a line and what stands behind it, where there is a word.
+/// The first word of a line and what stands after it, if there is a word.
 fn split_word(line: &[u8]) -> Option<(&[u8], &[u8])>
     ensures some { IfSome result (λ parts. words_of line.now ≡ parts.0.now ∷ words_of parts.1.now) }
     ensures none { IfNone result (words_of line.now ≡ []) }

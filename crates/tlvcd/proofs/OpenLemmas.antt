@@ -147,7 +147,7 @@ pub fails-by : {T : Type 0} (result : Result T WaveFault) (fault : WaveFault) (P
 fails-by (Ok x) fault P is holds = absurd is
 fails-by (Err e) fault P is holds = subst P (sym is) holds
 
--- the item of a list at a place, and those behind it
+-- the item of a list at a place, and those after it
 pub rest-of : {A : Type 0} (xs : List A) (i : ℕ) (x : A) → i < length xs → x ≡ get_or xs i x
     → drop i xs ≡ x ∷ drop (i + 1) xs
 rest-of xs i x lt is =

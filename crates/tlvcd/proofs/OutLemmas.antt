@@ -15,7 +15,7 @@ use Rattle.tlvcd.specs.Out.{AppendsFront, Finishes, IsEnded, IsOut, IsPushed, Mo
 use Rattle.tlvcd.specs.declared.fault.WaveFault.{WaveFault}
 use Rattle.tlvcd.specs.declared.fault.WaveFault.TheVariants as wave
 
--- rows behind a text
+-- rows after a text
 abbrev pub behind : List ℕ → Left → Left
 behind text left = record { text = text ++ left.text; end = left.end; rises = left.rises }
 

@@ -18,7 +18,7 @@ pub record AppendsFront (old new : Option (List ℕ)) (bytes : List ℕ) : Type 
 abbrev pub capture_of : Left → Left
 capture_of left = record { text = HEADER.now ++ left.text; end = left.end; rises = left.rises }
 
--- what is written of rows that were to come, where this is answered: all of them, and they end so; or a front of them.
+-- what is written of rows that were to come, if this is answered: all of them, and they end so; or a front of them.
 -- Where they end with the dump, its clock rises at some time, or else it is answered that it never does
 abbrev pub IsOut : Result Unit WaveFault → Left → Option (List ℕ) → Option (List ℕ) → Type 0
 IsOut (Ok done) left old new = Appends old new left.text × (left.end ≡ Whole) × (left.rises ≡ true)
@@ -45,7 +45,7 @@ pub record MovesOn (old new : Option (List ℕ)) (text left : List ℕ) : Type 0
   pub more : List ℕ
   pub moves : Moves old new text (left ++ more)
 
--- the rows behind a text were written, but for what is left of that, where this is answered
+-- the rows after a text were written, but for what is left of that, if this is answered
 abbrev pub IsPushed : Result Unit WaveFault → Left → List ℕ → List ℕ → Option (List ℕ) → Option (List ℕ) → Type 0
 IsPushed (Ok done) left text rest old new =
     Moves old new (text ++ left.text) rest × (left.end ≡ Whole) × (left.rises ≡ true)
@@ -75,7 +75,7 @@ IsEnded (Err wave.Read) risen = ⊥
 IsEnded (Err wave.Write) risen = ⊥
 IsEnded (Err wave.Memory) risen = ⊥
 
--- the rows behind a text, after some were taken: those are written but for this text, and these are left
+-- the rows after a text, after some were taken: those are written but for this text, and these are left
 pub record Pushing (text now : List ℕ) (old new : Option (List ℕ)) (from to : Left) : Type 0 where
   pub front : List ℕ
   pub is : text ++ from.text ≡ front ++ (now ++ to.text)

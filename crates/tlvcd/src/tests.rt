@@ -40,7 +40,7 @@ enum Trouble {
     Never,
     /// The call of this number fails.
     At(u32),
-    /// The first call is interrupted, and every second one behind it.
+    /// The first call is interrupted, and every second one after it.
     BeforeEach,
     Always(ErrorKind),
 }
@@ -214,7 +214,7 @@ fn a_failed_read_is_read(rt: HostRuntime) {
         let trouble = (Trouble::Never, Trouble::At(at));
         expect_fault(&rt, rt.alloc(), texts, trouble, fault, 0);
     }
-    // behind the header its line is written; at the end all rows are there
+    // after the header its line is written; at the end all rows are there
     let places = [(HEAD.len(), FIRST_ROW), (DUMP.len(), CAPTURE.len())];
     for (at, count) in places {
         let trouble = (Trouble::Never, Trouble::At(at as u32));

@@ -1,4 +1,4 @@
--- The row behind those that are left crosses later.
+-- The row after those that are left crosses later.
 use Rattle.std.proofs.Common.{◌≤◌, ◌<◌, length, get_or}
 use Rattle.check_capture.specs.Moment.{place_of}
 use Rattle.check_capture.specs.declared.row.Row.{Row}

@@ -1,4 +1,4 @@
--- What holds behind ends of lines holds before them.
+-- What holds after ends of lines holds before them.
 use Rattle.check_records.specs.Source.{left}
 use Rattle.check_records.proofs.SourceLemmas.{ends-behind-lines, stops-behind-lines}
 use Rattle.check_records.proofs.records.read_next.Goals as goal

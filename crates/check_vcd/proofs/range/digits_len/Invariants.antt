@@ -1,4 +1,4 @@
--- The digits so far, and those behind them, are the digits at the front.
+-- The digits so far, and those after them, are the digits at the front.
 use Rattle.std.proofs.Common.{◌≡◌, ◌≤◌, ◌+◌, ◌-◌, drop, length}
 use Rattle.std.specs.Char.{is_ascii_digit}
 use Rattle.std.specs.List.{prefix_len}

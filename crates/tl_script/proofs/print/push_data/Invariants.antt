@@ -1,4 +1,4 @@
--- The bytes so far, behind what there was.
+-- The bytes so far, after what there was.
 use Rattle.std.proofs.Common.{◌≡◌, ◌++◌, flat_map, take}
 use Rattle.tl_script.specs.Data.{byte_text}
 use Rattle.tl_text.specs.Text.{BeginsWith}

@@ -1,4 +1,4 @@
--- The lines so far, behind what there was.
+-- The lines so far, after what there was.
 use Rattle.std.proofs.Common.{◌≡◌, ◌++◌, take}
 use Rattle.tl_script.specs.Trace.{lines_of}
 use Rattle.tl_text.specs.Text.{BeginsWith}

@@ -1,4 +1,4 @@
--- A digit more stands before the ones behind it.
+-- A digit more stands before the ones after it.
 use Rattle.std.proofs.Common.{rules, ◌≡◌, ◌∙◌, suc, ◌+◌, ◌-◌, ◌≤◌, ◌∷◌, drop, false, length, length-drop, length-set, set, take_all, sym, arith}
 use Rattle.std.specs.Fmt.{digits}
 use Rattle.std.proofs.lemmas.List.{drop-set}

@@ -1,4 +1,4 @@
--- The rows are those of what happens behind the header.
+-- The rows are those of what happens after the header.
 use Rattle.std.proofs.Common.{map, option_map, ◌∙◌}
 use Rattle.std.specs.Option.{IfSome}
 use Rattle.check_vcd.specs.Header.{var_view}

@@ -1,4 +1,4 @@
--- The words that are left behind the word at hand are those that were.
+-- The words that are left after the word at hand are those that were.
 use Rattle.check_vcd.specs.Words.{IsFront, nothing}
 use Rattle.check_vcd.specs.Scanner.{front, left}
 use Rattle.check_vcd.proofs.LeftLemmas.{AreSame}

@@ -1,4 +1,4 @@
--- The entries before are read from the larger pools as they were, the new one stands behind them, and what is left of
+-- The entries before are read from the larger pools as they were, the new one stands after them, and what is left of
 -- the room is for the others.
 use Rattle.std.proofs.Common.{◌≡◌, ◌∙◌, ◌++◌, ◌∷◌, [], ◌-◌, ◌<◌, suc, length, ap, map, arith}
 use Rattle.std.proofs.lemmas.List.{length-map}

@@ -1,4 +1,4 @@
--- The new entry stands behind the others.
+-- The new entry stands after the others.
 use Rattle.std.proofs.Common.{◌∙◌, ◌<◌, ◌++◌, ◌∷◌, [], ap, arith, length}
 use Rattle.tl_journal.specs.Trace.{entry_of}
 use Rattle.tl_journal.proofs.Placed.{entries_of-push, length-entries_of}

@@ -1,4 +1,4 @@
--- The operations before are read from the larger pools as they were, and the new one stands behind them.
+-- The operations before are read from the larger pools as they were, and the new one stands after them.
 use Rattle.std.proofs.Common.{◌≡◌, ◌∙◌, ◌++◌, ◌∷◌, [], List, refl, ap, map, Result, Ok, Err}
 use Rattle.std.specs.Prelude.{OnErr}
 use Rattle.tl_script.specs.Operation.{job_of}
