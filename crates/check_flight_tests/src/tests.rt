@@ -1,4 +1,3 @@
-mod crossed;
-mod refused;
-mod scene;
-mod served;
+mod beats;
+mod flight;
+mod memory;

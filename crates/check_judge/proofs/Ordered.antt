@@ -64,7 +64,7 @@ onto time low (row ∷ more) before cross now below order =
     subst AreInOrder (sym (reversed_onto row more before))
     (onto time (place_of row + 1) more (row ∷ before) cross.1 now.1 next first)
 
--- the rows of one time behind those of earlier times
+-- the rows of one time after those of earlier times
 pub in_order_onto : (time : ℕ) (rows before : List Row) → Cross 0 rows → All (λ row. row.time ≡ time) rows
     → AllByRecursion (λ row. row.time < time) before
     → AreInOrder before → AreInOrder (reverse rows ++ before)

@@ -46,7 +46,7 @@ latest_by x y a b oa ob (inr in_b) (inl is) = is
 latest_by x y a b oa ob (inr in_b) (inr in_a) =
     absurd (not_both x y (at (λ e. CrossesBefore e y) b x ob.0 in_b) (at (λ e. CrossesBefore e x) a y oa.0 in_a))
 
--- what stands behind the same latest row
+-- what stands after the same latest row
 rest_by : (x y z : Row) (a b : List Row) → AreInOrder (x ∷ a) → x ≡ y → Has a z → (y ≡ z) ⊎ Has b z → Has b z
 rest_by x y z a b oa same has (inl is) =
     let P : Row → Type 0 = λ r. CrossesBefore r x in

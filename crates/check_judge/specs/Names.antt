@@ -4,7 +4,7 @@ use Rattle.std.specs.declared.alloc.Global.{Global}
 use Rattle.check_link.specs.declared.beat.Link.{Link}
 use Rattle.check_link.specs.declared.beat.Link.TheVariants.{Master, Port}
 
--- the names of the masters and of the ports, where they have one, by their numbers
+-- the names of the masters and of the ports, if they have one, by their numbers
 pub record NamesView : Type 0 where
   pub masters : List (Option (List ℕ))
   pub ports : List (Option (List ℕ))

@@ -18,7 +18,7 @@ use Rattle.check_capture.specs.declared.row.Row.{Row}
 abbrev pub CrossesBefore : Row → Row → Type 0
 CrossesBefore one other = (one.time < other.time) ⊎ ((one.time ≡ other.time) × (place_of one < place_of other))
 
--- each row crosses after all those behind it in the list
+-- each row crosses after all those that follow it in the list
 abbrev pub AreInOrder : List Row → Type 0
 AreInOrder [] = Unit {0}
 AreInOrder (row ∷ before) = AllByRecursion (λ earlier. CrossesBefore earlier row) before × AreInOrder before

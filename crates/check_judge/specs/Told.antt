@@ -42,7 +42,7 @@ HasOwner owners (Port p) source = (master : ℕ) × (own : ℕ) × IsWide owners
 abbrev pub IsCountedOfOwner : Links → List Owner → Link → ℕ → Type 0
 IsCountedOfOwner links owners link source = is_counted links link ≡ true → HasOwner owners link source
 
--- what is told of a beat that ends this, where it is counted: the line of a whole reply, and nothing of all else
+-- what is told of a beat that ends this, if it is counted: the line of a whole reply, and nothing of all else
 abbrev pub IsToldOf : Bool → List Owner → Link → ℕ → Seen → List ℕ → Type 0
 IsToldOf true owners link source (WholeReply entry) text = IsLine owners link source entry text
 IsToldOf true owners link source WholeAsk text = text ≡ []

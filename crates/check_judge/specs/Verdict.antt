@@ -43,7 +43,7 @@ pub record HasLeft (asked : Bool) (plan : Plan) (file : List Row) (left : Option
   pub crossing : IsCrossing file crossed
   pub is : IsWhatIsLeft asked plan (watched plan.layout crossed) left
 
--- the rows before are lawful, and this one is not, behind them: it has this first fault
+-- the rows before are lawful, and this one is not, after them: it has this first fault
 pub record IsUnlawfulAfter (plan : Plan) (before : List Row) (found : Unlawful) : Type 0 where
   pub watched : IsTrue (is_watched plan.layout found.row.sighting.link)
   pub lawful : IsLawful plan (seen plan.layout before)
@@ -88,7 +88,7 @@ abbrev pub OfUnlawful : (Unlawful → Type 0) → Refusal → Type 0
 OfUnlawful P (refusal.Unlawful found) = P found
 OfUnlawful P refusal.Memory = Unit {0}
 
--- the first unlawful row of rows that cross in this order, behind those before
+-- the first unlawful row of rows that cross in this order, after those before
 pub record StopsAt (plan : Plan) (rows before : List Row) (found : Unlawful) : Type 0 where
   pub done : List Row
   pub left : List Row
@@ -101,7 +101,7 @@ pub record StopsTelling (trace : Bool) (plan : Plan) (rows before : List Row) (o
   pub stops : StopsAt plan rows before found
   pub told : AppendsTold trace plan (seen plan.layout before) (seen plan.layout (reverse stops.done ++ before)) old new
 
--- why a row is not taken behind those of the file: it may not stand there, or it is of a later time, and they are not
+-- why a row is not taken after those of the file: it may not stand there, or it is of a later time, and they are not
 -- lawful, or memory was refused
 abbrev pub IsStop : Plan → List Row → Row → Stop → Type 0
 IsStop plan file row (stop.Row fault) = HasRowFault file row fault

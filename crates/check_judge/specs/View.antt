@@ -56,7 +56,7 @@ pub record HasTold (plan : Plan) (file : List Row) (judge : Judge) (text : List 
   pub judges : Judges plan file judge
   pub told : IsTold (is_traced judge) plan (seen plan.layout judges.before) text
 
--- a text grew by what is told behind what was told so far, and so the judge of a file has told this
+-- a text grew by what is told after what was told so far, and so the judge of a file has told this
 pub record TellsOn (plan : Plan) (file : List Row) (judge : Judge) (so_far old new : List ℕ) : Type 0 where
   pub more : List ℕ
   pub grown : new ≡ old ++ more

@@ -6,7 +6,7 @@ use check_link::Link;
 use std::alloc::Global;
 use std::marker::Model;
 
-/// The names of a system's masters and ports, where they have one, by their numbers.
+/// The names of a system's masters and ports, if they have one, by their numbers.
 #[derive(Debug, Drop)]
 pub struct Names {
     masters: Vec<Option<String>>,

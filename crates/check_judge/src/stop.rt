@@ -39,7 +39,7 @@ pub enum Refusal {
 /// Why a row is not taken.
 #[derive(Debug, Drop)]
 pub enum Stop {
-    /// It may not stand behind the rows before it.
+    /// It may not stand after the rows before it.
     Row(RowFault),
     /// It is of a later time, and the rows before it are not lawful.
     Beat(Unlawful),

@@ -101,7 +101,7 @@ impl Tally {
         }
     }
 
-    /// Takes the beat of a row behind those before it, if it is lawful, and tells nothing: whether it is. Most beats of
+    /// Takes the beat of a row after those before it, if it is lawful, and tells nothing: whether it is. Most beats of
     /// a file are, and if nothing is told of them nobody asks for their replies.
     fn take_row(&mut self, row: &Row) -> Result<bool, AllocError>
         requires known { HasLink self.old.watch.layout row.now.sighting.link }
@@ -122,7 +122,7 @@ impl Tally {
         }
     }
 
-    /// Judges the beat of a row, whose link is watched, behind those before it, and appends what is told of it.
+    /// Judges the beat of a row, whose link is watched, after those before it, and appends what is told of it.
     fn tell_row(&mut self, row: &Row, text: &mut Vec<u8>) -> Result<(), Refusal>
         requires known { HasLink self.old.watch.layout row.now.sighting.link }
         requires watched { IsWatched self.old.watch.layout.links row.now.sighting.link }
@@ -154,7 +154,7 @@ impl Tally {
         }
     }
 
-    /// Judges the beat of a row, whose link is watched, behind those before it, and appends what is told of it. Most rows
+    /// Judges the beat of a row, whose link is watched, after those before it, and appends what is told of it. Most rows
     /// are lawful, and are judged without room for a fault if nothing is told of them.
     fn step_row(&mut self, row: &Row, text: &mut Vec<u8>) -> Result<(), Refusal>
         requires known { HasLink self.old.watch.layout row.now.sighting.link }
@@ -224,7 +224,7 @@ impl Tally {
         }
     }
 
-    /// Judges the beat of a row behind those before it, if its link is watched, and appends what is told of it.
+    /// Judges the beat of a row after those before it, if its link is watched, and appends what is told of it.
     fn judge_row(&mut self, row: &Row, text: &mut Vec<u8>) -> Result<(), Refusal>
         ensures trace { self.new.trace ≡ self.old.trace }
         ensures asked { is_some self.new.pending ≡ is_some self.old.pending }
@@ -251,7 +251,7 @@ impl Tally {
         Ok(())
     }
 
-    /// Takes the beat of a row behind those before it, if it is lawful or its link is not watched, notes what it does to
+    /// Takes the beat of a row after those before it, if it is lawful or its link is not watched, notes what it does to
     /// the requests in flight, and tells nothing: whether it did.
     fn pass_row(&mut self, row: &Row) -> Result<bool, AllocError>
         ensures trace { self.new.trace ≡ self.old.trace }
@@ -273,7 +273,7 @@ impl Tally {
         Ok(true)
     }
 
-    /// Takes the beats of rows that cross in this order behind those before them, if nothing is told of them, they are
+    /// Takes the beats of rows that cross in this order after those before them, if nothing is told of them, they are
     /// lawful, and there is but one: whether it did. Nothing changes if it did not. It costs less than
     /// [`Tally::judge_rows`], which has room for a fault.
     pub fn pass_rows(&mut self, rows: &[Row]) -> Result<bool, AllocError>
@@ -294,7 +294,7 @@ impl Tally {
         }
     }
 
-    /// Judges the beats of rows that cross in this order behind those before them, up to the first that is not lawful,
+    /// Judges the beats of rows that cross in this order after those before them, up to the first that is not lawful,
     /// and appends what is told of them.
     pub fn judge_rows(&mut self, rows: &[Row], text: &mut Vec<u8>) -> Result<(), Refusal>
         ensures trace { self.new.trace ≡ self.old.trace }

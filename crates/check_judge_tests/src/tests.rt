@@ -1,3 +1,6 @@
+mod capture;
 mod judge;
 mod options;
+mod program;
+mod rule;
 mod verdict;

@@ -180,7 +180,7 @@ pub record Says (asked trace : Bool) (plan : Plan) (sizes : Sizes) (old new : Op
   pub fault : IfErr answer (IsFault plan sizes from)
   pub written : IsWritten asked trace plan sizes from old new answer
 
--- an answer behind the header and some rows
+-- an answer after the header and some rows
 says_behind : (asked trace : Bool) (plan : Plan) (sizes : Sizes) (old new : Option (List ℕ))
     (answer : Result Verdict CaptureFault) (from : Place)
     → IsWrittenOf asked trace plan sizes from old new answer → Says asked trace plan sizes old new answer from

@@ -251,7 +251,7 @@ module _ (sizes : Sizes) (first : Judge) (old : Option (List ℕ)) where
             (earlier plan rows next is.told (more.2.traced ∙ took.traced) is.holds).part;
       }) so_far one)
 
-  -- the rows so far, with whatever stands behind them
+  -- the rows so far, with whatever stands after them
   rest : (now : Judge) (mid : Option (List ℕ)) (text : List ℕ) (a b : Left) (S : Place → Type 0)
       → Between a b (TookRows sizes first now old mid text)
       → ((x y : Place) → TookRows sizes first now old mid text x y → S x)

@@ -65,7 +65,7 @@ IsFault plan sizes from fault.Read = ⊤
 IsFault plan sizes from fault.Memory = ⊤
 IsFault plan sizes from fault.Write = ⊤
 
--- what is written before an answer that is given behind the header and some rows
+-- what is written before an answer that is given after the header and some rows
 pub record IsWrittenOf (asked trace : Bool) (plan : Plan) (sizes : Sizes) (from : Place) (old new : Option (List ℕ))
     (answer : Result Verdict CaptureFault) : Type 0 where
   pub rows : List Row

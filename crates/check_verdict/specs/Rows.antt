@@ -55,13 +55,13 @@ pub record HasRows (sizes : Sizes) (rows : List Row) (from to : Place) : Type 0 
   pub reads : Reads from records to
   pub spell : SpellAll sizes records rows
 
--- why the next record is no row behind these
+-- why the next record is no row after these
 abbrev pub IsNoRow : Sizes → List Row → Record → RowFault → Type 0
 IsNoRow sizes rows r fault =
     (row_of sizes.masters sizes.ports r.line r.fields ≡ Err fault)
     ⊎ ((row : Row) × Spells sizes r row × HasRowFault rows row fault)
 
--- the record on this line, the next one behind these rows, is no row there
+-- the record on this line, the next one after these rows, is no row there
 pub record HasNoRow (sizes : Sizes) (rows : List Row) (line : ℕ) (fault : RowFault) (from to : Place) : Type 0 where
   pub next : Record
   pub gives : Gives from next to
@@ -73,9 +73,9 @@ abbrev pub IsTimeOver : Sizes → List Row → Place → Type 0
 IsTimeOver sizes rows at =
     ((end : Place) × Ends at end) ⊎ ((row : Row) × (to : Place) × GivesRow sizes row at to × IsLater rows row)
 
--- ---- what becomes of rows, and of the text behind them
+-- ---- what becomes of rows, and of the text after them
 
--- what is said of the rows that were taken, and of the place behind them, where this is answered
+-- what is said of the rows that were taken, and of the place after them, if this is answered
 abbrev pub IsAnswer : Bool → Plan → Sizes → Result Verdict CaptureFault → List Row → Place → Type 0
 IsAnswer asked plan sizes (Ok (Lawful counts)) rows at =
     ((end : Place) × Ends at end) × IsLawfulFile plan rows × HasCounts plan rows counts × HasLeft asked plan rows None
@@ -95,7 +95,7 @@ IsToldBy trace plan (Lawful counts) rows text = IsToldFile trace plan rows text
 IsToldBy trace plan (Incomplete left) rows text = IsToldFile trace plan rows text
 IsToldBy trace plan (NotLawful found) rows text = IsToldBefore trace plan rows text found
 
--- what is written of the rows that were taken, where this is answered: all that is told with a verdict; before a fault
+-- what is written of the rows that were taken, if this is answered: all that is told with a verdict; before a fault
 -- of the text, or a read that failed, all that is told of those of an earlier time than the last; where memory was
 -- refused a front of what is told of those that cross first; where a write failed such a front, and not all of it
 abbrev pub IsOut : Bool → Plan → Result Verdict CaptureFault → List Row → Option (List ℕ) → Option (List ℕ) → Type 0
@@ -157,7 +157,7 @@ IsNext sizes old new from to r (next.Left row) = Between from to (λ a b. Gives 
 IsNext sizes old new from to r next.End = Between from to Ends × (new ≡ old)
 IsNext sizes old new from to r (next.Fault why) = (text : List ℕ) → StopsAt sizes old text text from to (halt.Fault why)
 
--- the reader goes on behind a row that is no fault, and a row that is left is of a link that a system can have
+-- the reader goes on after a row that is no fault, and a row that is left is of a link that a system can have
 abbrev pub GoesOn : Reading → Next → Type 0
 GoesOn records next.Taken = records.fault ≡ None
 GoesOn records (next.Left row) = (records.fault ≡ None) × IsLink row.sighting.link

@@ -128,7 +128,7 @@ fn rows_of_edges(rt: HostRuntime) {
     let alloc = rt.alloc();
     let before = b"0! 1\" b101 # 1$ 1' 1& #5 1!\n";
     expect_rows(&rt, alloc, before, ROW_AT_5);
-    // the values change at the edge's time, before and behind the clock in the dump
+    // the values change at the edge's time, before and after the clock in the dump
     expect_rows(
         &rt,
         alloc,
@@ -278,7 +278,7 @@ const RISES: &[u8] = b"0! #5 1!\n";
 fn a_read_that_fails_is_the_fault(rt: HostRuntime) {
     let alloc = rt.alloc();
     let text = joined(&rt, alloc, HEAD, RISES);
-    // byte by byte, each behind an interruption, and then the end
+    // byte by byte, each after an interruption, and then the end
     for fails_at in 0..2 * (HEAD.len() + RISES.len() + 1) as u32 {
         let mut reader = reader_of(&text, 1);
         reader.fails_at = fails_at;

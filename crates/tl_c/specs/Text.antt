@@ -1,7 +1,7 @@
 -- What a text call writes. This project's own.
 use Rattle.std.specs.Prelude.{◌≡◌, ◌≢◌, ◌-◌, ◌<◌, ℕ, List, [], length, min, take, Some, slice_get}
 
--- so many bytes were written, and a zero byte behind them, if there is room for that: of no room there is nothing
+-- so many bytes were written, and a zero byte after them, if there is room for that: of no room there is nothing
 pub record IsWritten (old new : List ℕ) (count : ℕ) : Type 0 where
   pub same : length new ≡ length old
   pub none : old ≡ [] → count ≡ 0

@@ -103,7 +103,7 @@ pub extern "C" fn tlx_model_serve_at(
     number
 }
 
-/// The byte that the slave of an address holds there, where it has one.
+/// The byte that the slave of an address holds there, if it has one.
 fn byte_of(model: &Server, address: u64) -> Option<u8>
     ensures { (port : ℕ) → RoutesBytes model.now.ranges address 0 port
         → IsSomeAnd (slice_get model.now.ports port) (λ state. result ≡ byte_in state.store address) }

@@ -3,7 +3,7 @@ ghost use Rattle.tl_c.specs.Text.{IsTextOf, IsWritten};
 
 use crate::fault::words;
 
-/// Writes as much of a text as fits, and a zero byte behind it: how many bytes of the text were written.
+/// Writes as much of a text as fits, and a zero byte after it: how many bytes of the text were written.
 pub(crate) fn put_text(room: &mut [u8], text: &[u8]) -> usize
     ensures text { IsTextOf text.now room.old room.new result }
     ensures written { IsWritten room.old room.new result }

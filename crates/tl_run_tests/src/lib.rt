@@ -1,10 +1,13 @@
-//! Tests of what stands about a run: nothing else is here.
+//! Tests of runs: nothing else is here.
 //!
-//! The command line that asks for it (`tl_options`), the text of a serial run (`tl_serial`), the model that serves call
-//! by call (`tl_model`) and the audit of traces against histories (`tl_audit`), against values and texts worked out by
-//! hand, with the line of each fault.
+//! The command line that asks for a run (`tl_options`), the text of a serial run (`tl_serial`), the model that serves
+//! call by call (`tl_model`), the audit of traces against histories (`tl_audit`) and whole runs of the program
+//! (`tl_program`), against values and texts worked out by hand, with the line of each fault.
 //!
-//! They stand in a crate of their own, since a crate with tests is proved twice.
+//! No clause can say that two threads run at once, that a run ends, or that all slots are free after it. `threads` runs
+//! whole systems by `tl_threads`, at gates that count who comes, with one thread a port and with four.
+//!
+//! They stand in one crate, since each check of tests reads all that stands below them.
 #![tactic(auto)]
 
 #[cfg(test)]

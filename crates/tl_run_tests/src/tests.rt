@@ -1,4 +1,6 @@
 mod audit;
 mod model;
 mod options;
+mod program;
 mod serial;
+mod threads;

@@ -4,20 +4,23 @@
 //! [`read_up_to`] gives the bytes of any file.
 //! [`write_all`] writes a text whole, or a front of it and says so. All are handed a [`LimitedReader`] or a
 //! [`LimitedWriter`] alone, which let a stream be called a bounded number of times ([`READS`] reads, [`RETRIES`] writes
-//! that are tried again since they were interrupted): so whatever a stream does, they end.
+//! that are tried again since they were interrupted): so whatever a stream does, they end. [`NamedFile`] is a file that is
+//! opened when it is read.
 //!
 //! [`fail`], [`no_memory`], [`unread`] and [`refused`] end a program that has a fault, with its line and its status.
 //!
-//! Both programs, `tlx` and `tlcheck`, read, write and end through this. Read on in `docs/PROVED.md`.
+//! The programs `tlx`, `tlcheck` and `tlvcd` read, write and end through this. Read on in `docs/PROVED.md`.
 #![tactic(auto)]
 
 mod ends;
+mod file;
 mod input;
 pub mod laws;
 mod limited;
 mod streams;
 
 pub use ends::{fail, line_status, no_memory, refused, unread};
+pub use file::NamedFile;
 pub use input::{InputFault, read_whole_system};
 pub use limited::{LimitedReader, LimitedWriter, READS, RETRIES};
 pub use streams::{ReadFault, WriteFault, read_up_to, write_all};

@@ -9,7 +9,7 @@ pub one_some : {X : Type 0} (o : Option X) (x y : X) → o ≡ Some x → o ≡ 
 one_some o x y p q = cc
 
 module _ {X : Type 0} (P : ℕ → X → Type 0) where
-  -- the first, and those behind it
+  -- the first, and those after it
   pub row_head : (from : ℕ) (x : X) (xs ys : List X) → ys ≡ x ∷ xs → AreFrom P from ys → P from x
   row_head from x xs ys front all = let e : from + 0 ≡ from = omega arith in
       subst (λ (n : ℕ). P n x) e (all 0 x (subst (λ (l : List X). slice_get l 0 ≡ Some x) (sym front) refl))
@@ -36,7 +36,7 @@ pub row_empty : {X : Type 0} (P : ℕ → X → Type 0) (from : ℕ) (xs : List 
 row_empty P from [] none = row_none P from
 row_empty P from (x ∷ xs) none = absurd (omega arith)
 
--- what is so of all whatever their numbers is so of those behind the first
+-- what is so of all whatever their numbers is so of those after the first
 pub row_rest : {X : Type 0} (P : X → Type 0) (x : X) (xs ys : List X) → ys ≡ x ∷ xs → AreFrom (λ _. P) 0 ys
     → AreFrom (λ _. P) 0 xs
 row_rest {X} P x xs ys front all k y is =

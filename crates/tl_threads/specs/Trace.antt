@@ -33,7 +33,7 @@ AreWaitedFor jobs entries = (k : ℕ) → slice_get jobs k ≡ Some Wait → Sta
 abbrev pub many_of : ℕ → List Request → ℕ
 many_of source asks = length (of_source source asks)
 
--- the entry at place k stands behind as many entries of its source as there are such requests: it was sent after them
+-- the entry at place k stands after as many entries of its source as there are such requests: it was sent after them
 abbrev pub IsSentAfter : List Request → List Entry → ℕ → Entry → Type 0
 IsSentAfter asks entries k e = many_of e.ask.source asks ≤ many_of e.ask.source (requests_of (take k entries))
 
@@ -49,7 +49,7 @@ abbrev pub WaitsFor : Job → ℕ → Type 0
 WaitsFor Wait source = ⊤
 WaitsFor (Send q) source = q.source ≡ source
 
--- when the operation was done, behind these requests, `had` entries had been collected: among them all that had been
+-- when the operation was done, after these requests, `had` entries had been collected: among them all that had been
 -- sent of each source that it waits for; and at one port they have smaller indexes than what was sent then or later
 pub record IsDoneAfter (asks : List Request) (job : Job) (entries : List Entry) : Type 0 where
   pub had : ℕ
@@ -68,7 +68,7 @@ abbrev pub AreRouted : List Range → List Entry → Type 0
 AreRouted ranges entries = (k : ℕ) (e : Entry) → slice_get entries k ≡ Some e → Routes ranges e.ask e.port
 
 -- the trace of master `number` of the arena, whose operations are these: it has for each source the requests of that
--- source in the order of the operations, each once; at each wait the requests before it stand before those behind it,
+-- source in the order of the operations, each once; at each wait the requests before it stand before those after it,
 -- and at one port have the smaller indexes; at one port what had been collected when an operation was done has smaller
 -- indexes than what was sent then or later; each entry is of the port that the map has its request with; of two entries
 -- with one source and port the earlier has the smaller index; and with its sources widened it is what the master's seat
@@ -93,7 +93,7 @@ pub record IsRouted (ranges : List Range) (m : MasterState) : Type 0 where
   pub trace : AreRouted ranges m.trace
   pub out : (source : ℕ) (t : TicketView) → ticket_at m.out source ≡ Some t → Routes ranges t.ask t.port
 
--- the trace has all that it had, and what came since behind it
+-- the trace has all that it had, and what came since after it
 pub record IsLonger (old new : List Entry) : Type 0 where
   pub more : List Entry
   pub is : new ≡ old ++ more
@@ -110,7 +110,7 @@ pub record IsCut (asks : List Request) (had : ℕ) (m : MasterState) : Type 0 wh
 abbrev pub HasBeenAsked : List Request → MasterState → Type 0
 HasBeenAsked asks m = (source : ℕ) → asked m source ≡ of_source source asks
 
--- the operation was done behind these requests, as `IsDoneAfter` says it of the trace in the end
+-- the operation was done after these requests, as `IsDoneAfter` says it of the trace in the end
 pub record WasDone (asks : List Request) (job : Job) (m : MasterState) : Type 0 where
   pub had : ℕ
   pub cut : IsCut asks had m

@@ -100,7 +100,7 @@ impl Ringer {
 }
 
 impl Listener {
-    /// The oldest ring that nobody has heard, where there is one. A bell that nobody can ring any more says stop.
+    /// The oldest ring that nobody has heard, if there is one. A bell that nobody can ring any more says stop.
     pub(crate) fn look(&mut self, rt: &impl Wait) -> Option<Ring> {
         match self.receiver.try_recv_as::<Free, _>(rt, &mut self.pass) {
             Ok(ring) => Some(ring),

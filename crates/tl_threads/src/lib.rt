@@ -4,7 +4,7 @@
 //! the system such that each master's trace has, for each source, the requests of its operations in order, each once,
 //! and of what it collected at a port one lawful history has just the master's own; book p is port p's and lawful; and
 //! the account is that of an arena at its end. That threads run at once no clause says: the tests of
-//! `tl_threads_tests` do, through a [`Gate`].
+//! `tl_run_tests` do, through a [`Gate`].
 //!
 //! `master_thread` is what a master's thread does, `worker_thread` what one of a port's does, `context` what all of
 //! them share, `bell` how they wake each other; `setup` makes what a run needs, `start` and `run` start, join and stop

@@ -27,7 +27,7 @@ fn look_at_all<N: ArenaName, G: Gate>(shared: &Shared<'_, N, G>, master: &mut Ma
     }
 }
 
-/// Collects the reply to what is out for a source, where it is there.
+/// Collects the reply to what is out for a source, if it is there.
 fn look_at<N: ArenaName, G: Gate>(shared: &Shared<'_, N, G>, master: &mut Master, source: u16)
     requires { master.old.seat.arena ≡ shared.now.arena.now }
     ensures { IsSame master.old master.new }

@@ -6,38 +6,16 @@
 //! before it. A fault is one line on standard error; then nothing was written, save for those replies and where a write
 //! failed. A command line that is refused is told by clap's text.
 //!
-//! `check` (`engine`) carries the theorem, over the bytes of both files: lawful is written exactly where the rows that
-//! the capture spells are lawful for the system that SYSTEM spells. The crates `check_system` and `check_verdict` read
-//! the two, `check_options` reads the command line. Read on in `docs/CAPTURE.md`.
+//! The crate `check_program` carries the theorem: what is written, and the status. Here the program's words, files and
+//! memory are handed to it. It is a crate of its own, so that its proof is not done again for the tests.
 #![tactic(auto)]
 
-pub mod asked;
-pub mod engine;
-pub mod fault;
-pub mod file;
-pub mod system;
-#[cfg(test)]
-mod tests;
-
-ghost use Rattle.std.specs.Prelude.{◌≡◌, IfOk, IfErr};
-ghost use Rattle.std.specs.Process.{exit_status};
-ghost use Rattle.tlcheck.specs.Engine.{IsChecked, asked_of};
-ghost use Rattle.tlcheck.specs.Fault.{status_of, status_of_verdict};
-
-use crate::asked::Asked;
-use crate::engine::check;
-use crate::fault::CheckFault;
-use crate::file::NamedFile;
-use check_judge::Terms;
 use check_options::{Options, read_options};
-use std::alloc::Global;
+use check_program::fault::CheckFault;
+use check_program::{check_as_asked, ended};
 use std::env;
-use std::io::{Read, Write};
 use std::process::ExitCode;
-use tl_streams::{fail, no_memory, refused, unread};
-
-/// The status of a capture that is not lawful, or incomplete.
-const UNLAWFUL: u8 = 3;
+use tl_streams::{NamedFile, no_memory, refused, unread};
 
 fn main(rt: HostRuntime) -> ExitCode {
     let words = match env::args(&rt) {
@@ -67,39 +45,5 @@ fn run(rt: &HostRuntime, options: &Options<'_>) -> Result<bool, CheckFault> {
             check_as_asked(rt.alloc(), &mut system, capture, &mut writer, options)
         }
         None => check_as_asked(rt.alloc(), &mut system, rt.stdin(), &mut writer, options),
-    }
-}
-
-/// Judges a capture as the command line asks.
-fn check_as_asked<S: Read, C: Read + Drop, W: Write>(
-    alloc: Global,
-    system: &mut S,
-    capture: C,
-    writer: &mut W,
-    options: &Options<'_>,
-) -> Result<bool, CheckFault>
-    ensures { IsChecked (asked_of options.now) (S.remaining system.old) (S.remaining system.new)
-        (C.remaining capture) (W.contents writer.old) (W.contents writer.new) result }
-{
-    let asked = Asked {
-        terms: Terms {
-            links: options.links,
-            order: options.order,
-        },
-        trace: options.trace,
-        complete: options.complete,
-    };
-    check(alloc, system, capture, writer, asked)
-}
-
-/// Ends the program after a verdict, or with the line and the status of a fault.
-fn ended(rt: &HostRuntime, outcome: Result<bool, CheckFault>) -> ExitCode
-    ensures verdict { IfOk outcome (λ lawful. exit_status result ≡ status_of_verdict lawful) }
-    ensures fault { IfErr outcome (λ fault. exit_status result ≡ status_of fault) }
-{
-    match outcome {
-        Ok(true) => ExitCode::from(0),
-        Ok(false) => ExitCode::from(UNLAWFUL),
-        Err(fault) => fail(rt, &fault, fault.status()),
     }
 }

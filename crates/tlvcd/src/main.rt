@@ -10,7 +10,6 @@
 
 pub mod engine;
 pub mod fault;
-pub mod file;
 pub mod options;
 #[cfg(test)]
 mod tests;
@@ -21,11 +20,10 @@ ghost use Rattle.tlvcd.specs.Fault.{status_of};
 
 use crate::engine::write_capture;
 use crate::fault::WaveFault;
-use crate::file::NamedFile;
 use crate::options::{Options, read_options};
 use std::env;
 use std::process::ExitCode;
-use tl_streams::{fail, no_memory, refused, unread};
+use tl_streams::{NamedFile, fail, no_memory, refused, unread};
 
 fn main(rt: HostRuntime) -> ExitCode {
     let words = match env::args(&rt) {

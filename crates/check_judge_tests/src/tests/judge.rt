@@ -99,7 +99,7 @@ fn push_end(rt: &impl Abort, alloc: Global, judge: Judge, text: &mut Vec<u8>) {
     }
 }
 
-/// What is written of a capture with these rows behind its header.
+/// What is written of a capture with these rows after its header.
 fn verdict(rt: &impl Abort, alloc: Global, links: Links, trace: bool, rows: &[&str]) -> Vec<u8> {
     let mut judge = judge(rt, alloc, links, trace);
     let mut text = Vec::new(alloc);

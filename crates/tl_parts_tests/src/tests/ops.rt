@@ -401,7 +401,7 @@ impl Plain {
         self.bytes.get(self.place(address)?).copied()
     }
 
-    /// Puts a byte at an address, where it stands.
+    /// Puts a byte at an address, if it stands.
     fn put(&mut self, address: u64, byte: u8) {
         if let Some(place) = self.place(address) {
             if let Some(kept) = self.bytes.get_mut(place) {

@@ -16,7 +16,7 @@ fn fault_line(rt: &impl Abort, alloc: Global, script: &str) -> String {
     }
 }
 
-/// Each part makes a script that has its row's line. The part stands behind the head.
+/// Each part makes a script that has its row's line. The part stands after the head.
 fn have_lines(rt: &impl Abort, alloc: Global, head: &str, rows: &[Row]) {
     for (part, line) in rows {
         let script = format!(in alloc; "{head}{part}\n").expect(rt, "memory");

@@ -1,5 +1,0 @@
-mod faults;
-mod masks;
-mod replies;
-mod requests;
-mod scene;

@@ -1,3 +1,0 @@
-mod records;
-mod rows;
-mod watch;

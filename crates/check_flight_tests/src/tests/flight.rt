@@ -1,0 +1,5 @@
+//! What is in flight: both orders, devices, denied requests, replies that cross, and refused memory.
+mod crossed;
+mod refused;
+mod scene;
+mod served;

@@ -1,5 +1,0 @@
-mod crossbar;
-mod groups;
-mod map;
-mod memory;
-mod sources;

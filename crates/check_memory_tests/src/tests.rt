@@ -1,6 +1,0 @@
-mod pages;
-mod refused;
-mod replies;
-mod requests;
-mod scene;
-mod sizes;

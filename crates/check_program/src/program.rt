@@ -1,0 +1,52 @@
+//! The program, save for its words and its files: what is asked of a capture, and the status that the program ends with.
+ghost use Rattle.std.specs.Prelude.{◌≡◌, IfOk, IfErr};
+ghost use Rattle.std.specs.Process.{exit_status};
+ghost use Rattle.check_program.specs.Engine.{IsChecked, asked_of};
+ghost use Rattle.check_program.specs.Fault.{status_of, status_of_verdict};
+
+use crate::asked::Asked;
+use crate::engine::check;
+use crate::fault::CheckFault;
+use check_judge::Terms;
+use check_options::Options;
+use std::alloc::Global;
+use std::io::{Eprint, Read, Write};
+use std::process::ExitCode;
+use tl_streams::fail;
+
+/// The status of a capture that is not lawful, or incomplete.
+const UNLAWFUL: u8 = 3;
+
+/// Judges a capture as the command line asks.
+pub fn check_as_asked<S: Read, C: Read + Drop, W: Write>(
+    alloc: Global,
+    system: &mut S,
+    capture: C,
+    writer: &mut W,
+    options: &Options<'_>,
+) -> Result<bool, CheckFault>
+    ensures { IsChecked (asked_of options.now) (S.remaining system.old) (S.remaining system.new)
+        (C.remaining capture) (W.contents writer.old) (W.contents writer.new) result }
+{
+    let asked = Asked {
+        terms: Terms {
+            links: options.links,
+            order: options.order,
+        },
+        trace: options.trace,
+        complete: options.complete,
+    };
+    check(alloc, system, capture, writer, asked)
+}
+
+/// Ends the program after a verdict, or with the line and the status of a fault.
+pub fn ended<R: Eprint>(rt: &R, outcome: Result<bool, CheckFault>) -> ExitCode
+    ensures verdict { IfOk outcome (λ lawful. exit_status result ≡ status_of_verdict lawful) }
+    ensures fault { IfErr outcome (λ fault. exit_status result ≡ status_of fault) }
+{
+    match outcome {
+        Ok(true) => ExitCode::from(0),
+        Ok(false) => ExitCode::from(UNLAWFUL),
+        Err(fault) => fail(rt, &fault, fault.status()),
+    }
+}

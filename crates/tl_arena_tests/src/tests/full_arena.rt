@@ -1,0 +1,6 @@
+//! An arena that is full, and agents that are busy.
+mod agents;
+mod floor;
+mod full;
+mod stage;
+mod walk;

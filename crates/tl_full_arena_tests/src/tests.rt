@@ -1,5 +1,0 @@
-mod agents;
-mod floor;
-mod full;
-mod stage;
-mod walk;

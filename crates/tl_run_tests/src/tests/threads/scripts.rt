@@ -1,0 +1,186 @@
+//! Runs of whole scripts. What they print is the same whatever the schedule.
+ghost use Rattle.std.specs.Prelude.{◌<◌, ◌≤◌};
+
+use super::run;
+use std::alloc::Global;
+use std::process::Abort;
+use std::sync::Wait;
+use std::thread::Threads;
+use tl_journal::Trace;
+use tl_threads::{OpenGate, ThreadedRun};
+
+/// The start of a script: a RAM of 64 bytes at 0x1000.
+fn head(rt: &impl Abort, alloc: Global, slots: usize) -> String {
+    format!(in alloc;
+        "slots = {slots}\nport = [{{ kind = 'ram', base = 0x1000, length = 64 }}]\n"
+    ).expect(rt, "memory")
+}
+
+/// Appends a master of two sources with these operations.
+fn push_master(rt: &impl Abort, script: &mut String, operations: &str) {
+    write!(script, "[[master]]\nsources = 2\nops = [{operations}]\n").expect(rt, "memory");
+}
+
+/// Puts each number up to 250 at an address, and gets it again.
+fn puts_and_gets(rt: &impl Abort, alloc: Global, address: u64) -> String {
+    let mut operations = String::new(alloc);
+    for k in 1..=250u32 {
+        write!(
+            &mut operations,
+            "'0 putfull {address} 2 {k:02x}000000', 'wait', '0 get {address} 2', 'wait', "
+        )
+        .expect(rt, "memory");
+    }
+    operations
+}
+
+/// The first byte of each reply that has bytes, in the order of a trace.
+fn read_in(rt: &impl Abort, alloc: Global, trace: &Trace) -> Vec<u8> {
+    let mut bytes = Vec::new(alloc);
+    for place in 0..trace.len() {
+        let entry = trace.get(place);
+        if let Some(byte) = entry.reply.bytes().first() {
+            bytes.push(*byte).expect(rt, "memory");
+        }
+    }
+    bytes
+}
+
+/// Each of two masters gets the numbers that it puts.
+fn share_one_slot<R: Abort + Threads + Wait + Sync>(
+    rt: &R,
+    alloc: Global,
+    script: &str,
+    workers: usize,
+)
+    requires some { 1 ≤ workers }
+    requires few { workers ≤ 4 }
+{
+    let numbers = (1..=250u8).collect::<Vec<u8>>(alloc).expect(rt, "memory");
+    let ThreadedRun {
+        traces,
+        account,
+        ..
+    } = run(rt, alloc, script.as_bytes(), workers, &OpenGate);
+    assert!(rt; traces.len() == 2);
+    for trace in &traces {
+        assert!(rt; trace.len() == 500);
+        assert!(rt; read_in(rt, alloc, trace) == numbers);
+    }
+    assert!(rt; (account.free.len(), account.held.len()) == (1, 0));
+}
+
+#[test]
+fn two_masters_share_one_slot(rt: HostRuntime) {
+    let mut script = head(&rt, rt.alloc(), 1);
+    push_master(&rt, &mut script, &puts_and_gets(&rt, rt.alloc(), 0x1000));
+    push_master(&rt, &mut script, &puts_and_gets(&rt, rt.alloc(), 0x1020));
+    share_one_slot(&rt, rt.alloc(), &script, 1);
+    share_one_slot(&rt, rt.alloc(), &script, 4);
+}
+
+/// Runs a script, at whose end port 0 has these bytes, and a history of so many requests.
+fn leaves<R: Abort + Threads + Wait + Sync>(
+    rt: &R,
+    alloc: Global,
+    script: &str,
+    workers: usize,
+    history: usize,
+    bytes: &[(u64, u8)],
+)
+    requires some { 1 ≤ workers }
+    requires few { workers ≤ 4 }
+{
+    let ThreadedRun { books, .. } = run(rt, alloc, script.as_bytes(), workers, &OpenGate);
+    let book = books.first().expect(rt, "no book");
+    assert!(rt; book.history_len() == history);
+    for (address, byte) in bytes {
+        assert!(rt; book.byte(*address) == Some(*byte));
+    }
+}
+
+#[test]
+fn two_masters_add_to_one_word(rt: HostRuntime) {
+    let additions = "'0 add 0x1000 2 01000000', 'wait', "
+        .repeat(rt.alloc(), 100)
+        .expect(&rt, "memory");
+    let mut script = head(&rt, rt.alloc(), 2);
+    push_master(&rt, &mut script, &additions);
+    push_master(&rt, &mut script, &additions);
+    let left = [(0x1000, 200), (0x1001, 0), (0x1002, 0), (0x1003, 0)];
+    leaves(&rt, rt.alloc(), &script, 1, 200, &left);
+    leaves(&rt, rt.alloc(), &script, 4, 200, &left);
+}
+
+const CLEARING: &str =
+    "slots = 2\nport = [{ kind = 'w1c', base = 0x4000, length = 4, reset = 'ffffffff' }]\n[[master]]\nsources = 2\nops = ['0 putfull 0x4000 2 01000000', '1 putfull 0x4000 2 06000000', '0 putfull 0x4000 2 08000000']\n[[master]]\nsources = 2\nops = ['0 putfull 0x4000 2 10000000', '1 putfull 0x4000 2 60000000', '0 putfull 0x4000 2 80000000']\n";
+
+#[test]
+fn two_masters_clear_their_own_bits(rt: HostRuntime) {
+    let left = [(0x4000, 0), (0x4001, 0xff)];
+    leaves(&rt, rt.alloc(), CLEARING, 1, 6, &left);
+    leaves(&rt, rt.alloc(), CLEARING, 4, 6, &left);
+}
+
+/// Numbers that look random, and are the same in each run of the tests.
+#[derive(Drop)]
+struct Dice(u32);
+
+impl Dice {
+    /// A number below this one.
+    fn throw(&mut self, sides: u32) -> u32
+        requires { 0 < sides }
+    {
+        self.0 = self.0.wrapping_mul(1_664_525).wrapping_add(1_013_904_223);
+        (self.0 >> 16) % sides
+    }
+
+    /// Up to twelve operations of a master with two sources.
+    fn operations(&mut self, rt: &impl Abort, alloc: Global) -> String {
+        let mut operations = String::new(alloc);
+        for _ in 0..self.throw(13) {
+            let source = self.throw(2);
+            let outcome = match self.throw(4) {
+                0 => write!(&mut operations, "'wait', "),
+                1 => write!(&mut operations, "'{source} get 0x9000 0', "),
+                2 => write!(&mut operations, "'{source} get 0x1004 2', "),
+                _ => write!(&mut operations, "'{source} add 0x1000 2 01000000', "),
+            };
+            outcome.expect(rt, "memory");
+        }
+        operations
+    }
+
+    /// A script of four masters.
+    fn script(&mut self, rt: &impl Abort, alloc: Global) -> String {
+        let mut script = head(rt, alloc, 2);
+        for _ in 0..4u32 {
+            push_master(rt, &mut script, &self.operations(rt, alloc));
+        }
+        script
+    }
+}
+
+/// Runs a script of four masters over two slots, which are free after it.
+fn all_slots_are_free<R: Abort + Threads + Wait + Sync>(
+    rt: &R,
+    alloc: Global,
+    script: &str,
+    workers: usize,
+)
+    requires some { 1 ≤ workers }
+    requires few { workers ≤ 4 }
+{
+    let ThreadedRun { account, .. } = run(rt, alloc, script.as_bytes(), workers, &OpenGate);
+    assert!(rt; account.free.as_slice() == [0, 1].as_slice());
+    assert!(rt; (account.held.len(), account.left.len()) == (0, 4));
+}
+
+#[test]
+fn random_scripts_end_with_all_slots_free(rt: HostRuntime) {
+    let mut dice = Dice(2026);
+    for _ in 0..100u32 {
+        all_slots_are_free(&rt, rt.alloc(), &dice.script(&rt, rt.alloc()), 1);
+        all_slots_are_free(&rt, rt.alloc(), &dice.script(&rt, rt.alloc()), 4);
+    }
+}
