@@ -1,0 +1,13 @@
+pub mod Lists
+pub mod Buses
+pub mod Links
+pub mod Turns
+pub mod Flights
+pub mod Taking
+pub mod Fitting
+pub mod Heads
+pub mod Replying
+pub mod UnderWay
+pub mod Placing
+pub mod Sorted
+pub mod Turned
