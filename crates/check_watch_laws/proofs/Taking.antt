@@ -1,16 +1,162 @@
--- The request that the next reply of a source answers.
-use Rattle.std.proofs.Common.{◌≡◌, ◌∙◌, ℕ, suc, ◌-◌, List, [], ◌∷◌, length, take, drop, ap, arith}
+-- The request that takes effect with a beat is the one that its port's slave does.
+use Rattle.std.proofs.Common.{◌≡◌, ◌∙◌, ℕ, suc, ◌-◌, ◌<◌, Bool, true, false, if◌then◌else◌, List, [], ◌∷◌, length, map, filter, Option, Some, None, take, drop, refl, ap, sym, subst, arith, eqb-true, nltb→le, T, not}
+use Rattle.std.specs.Prelude.{◌==◌, ◌&&◌, nat_lt}
 use Rattle.tl_types.specs.Request.{Request}
+use Rattle.check_beats.specs.declared.beat.AskHead.{AskHead}
+use Rattle.check_beats.specs.declared.beat.ReplyHead.{ReplyHead}
+use Rattle.check_flight.specs.declared.order.Order.{Order}
+use Rattle.check_flight.specs.declared.order.Order.TheVariants.{Accept, Reply}
 use Rattle.check_flight.specs.Flight.{Turn}
 use Rattle.check_flight.specs.Flight.Turn.{Asked}
+use Rattle.check_flight.specs.Order.{is_at_acceptance, is_at_reply, effect_by}
 use Rattle.check_watch.specs.declared.beat.Link.{Link}
-use Rattle.check_watch.specs.Plan.{Plan, Sighting, side_of, number_of}
-use Rattle.check_watch_laws.specs.Crossed.{asks, replies, next_answered}
+use Rattle.check_watch.specs.declared.beat.Link.TheVariants.{Master, Port}
+use Rattle.check_watch.specs.declared.links.Links.{Links}
+use Rattle.check_watch.specs.declared.links.Links.TheVariants.{Both, Masters, Ports}
+use Rattle.check_watch.specs.Plan.{Plan, Layout, Sighting, side_of, number_of, wide_of, same_side, are_both, HasLink, IsWatched}
+use Rattle.check_watch.specs.Plan.Side.{AtMasters, AtPorts}
+use Rattle.check_watch.specs.Scene.{ask_by, takes_effect, begins_reply}
+use Rattle.check_watch.proofs.InFlight.{ask_at, reply_at}
+use Rattle.check_watch_laws.specs.Crossed.{asks, replies, next_answered, replying_at}
+use Rattle.check_watch_laws.specs.Memories.{side_by, side_for, port_for, is_for, ask_done, widened}
+use Rattle.check_watch_laws.proofs.Flights.{pending, InStep, ask_list, ask_seen}
+use Rattle.check_watch_laws.proofs.Links.{under_by}
 use Rattle.check_watch_laws.proofs.Lists.{drop_front}
 use Rattle.check_watch_laws.proofs.Turns.{link_on, own_link}
-use Rattle.check_watch_laws.proofs.Flights.{pending, InStep}
 
--- it is the one in flight
+-- ---- where a request to a port takes effect
+
+pub less : (m n : ℕ) → m < n → nat_lt m n ≡ true
+less m n h = go (nat_lt m n) refl
+  where
+    go : (b : Bool) → nat_lt m n ≡ b → b ≡ true
+    go true is = refl
+    go false is = absurd (omega (arith, h, nltb→le m n (subst (λ b. T (not b)) (sym is) tt)))
+
+at_masters : (links : Links) (has_link : Bool) (m : ℕ) → IsWatched links (Master m)
+    → (if are_both links && has_link then false else true) ≡ same_side AtMasters (side_by links has_link)
+at_masters Both true m watched = refl
+at_masters Both false m watched = refl
+at_masters Masters has_link m watched = refl
+at_masters Ports has_link m watched = absurd watched
+
+at_ports : (links : Links) (has_link : Bool) (p : ℕ) → IsWatched links (Port p) → has_link ≡ true
+    → true ≡ same_side AtPorts (side_by links has_link)
+at_ports Both true p watched is = refl
+at_ports Both false p watched is = cc
+at_ports Masters has_link p watched is = absurd watched
+at_ports Ports has_link p watched is = refl
+
+-- it takes effect at a link that is watched just if its port's slave is seen there
+pub takes : (layout : Layout) (link : Link) (port : ℕ) → HasLink layout link → IsWatched layout.links link
+    → ((p : ℕ) → link ≡ Port p → port ≡ p)
+    → takes_effect layout link port ≡ same_side (side_of link) (side_for layout port)
+takes layout (Master m) port has watched own = at_masters layout.links (nat_lt port (length layout.ports)) m watched
+takes layout (Port p) port has watched own =
+    at_ports layout.links (nat_lt port (length layout.ports)) p watched
+    (ap (λ n. nat_lt n (length layout.ports)) (own p refl) ∙ less p (length layout.ports) has)
+
+-- ---- the request of a port's slave
+
+abbrev pub list_of : ℕ → Option Request → List Request
+list_of wide None = []
+list_of wide (Some ask) = record ask { source = wide } ∷ []
+
+none_taken : (wide : ℕ) (here seen : Bool) → [] ≡ (if here then list_of wide (effect_by seen None) else [])
+none_taken wide true true = refl
+none_taken wide true false = refl
+none_taken wide false seen = refl
+
+none_here : (wide : ℕ) (here : Bool) → [] ≡ (if here then list_of wide None else [])
+none_here wide true = refl
+none_here wide false = refl
+
+module _ (plan : Plan) (link : Link) (wide port found : ℕ) (has : HasLink plan.layout link)
+    (watched : IsWatched plan.layout.links link) (own : (p : ℕ) → link ≡ Port p → found ≡ p) where
+  -- a request that is done is one of this port, if it goes there
+  taken : (ask : Request) → port_for plan link ask ≡ found
+      → map (widened wide) (filter (is_for plan port) (record { link = link; ask = ask } ∷ [])) ≡
+      (if found == port then list_of wide (effect_by (takes_effect plan.layout link found) (Some ask)) else [])
+  taken ask goes = go (found == port) refl
+    where
+      -- by where it is seen and where it goes
+      Done : Bool → Bool → List Request
+      Done seen here = map (widened wide) (if seen && here then record { link = link; ask = ask } ∷ [] else [])
+
+      at : (seen : Bool) → Done seen true ≡ list_of wide (effect_by seen (Some ask))
+      at true = refl
+      at false = refl
+
+      past : (seen : Bool) → Done seen false ≡ []
+      past true = refl
+      past false = refl
+
+      here_is : (port_for plan link ask == port) ≡ (found == port)
+      here_is = ap (λ n. n == port) goes
+
+      go : (here : Bool) → (found == port) ≡ here
+          → Done (same_side (side_of link) (side_for plan.layout port)) (port_for plan link ask == port) ≡
+          (if here then list_of wide (effect_by (takes_effect plan.layout link found) (Some ask)) else [])
+      go true is =
+          let there : found ≡ port = eqb-true found port is in
+          ap (λ h. Done (same_side (side_of link) (side_for plan.layout port)) h) (here_is ∙ is)
+          ∙ at (same_side (side_of link) (side_for plan.layout port))
+          ∙ ap (λ p. list_of wide (effect_by (same_side (side_of link) (side_for plan.layout p)) (Some ask)))
+          (sym there)
+          ∙ ap (λ b. list_of wide (effect_by b (Some ask))) (sym (takes plan.layout link found has watched own))
+      go false is = ap (λ h. Done (same_side (side_of link) (side_for plan.layout port)) h) (here_is ∙ is)
+          ∙ past (same_side (side_of link) (side_for plan.layout port))
+
+  -- with a beat of a request
+  pub ask_taken : (order : Order) (past : List Sighting) (known : ℕ) (lanes : List ℕ) (beat : AskHead)
+      → ((ask : Request) → ask_by (under_by plan.layout link past) beat lanes ≡ Some ask
+      → port_for plan link ask ≡ found)
+      → map (widened wide) (filter (is_for plan port) (ask_done plan order past (ask_at link known lanes beat)))
+      ≡ (if found == port then list_of wide (effect_by (takes_effect plan.layout link found)
+      (effect_by (is_at_acceptance order) (ask_by (under_by plan.layout link past) beat lanes))) else [])
+  ask_taken Reply past known lanes beat goes = none_taken wide (found == port) (takes_effect plan.layout link found)
+  ask_taken Accept past known lanes beat goes =
+      ap (λ l. map (widened wide) (filter (is_for plan port) l)) (ask_seen plan.layout past link known lanes beat)
+      ∙ go (ask_by (under_by plan.layout link past) beat lanes) goes
+    where
+      go : (o : Option Request) → ((ask : Request) → o ≡ Some ask → port_for plan link ask ≡ found)
+          → map (widened wide) (filter (is_for plan port) (ask_list link o))
+          ≡ (if found == port then list_of wide (effect_by (takes_effect plan.layout link found) o) else [])
+      go (Some ask) there = taken ask (there ask refl)
+      go None there = none_taken wide (found == port) (takes_effect plan.layout link found)
+
+  -- with a beat of a reply
+  pub reply_taken : (order : Order) (past : List Sighting) (known : ℕ) (lanes : List ℕ) (beat : ReplyHead)
+      (ask : Request) → port_for plan link ask ≡ found
+      → next_answered plan (side_of link) (wide_of plan link beat.source) past ≡ record { link = link; ask = ask } ∷ []
+      → map (widened wide) (filter (is_for plan port) (ask_done plan order past (reply_at link known lanes beat)))
+      ≡ (if found == port then list_of wide (effect_by
+      (takes_effect plan.layout link found && begins_reply (replying_at plan.layout link past))
+      (effect_by (is_at_reply order) (Some ask))) else [])
+  reply_taken Accept past known lanes beat ask goes next =
+      none_taken wide (found == port)
+      (takes_effect plan.layout link found && begins_reply (replying_at plan.layout link past))
+  reply_taken Reply past known lanes beat ask goes next = go (begins_reply (replying_at plan.layout link past))
+    where
+      off : (seen : Bool) → [] ≡ (if found == port then list_of wide (effect_by (seen && false) (Some ask)) else [])
+      off true = none_here wide (found == port)
+      off false = none_here wide (found == port)
+
+      on : (seen : Bool) → (if found == port then list_of wide (effect_by seen (Some ask)) else []) ≡
+          (if found == port then list_of wide (effect_by (seen && true) (Some ask)) else [])
+      on true = refl
+      on false = refl
+
+      go : (begins : Bool) → map (widened wide)
+          (filter (is_for plan port) (if begins then next_answered plan (side_of link)
+          (wide_of plan link beat.source) past else []))
+          ≡ (if found == port then list_of wide (effect_by (takes_effect plan.layout link found && begins)
+          (Some ask)) else [])
+      go true = ap (λ l. map (widened wide) (filter (is_for plan port) l)) next ∙ taken ask goes
+          ∙ on (takes_effect plan.layout link found)
+      go false = off (takes_effect plan.layout link found)
+
+-- the request that the next reply of a source answers is the one in flight
 pub next_is : (plan : Plan) (past : List Sighting) (link : Link) (wide : ℕ) (turn : Turn) (ask : Request)
     → InStep (side_of link) turn (asks plan (side_of link) wide past) (replies plan (side_of link) wide past)
     → turn ≡ Asked (number_of link) ask → next_answered plan

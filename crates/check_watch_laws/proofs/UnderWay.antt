@@ -53,7 +53,7 @@ first_answers (Some b) beat ask same answers =
     let fields = same b.first refl in
     record { size = sym fields.size ∙ answers.size; opcode = sym fields.opcode ∙ answers.opcode }
 
-first_source : (kept : Option ReplyBegun) (beat : ReplyHead) → Continues SameReplyFields (first_reply kept) beat
+pub first_source : (kept : Option ReplyBegun) (beat : ReplyHead) → Continues SameReplyFields (first_reply kept) beat
     → (unwrap_or (first_reply kept) beat).source ≡ beat.source
 first_source None beat same = refl
 first_source (Some b) beat same = sym (same b.first refl).source

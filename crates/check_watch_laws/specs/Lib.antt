@@ -1,2 +1,3 @@
 pub mod Crossed
 pub mod Messages
+pub mod Memories

@@ -2,10 +2,12 @@
 //! judge.
 //!
 //! `IsLawful` of `check_watch` says beat by beat what may come next, over what the beats before left. The laws here
-//! follow from it and speak of what was captured alone: [`laws::beats_are_messages`] of each link and source.
+//! follow from it and speak of what was captured alone: [`laws::beats_are_messages`] of each link and source, and
+//! [`laws::memories_are_sequential`] of each port.
 //!
-//! Nothing runs here. Read `specs/Crossed.antt` first (which messages a list of beats shows), and then the file of the
-//! law: `specs/Messages.antt`. `docs/MODEL.md`, "What `lawful` means over links of any width", reads it aloud.
+//! Nothing runs here. Read `specs/Crossed.antt` first (which messages a list of beats shows), and then the file of each
+//! law: `specs/Messages.antt`, `specs/Memories.antt`. `docs/MODEL.md`, "What `lawful` means over links of any width", reads them
+//! aloud.
 #![tactic(auto)]
 
 pub mod laws;

@@ -1,0 +1,278 @@
+-- A reply that must come has the source of its request; and if requests take effect as they are answered, it is under
+-- way.
+use Rattle.std.proofs.Common.{◌≡◌, ◌∙◌, ℕ, ◌+◌, Bool, true, false, if◌then◌else◌, List, [], ◌∷◌, ◌++◌, Option, Some, None, unwrap_or, refl, ap, sym, subst}
+use Rattle.std.specs.Prelude.{◌&&◌}
+use Rattle.tl_types.specs.Request.{Request}
+use Rattle.check_beats.specs.Message.{seen_at as seen_bytes}
+use Rattle.check_beats.specs.State.{Under, ReplyBegun, first_reply, ends_reply, replied_beats, replied_bytes}
+use Rattle.check_beats.specs.declared.beat.AskHead.{AskHead}
+use Rattle.check_beats.specs.declared.beat.ReplyHead.{ReplyHead}
+use Rattle.check_flight.specs.declared.answer.Answer.{Answer}
+use Rattle.check_flight.specs.declared.order.Order.{Order}
+use Rattle.check_flight.specs.declared.order.Order.TheVariants.{Accept, Reply}
+use Rattle.check_flight.specs.Flight.{Turn, Flight, idle, asked, due_by}
+use Rattle.check_flight.specs.Flight.Turn.{Idle, Asking, Asked}
+use Rattle.check_flight.specs.Order.{is_at_acceptance, is_at_reply, effect_by}
+use Rattle.check_flight.specs.PortSlave.{PortSlave, answer_by}
+use Rattle.check_watch.specs.declared.beat.Beat.{Beat}
+use Rattle.check_watch.specs.declared.beat.Beat.TheVariants.{A, D}
+use Rattle.check_watch.specs.declared.beat.Link.{Link}
+use Rattle.check_watch.specs.Allowed.{IsAllowedReply}
+use Rattle.check_watch.specs.Lawful.{IsLawful, IsAllowed}
+use Rattle.check_watch.specs.Past.{State, found_in, scene_of, state, state_after}
+use Rattle.check_watch.specs.Plan.{Plan, Sighting, Side, side_of, number_of, wide_of, is_link, is_of}
+use Rattle.check_watch.specs.Plan.Side.{AtMasters, AtPorts}
+use Rattle.check_watch.specs.Scene.{ask_by, turn_by, takes_effect, begins_reply, flight_after, under_after}
+use Rattle.check_watch.proofs.InFlight.{ask_at, reply_at, of_is, of_own}
+use Rattle.check_watch_laws.specs.Crossed.{AreWatched}
+use Rattle.check_watch_laws.specs.Memories.{port_for, order_at}
+use Rattle.check_watch_laws.proofs.Done.{are_replayed, ended_goes, orders}
+use Rattle.check_watch_laws.proofs.Links.{same_link}
+use Rattle.check_watch_laws.proofs.Slaves.{reply_source}
+use Rattle.check_watch_laws.proofs.Turns.{asked_at, link_on, own_link, own_is, true_or_false}
+use Rattle.check_watch_laws.proofs.UnderWay.{first_source}
+
+abbrev pub IsSourced : Turn → Option Answer → Type 0
+IsSourced Idle due = Unit {0}
+IsSourced (Asking n) due = Unit {0}
+IsSourced (Asked n ask) None = Unit {0}
+IsSourced (Asked n ask) (Some answer) = answer.reply.source ≡ ask.source
+
+-- a reply of this wide source is under way at the link
+abbrev pub IsReplying : Plan → State → ℕ → Link → Type 0
+IsReplying plan s wide link =
+    (begun : ReplyBegun) × ((s.links (side_of link) (number_of link)).replying ≡ Some begun)
+    × (wide_of plan link begun.first.source ≡ wide)
+
+abbrev pub HasBegun : Plan → State → Side → ℕ → Turn → Option Answer → Type 0
+HasBegun plan s side wide Idle due = Unit {0}
+HasBegun plan s side wide (Asking n) due = Unit {0}
+HasBegun plan s side wide (Asked n ask) None = Unit {0}
+HasBegun plan s side wide (Asked n ask) (Some answer) =
+    is_at_reply (order_at plan (port_for plan (link_on side n) ask)) ≡ true
+    → IsReplying plan s wide (link_on side n)
+
+pub record IsDue (plan : Plan) (s : State) (side : Side) (wide : ℕ) (flight : Flight) : Type 0 where
+  pub sourced : IsSourced flight.turn flight.due
+  pub begun : HasBegun plan s side wide flight.turn flight.due
+
+abbrev pub AreDue : Plan → State → Type 0
+AreDue plan s = (side : Side) (wide : ℕ) → IsDue plan s side wide (s.flights side wide)
+
+-- ---- as a request ends
+
+new_sourced : (n port : ℕ) (slave : PortSlave) (effect early : Bool) (ended : Option Request)
+    → IsSourced (turn_by n ended) (answer_by port slave (effect_by effect (effect_by early ended)))
+new_sourced n port slave effect early None = tt
+new_sourced n port slave true true (Some ask) = reply_source slave.kept ask
+new_sourced n port slave true false (Some ask) = tt
+new_sourced n port slave false early (Some ask) = tt
+
+new_begun : (plan : Plan) (s : State) (side : Side) (wide n port : ℕ) (slave : PortSlave) (effect : Bool)
+    (ended : Option Request) (order : Order)
+    → ((ask : Request) → ended ≡ Some ask → order ≡ order_at plan (port_for plan (link_on side n) ask))
+    → HasBegun plan s side wide (turn_by n ended)
+    (answer_by port slave (effect_by effect (effect_by (is_at_acceptance order) ended)))
+new_begun plan s side wide n port slave effect None order is = tt
+new_begun plan s side wide n port slave true (Some ask) Accept is =
+    λ late. absurd (true_or_false (is_at_reply (order_at plan (port_for plan (link_on side n) ask))) late
+    (ap is_at_reply (sym (is ask refl))))
+new_begun plan s side wide n port slave false (Some ask) Accept is = tt
+new_begun plan s side wide n port slave true (Some ask) Reply is = tt
+new_begun plan s side wide n port slave false (Some ask) Reply is = tt
+
+-- ---- as a reply begins or goes on
+
+pub late_sourced : (port : ℕ) (slave : PortSlave) (effect late : Bool) (n : ℕ) (ask : Request) (due : Option Answer)
+    → IsSourced (Asked n ask) due → IsSourced (Asked n ask)
+    (due_by due (answer_by port slave (effect_by effect (effect_by late (Some ask)))))
+late_sourced port slave true true n ask due was = reply_source slave.kept ask
+late_sourced port slave true false n ask due was = was
+late_sourced port slave false late n ask due was = was
+
+pub side_on : (side : Side) (n : ℕ) → side_of (link_on side n) ≡ side
+side_on AtMasters n = refl
+side_on AtPorts n = refl
+
+-- the facts of a turn and what is due, in another state
+begun_by : (plan : Plan) (s later : State) (side : Side) (wide : ℕ) (turn : Turn) (due : Option Answer)
+    → ((n : ℕ) (ask : Request) → turn ≡ Asked n ask → IsReplying plan s wide (link_on side n)
+    → IsReplying plan later wide (link_on side n))
+    → HasBegun plan s side wide turn due → HasBegun plan later side wide turn due
+begun_by plan s later side wide Idle due keeps was = tt
+begun_by plan s later side wide (Asking n) due keeps was = tt
+begun_by plan s later side wide (Asked n ask) None keeps was = tt
+begun_by plan s later side wide (Asked n ask) (Some answer) keeps was = λ late. keeps n ask refl (was late)
+
+module _ (plan : Plan) (s : State) (same_order : (port : ℕ) → order_at plan port ≡ (s.slaves port).order)
+    (dues : AreDue plan s) (link : Link) (known : ℕ) (lanes : List ℕ) where
+  -- a beat of a request leaves the replies that are under way
+  keeps_replying : (beat : AskHead) (wide : ℕ) (at : Link) → IsReplying plan s wide at
+      → IsReplying plan (state_after plan s (ask_at link known lanes beat)) wide at
+  keeps_replying beat wide at was = go (is_link link (side_of at) (number_of at)) refl
+    where
+      go : (here : Bool) → is_link link (side_of at) (number_of at) ≡ here
+          → (begun : ReplyBegun)
+          × ((if here then under_after (s.links (side_of link) (number_of link)) (A beat) known lanes
+          else s.links (side_of at) (number_of at)).replying ≡ Some begun)
+          × (wide_of plan at begun.first.source ≡ wide)
+      go true here = (
+        was.0,
+        ap (λ (l : Link). (s.links (side_of l) (number_of l)).replying) (same_link link at here) ∙ was.1,
+        was.2,
+      )
+      go false here = was
+
+  pub ask_due : (beat : AskHead) → AreDue plan (state_after plan s (ask_at link known lanes beat))
+  ask_due beat side wide = go (is_of plan (ask_at link known lanes beat) side wide) refl
+    where
+      later : State
+      later = state_after plan s (ask_at link known lanes beat)
+
+      go : (of : Bool) → is_of plan (ask_at link known lanes beat) side wide ≡ of
+          → IsDue plan (state_after plan s (ask_at link known lanes beat)) side wide
+          (if of then flight_after plan.layout link (scene_of plan s link (A beat))
+          (A beat) lanes else s.flights side wide)
+      go true is =
+          let found = scene_of plan s link (A beat) in
+          let ended = ask_by found.under beat lanes in
+          let on : link_on side (number_of link) ≡ link =
+          ap (λ sd. link_on sd (number_of link)) (sym (of_is plan (ask_at link known lanes beat) side wide is).0)
+          ∙ own_link link in
+          let goes_by : (ask : Request) → ended ≡ Some ask
+          → port_for plan (link_on side (number_of link)) ask ≡ found.port =
+          λ ask so. ap (λ l. port_for plan l ask) on
+          ∙ ended_goes plan link (s.flights (side_of link) (wide_of plan link beat.source)).turn found.under lanes beat ask
+          so in
+          record {
+            sourced = new_sourced (number_of link) found.port found.slave
+                (takes_effect plan.layout link found.port) (is_at_acceptance found.slave.order) ended;
+            begun = new_begun plan later side wide (number_of link) found.port found.slave
+                (takes_effect plan.layout link found.port) ended found.slave.order
+                (λ ask so. sym (same_order found.port) ∙ ap (λ p. order_at plan p) (sym (goes_by ask so)));
+          }
+      go false is =
+          let was = dues side wide in
+          record {
+            sourced = was.sourced;
+            begun = begun_by plan s later side wide (s.flights side wide).turn
+                (s.flights side wide).due (λ n ask at. keeps_replying beat wide (link_on side n)) was.begun;
+          }
+
+  module _ (beat : ReplyHead) (allowed : IsAllowedReply plan.layout link
+      (scene_of plan s link (D beat)) beat known lanes) where
+    abbrev after : State
+    after = state_after plan s (reply_at link known lanes beat)
+
+    abbrev under : Under
+    under = s.links (side_of link) (number_of link)
+
+    -- its own reply is under way, if it does not end it
+    own_replying : ends_reply under.bus under.replying beat ≡ false
+        → IsReplying plan after (wide_of plan link beat.source) link
+    own_replying goes_on =
+        let begun : ReplyBegun = record {
+          first = unwrap_or (first_reply under.replying) beat;
+          beats = replied_beats under.replying + 1;
+          bytes = replied_bytes under.replying ++ seen_bytes beat.denied known lanes 0 under.bus;
+        } in (
+          begun,
+          ap (λ (h : Bool). (if h then under_after under (D beat) known lanes else under).replying) (own_is link)
+              ∙ ap (λ (b : Bool). if b then None else Some begun) goes_on,
+          ap (λ n. wide_of plan link n) (first_source under.replying beat allowed.fits.same),
+        )
+
+    -- a reply of another source, or at another link, stays under way
+    other_replying : (side : Side) (wide n : ℕ) → is_of plan (reply_at link known lanes beat) side wide ≡ false
+        → IsReplying plan s wide (link_on side n) → IsReplying plan after wide (link_on side n)
+    other_replying side wide n other was =
+        go (is_link link (side_of (link_on side n)) (number_of (link_on side n))) refl
+      where
+        go : (here : Bool) → is_link link (side_of (link_on side n)) (number_of (link_on side n)) ≡ here
+            → (begun : ReplyBegun)
+            × ((if here then under_after (s.links (side_of link) (number_of link)) (D beat) known lanes
+            else s.links (side_of (link_on side n)) (number_of (link_on side n))).replying ≡ Some begun)
+            × (wide_of plan (link_on side n) begun.first.source ≡ wide)
+        go true here =
+            let is : link ≡ link_on side n = same_link link (link_on side n) here in
+            let under_way : (s.links (side_of link) (number_of link)).replying ≡ Some was.0 =
+            ap (λ (l : Link). (s.links (side_of l) (number_of l)).replying) is ∙ was.1 in
+            let source : beat.source ≡ was.0.first.source =
+            (allowed.fits.same was.0.first (ap first_reply under_way)).source in
+            let wide_is : wide_of plan link beat.source ≡ wide =
+            ap (λ k. wide_of plan link k) source ∙ ap (λ l. wide_of plan l was.0.first.source) is ∙ was.2 in
+            let side_is : side_of link ≡ side = ap (λ l. side_of l) is ∙ side_on side n in
+            let mine : is_of plan (reply_at link known lanes beat) side wide ≡ true =
+            subst (λ sd. is_of plan (reply_at link known lanes beat) sd wide ≡ true) side_is
+            (subst (λ w. is_of plan (reply_at link known lanes beat) (side_of link) w ≡ true) wide_is
+            (of_own plan (reply_at link known lanes beat))) in
+            absurd (true_or_false (is_of plan (reply_at link known lanes beat) side wide) mine other)
+        go false here = was
+
+    pub reply_due : AreDue plan (state_after plan s (reply_at link known lanes beat))
+    reply_due side wide = go (is_of plan (reply_at link known lanes beat) side wide) refl
+      where
+        begun_here : (ask : Request) (due : Option Answer) → ends_reply under.bus under.replying beat ≡ false
+            → HasBegun plan after (side_of link) (wide_of plan link beat.source)
+            (Asked (number_of link) ask) due
+        begun_here ask None goes_on = tt
+        begun_here ask (Some answer) goes_on =
+            λ late. subst (λ l. IsReplying plan after (wide_of plan link beat.source) l)
+            (sym (own_link link)) (own_replying goes_on)
+
+        own : (ends : Bool) → ends_reply under.bus under.replying beat ≡ ends
+            → IsDue plan after (side_of link) (wide_of plan link beat.source)
+            (if ends then idle else (scene_of plan s link (D beat)).flight)
+        own true is = record { sourced = tt; begun = tt }
+        own false is =
+            let was = s.flights (side_of link) (wide_of plan link beat.source) in
+            let asked_is = asked_at (number_of link) was.turn _ allowed.answers in
+            let found = found_in plan s link (D beat) in
+            let effect : Bool = takes_effect plan.layout link found.port && begins_reply found.under.replying in
+            let late : Bool = is_at_reply found.slave.order in
+            let before : IsSourced (Asked (number_of link) asked_is.0) was.due =
+            subst (λ t. IsSourced t was.due) asked_is.1
+            (dues (side_of link) (wide_of plan link beat.source)).sourced in
+            record {
+              sourced = subst (λ t. IsSourced t (due_by was.due
+                  (answer_by found.port found.slave (effect_by effect (effect_by late (asked t)))))) (sym asked_is.1)
+                  (late_sourced found.port found.slave effect late (number_of link) asked_is.0 was.due before);
+              begun = subst (λ t. HasBegun plan after (side_of link)
+                  (wide_of plan link beat.source) t (due_by was.due
+                  (answer_by found.port found.slave (effect_by effect (effect_by late (asked t)))))) (sym asked_is.1)
+                  (begun_here asked_is.0 (due_by was.due (answer_by found.port found.slave
+                  (effect_by effect (effect_by late (Some asked_is.0))))) is);
+            }
+
+        go : (of : Bool) → is_of plan (reply_at link known lanes beat) side wide ≡ of
+            → IsDue plan (state_after plan s (reply_at link known lanes beat)) side wide
+            (if of then flight_after plan.layout link (scene_of plan s link (D beat))
+            (D beat) lanes else s.flights side wide)
+        go true is =
+            let both = of_is plan (reply_at link known lanes beat) side wide is in
+            let P : Side → ℕ → Type 0 =
+            λ sd w. IsDue plan after sd w (flight_after plan.layout link (scene_of plan s link (D beat)) (D beat) lanes) in
+            subst (λ sd. P sd wide) both.0 (subst (λ w. P (side_of link) w) both.1
+            (own (ends_reply under.bus under.replying beat) refl))
+        go false is =
+            let was = dues side wide in
+            record {
+              sourced = was.sourced;
+              begun = begun_by plan s after side wide (s.flights side wide).turn
+                  (s.flights side wide).due (λ n ask at. other_replying side wide n is) was.begun;
+            }
+
+pub are_due : (plan : Plan) (past : List Sighting) → AreWatched plan.layout past → IsLawful plan past
+    → AreDue plan (state plan past)
+are_due plan [] watched lawful = λ side wide. record { sourced = tt; begun = tt }
+are_due plan (x ∷ past) watched lawful = go (are_due plan past watched.1 lawful.0) x.beat lawful.1
+  where
+    same_order : (port : ℕ) → order_at plan port ≡ ((state plan past).slaves port).order
+    same_order = orders plan (state plan past) past (are_replayed plan past watched.1 lawful.0)
+
+    go : AreDue plan (state plan past) → (beat : Beat)
+        → IsAllowed plan (scene_of plan (state plan past) x.link beat) (record x { beat = beat })
+        → AreDue plan (state_after plan (state plan past) (record x { beat = beat }))
+    go dues (A beat) allowed = ask_due plan (state plan past) same_order dues x.link x.known x.lanes beat
+    go dues (D beat) allowed =
+        reply_due plan (state plan past) same_order dues x.link x.known x.lanes beat allowed
