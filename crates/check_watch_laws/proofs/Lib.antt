@@ -18,3 +18,7 @@ pub mod Sequential
 pub mod Placing
 pub mod Sorted
 pub mod Turned
+pub mod Standing
+pub mod Crossing
+pub mod Rules
+pub mod Whole

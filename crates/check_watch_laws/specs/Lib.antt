@@ -1,3 +1,5 @@
 pub mod Crossed
 pub mod Messages
 pub mod Memories
+pub mod Crossings
+pub mod Rules

@@ -2,12 +2,15 @@
 ghost use Rattle.std.specs.Prelude.{List, ℕ, ◌≡◌};
 ghost use Rattle.tl_types.specs.Request.{Request};
 ghost use Rattle.check_cells.specs.Pattern.{Pattern};
+ghost use Rattle.check_watch.specs.declared.links.Links.TheVariants.{Both};
 ghost use Rattle.check_watch.specs.Lawful.{IsLawful};
 ghost use Rattle.check_watch.specs.Past.{state};
-ghost use Rattle.check_watch.specs.Plan.{Plan, Sighting};
+ghost use Rattle.check_watch.specs.Plan.{Plan, IsPlan, Sighting};
 ghost use Rattle.check_watch_laws.specs.Crossed.{AreWatched};
+ghost use Rattle.check_watch_laws.specs.Crossings.{MessagesCross};
 ghost use Rattle.check_watch_laws.specs.Memories.{IsDoneAt, asks_done, replay_slave, reset_of};
 ghost use Rattle.check_watch_laws.specs.Messages.{AreMessages};
+ghost use Rattle.check_watch_laws.specs.Rules.{AlwaysKeepsRules, AreSeenWhole};
 
 /// Each channel of a link carries whole messages one after the other, and a beginning of one more; each reply answers a
 /// request that had ended, no request is answered twice, and none of a source begins before the one before it is
@@ -24,4 +27,19 @@ pub fn memories_are_sequential()
         → (port : ℕ) → (history : List (Request × Pattern)) × IsDoneAt plan past port history }
     ensures kept { (plan : Plan) (past : List Sighting) → AreWatched plan.layout past → IsLawful plan past
         → (port : ℕ) → (state plan past).slaves port ≡ replay_slave (reset_of plan port) (asks_done plan port past) }
+{}
+
+/// If both sides are watched, what a port is asked is what a master asked, each request once, and what a master is
+/// answered is what the port answered, as it was captured.
+pub fn messages_cross()
+    ensures { (plan : Plan) (past : List Sighting) → IsPlan plan → plan.layout.links ≡ Both → AreWatched plan.layout past
+        → IsLawful plan past → (wide : ℕ) → MessagesCross plan past wide }
+{}
+
+/// What `lawful` means: at each moment the beats so far are whole messages that come in turn, the replies fit what the
+/// slaves may reply, and messages cross; and each lane that carries a byte, and has to be known, was known.
+pub fn lawful_beats_keep_the_rules()
+    ensures rules { (plan : Plan) (past : List Sighting) → IsPlan plan → AreWatched plan.layout past → IsLawful plan past
+        → AlwaysKeepsRules plan past }
+    ensures lanes { (plan : Plan) (past : List Sighting) → IsLawful plan past → AreSeenWhole plan past }
 {}

@@ -1,13 +1,14 @@
-//! What `lawful` means of links of any width, said of whole lists of beats: laws that a reader can believe without the
-//! judge.
+//! What `lawful` means of links of any width, said of whole lists of beats: three laws that a reader can believe without
+//! the judge.
 //!
 //! `IsLawful` of `check_watch` says beat by beat what may come next, over what the beats before left. The laws here
-//! follow from it and speak of what was captured alone: [`laws::beats_are_messages`] of each link and source, and
-//! [`laws::memories_are_sequential`] of each port.
+//! follow from it and speak of what was captured alone: [`laws::beats_are_messages`] of each link and source,
+//! [`laws::memories_are_sequential`] of each port, [`laws::messages_cross`] of a crossbar both of whose sides are
+//! watched. They hold at each moment ([`laws::lawful_beats_keep_the_rules`]).
 //!
 //! Nothing runs here. Read `specs/Crossed.antt` first (which messages a list of beats shows), and then the file of each
-//! law: `specs/Messages.antt`, `specs/Memories.antt`. `docs/MODEL.md`, "What `lawful` means over links of any width", reads them
-//! aloud.
+//! law: `specs/Messages.antt`, `specs/Memories.antt`, `specs/Crossings.antt`. `docs/MODEL.md`, "What `lawful` means over
+//! links of any width", reads them aloud.
 #![tactic(auto)]
 
 pub mod laws;

@@ -1,0 +1,382 @@
+-- How far the messages of a wide source have come across.
+use Rattle.std.proofs.Common.{◌≡◌, ◌∙◌, ℕ, ◌≤◌, Bool, true, false, if◌then◌else◌, List, [], ◌∷◌, ◌++◌, length, map, filter, zip, Option, Some, None, refl, ap, sym, subst, append-nil}
+use Rattle.std.specs.Prelude.{IsSomeAnd, nat_lt}
+use Rattle.std.proofs.lemmas.List.{map-append}
+use Rattle.std.proofs.lemmas.List.Elements.{filter-append}
+use Rattle.tl_types.specs.Request.{Request}
+use Rattle.check_cells.specs.Pattern.{Pattern, Fits}
+use Rattle.check_flight.specs.declared.answer.Answer.{Answer}
+use Rattle.check_flight.specs.Crossing.{Crossing, given as given_in, IsSameReply}
+use Rattle.check_flight.specs.Crossing.Crossing.{Waiting, Crossed, Given}
+use Rattle.check_flight.specs.Flight.{Turn}
+use Rattle.check_flight.specs.Flight.Turn.{Idle, Asking, Asked}
+use Rattle.check_watch.specs.declared.beat.Link.{Link}
+use Rattle.check_watch.specs.Plan.{Plan}
+use Rattle.check_watch.specs.Plan.Side.{AtPorts}
+use Rattle.check_watch.specs.Scene.{turn_by, given_by}
+use Rattle.check_watch_laws.specs.Crossed.{AskSeen, ReplySeen}
+use Rattle.check_watch_laws.specs.Memories.{widened}
+use Rattle.check_watch_laws.specs.Crossings.{goes_out, sent_out, answered_from_outside, requests_of, IsGiven, AreGiven}
+use Rattle.check_watch_laws.proofs.Lists.{zip_past, zip_more}
+use Rattle.check_watch_laws.proofs.Flights.{pending}
+
+abbrev pub AllGiven : ℕ → List (AskSeen × ReplySeen) → List (AskSeen × ReplySeen) → Type 0
+AllGiven wide [] [] = Unit {0}
+AllGiven wide [] (one ∷ given) = ⊥
+AllGiven wide (seen ∷ more) [] = ⊥
+AllGiven wide (seen ∷ more) (one ∷ given) = IsGiven wide seen one × AllGiven wide more given
+
+given_more : (wide : ℕ) (seen given : List (AskSeen × ReplySeen)) (last one : AskSeen × ReplySeen)
+    → AllGiven wide seen given → IsGiven wide last one → AllGiven wide (seen ++ last ∷ []) (given ++ one ∷ [])
+given_more wide [] [] last one all is = (is, tt)
+given_more wide [] (g ∷ given) last one all is = absurd all
+given_more wide (x ∷ seen) [] last one all is = absurd all
+given_more wide (x ∷ seen) (g ∷ given) last one all is = (all.0, given_more wide seen given last one all.1 is)
+
+pub given_but_one : (wide : ℕ) (seen given rest : List (AskSeen × ReplySeen)) → AllGiven wide seen given
+    → length rest ≤ 1 → AreGiven wide seen (given ++ rest)
+given_but_one wide [] [] rest all few = few
+given_but_one wide [] (g ∷ given) rest all few = absurd all
+given_but_one wide (x ∷ seen) [] rest all few = absurd all
+given_but_one wide (x ∷ seen) (g ∷ given) rest all few = (all.0, given_but_one wide seen given rest all.1 few)
+
+-- what has been seen of a wide source: at masters' links and at ports'
+pub record Story : Type 0 where
+  pub sent : List AskSeen
+  pub collected : List ReplySeen
+  pub taken : List AskSeen
+  pub gave : List ReplySeen
+
+module _ (plan : Plan) (wide : ℕ) where
+  abbrev pub outside : Story → List (AskSeen × ReplySeen)
+  outside story = answered_from_outside plan (zip story.sent story.collected)
+
+  -- nothing is out
+  pub record IsAtRest (story : Story) (there : Turn) : Type 0 where
+    pub same : sent_out plan wide story.sent ≡ requests_of story.taken
+    pub free : pending AtPorts there ≡ []
+    pub given : AllGiven wide (outside story) (zip story.taken story.gave)
+
+  -- this request is, and no port has taken it
+  pub record IsSentOut (story : Story) (ask : Request) (there : Turn) : Type 0 where
+    pub same : sent_out plan wide story.sent ≡ requests_of story.taken ++ record ask { source = wide } ∷ []
+    pub free : pending AtPorts there ≡ []
+    pub given : AllGiven wide (outside story) (zip story.taken story.gave)
+
+  -- a port has it
+  pub record IsTaken (story : Story) (ask : Request) (there : Turn) : Type 0 where
+    pub same : sent_out plan wide story.sent ≡ requests_of story.taken
+    pub port : ℕ
+    pub is : there ≡ Asked port (record ask { source = wide })
+    pub given : AllGiven wide (outside story) (zip story.taken story.gave)
+
+  -- a port has given this answer
+  pub record IsBack (story : Story) (ask : Request) (answer : Answer) (there : Turn) : Type 0 where
+    pub same : sent_out plan wide story.sent ≡ requests_of story.taken
+    pub free : pending AtPorts there ≡ []
+    pub front : List (AskSeen × ReplySeen)
+    pub last : AskSeen × ReplySeen
+    pub split : zip story.taken story.gave ≡ front ++ last ∷ []
+    pub given : AllGiven wide (outside story) front
+    pub ask_is : last.0.ask ≡ record ask { source = wide }
+    pub reply_is : answer.reply ≡ last.1.reply last.0.ask.address
+
+  abbrev pub IsOut : Story → Bool → Request → Crossing → Turn → Type 0
+  IsOut story false ask crossing there = IsAtRest story there
+  IsOut story true ask Waiting there = IsSentOut story ask there
+  IsOut story true ask Crossed there = IsTaken story ask there
+  IsOut story true ask (Given answer) there = IsBack story ask answer there
+
+  abbrev pub is_out : Request → Bool
+  is_out ask = nat_lt (plan.route ask.address ask.size) (length plan.layout.ports)
+
+  -- by what is in flight at masters' links, how far it has come, and what is in flight at ports'
+  abbrev pub Stands : Story → Turn → Crossing → Turn → Type 0
+  Stands story Idle crossing there = IsAtRest story there
+  Stands story (Asking n) crossing there = IsAtRest story there
+  Stands story (Asked n ask) crossing there = IsOut story (is_out ask) ask crossing there
+
+  -- ---- at masters' links
+
+  -- a request more, without its reply
+  outside_asked : (story : Story) (more : List AskSeen) → length story.sent ≡ length story.collected
+      → outside (record story { sent = story.sent ++ more; collected = story.collected ++ [] }) ≡ outside story
+  outside_asked story more counted =
+      ap (λ l. answered_from_outside plan (zip (story.sent ++ more) l)) (append-nil story.collected)
+      ∙ ap (λ l. answered_from_outside plan l) (zip_past story.sent more story.collected counted)
+
+  sent_more : (sent : List AskSeen) (one : AskSeen)
+      → sent_out plan wide (sent ++ one ∷ []) ≡ sent_out plan wide sent
+      ++ (if goes_out plan one then widened wide one ∷ [] else [])
+  sent_more sent one = ap (λ l. map (widened wide) l) (filter-append (goes_out plan) sent (one ∷ []))
+      ∙ map-append (widened wide) (filter (goes_out plan) sent) (if goes_out plan one then one ∷ [] else [])
+      ∙ ap (λ l. sent_out plan wide sent ++ l) (go (goes_out plan one))
+    where
+      go : (out : Bool) → map (widened wide) (if out then one ∷ [] else []) ≡
+          (if out then widened wide one ∷ [] else [])
+      go true = refl
+      go false = refl
+
+  pub master_asks : (story : Story) (link : Link) (n : ℕ) (ask : Request) (ends : Bool) (there : Turn)
+      → IsAtRest story there → length story.sent ≡ length story.collected
+      → Stands (record story {
+        sent = story.sent ++ (if ends then record { link = link; ask = ask } ∷ [] else []);
+        collected = story.collected ++ [];
+      }) (turn_by n (if ends then Some ask else None)) Waiting there
+  master_asks story link n ask false there rest counted = record {
+    same = ap (λ l. sent_out plan wide l) (append-nil story.sent) ∙ rest.same;
+    free = rest.free;
+    given = subst (λ l. AllGiven wide l (zip story.taken story.gave)) (sym (outside_asked story [] counted)) rest.given;
+  }
+  master_asks story link n ask true there rest counted = go (is_out ask) refl
+    where
+      go : (out : Bool) → is_out ask ≡ out → IsOut
+          (record story {
+            sent = story.sent ++ record { link = link; ask = ask } ∷ [];
+            collected = story.collected ++ [];
+          }) out ask Waiting there
+      go true is = record {
+        same = sent_more story.sent (record { link = link; ask = ask })
+            ∙ ap (λ b. sent_out plan wide story.sent ++ (if b then record ask { source = wide } ∷ [] else [])) is
+            ∙ ap (λ l. l ++ record ask { source = wide } ∷ []) rest.same;
+        free = rest.free;
+        given = subst (λ l. AllGiven wide l (zip story.taken story.gave))
+            (sym (outside_asked story (record { link = link; ask = ask } ∷ []) counted)) rest.given;
+      }
+      go false is = record {
+        same = sent_more story.sent (record { link = link; ask = ask })
+            ∙ ap (λ b. sent_out plan wide story.sent ++ (if b then record ask { source = wide } ∷ [] else [])) is
+            ∙ append-nil (sent_out plan wide story.sent) ∙ rest.same;
+        free = rest.free;
+        given = subst (λ l. AllGiven wide l (zip story.taken story.gave))
+            (sym (outside_asked story (record { link = link; ask = ask } ∷ []) counted)) rest.given;
+      }
+
+  -- the reply that a master gets to a request that went out
+  pub record IsGot (ask : Request) (reply : ReplySeen) (crossing : Crossing) : Type 0 where
+    pub must : IsSomeAnd (given_in crossing) (λ answer. IsSameReply answer.reply (reply.reply ask.address))
+    pub own : (reply.reply ask.address).source ≡ ask.source
+
+  -- exchanges with one reply more
+  pub outside_answered : (story : Story) (done : List AskSeen) (last : AskSeen) (reply : ReplySeen)
+      → story.sent ≡ done ++ last ∷ [] → length story.collected ≡ length done
+      → outside (record story { sent = story.sent ++ []; collected = story.collected ++ reply ∷ [] }) ≡ outside story
+      ++ (if goes_out plan last then (last, reply) ∷ [] else [])
+  outside_answered story done last reply is counted =
+      let test : AskSeen × ReplySeen → Bool = λ seen. goes_out plan seen.0 in
+      ap (λ l. answered_from_outside plan (zip l (story.collected ++ reply ∷ []))) (append-nil story.sent ∙ is)
+      ∙ ap (λ l. answered_from_outside plan l) (zip_more done story.collected last reply (sym counted))
+      ∙ filter-append test (zip done story.collected) ((last, reply) ∷ [])
+      ∙ ap (λ l. filter test l ++ (if goes_out plan last then (last, reply) ∷ [] else []))
+      (sym (zip_past done (last ∷ []) story.collected (sym counted)))
+      ∙ ap (λ l. answered_from_outside plan (zip l story.collected)
+      ++ (if goes_out plan last then (last, reply) ∷ [] else [])) (sym is)
+
+  story_same : (story : Story) → story ≡ record story { sent = story.sent ++ []; collected = story.collected ++ [] }
+  story_same story = ap (λ l. record story { sent = l }) (sym (append-nil story.sent))
+      ∙ ap (λ l. record story { sent = story.sent ++ []; collected = l }) (sym (append-nil story.collected))
+
+  pub master_gets : (story : Story) (link : Link) (n : ℕ) (ask : Request) (done : List AskSeen) (reply : ReplySeen)
+      (crossing : Crossing) (there : Turn) → story.sent ≡ done ++ record { link = link; ask = ask } ∷ []
+      → length story.collected ≡ length done
+      → Stands story (Asked n ask) crossing there → (ends : Bool)
+      → (ends ≡ true → is_out ask ≡ true → IsGot ask reply crossing)
+      → Stands (record story {
+        sent = story.sent ++ [];
+        collected = story.collected ++ (if ends then reply ∷ [] else []);
+      })
+      (if ends then Idle else Asked n ask) crossing there
+  master_gets story link n ask done reply crossing there is counted stands false got =
+      subst (λ s. Stands s (Asked n ask) crossing there) (story_same story) stands
+  master_gets story link n ask done reply crossing there is counted stands true got =
+      go (is_out ask) refl crossing stands (got refl)
+    where
+      go : (out : Bool) → is_out ask ≡ out → (crossing : Crossing) → IsOut story out ask crossing there
+          → (is_out ask ≡ true → IsGot ask reply crossing)
+          → IsAtRest (record story {
+            sent = story.sent ++ [];
+            collected = story.collected ++ reply ∷ [];
+          }) there
+      go false out crossing stands got = record {
+        same = ap (λ l. sent_out plan wide l) (append-nil story.sent) ∙ stands.same;
+        free = stands.free;
+        given = subst (λ l. AllGiven wide l (zip story.taken story.gave))
+            (sym (outside_answered story done (record { link = link; ask = ask })
+            (reply) is counted
+            ∙ ap (λ b. outside story ++ (if b then (record { link = link; ask = ask }, reply) ∷ [] else [])) out ∙ append-nil (outside story))) stands.given;
+      }
+      go true out Waiting stands got = absurd (got out).must
+      go true out Crossed stands got = absurd (got out).must
+      go true out (Given answer) stands got =
+          let last : AskSeen = record { link = link; ask = ask } in
+          let this = got out in
+          let one : IsGiven wide (last, reply) stands.last = record {
+            ask = stands.ask_is;
+            reply = subst (λ (r : Pattern). IsSameReply r (reply.reply ask.address)) stands.reply_is this.must;
+            source = this.own;
+          } in
+          let seen : outside story ++ (last, reply)
+          ∷ [] ≡ outside (record story { sent = story.sent ++ []; collected = story.collected ++ reply ∷ [] }) =
+          sym (outside_answered story done last reply is counted
+          ∙ ap (λ b. outside story ++ (if b then (last, reply) ∷ [] else [])) out) in
+          record {
+            same = ap (λ l. sent_out plan wide l) (append-nil story.sent) ∙ stands.same;
+            free = stands.free;
+            given = subst (λ l. AllGiven wide l (zip story.taken story.gave)) seen
+                (subst (λ l. AllGiven wide (outside story ++ (last, reply) ∷ []) l) (sym stands.split)
+                (given_more wide (outside story) stands.front (last, reply) stands.last stands.given one));
+          }
+
+  -- ---- at ports' links
+
+  gave_same : (story : Story) (more : List AskSeen) → length story.taken ≡ length story.gave
+      → zip story.taken story.gave ≡ zip (story.taken ++ more) (story.gave ++ [])
+  gave_same story more counted =
+      sym (zip_past story.taken more story.gave counted)
+      ∙ ap (λ l. zip (story.taken ++ more) l) (sym (append-nil story.gave))
+
+  taken_same : (story : Story) → story ≡ record story { taken = story.taken ++ []; gave = story.gave ++ [] }
+  taken_same story = ap (λ l. record story { taken = l }) (sym (append-nil story.taken))
+      ∙ ap (λ l. record story { taken = story.taken ++ []; gave = l }) (sym (append-nil story.gave))
+
+  not_pending : (there : Turn) (p : ℕ) (ask : Request) → there ≡ Asked p ask → pending AtPorts there ≡ [] → ⊥
+  not_pending there p ask is none = let some : pending AtPorts (Asked p ask) ≡ [] =
+      ap (λ t. pending AtPorts t) (sym is) ∙ none in absurd (cc)
+
+  -- what stands, if nothing is in flight at ports' links before and after
+  stands_free : (story : Story) (turn : Turn) (crossing : Crossing) (there later : Turn) → pending AtPorts there ≡ []
+      → pending AtPorts later ≡ [] → Stands story turn crossing there → Stands story turn crossing later
+  stands_free story Idle crossing there later none free stands =
+      record { same = stands.same; free = free; given = stands.given }
+  stands_free story (Asking n) crossing there later none free stands =
+      record { same = stands.same; free = free; given = stands.given }
+  stands_free story (Asked n ask) crossing there later none free stands = go (is_out ask) crossing stands
+    where
+      go : (out : Bool) (crossing : Crossing) → IsOut story out ask crossing there → IsOut story out ask crossing later
+      go false crossing stands = record { same = stands.same; free = free; given = stands.given }
+      go true Waiting stands = record { same = stands.same; free = free; given = stands.given }
+      go true Crossed stands = absurd (not_pending there stands.port (record ask { source = wide }) stands.is none)
+      go true (Given answer) stands =
+          record {
+            same = stands.same;
+            free = free;
+            front = stands.front;
+            last = stands.last;
+            split = stands.split;
+            given = stands.given;
+            ask_is = stands.ask_is;
+            reply_is = stands.reply_is;
+          }
+
+  -- the request that a port takes is the one that is out
+  pub record IsTheSent (turn : Turn) (crossing : Crossing) (ask : Request) : Type 0 where
+    pub number : ℕ
+    pub sent : Request
+    pub in_flight : turn ≡ Asked number sent
+    pub same : record sent { source = ask.source } ≡ ask
+    pub waits : crossing ≡ Waiting
+    pub out : is_out sent ≡ true
+    pub own : ask.source ≡ wide
+
+  pub port_asks : (story : Story) (link : Link) (p : ℕ) (ask : Request) (turn : Turn) (crossing : Crossing)
+      (there : Turn) → pending AtPorts there ≡ [] → length story.taken ≡ length story.gave
+      → Stands story turn crossing there
+      → (ends : Bool) → (ends ≡ true → IsTheSent turn crossing ask)
+      → Stands (record story {
+        taken = story.taken ++ (if ends then record { link = link; ask = ask } ∷ [] else []);
+        gave = story.gave ++ [];
+      }) turn (if ends then Crossed else crossing)
+      (turn_by p (if ends then Some ask else None))
+  port_asks story link p ask turn crossing there none counted stands false sent =
+      subst (λ s. Stands s turn crossing (Asking p)) (taken_same story)
+      (stands_free story turn crossing there (Asking p) none refl stands)
+  port_asks story link p ask turn crossing there none counted stands true sent =
+      let this = sent refl in
+      let after : Story = record story {
+        taken = story.taken ++ record { link = link; ask = ask } ∷ [];
+        gave = story.gave ++ [];
+      } in
+      let ask_is : record this.sent { source = wide } ≡ ask =
+      ap (λ k. record this.sent { source = k }) (sym this.own) ∙ this.same in
+      let out : IsSentOut story this.sent there =
+      subst (λ b. IsOut story b this.sent Waiting there) this.out
+      (subst (λ c. IsOut story (is_out this.sent) this.sent c there) this.waits
+      (subst (λ t. Stands story t crossing there) this.in_flight stands)) in
+      let taken : IsTaken after this.sent (Asked p ask) = record {
+        same = out.same ∙ ap (λ r. requests_of story.taken ++ r ∷ []) ask_is
+            ∙ sym (map-append (λ (one : AskSeen). one.ask) story.taken (record { link = link; ask = ask } ∷ []));
+        port = p;
+        is = ap (λ r. Asked p r) (sym ask_is);
+        given = subst (λ l. AllGiven wide (outside story) l)
+            (gave_same story (record { link = link; ask = ask } ∷ []) counted) out.given;
+      } in
+      subst (λ t. Stands after t Crossed (Asked p ask)) (sym this.in_flight)
+      (subst (λ b. IsOut after b this.sent Crossed (Asked p ask)) (sym this.out) taken)
+
+  -- the reply that a port gives
+  pub record IsItsGift (ask : Request) (reply : ReplySeen) (got : Pattern) (due : Option Answer) : Type 0 where
+    pub must : IsSomeAnd due (λ answer. Fits answer.reply got)
+    pub is : got ≡ reply.reply ask.address
+
+  back : (story : Story) (link : Link) (p : ℕ) (ask : Request) (done : List AskSeen) (reply : ReplySeen)
+      (got : Pattern) (sent : Request) (there : Turn) (due : Option Answer) → there ≡ Asked p ask
+      → story.taken ≡ done ++ record { link = link; ask = ask } ∷ [] → length story.gave ≡ length done
+      → IsTaken story sent there → IsItsGift ask reply got due
+      → IsOut (record story {
+        taken = story.taken ++ [];
+        gave = story.gave ++ reply ∷ [];
+      }) true sent (given_by due got Crossed) Idle
+  back story link p ask done reply got sent there None is taken_is counted taken gift = absurd gift.must
+  back story link p ask done reply got sent there (Some answer) is taken_is counted taken gift =
+      let last : AskSeen = record { link = link; ask = ask } in
+      let ask_is : ask ≡ record sent { source = wide } = same_ask (sym is ∙ taken.is) in
+      record {
+        same = taken.same ∙ ap (λ l. requests_of l) (sym (append-nil story.taken));
+        free = refl;
+        front = zip story.taken story.gave;
+        last = (last, reply);
+        split = ap (λ l. zip l (story.gave ++ reply ∷ [])) (append-nil story.taken ∙ taken_is)
+            ∙ zip_more done story.gave last reply (sym counted)
+            ∙ ap (λ l. l ++ (last, reply) ∷ []) (sym (zip_past done (last ∷ []) story.gave (sym counted))
+            ∙ ap (λ l. zip l story.gave) (sym taken_is));
+        given = taken.given;
+        ask_is = ask_is;
+        reply_is = gift.is;
+      }
+    where
+      request_in : Turn → Request
+      request_in Idle = ask
+      request_in (Asking n) = ask
+      request_in (Asked n r) = r
+
+      same_ask : Asked p ask ≡ Asked taken.port (record sent { source = wide }) → ask ≡ record sent { source = wide }
+      same_ask e = ap request_in e
+
+  pub port_gives : (story : Story) (link : Link) (p : ℕ) (ask : Request) (done : List AskSeen) (reply : ReplySeen)
+      (got : Pattern) (turn : Turn) (crossing : Crossing) (there : Turn) (due : Option Answer) → there ≡ Asked p ask
+      → story.taken ≡ done ++ record { link = link; ask = ask } ∷ []
+      → length story.gave ≡ length done → Stands story turn crossing there → (ends : Bool)
+      → (ends ≡ true → IsItsGift ask reply got due)
+      → Stands (record story {
+        taken = story.taken ++ [];
+        gave = story.gave ++ (if ends then reply ∷ [] else []);
+      }) turn
+      (if ends then given_by due got crossing else crossing) (if ends then Idle else there)
+  port_gives story link p ask done reply got turn crossing there due is taken_is counted stands false gift =
+      subst (λ s. Stands s turn crossing there) (taken_same story) stands
+  port_gives story link p ask done reply got Idle crossing there due is taken_is counted stands true gift =
+      absurd (not_pending there p ask is stands.free)
+  port_gives story link p ask done reply got (Asking n) crossing there due is taken_is counted stands true gift =
+      absurd (not_pending there p ask is stands.free)
+  port_gives story link p ask done reply got (Asked n sent) crossing there due is taken_is counted stands true gift =
+      go (is_out sent) crossing stands
+    where
+      go : (out : Bool) (crossing : Crossing) → IsOut story out sent crossing there
+          → IsOut (record story {
+            taken = story.taken ++ [];
+            gave = story.gave ++ reply ∷ [];
+          }) out sent (given_by due got crossing) Idle
+      go false crossing stands = absurd (not_pending there p ask is stands.free)
+      go true Waiting stands = absurd (not_pending there p ask is stands.free)
+      go true (Given answer) stands = absurd (not_pending there p ask is stands.free)
+      go true Crossed stands = back story link p ask done reply got sent there due is taken_is counted stands (gift refl)

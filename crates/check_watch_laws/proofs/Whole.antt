@@ -1,0 +1,93 @@
+-- Each lane of a lawful beat that carries a byte, and has to be known, was known.
+use Rattle.std.proofs.Common.{◌≡◌, ◌∙◌, ℕ, Bool, true, false, if◌then◌else◌, List, [], ◌∷◌, Option, Some, None, refl, ap, sym, subst, eqb-true}
+use Rattle.std.specs.Prelude.{◌==◌, ◌||◌}
+use Rattle.tl_types.specs.Request.{Request}
+use Rattle.check_beats.specs.State.{Under}
+use Rattle.check_memory.specs.declared.slave.Slave.{Slave}
+use Rattle.check_memory.specs.declared.slave.Slave.TheVariants.{Memory, Device}
+use Rattle.check_memory.specs.Slave.{slave_after}
+use Rattle.check_flight.specs.PortSlave.{PortSlave, is_device, may_be_unknown, slave_by}
+use Rattle.check_watch.specs.declared.beat.Beat.{Beat}
+use Rattle.check_watch.specs.declared.beat.Beat.TheVariants.{A, D}
+use Rattle.check_watch.specs.declared.beat.Link.{Link}
+use Rattle.check_watch.specs.Allowed.{HasKnownLanes, IsAnswer}
+use Rattle.check_watch.specs.Lawful.{IsLawful, IsAllowed}
+use Rattle.check_watch.specs.Past.{State, found_in, scene_of, scene, state}
+use Rattle.check_watch.specs.Plan.{Plan, Sighting, side_of, number_of, wide_of, bus_of}
+use Rattle.check_watch.specs.Scene.{effect, late_effect}
+use Rattle.check_watch_laws.specs.Crossed.{AskSeen}
+use Rattle.check_watch_laws.specs.Memories.{port_for, reset_of}
+use Rattle.check_watch_laws.specs.Rules.{IsSeenWhole, AreSeenWhole}
+use Rattle.check_watch_laws.proofs.Done.{reply_goes}
+use Rattle.check_watch_laws.proofs.Flights.{in_step}
+use Rattle.check_watch_laws.proofs.Links.{links_are}
+use Rattle.check_watch_laws.proofs.Taking.{next_is}
+use Rattle.check_watch_laws.proofs.Turns.{asked_at}
+
+-- ---- whether lanes may be unknown stays as it is at reset
+
+device_stays : (kept : Slave) (ask : Request) → is_device (slave_after kept ask) ≡ is_device kept
+device_stays (Memory memory) ask = refl
+device_stays Device ask = refl
+
+lanes_stay : (slave : PortSlave) (did : Option Request) → may_be_unknown (slave_by slave did) ≡ may_be_unknown slave
+lanes_stay slave None = refl
+lanes_stay slave (Some ask) = ap (λ b. b || slave.unknown) (device_stays slave.kept ask)
+
+-- the slave that a beat finds, once the request that it answers has taken effect
+slave_found : (plan : Plan) (s : State) (link : Link) (beat : Beat)
+    → may_be_unknown (scene_of plan s link beat).slave ≡ may_be_unknown (s.slaves (scene_of plan s link beat).port)
+slave_found plan s link (A beat) = refl
+slave_found plan s link (D beat) =
+    let found = found_in plan s link (D beat) in
+    lanes_stay found.slave
+    (late_effect plan.layout link found.port found.slave found.under.replying found.flight.turn)
+
+unknown_stays : (plan : Plan) (past : List Sighting) (port : ℕ)
+    → may_be_unknown ((state plan past).slaves port) ≡ may_be_unknown (reset_of plan port)
+unknown_stays plan [] port = refl
+unknown_stays plan (x ∷ past) port = go ((scene plan past x).port == port) refl (unknown_stays plan past port)
+  where
+    go : (here : Bool) → ((scene plan past x).port == port) ≡ here
+        → may_be_unknown ((state plan past).slaves port) ≡ may_be_unknown (reset_of plan port)
+        → may_be_unknown (if here then slave_by (scene plan past x).slave
+        (effect plan.layout x.link (scene plan past x) x.beat x.lanes) else (state plan past).slaves port)
+        ≡ may_be_unknown (reset_of plan port)
+    go true is before =
+        lanes_stay (scene plan past x).slave (effect plan.layout x.link (scene plan past x) x.beat x.lanes)
+        ∙ slave_found plan (state plan past) x.link x.beat
+        ∙ ap (λ p. may_be_unknown ((state plan past).slaves p)) (eqb-true (scene plan past x).port port is) ∙ before
+    go false is before = before
+
+-- ---- lanes
+
+abbrev ask_in : Request → List AskSeen → Request
+ask_in other [] = other
+ask_in other (seen ∷ more) = seen.ask
+
+pub seen_whole : (plan : Plan) (past : List Sighting) → IsLawful plan past → AreSeenWhole plan past
+seen_whole plan [] lawful = tt
+seen_whole plan (x ∷ past) lawful = (seen_whole plan past lawful.0, go x.beat lawful.1)
+  where
+    go : (beat : Beat) → IsAllowed plan (scene_of plan (state plan past) x.link beat)
+        (record x { beat = beat }) → IsSeenWhole plan past (record x { beat = beat }) beat
+    go (A beat) allowed = allowed.known_lanes
+    go (D beat) allowed = λ ask next.
+        let s = state plan past in
+        let wide = wide_of plan x.link beat.source in
+        let turn = (s.flights (side_of x.link) wide).turn in
+        let here = scene_of plan s x.link (D beat) in
+        let found = asked_at (number_of x.link) turn
+        (IsAnswer here.under.bus (may_be_unknown here.slave) beat x.known) allowed.answers in
+        let also = next_is plan past x.link wide turn found.0 (in_step plan past lawful.0 (side_of x.link) wide) found.1
+        in
+        let same : found.0 ≡ ask = ap (λ l. ask_in ask l) (sym also ∙ next) in
+        let unknown : may_be_unknown here.slave ≡ may_be_unknown (reset_of plan (port_for plan x.link found.0)) =
+        slave_found plan s x.link (D beat) ∙ unknown_stays plan past here.port
+        ∙ ap (λ p. may_be_unknown (reset_of plan p)) (sym (reply_goes plan x.link turn (number_of x.link) beat found.0
+        found.1)) in
+        let bus : here.under.bus ≡ bus_of plan.layout x.link = ap (λ (u : Under). u.bus) (links_are plan past x.link) in
+        subst (λ r. HasKnownLanes (bus_of plan.layout x.link)
+        (may_be_unknown (reset_of plan (port_for plan x.link r))) r beat x.known) same
+        (subst (λ b. HasKnownLanes (bus_of plan.layout x.link) b found.0 beat x.known) unknown
+        (subst (λ n. HasKnownLanes n (may_be_unknown here.slave) found.0 beat x.known) bus found.2.lanes))

@@ -1,0 +1,58 @@
+-- What lawful beats say of a crossbar both of whose sides are watched: what its ports are asked is what its masters
+-- asked, and what its masters are answered is what its ports answered. It is this project's own.
+use Rattle.std.specs.Prelude.{◌≡◌, ℕ, ◌≤◌, Bool, nat_lt, List, [], ◌∷◌, ◌++◌, length, map, filter}
+use Rattle.std.specs.List.{AllByRecursion}
+use Rattle.tl_types.specs.Request.{Request}
+use Rattle.check_map.specs.Owner.{IsWide}
+use Rattle.check_flight.specs.Crossing.{IsSameReply}
+use Rattle.check_watch.specs.declared.beat.Link.TheVariants.{Master}
+use Rattle.check_watch.specs.Plan.{Plan, Layout, Sighting}
+use Rattle.check_watch.specs.Plan.Side.{AtMasters, AtPorts}
+use Rattle.check_watch_laws.specs.Crossed.{AskSeen, ReplySeen, asks, exchanges}
+use Rattle.check_watch_laws.specs.Memories.{widened}
+
+-- the request is one of the master that has this wide source
+abbrev pub IsOwned : Layout → ℕ → AskSeen → Type 0
+IsOwned layout wide seen = (master : ℕ) × (seen.link ≡ Master master) × IsWide layout.owners master seen.ask.source wide
+
+-- the request goes to a port that has a link, and not to the error port
+abbrev pub goes_out : Plan → AskSeen → Bool
+goes_out plan seen = nat_lt (plan.route seen.ask.address seen.ask.size) (length plan.layout.ports)
+
+-- the requests of a wide source that masters sent to such ports, each with the wide source
+abbrev pub sent_out : Plan → ℕ → List AskSeen → List Request
+sent_out plan wide sent = map (widened wide) (filter (goes_out plan) sent)
+
+-- the same with their replies, as masters saw them
+abbrev pub answered_from_outside : Plan → List (AskSeen × ReplySeen) → List (AskSeen × ReplySeen)
+answered_from_outside plan seen = filter (λ (one : AskSeen × ReplySeen). goes_out plan one.0) seen
+
+-- the requests alone
+abbrev pub requests_of : List AskSeen → List Request
+requests_of seen = map (λ (one : AskSeen). one.ask) seen
+
+-- what a master saw is what a port saw: the request, and the reply as it was captured, each the same but for the source;
+-- and the master saw its own source in both
+pub record IsGiven (wide : ℕ) (at_master at_port : AskSeen × ReplySeen) : Type 0 where
+  pub ask : at_port.0.ask ≡ widened wide at_master.0
+  pub reply : IsSameReply (at_port.1.reply at_port.0.ask.address) (at_master.1.reply at_master.0.ask.address)
+  pub source : (at_master.1.reply at_master.0.ask.address).source ≡ at_master.0.ask.source
+
+-- one by one; one reply more may have been given, and not come to its master yet
+abbrev pub AreGiven : ℕ → List (AskSeen × ReplySeen) → List (AskSeen × ReplySeen) → Type 0
+AreGiven wide [] given = length given ≤ 1
+AreGiven wide (seen ∷ more) [] = ⊥
+AreGiven wide (seen ∷ more) (one ∷ given) = IsGiven wide seen one × AreGiven wide more given
+
+-- the messages of a wide source cross
+pub record MessagesCross (plan : Plan) (past : List Sighting) (wide : ℕ) : Type 0 where
+  -- masters' requests of it are those of the master that has it
+  pub owned : AllByRecursion (IsOwned plan.layout wide) (asks plan AtMasters wide past)
+  -- ports' requests of it are, in order, those that the master sent out, each once; the last may not have crossed yet
+  pub waiting : List Request
+  pub requests : sent_out plan wide (asks plan AtMasters wide past) ≡ requests_of (asks plan AtPorts wide past)
+      ++ waiting
+  pub one_waits : length waiting ≤ 1
+  -- a reply to a request that went out is the one that the port gave to it
+  pub given : AreGiven wide (answered_from_outside plan (exchanges plan AtMasters wide past))
+      (exchanges plan AtPorts wide past)
