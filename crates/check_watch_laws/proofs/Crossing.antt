@@ -39,7 +39,7 @@ use Rattle.check_watch_laws.proofs.Standing.{Story, IsAtRest, IsOut, is_out, Sta
 use Rattle.check_watch_laws.proofs.Taking.{less}
 use Rattle.check_watch_laws.proofs.Turns.{asks_fly, open_before, asked_at}
 
-last_of_all : {X : Type 0} (P : X → Type 0) (xs : List X) (x : X) → AllByRecursion P (xs ++ x ∷ []) → P x
+pub last_of_all : {X : Type 0} (P : X → Type 0) (xs : List X) (x : X) → AllByRecursion P (xs ++ x ∷ []) → P x
 last_of_all P [] x all = all.0
 last_of_all P (y ∷ xs) x all = last_of_all P xs x all.1
 

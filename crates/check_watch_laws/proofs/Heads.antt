@@ -1,5 +1,5 @@
 -- The beats of a message that is under way have the fields of its first beat.
-use Rattle.std.proofs.Common.{◌≡◌, ◌∙◌, ℕ, ◌+◌, Bool, true, false, if◌then◌else◌, List, [], ◌∷◌, ◌++◌, Option, Some, None, slice_get, unwrap_or, refl, ap, sym, subst}
+use Rattle.std.proofs.Common.{arith, length, ◌≡◌, ◌∙◌, ℕ, ◌+◌, Bool, true, false, if◌then◌else◌, List, [], ◌∷◌, ◌++◌, Option, Some, None, slice_get, unwrap_or, refl, ap, sym, subst}
 use Rattle.check_beats.specs.Bus.{bus_bytes, bus_log}
 use Rattle.check_beats.specs.Form.{SameFields, SameReplyFields}
 use Rattle.check_beats.specs.Laws.{AreFitting, asking, begun, AreFittingReplies, replying, begun_reply}
@@ -16,6 +16,7 @@ use Rattle.check_beats.proofs.ReplySpelled.{gathered_past as replies_gathered}
 
 pub record AskHeads (kept : Option AskBegun) (beats : List AskBeat) : Type 0 where
   pub empty : kept ≡ None → beats ≡ []
+  pub some : (b : AskBegun) → kept ≡ Some b → beats ≡ [] → ⊥
   pub each : (k : ℕ) (x : AskBeat) → slice_get beats k ≡ Some x → (h : AskHead) → first_ask kept ≡ Some h
       → SameFields h x.head
 
@@ -23,7 +24,7 @@ pub ask_heads : (n : ℕ) (bus : Bus) → bus_bytes bus ≡ n → (past : List A
     → AskHeads (asking n past) (begun n past)
 ask_heads n bus is past = subst (λ m. AreFitting m past → AskHeads (asking m past) (begun m past)) is
     (λ fits. let all = gathered_past (bus_log bus) past fits in
-    record { empty = all.empty; each = λ k x at. (all.each k x at).1 })
+    record { empty = all.empty; some = λ b so none. absurd (omega (arith, (all.kept.of b so).some, sym all.counted ∙ ap (λ (l : List AskBeat). length l) none, ap asked_beats so)); each = λ k x at. (all.each k x at).1 })
 
 -- what is kept of beats of which there is a first
 pub ask_first : (kept : Option AskBegun) (beats : List AskBeat) (first : AskBeat) (more : List AskBeat)
@@ -55,6 +56,7 @@ first_after n kept beat lanes b = go (ends_ask n kept beat)
 
 pub record ReplyHeads (kept : Option ReplyBegun) (beats : List ReplyBeat) : Type 0 where
   pub empty : kept ≡ None → beats ≡ []
+  pub some : (b : ReplyBegun) → kept ≡ Some b → beats ≡ [] → ⊥
   pub each : (k : ℕ) (x : ReplyBeat) → slice_get beats k ≡ Some x → (h : ReplyHead) → first_reply kept ≡ Some h
       → SameReplyFields h x.head
 
@@ -63,7 +65,7 @@ pub reply_heads : (n : ℕ) (bus : Bus) → bus_bytes bus ≡ n → (past : List
 reply_heads n bus is past =
     subst (λ m. AreFittingReplies m past → ReplyHeads (replying m past) (begun_reply m past)) is
     (λ fits. let all = replies_gathered (bus_log bus) past fits in
-    record { empty = all.empty; each = λ k x at. (all.each k x at).1 })
+    record { empty = all.empty; some = λ b so none. absurd (omega (arith, (all.kept.of b so).some, sym all.counted ∙ ap (λ (l : List ReplyBeat). length l) none, ap replied_beats so)); each = λ k x at. (all.each k x at).1 })
 
 pub reply_first : (kept : Option ReplyBegun) (beats : List ReplyBeat) (first : ReplyBeat) (more : List ReplyBeat)
     → ReplyHeads kept beats → beats ≡ first ∷ more

@@ -22,3 +22,9 @@ pub mod Standing
 pub mod Crossing
 pub mod Rules
 pub mod Whole
+pub mod Begun
+pub mod BackForm
+pub mod BackTurns
+pub mod BackCross
+pub mod BackReplies
+pub mod Back

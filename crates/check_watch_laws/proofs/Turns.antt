@@ -105,3 +105,9 @@ module _ (plan : Plan) (s : State) where
   pub mine : (x : Sighting) (side : Side) (wide : ℕ) (P : Turn → Type 0) → is_of plan x side wide ≡ true
       → P (s.flights side wide).turn → P (s.flights (side_of x.link) (wide_of plan x.link (source_of x.beat))).turn
   mine x side wide P same is = let both = of_is plan x side wide same in rw (both.0, both.1) is
+
+pub same_side-true : (a b : Side) → same_side a b ≡ true → a ≡ b
+same_side-true AtMasters AtMasters is = refl
+same_side-true AtMasters AtPorts is = cc
+same_side-true AtPorts AtMasters is = cc
+same_side-true AtPorts AtPorts is = refl

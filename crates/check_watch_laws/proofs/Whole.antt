@@ -35,7 +35,7 @@ lanes_stay slave None = refl
 lanes_stay slave (Some ask) = ap (λ b. b || slave.unknown) (device_stays slave.kept ask)
 
 -- the slave that a beat finds, once the request that it answers has taken effect
-slave_found : (plan : Plan) (s : State) (link : Link) (beat : Beat)
+pub slave_found : (plan : Plan) (s : State) (link : Link) (beat : Beat)
     → may_be_unknown (scene_of plan s link beat).slave ≡ may_be_unknown (s.slaves (scene_of plan s link beat).port)
 slave_found plan s link (A beat) = refl
 slave_found plan s link (D beat) =
@@ -43,7 +43,7 @@ slave_found plan s link (D beat) =
     lanes_stay found.slave
     (late_effect plan.layout link found.port found.slave found.under.replying found.flight.turn)
 
-unknown_stays : (plan : Plan) (past : List Sighting) (port : ℕ)
+pub unknown_stays : (plan : Plan) (past : List Sighting) (port : ℕ)
     → may_be_unknown ((state plan past).slaves port) ≡ may_be_unknown (reset_of plan port)
 unknown_stays plan [] port = refl
 unknown_stays plan (x ∷ past) port = go ((scene plan past x).port == port) refl (unknown_stays plan past port)

@@ -43,3 +43,9 @@ pub fn lawful_beats_keep_the_rules()
         → AlwaysKeepsRules plan past }
     ensures lanes { (plan : Plan) (past : List Sighting) → IsLawful plan past → AreSeenWhole plan past }
 {}
+
+/// And the way back: beats that keep these rules at each moment are lawful.
+pub fn beats_that_keep_the_rules_are_lawful()
+    ensures { (plan : Plan) (past : List Sighting) → IsPlan plan → AreWatched plan.layout past → AreSeenWhole plan past
+        → AlwaysKeepsRules plan past → IsLawful plan past }
+{}

@@ -4,7 +4,8 @@
 //! `IsLawful` of `check_watch` says beat by beat what may come next, over what the beats before left. The laws here
 //! follow from it and speak of what was captured alone: [`laws::beats_are_messages`] of each link and source,
 //! [`laws::memories_are_sequential`] of each port, [`laws::messages_cross`] of a crossbar both of whose sides are
-//! watched. They hold at each moment ([`laws::lawful_beats_keep_the_rules`]).
+//! watched. They hold at each moment ([`laws::lawful_beats_keep_the_rules`]), and beats of which they hold so are lawful
+//! ([`laws::beats_that_keep_the_rules_are_lawful`]).
 //!
 //! Nothing runs here. Read `specs/Crossed.antt` first (which messages a list of beats shows), and then the file of each
 //! law: `specs/Messages.antt`, `specs/Memories.antt`, `specs/Crossings.antt`. `docs/MODEL.md`, "What `lawful` means over
