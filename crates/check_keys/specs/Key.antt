@@ -1,0 +1,23 @@
+-- The keys of a system file. This project's own.
+use Rattle.std.specs.Prelude.{ℕ, List, codes}
+use Rattle.check_keys.specs.declared.fault.Key.{Key}
+use Rattle.check_keys.specs.declared.fault.Key.TheVariants.{Bus, Port, Name, Kind, Base, Length, Ranges, Reset, Image, Unknown, Sizes, Order, Master, Sources, First, Stride}
+
+-- the key, as a file has it
+abbrev pub key_name : Key → List ℕ
+key_name Bus = codes "bus"
+key_name Port = codes "port"
+key_name Name = codes "name"
+key_name Kind = codes "kind"
+key_name Base = codes "base"
+key_name Length = codes "length"
+key_name Ranges = codes "ranges"
+key_name Reset = codes "reset"
+key_name Image = codes "image"
+key_name Unknown = codes "unknown"
+key_name Sizes = codes "sizes"
+key_name Order = codes "order"
+key_name Master = codes "master"
+key_name Sources = codes "sources"
+key_name First = codes "first"
+key_name Stride = codes "stride"

@@ -1,0 +1,5 @@
+pub mod Key
+pub mod Reading
+pub mod Value
+pub mod Name
+pub mod Bus

@@ -1,0 +1,23 @@
+//! The keys of a system file of the judge: which there are, how the value at each is read, and the faults that name them.
+//!
+//! A value is absent, of the wrong type or out of range, and each reader answers exactly what its definition gives
+//! (`specs/Value.antt`), or want of memory. [`SystemFault`] has the faults of whole files, in the words in which the
+//! program tells them. The names of ports and masters (`specs/Name.antt`) and the buses of links (`specs/Bus.antt`)
+//! are read here, since several tables have these keys. Which keys a port has is the crate `check_ports`.
+//!
+//! Only here is a table of the crate `toml` looked into. Read on in `docs/MODEL.md`, "Keys of system files".
+#![tactic(auto)]
+
+mod bus;
+mod fault;
+pub mod laws;
+mod name;
+mod value;
+
+pub use bus::bus_at;
+pub use fault::{Key, SystemFault};
+pub use name::{MAX_NAME, name_at};
+pub use value::{
+    LAST_INTEGER, array_of, bytes_of, find_member, find_value, flag_at, in_range, number_at,
+    number_if_any, number_of, pair_of, table_of, tables_of, text_if_any, text_of, value_at,
+};
