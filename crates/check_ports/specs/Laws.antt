@@ -6,8 +6,11 @@ use Rattle.tl_ops.specs.declared.kind.Kind.{Kind}
 use Rattle.check_memory.specs.Known.{known}
 use Rattle.check_memory.specs.Laws.{one_range}
 use Rattle.check_memory.specs.declared.slave.Slave.TheVariants as kept
+use Rattle.check_flight.specs.Laws.{IsWholeMemory}
+use Rattle.check_flight.specs.declared.order.Order.{Order}
 use Rattle.check_ports.specs.Port.{Port}
-use Rattle.check_ports.specs.Slave.{kept_at_reset}
+use Rattle.check_ports.specs.Ranges.{AreRangesOfPort, first_length}
+use Rattle.check_ports.specs.Slave.{error_slave, kept_at_reset}
 use Rattle.check_ports.specs.declared.kind.PortKind.TheVariants.{Memory}
 
 -- ---- a port that is wholly known at reset
@@ -47,3 +50,24 @@ KeepsItsStore =
     let beyond = replicate (2 ^ 64 - (range.base + range.length)) 0 in
     kept_at_reset port image
     ≡ kept.Memory (one_range store (known (replicate range.base 0 ++ (store.bytes ++ beyond))))
+
+-- ---- ports that answer no unknown byte
+
+-- the port is a memory of this kind of which no byte is unknown, and what is put there fits in its first range
+pub record IsKnownMemory (kind : Kind) (port : Port) (image : List ℕ) : Type 0 where
+  pub kind_is : port.kind ≡ Memory kind
+  pub known : port.contents.unknown ≡ false
+  pub lawful : AreRangesOfPort port.ranges
+  pub reset_fits : length port.contents.reset ≤ first_length port.ranges
+  pub image_fits : length image ≤ first_length port.ranges
+
+-- all bytes of such a port are known before any request, in whatever ranges; and afterwards they stay so
+-- (`WholeSlaveStaysWhole` of `check_flight`)
+abbrev pub KnownPortIsWhole : Type 0
+KnownPortIsWhole =
+    (kind : Kind) (port : Port) (image : List ℕ) → IsKnownMemory kind port image
+    → IsWholeMemory (kept_at_reset port image)
+
+-- the same of the error port
+abbrev pub ErrorPortIsWhole : Type 0
+ErrorPortIsWhole = (order : Order) → IsWholeMemory (error_slave order).kept

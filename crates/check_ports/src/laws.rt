@@ -1,8 +1,18 @@
 //! Laws of ports, each on a function that does nothing but carry it.
-ghost use Rattle.check_ports.specs.Laws.{KeepsItsStore};
+ghost use Rattle.check_ports.specs.Laws.{ErrorPortIsWhole, KeepsItsStore, KnownPortIsWhole};
 
 /// A port of one range that is wholly known at reset keeps a store of `tl_ops`: the bytes of its image, those of its
 /// reset over them, and zeros.
 pub fn a_plain_port_keeps_its_store()
     ensures { KeepsItsStore }
+{}
+
+/// A port that says of no byte that it is unknown knows all its bytes at reset, so no reply of it may have unknown lanes.
+pub fn a_known_port_is_whole()
+    ensures { KnownPortIsWhole }
+{}
+
+/// So does the error port.
+pub fn the_error_port_is_whole()
+    ensures { ErrorPortIsWhole }
 {}
