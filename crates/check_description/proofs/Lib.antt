@@ -1,0 +1,4 @@
+pub mod Views
+pub mod NameLemmas
+pub mod BlockLemmas
+pub mod PortRanges

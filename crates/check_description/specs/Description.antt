@@ -1,0 +1,59 @@
+-- Which description the parts of a file make, and the first fault of parts that make none. This project's own.
+use Rattle.std.specs.Prelude.{◌≡◌, ◌≢◌, List, map}
+use Rattle.tl_map.specs.declared.map.Range.{Range}
+use Rattle.check_map.specs.Ranges.{IsFirstMapFault, IsLawfulMap}
+use Rattle.check_map.specs.Sources.{AreLawfulOwners}
+use Rattle.check_map.specs.declared.map.MapFault.{MapFault}
+use Rattle.check_map.specs.declared.map.MapFault.TheVariants.{Memory as MapMemory}
+use Rattle.check_map.specs.declared.sources.Owner.{Owner}
+use Rattle.check_map.specs.declared.sources.SourceFault.{SourceFault}
+use Rattle.check_map.specs.declared.sources.SourceFault.TheVariants.{Memory as SourceMemory}
+use Rattle.check_keys.specs.declared.fault.SystemFault.{SystemFault}
+use Rattle.check_keys.specs.declared.fault.SystemFault.TheVariants.{Map, Sources}
+use Rattle.check_ports.specs.Port.{Port, port_view}
+use Rattle.check_ports.specs.declared.port.Port as code_port
+use Rattle.check_description.specs.File.{Parts}
+use Rattle.check_description.specs.Master.{HasOwners, IsFirstOwnerFault, Master, master_view}
+use Rattle.check_description.specs.declared.masters.Master as code_master
+
+-- the ports, the masters as the file has them, and which wide sources are each master's
+pub record Description : Type 0 where
+  pub ports : List Port
+  pub masters : List Master
+  pub owners : List Owner
+
+-- the ranges of each port
+abbrev pub ranges_of : List Port → List (List Range)
+ranges_of ports = map (λ (port : Port). port.ranges) ports
+
+-- the description of these parts
+abbrev pub described : List code_port.Port → List code_master.Master → List Owner → Description
+described ports masters owners =
+    record { ports = map port_view ports; masters = map master_view masters; owners = owners }
+
+-- ---- what parts make
+
+-- the parts make this description: their ranges make a map, and the owners are those of the masters and share nothing
+pub record Makes (parts : Parts) (description : Description) : Type 0 where
+  pub map : IsLawfulMap (ranges_of parts.ports)
+  pub owners : HasOwners parts.masters description.owners
+  pub sources : AreLawfulOwners description.owners
+  pub ports : description.ports ≡ parts.ports
+  pub masters : description.masters ≡ parts.masters
+
+-- the fault is one of the map, and not want of memory
+abbrev pub IsOfMap : (MapFault → Type 0) → SystemFault → Type 0
+IsOfMap P (Map fault) = (fault ≢ MapMemory) × P fault
+IsOfMap P fault = ⊥
+
+-- the fault is one of the sources, and not want of memory
+abbrev pub IsOfSources : (SourceFault → Type 0) → SystemFault → Type 0
+IsOfSources P (Sources fault) = (fault ≢ SourceMemory) × P fault
+IsOfSources P fault = ⊥
+
+-- the first fault of parts that make no description: that of the ranges, or if these make a map, that of the sources
+abbrev pub IsFirstFaultOf : Parts → SystemFault → Type 0
+IsFirstFaultOf parts (Map fault) = (fault ≢ MapMemory) × IsFirstMapFault (ranges_of parts.ports) fault
+IsFirstFaultOf parts (Sources fault) =
+    IsLawfulMap (ranges_of parts.ports) × (fault ≢ SourceMemory) × IsFirstOwnerFault parts.masters fault
+IsFirstFaultOf parts fault = ⊥

@@ -1,0 +1,4 @@
+pub mod Master
+pub mod File
+pub mod Name
+pub mod Description

@@ -1,0 +1,131 @@
+//! Descriptions: the ports and masters of a file, with their addresses and their wide sources.
+ghost use Rattle.std.specs.Prelude.{◌≡◌, ◌≢◌, IfErr, IfOk, OnOk, map};
+ghost use Rattle.check_map.specs.Ranges.{AreRanges, IsFirstMapFault, IsLawfulMap};
+ghost use Rattle.check_keys.specs.declared.fault.SystemFault.TheVariants.{Memory};
+ghost use Rattle.check_ports.specs.Port.{port_view};
+ghost use Rattle.check_description.specs.Description.{IsFirstFaultOf, IsOfMap, Makes, described, ranges_of};
+ghost use Rattle.check_description.specs.File.{parts_view};
+ghost use Rattle.check_description.specs.Master.{master_view};
+
+use crate::masters::Master;
+use crate::owners::sources_of;
+use crate::parts::Parts;
+use check_keys::SystemFault;
+use check_map::{Map, Sources};
+use check_ports::Port;
+use std::alloc::Global;
+use std::marker::Model;
+
+/// What a file describes: the ports, the masters, which port has which addresses, and which wide sources are whose.
+#[derive(Drop)]
+pub struct Description {
+    ports: Vec<Port>,
+    masters: Vec<Master>,
+    addresses: Map,
+    sources: Sources,
+}
+
+/// The parts of a description, each to be taken on its own.
+#[derive(Drop)]
+pub struct Described {
+    pub ports: Vec<Port>,
+    pub masters: Vec<Master>,
+    pub addresses: Map,
+    pub sources: Sources,
+}
+
+impl Model for Description {
+    ghost use Rattle.std.specs.Prelude.{◌≡◌, map};
+    ghost use Rattle.check_ports.specs.Port.{port_view};
+    ghost use Rattle.check_description.specs.Description.{Description as Said, described, ranges_of};
+
+    ghost Value = { Said };
+
+    ghost view = { λ s. described s.ports.items s.masters.items s.sources };
+
+    ghost invariant = { λ s. s.addresses ≡ ranges_of (map port_view s.ports.items) };
+}
+
+impl Description {
+    /// The description of these parts.
+    fn new(ports: Vec<Port>, masters: Vec<Master>, addresses: Map, sources: Sources) -> Description
+        requires { addresses ≡ ranges_of (map port_view ports.items) }
+        ensures { result ≡ described ports.items masters.items sources }
+    {
+        Description {
+            ports,
+            masters,
+            addresses,
+            sources,
+        }
+    }
+
+    /// The ports.
+    pub fn ports(&self) -> &[Port]
+        ensures { map port_view result.now ≡ self.now.ports }
+    {
+        &self.ports
+    }
+
+    /// The masters, as the file has them: their names, their buses, and what it says of their sources.
+    pub fn masters(&self) -> &[Master]
+        ensures { map master_view result.now ≡ self.now.masters }
+    {
+        &self.masters
+    }
+
+    /// Which port has which addresses.
+    pub fn map(&self) -> &Map
+        ensures { result.now ≡ ranges_of self.now.ports }
+    {
+        &self.addresses
+    }
+
+    /// Which wide sources are each master's.
+    pub fn sources(&self) -> &Sources
+        ensures { result.now ≡ self.now.owners }
+    {
+        &self.sources
+    }
+
+    /// The parts.
+    pub fn into_parts(self) -> Described
+        ensures ports { map port_view result.ports.items ≡ self.ports }
+        ensures masters { map master_view result.masters.items ≡ self.masters }
+        ensures addresses { result.addresses ≡ ranges_of self.ports }
+        ensures sources { result.sources ≡ self.owners }
+    {
+        Described {
+            ports: self.ports,
+            masters: self.masters,
+            addresses: self.addresses,
+            sources: self.sources,
+        }
+    }
+}
+
+/// The map of the ports' ranges.
+fn map_of(alloc: Global, ports: &[Port]) -> Result<Map, SystemFault>
+    requires { AreRanges (ranges_of (map port_view ports.now)) }
+    ensures made { IfOk result (λ m. m ≡ ranges_of (map port_view ports.now)) }
+    ensures lawful { OnOk result (IsLawfulMap (ranges_of (map port_view ports.now))) }
+    ensures fault { IfErr result (λ fault. fault ≢ Memory
+        → IsOfMap (IsFirstMapFault (ranges_of (map port_view ports.now))) fault) }
+{
+    let mut ranges = Vec::with_capacity(alloc, ports.len())?;
+    for port in ports {
+        ranges.push(Vec::from_slice(alloc, &port.ranges)?)?;
+    }
+    Ok(Map::new(alloc, &ranges)?)
+}
+
+/// The description that parts make, or their first fault: of their ranges, or else of their sources. Want of memory may
+/// be answered at any point.
+pub fn describe(alloc: Global, parts: Parts) -> Result<Description, SystemFault>
+    ensures made { IfOk result (Makes (parts_view parts)) }
+    ensures fault { IfErr result (λ fault. fault ≢ Memory → IsFirstFaultOf (parts_view parts) fault) }
+{
+    let addresses = map_of(alloc, &parts.ports)?;
+    let sources = sources_of(alloc, &parts.masters)?;
+    Ok(Description::new(parts.ports, parts.masters, addresses, sources))
+}
