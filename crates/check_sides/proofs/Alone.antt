@@ -1,0 +1,94 @@
+-- A beat at a port's link that is judged by itself: the first reason why it is not lawful, or that it is.
+use Rattle.std.proofs.Common.{◌≡◌, ◌∙◌, ℕ, ◌<◌, Bool, false, List, Option, Some, None, refl, sym, subst}
+use Rattle.std.specs.Prelude.{IsTrue}
+use Rattle.tl_types.specs.Fault.{IsFirstOf}
+use Rattle.tl_types.specs.Request.{Request}
+use Rattle.tl_map.specs.declared.map.Range.{Range}
+use Rattle.check_beats.specs.Form.{FitsAsk, FitsReply, IsKnown}
+use Rattle.check_beats.specs.State.{ends_reply, first_ask, first_reply}
+use Rattle.check_beats.specs.declared.beat.AskHead.{AskHead}
+use Rattle.check_beats.specs.declared.beat.ReplyHead.{ReplyHead}
+use Rattle.check_flight.specs.Flight.{Turn}
+use Rattle.check_flight.specs.PortSlave.{PortSlave, may_be_unknown, slave_by}
+use Rattle.check_flight.proofs.Known.{stays_as_it_is}
+use Rattle.check_watch.specs.declared.beat.Beat.TheVariants.{D}
+use Rattle.check_watch.specs.declared.beat.Link.TheVariants.{Port}
+use Rattle.check_watch.specs.declared.fault.Reason.{Reason}
+use Rattle.check_watch.specs.declared.links.Links.TheVariants.{Both, Ports}
+use Rattle.check_watch.specs.Allowed.{BeginsFree, BeginsPlaced, IsAnswer, IsAllowedReply, IsMust, OfAsked}
+use Rattle.check_watch.specs.Faults.{HasAnswerReason, HasEndReason, IsFirstReplyReason, reason_rank}
+use Rattle.check_watch.specs.Plan.{Layout, HasSource}
+use Rattle.check_watch.specs.Scene.{Scene}
+use Rattle.check_watch.proofs.Judging.{AskUpTo}
+use Rattle.check_watch.proofs.Replying.{first_answer, first_end}
+use Rattle.check_sides.specs.View.{Beyond, IsOwnPort, PortView, captured_in, due_in, flight_in, late_in, port_scene}
+
+apart : Ports ≡ Both → ⊥
+apart is = cc
+
+-- a slave that serves may leave lanes unknown exactly if it might before
+unknown_stays : (slave : PortSlave) (ask : Option Request) → may_be_unknown (slave_by slave ask) ≡ may_be_unknown slave
+unknown_stays slave None = refl
+unknown_stays slave (Some ask) = (stays_as_it_is slave ask).lanes
+
+module _ (layout : Layout) (map : List (List Range)) (port : ℕ) (own : IsOwnPort layout map) where
+  -- every source is the link's
+  pub own_source : (source : ℕ) → source < 65536 → HasSource layout (Port port) source
+  own_source source small = (source, (refl, own.anybody source small))
+
+  pub up_to : (scene : Scene) (beat : AskHead) (known : ℕ) (lanes : List ℕ) (rank : ℕ)
+      → FitsAsk scene.under.bus (first_ask scene.under.asking) beat → IsKnown beat known
+      → beat.source < 65536 → (8 < rank → BeginsFree scene)
+      → (9 < rank → BeginsPlaced layout (Port port) scene beat)
+      → AskUpTo layout (Port port) scene beat known lanes rank
+  up_to scene beat known lanes rank fits seen small free placed = record {
+    fits = fits;
+    known_lanes = seen;
+    source = own_source beat.source small;
+    free = free;
+    placed = placed;
+    sent = λ lower ends both. absurd (apart (sym own.watched ∙ both));
+  }
+
+  module _ (beyond : Beyond) (view : PortView) (beat : ReplyHead) (known : ℕ) (lanes : List ℕ)
+      (fits : FitsReply (first_reply view.under.replying) beat) (small : beat.source < 65536) where
+    abbrev here : Scene
+    here = port_scene layout port beyond view (D beat)
+
+    abbrev turn_here : Turn
+    turn_here = (flight_in view beat.source).turn
+
+    unknown_here : may_be_unknown here.slave ≡ may_be_unknown view.slave
+    unknown_here = unknown_stays view.slave (late_in view beat.source)
+
+    abbrev AnswersFound : Type 0
+    AnswersFound = OfAsked port turn_here (IsAnswer view.under.bus (may_be_unknown view.slave) beat known)
+
+    answers_here : AnswersFound → OfAsked port turn_here (IsAnswer view.under.bus (may_be_unknown here.slave) beat known)
+    answers_here answers =
+        subst (λ (u : Bool). OfAsked port turn_here (IsAnswer view.under.bus u beat known)) (sym unknown_here) answers
+
+    pub answer_first : (reason : Reason)
+        → IsFirstOf (HasAnswerReason port turn_here view.under.bus (may_be_unknown view.slave) beat known) reason_rank reason
+        → IsFirstReplyReason layout (Port port) here beat known lanes reason
+    answer_first reason first =
+        first_answer layout (Port port) here beat known lanes fits (own_source beat.source small) reason
+        (subst (λ (u : Bool). IsFirstOf (HasAnswerReason port turn_here view.under.bus u beat known) reason_rank reason)
+        (sym unknown_here) first)
+
+    pub end_first : AnswersFound → IsTrue (ends_reply view.under.bus view.under.replying beat) → (reason : Reason)
+        → HasEndReason false beyond.crossing (due_in view port beat.source) (captured_in view beat known lanes) reason
+        → IsFirstReplyReason layout (Port port) here beat known lanes reason
+    end_first answers ends reason has =
+        first_end layout (Port port) here beat known lanes fits (own_source beat.source small) (answers_here answers)
+        reason (ends, has)
+
+    pub reply_allowed : AnswersFound → (IsTrue (ends_reply view.under.bus view.under.replying beat)
+        → IsMust false beyond.crossing (due_in view port beat.source) (captured_in view beat known lanes))
+        → IsAllowedReply layout (Port port) here beat known lanes
+    reply_allowed answers well = record {
+      fits = fits;
+      source = own_source beat.source small;
+      answers = answers_here answers;
+      ends = well;
+    }

@@ -1,0 +1,75 @@
+-- What is kept before any beat.
+use Rattle.std.proofs.Common.{◌≡◌, ◌∙◌, ℕ, zero, suc, ◌≤◌, List, [], ◌∷◌, length, Some, slice_get, refl, ap, sym, subst, arith}
+use Rattle.std.specs.Prelude.{IsTrue}
+use Rattle.check_beats.specs.declared.bus.Bus.{Bus}
+use Rattle.check_flight.specs.PortSlave.{PortSlave}
+use Rattle.check_flight.specs.Side.{bus_at}
+use Rattle.check_watch.specs.Past.{slave_at}
+use Rattle.check_watch.specs.Plan.{IsPlan as IsGroupPlan}
+use Rattle.check_watch.specs.View as group_view
+use Rattle.check_sides.specs.declared.links.Links.{Links}
+use Rattle.check_sides.specs.declared.links.Links.TheVariants.{Both, Masters, Ports, Each}
+use Rattle.check_sides.specs.Groups.{are_apart, shared_past, shared_plan, port_plan}
+use Rattle.check_sides.specs.Plan.{Plan, IsPlan}
+use Rattle.check_sides.specs.View.{HaveBuses, Keeps, KeepsPort, PortView, View, flight_in, fresh_link, fresh_links}
+
+pub shared_none : (links : Links) → shared_past links [] ≡ []
+shared_none Both = refl
+shared_none Masters = refl
+shared_none Ports = refl
+shared_none Each = refl
+
+pub each_is : (links : Links) → IsTrue (are_apart links) → links ≡ Each
+each_is Both apart = cc
+each_is Masters apart = cc
+each_is Ports apart = cc
+each_is Each apart = refl
+
+-- the link that stands at a place
+link_fresh : (buses : List Bus) (slaves : List PortSlave) (port : ℕ) (link : PortView)
+    → slice_get (fresh_links buses slaves) port ≡ Some link
+    → fresh_link (bus_at buses port) (slave_at slaves port) ≡ link
+link_fresh [] slaves port link is = cc
+link_fresh (bus ∷ buses) [] port link is = cc
+link_fresh (bus ∷ buses) (slave ∷ slaves) zero link is = cc
+link_fresh (bus ∷ buses) (slave ∷ slaves) (suc port) link is = link_fresh buses slaves port link is
+
+-- each bus has its link, if it has its slave
+pub length-fresh_links : (buses : List Bus) (slaves : List PortSlave) → length buses ≤ length slaves
+    → length (fresh_links buses slaves) ≡ length buses
+length-fresh_links [] slaves fits = refl
+length-fresh_links (bus ∷ buses) [] fits = absurd (omega arith)
+length-fresh_links (bus ∷ buses) (slave ∷ slaves) fits =
+    let rest = length-fresh_links buses slaves (omega (arith, fits)) in omega (arith, rest)
+
+pub fresh_buses : (buses : List Bus) (slaves : List PortSlave) → HaveBuses (fresh_links buses slaves) buses
+fresh_buses buses slaves port link is =
+    ap (λ (l : PortView). l.under.bus) (sym (link_fresh buses slaves port link is))
+
+pub shared_is_plan : (plan : Plan) → IsPlan plan → IsGroupPlan (shared_plan plan)
+shared_is_plan plan is = record { owners = is.owners; wide = is.wide; route = is.route }
+
+pub fresh_keeps : (plan : Plan) (view : View) → IsPlan plan → view.layout ≡ plan.layout
+    → group_view.Keeps (shared_plan plan) [] view.shared
+    → (IsTrue (are_apart plan.layout.links) → view.ports ≡ fresh_links plan.layout.port_buses plan.resets)
+    → Keeps plan [] view
+fresh_keeps plan view lawful layout shared ports = record {
+  suits = record { lawful = lawful; layout = layout };
+  lawful = tt;
+  shared = subst (λ p. group_view.Keeps (shared_plan plan) p view.shared) (sym (shared_none plan.layout.links)) shared;
+  ports = λ apart port link found. fresh_port port link
+      (ap (λ l. slice_get l port) (sym (ports apart)) ∙ found);
+}
+  where
+    fresh_port : (port : ℕ) (link : PortView)
+        → slice_get (fresh_links plan.layout.port_buses plan.resets) port ≡ Some link
+        → KeepsPort (port_plan plan) port [] link
+    fresh_port port link found =
+        let is = link_fresh plan.layout.port_buses plan.resets port link found in
+        record {
+          lawful = tt;
+          under = ap (λ (l : PortView). l.under) is;
+          flights = λ source. ap (λ (l : PortView). flight_in l source) is;
+          slave = ap (λ (l : PortView). l.slave) is;
+          unkept = λ source none. tt;
+        }

@@ -1,0 +1,67 @@
+use Rattle.std.proofs.Common.{◌≡◌, ◌∙◌, ◌<◌, None, List, rules, arith, ap, sym, subst}
+use Rattle.tl_map.specs.declared.map.Range.{Range}
+use Rattle.check_map.specs.Ranges.{RoutesBytes}
+use Rattle.check_beats.specs.Form.{FitsAsk}
+use Rattle.check_beats.specs.State.{first_ask}
+use Rattle.check_flight.specs.Flight.{Flight}
+use Rattle.check_flight.specs.Flight.Turn.{Idle}
+use Rattle.check_watch.specs.declared.beat.Beat.TheVariants.{A}
+use Rattle.check_watch.specs.declared.beat.Link.TheVariants.{Port}
+use Rattle.check_watch.specs.declared.fault.Reason.TheVariants.{SourceBusy, WrongPort}
+use Rattle.check_watch.proofs.Judging.{first_ask_reason, allowed_ask}
+use Rattle.check_sides.specs.View.{PortView, flight_in, port_scene}
+use Rattle.check_sides.proofs.Alone.{up_to}
+use Rattle.check_sides.proofs.port.PortLink.ask_reason.Goals as goal
+
+pub returns-then-not-is_idle-clause-reason : goal.returns-then-not-is_idle-clause-reason
+returns-then-not-is_idle-clause-reason c layout beyond lanes own =
+    let view = c.args.self.now in
+    let beat = c.args.beat.now in
+    let here = port_scene layout c.args.port beyond view (A beat) in
+    let begins : view.under.asking ≡ None = search rules in
+    let fits : FitsAsk view.under.bus (first_ask view.under.asking) beat = rw (← c.self.view_is) c.in_default.ensures.fits in
+    let small : beat.source < 65536 = omega arith in
+    let flight : c.flight.result.now ≡ flight_in view beat.source =
+    c.flight.ensures ∙ ap (λ (p : PortView). flight_in p beat.source) c.self.view_is in
+    let busy : (flight_in view beat.source).turn ≡ Idle → ⊥ =
+    λ idle. let yes = c.is_idle.ensures.1 (ap (λ (f : Flight). f.turn) flight ∙ idle) in absurd (cc) in
+    first_ask_reason layout (Port c.args.port) here beat c.args.known lanes SourceBusy (λ free. busy (free begins))
+    (up_to layout c.args.map.now c.args.port own here beat c.args.known lanes 8 fits c.in_default.ensures.known small
+    (λ lower. absurd (omega (arith, lower))) (λ lower. absurd (omega (arith, lower))))
+
+pub returns-then-route_bytes-port-clause-reason : goal.returns-then-route_bytes-port-clause-reason
+returns-then-route_bytes-port-clause-reason c layout beyond lanes own =
+    let view = c.args.self.now in
+    let beat = c.args.beat.now in
+    let here = port_scene layout c.args.port beyond view (A beat) in
+    let begins : view.under.asking ≡ None = search rules in
+    let fits : FitsAsk view.under.bus (first_ask view.under.asking) beat = rw (← c.self.view_is) c.in_default.ensures.fits in
+    let small : beat.source < 65536 = omega arith in
+    let flight : c.flight.result.now ≡ flight_in view beat.source =
+    c.flight.ensures ∙ ap (λ (p : PortView). flight_in p beat.source) c.self.view_is in
+    let free : (flight_in view beat.source).turn ≡ Idle =
+    ap (λ (f : Flight). f.turn) (sym flight) ∙ c.is_idle.ensures.0 c.if-not-is_idle.false in
+    first_ask_reason layout (Port c.args.port) here beat c.args.known lanes WrongPort
+    (λ placed. let at : RoutesBytes c.args.map.now beat.address beat.size c.args.port =
+    subst (λ (m : List (List Range)). RoutesBytes m beat.address beat.size c.args.port) own.ranges (placed begins) in
+    c.if-route_bytes-port.true ((c.route_bytes.ensures.port c.args.port).1 at))
+    (up_to layout c.args.map.now c.args.port own here beat c.args.known lanes 9 fits c.in_default.ensures.known small
+    (λ lower _. free) (λ lower. absurd (omega (arith, lower))))
+
+pub returns-clause-allowed : goal.returns-clause-allowed
+returns-clause-allowed c layout beyond lanes own =
+    let view = c.args.self.now in
+    let beat = c.args.beat.now in
+    let here = port_scene layout c.args.port beyond view (A beat) in
+    let fits : FitsAsk view.under.bus (first_ask view.under.asking) beat = rw (← c.self.view_is) c.in_default.ensures.fits in
+    let small : beat.source < 65536 = omega arith in
+    let flight : c.flight.result.now ≡ flight_in view beat.source =
+    c.flight.ensures ∙ ap (λ (p : PortView). flight_in p beat.source) c.self.view_is in
+    let free : (flight_in view beat.source).turn ≡ Idle =
+    ap (λ (f : Flight). f.turn) (sym flight) ∙ c.is_idle.ensures.0 c.if-not-is_idle.false in
+    let at : RoutesBytes layout.ports beat.address beat.size c.args.port =
+    subst (λ (m : List (List Range)). RoutesBytes m beat.address beat.size c.args.port) (sym own.ranges)
+    ((c.route_bytes.ensures.port c.args.port).0 c.if-route_bytes-port.false) in
+    allowed_ask layout (Port c.args.port) here beat c.args.known lanes
+    (up_to layout c.args.map.now c.args.port own here beat c.args.known lanes 18 fits c.in_default.ensures.known small
+    (λ lower _. free) (λ lower _. at))

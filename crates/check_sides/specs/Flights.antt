@@ -1,0 +1,26 @@
+-- What is in flight of each source at one port's link. It is this project's own.
+use Rattle.std.specs.Prelude.{◌≡◌, ℕ, if◌then◌else◌, ◌==◌, List, Option, Some, unwrap_or, option_map}
+use Rattle.std.specs.Map.{lookup}
+use Rattle.std.specs.Ordering.{is_eq, nat_cmp}
+use Rattle.check_flight.specs.Flight.{Flight, idle}
+
+-- what is kept of a source, if something is
+abbrev pub kept_of : List (ℕ × Flight) → ℕ → Option Flight
+kept_of kept source = lookup (λ key. is_eq (nat_cmp source key)) kept
+
+-- nothing is in flight of a source of which nothing is kept
+abbrev pub flight_of : List (ℕ × Flight) → ℕ → Flight
+flight_of kept source = unwrap_or (kept_of kept source) idle
+
+-- this is kept of a source from then on, and of each other what was
+abbrev pub IsKept : List (ℕ × Flight) → List (ℕ × Flight) → ℕ → Option Flight → Type 0
+IsKept before after source now =
+    (other : ℕ) → kept_of after other ≡ (if source == other then now else kept_of before other)
+
+-- this is in flight of a source from then on
+abbrev pub IsPut : List (ℕ × Flight) → List (ℕ × Flight) → ℕ → Flight → Type 0
+IsPut before after source flight = IsKept before after source (Some flight)
+
+-- this is made of what is in flight of a source, if something is kept of it
+abbrev pub IsChanged : List (ℕ × Flight) → List (ℕ × Flight) → ℕ → (Flight → Flight) → Type 0
+IsChanged before after source f = IsKept before after source (option_map f (kept_of before source))

@@ -1,0 +1,145 @@
+-- What a judge keeps of the beats so far. It is this project's own.
+use Rattle.std.specs.Prelude.{◌≡◌, ℕ, ◌<◌, ◌≤◌, Bool, ◌&&◌, if◌then◌else◌, ◌==◌, List, [], map, Option, Some, None, IsTrue, length, slice_get}
+use Rattle.std.specs.List.{zip}
+use Rattle.tl_types.specs.Request.{Request}
+use Rattle.tl_map.specs.declared.map.Range.{Range}
+use Rattle.check_map.specs.Owner.{IsOwned}
+use Rattle.check_cells.specs.Pattern.{Pattern}
+use Rattle.check_beats.specs.Bus.{bus_bytes}
+use Rattle.check_beats.specs.State.{Under, nothing_under}
+use Rattle.check_beats.specs.declared.beat.ReplyHead.{ReplyHead}
+use Rattle.check_beats.specs.declared.bus.Bus.{Bus}
+use Rattle.check_flight.specs.declared.answer.Answer.{Answer}
+use Rattle.check_flight.specs.Crossing.{Crossing}
+use Rattle.check_flight.specs.Flight.{Flight, Turn, asked, due_by}
+use Rattle.check_flight.specs.Order.{effect_by, is_at_reply}
+use Rattle.check_flight.specs.PortSlave.{PortSlave, answer_by, slave_by, effect_at_reply}
+use Rattle.check_flight.specs.Side.{bus_at}
+use Rattle.check_watch.specs.declared.beat.Beat.{Beat}
+use Rattle.check_watch.specs.declared.beat.Link.TheVariants.{Port}
+use Rattle.check_watch.specs.declared.links.Links.TheVariants as together
+use Rattle.check_watch.specs.Lawful as group_lawful
+use Rattle.check_watch.specs.Past as group
+use Rattle.check_watch.specs.Plan.{Layout as GroupLayout, Plan as GroupPlan, Sighting, source_of}
+use Rattle.check_watch.specs.Plan.Side.{AtPorts}
+use Rattle.check_watch.specs.Scene.{Scene, answering, begins_reply, captured, effect, flight_after, under_after}
+use Rattle.check_watch.specs.View as group_view
+use Rattle.check_watch.specs.View.{View as GroupView}
+use Rattle.check_sides.specs.Flights.{flight_of, kept_of}
+use Rattle.check_sides.specs.Groups.{are_apart, together_of, shared_plan, shared_past, port_plan, port_past}
+use Rattle.check_sides.specs.Lawful.{IsAskOf, IsLawful, IsNew}
+use Rattle.check_sides.specs.Plan.{Layout, Plan, IsPlan}
+
+-- ---- a port's link that is judged by itself
+
+-- the messages under way at it, what is kept there of each source, and what the port's slave holds
+pub record PortView : Type 0 where
+  pub under : Under
+  pub flights : List (ℕ × Flight)
+  pub slave : PortSlave
+
+-- a layout is that of such a link, where the ports have these ranges
+pub record IsOwnPort (layout : GroupLayout) (map : List (List Range)) : Type 0 where
+  pub watched : layout.links ≡ together.Ports
+  pub anybody : (source : ℕ) → source < 65536 → IsOwned layout.owners source
+  pub ranges : layout.ports ≡ map
+
+-- what stands of a source at the masters' side. No rule of a port's own link asks for it
+pub record Beyond : Type 0 where
+  pub sent : Turn
+  pub crossing : Crossing
+
+-- what is in flight there of a source
+abbrev pub flight_in : PortView → ℕ → Flight
+flight_in view source = flight_of view.flights source
+
+-- what a beat finds there
+abbrev pub port_scene : GroupLayout → ℕ → Beyond → PortView → Beat → Scene
+port_scene layout port beyond view beat =
+    answering layout (Port port) (record {
+      under = view.under;
+      flight = flight_in view (source_of beat);
+      sent = beyond.sent;
+      crossing = beyond.crossing;
+      port = port;
+      slave = view.slave;
+    }) beat
+
+-- requests take effect as the next beat of channel D crosses
+abbrev pub is_late_in : PortView → Bool
+is_late_in view = begins_reply view.under.replying && is_at_reply view.slave.order
+
+-- the request in flight of a source that takes effect as its reply begins
+abbrev pub late_in : PortView → ℕ → Option Request
+late_in view source =
+    effect_by (begins_reply view.under.replying) (effect_at_reply view.slave (asked (flight_in view source).turn))
+
+-- the reply that the slave expects to what is in flight of a source
+abbrev pub due_in : PortView → ℕ → ℕ → Option Answer
+due_in view port source =
+    due_by (flight_in view source).due (answer_by port view.slave (late_in view source))
+
+-- the reply that a beat ends, as it was captured
+abbrev pub captured_in : PortView → ReplyHead → ℕ → List ℕ → Pattern
+captured_in view beat known lanes = captured view.under (flight_in view beat.source).turn beat known lanes
+
+-- one beat changes this, and something is kept of each source that has made a request
+pub record IsAfter (layout : GroupLayout) (port : ℕ) (beyond : Beyond) (old new : PortView) (beat : Beat) (known : ℕ)
+    (lanes : List ℕ) : Type 0 where
+  pub under : new.under ≡ under_after old.under beat known lanes
+  pub flights : (source : ℕ) → flight_in new source ≡ (if source_of beat == source
+      then flight_after layout (Port port) (port_scene layout port beyond old beat) beat lanes
+      else flight_in old source)
+  pub slave : new.slave ≡ slave_by (port_scene layout port beyond old beat).slave
+      (effect layout (Port port) (port_scene layout port beyond old beat) beat lanes)
+  pub unkept : (source : ℕ) → kept_of new.flights source ≡ None
+      → (kept_of old.flights source ≡ None) × (IsAskOf beat source → ⊥)
+
+-- the beats of a port's link are lawful, and this is kept of them: something of each source that has made a request
+pub record KeepsPort (plan : GroupPlan) (port : ℕ) (past : List Sighting) (view : PortView) : Type 0 where
+  pub lawful : group_lawful.IsLawful plan past
+  pub under : (group.state plan past).links AtPorts port ≡ view.under
+  pub flights : (source : ℕ) → (group.state plan past).flights AtPorts source ≡ flight_in view source
+  pub slave : (group.state plan past).slaves port ≡ view.slave
+  pub unkept : (source : ℕ) → kept_of view.flights source ≡ None → IsNew past source
+
+-- ---- all links
+
+-- what is kept of the links that are judged together, and of each port's that is judged by itself
+pub record View : Type 0 where
+  pub layout : Layout
+  pub shared : GroupView
+  pub ports : List PortView
+
+-- each port's link has its bus
+abbrev pub HaveBuses : List PortView → List Bus → Type 0
+HaveBuses links buses =
+    (port : ℕ) (link : PortView) → slice_get links port ≡ Some link → link.under.bus ≡ bus_at buses port
+
+-- both are of the same system, and each port's link that is judged by itself has its place and its bus
+pub record IsSized (view : View) : Type 0 where
+  pub together : view.shared.layout.links ≡ together_of view.layout.links
+  pub ports : IsTrue (are_apart view.layout.links) → length view.layout.ports ≤ length view.ports
+  pub buses : HaveBuses view.ports view.layout.port_buses
+
+-- a port's link with a bus of so many bytes and with this slave, before any beat
+abbrev pub fresh_link : ℕ → PortSlave → PortView
+fresh_link bus slave = record { under = nothing_under bus; flights = []; slave = slave }
+
+-- the links of these buses with these slaves: the error port has a slave, and no link
+abbrev pub fresh_links : List Bus → List PortSlave → List PortView
+fresh_links buses slaves = map (λ (p : Bus × PortSlave). fresh_link (bus_bytes p.0) p.1) (zip buses slaves)
+
+-- the judge is one for this plan
+pub record Suits (plan : Plan) (view : View) : Type 0 where
+  pub lawful : IsPlan plan
+  pub layout : view.layout ≡ plan.layout
+
+-- the past is lawful, and this is kept of it
+pub record Keeps (plan : Plan) (past : List Sighting) (view : View) : Type 0 where
+  pub suits : Suits plan view
+  pub lawful : IsLawful plan past
+  pub shared : group_view.Keeps (shared_plan plan) (shared_past plan.layout.links past) view.shared
+  pub ports : IsTrue (are_apart plan.layout.links) → (port : ℕ) (link : PortView)
+      → slice_get view.ports port ≡ Some link
+      → KeepsPort (port_plan plan) port (port_past port past) link

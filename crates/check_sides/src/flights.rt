@@ -1,0 +1,211 @@
+//! What is in flight of each source at one port's link, which is made as it is needed.
+ghost use Rattle.std.specs.Prelude.{◌≡◌, ◌≤◌, [], Some, None, OnOk, OnErr, IsTrue, length};
+ghost use Rattle.check_beats.specs.Form.{FitsAsk};
+ghost use Rattle.check_beats.specs.State.{ask_of, ends_ask, first_ask};
+ghost use Rattle.check_flight.specs.Flight.Turn.{Asking, Asked};
+ghost use Rattle.check_flight.specs.Flight.{asked, flight_due, idle};
+ghost use Rattle.check_flight.specs.PortSlave.{answer_by, effect_at_acceptance, effect_at_reply, slave_by};
+ghost use Rattle.check_sides.specs.Flights.{IsChanged, IsPut, flight_of, kept_of};
+
+use check_beats::{AskHead, UnderWay};
+use check_flight::{Flight, Place, PortSlave};
+use std::alloc::{AllocError, Global};
+use std::collections::BTreeMap;
+use std::marker::Model;
+
+/// What is in flight of each source. A source has room from its first request on.
+#[derive(Drop)]
+pub struct Flights {
+    kept: BTreeMap<u16, Flight>,
+    /// What is in flight of a source that has no room.
+    nothing: Flight,
+}
+
+impl Model for Flights {
+    ghost use Rattle.std.specs.Prelude.{◌≡◌, ℕ, List};
+    ghost use Rattle.check_flight.specs.Flight.{Flight, idle};
+
+    ghost Value = { List (ℕ × Flight) };
+
+    ghost view = { λ f. f.kept.entries };
+
+    ghost invariant = { λ f. f.nothing ≡ idle };
+}
+
+/// The place of what is in flight of a source at a port's own link.
+fn place_at(port: usize, source: u16) -> Place
+    ensures { result ≡ record { link = port; wide = source; port = port } }
+{
+    Place {
+        link: port,
+        wide: usize::from(source),
+        port,
+    }
+}
+
+impl Flights {
+    /// Nothing in flight.
+    pub fn new(alloc: Global) -> Flights
+        ensures { result ≡ [] }
+    {
+        Flights {
+            kept: BTreeMap::new(alloc),
+            nothing: Flight::idle(),
+        }
+    }
+
+    /// What is in flight of a source.
+    pub fn flight(&self, source: u16) -> &Flight
+        ensures { result.now ≡ flight_of self.now source }
+    {
+        match self.kept.get(&source) {
+            Some(flight) => flight,
+            None => &self.nothing,
+        }
+    }
+
+    /// A request has begun at the link of this number. Memory may be refused to a source that has no room.
+    pub fn begin(&mut self, source: u16, number: usize) -> Result<(), AllocError>
+        ensures begun { OnOk result
+            (IsPut self.old self.new source (record { turn = Asking number; due = None })) }
+        ensures refused { OnErr result (kept_of self.old source ≡ None) }
+        ensures err { OnErr result (self.new ≡ self.old) }
+    {
+        if let Some(flight) = self.kept.get_mut(&source) {
+            flight.begin(number);
+            return Ok(());
+        }
+        let mut flight = Flight::idle();
+        flight.begin(number);
+        self.kept.insert(source, flight)?;
+        Ok(())
+    }
+
+    /// A request has ended there, by a beat after those under way, and takes no effect yet. Memory may be refused to a
+    /// source that has no room.
+    pub fn end(
+        &mut self,
+        number: usize,
+        under: &UnderWay,
+        beat: &AskHead,
+        lanes: &[u8],
+    ) -> Result<(), AllocError>
+        requires fits { FitsAsk under.now.bus (first_ask under.now.asking) beat.now }
+        requires ends { IsTrue (ends_ask under.now.bus under.now.asking beat.now) }
+        requires lanes { under.now.bus ≤ length lanes.now }
+        ensures ended { let ask = ask_of under.now.bus under.now.asking beat.now lanes.now in
+            OnOk result (IsPut self.old self.new beat.now.source (record { turn = Asked number ask; due = None })) }
+        ensures refused { OnErr result (kept_of self.old beat.now.source ≡ None) }
+        ensures err { OnErr result (self.new ≡ self.old) }
+    {
+        let source = beat.source;
+        if let Some(flight) = self.kept.get_mut(&source) {
+            flight.end(number, under, beat, lanes);
+            return Ok(());
+        }
+        let mut flight = Flight::idle();
+        flight.end(number, under, beat, lanes);
+        self.kept.insert(source, flight)?;
+        Ok(())
+    }
+
+    /// A request has ended at the link of a port, by a beat after those under way, and its slave accepts it: the slave
+    /// serves it now, if requests take effect there as they are accepted. Where there is no memory, nothing is changed.
+    pub fn accept(
+        &mut self,
+        alloc: Global,
+        port: usize,
+        under: &UnderWay,
+        beat: &AskHead,
+        lanes: &[u8],
+        slave: &mut PortSlave,
+    ) -> Result<(), AllocError>
+        requires fits { FitsAsk under.now.bus (first_ask under.now.asking) beat.now }
+        requires ends { IsTrue (ends_ask under.now.bus under.now.asking beat.now) }
+        requires lanes { under.now.bus ≤ length lanes.now }
+        ensures flight { let ask = ask_of under.now.bus under.now.asking beat.now lanes.now in
+            OnOk result (IsPut self.old self.new beat.now.source (record {
+              turn = Asked port ask;
+              due = answer_by port slave.old (effect_at_acceptance slave.old (Some ask));
+            })) }
+        ensures slave { let ask = ask_of under.now.bus under.now.asking beat.now lanes.now in
+            OnOk result (slave.new ≡ slave_by slave.old (effect_at_acceptance slave.old (Some ask))) }
+        ensures err { OnErr result (self.new ≡ self.old) }
+        ensures slave_err { OnErr result (slave.new ≡ slave.old) }
+    {
+        let source = beat.source;
+        if let Some(flight) = self.kept.get_mut(&source) {
+            return flight.accept(alloc, place_at(port, source), under, beat, lanes, slave);
+        }
+        self.accept_first(alloc, port, under, beat, lanes, slave)
+    }
+
+    /// The same for a source that has no room: that is made first, and taken back if the slave is refused memory.
+    #[inline(never)]
+    fn accept_first(
+        &mut self,
+        alloc: Global,
+        port: usize,
+        under: &UnderWay,
+        beat: &AskHead,
+        lanes: &[u8],
+        slave: &mut PortSlave,
+    ) -> Result<(), AllocError>
+        requires first { kept_of self.old beat.now.source ≡ None }
+        requires fits { FitsAsk under.now.bus (first_ask under.now.asking) beat.now }
+        requires ends { IsTrue (ends_ask under.now.bus under.now.asking beat.now) }
+        requires lanes { under.now.bus ≤ length lanes.now }
+        ensures flight { let ask = ask_of under.now.bus under.now.asking beat.now lanes.now in
+            OnOk result (IsPut self.old self.new beat.now.source (record {
+              turn = Asked port ask;
+              due = answer_by port slave.old (effect_at_acceptance slave.old (Some ask));
+            })) }
+        ensures slave { let ask = ask_of under.now.bus under.now.asking beat.now lanes.now in
+            OnOk result (slave.new ≡ slave_by slave.old (effect_at_acceptance slave.old (Some ask))) }
+        ensures err { OnErr result (self.new ≡ self.old) }
+        ensures slave_err { OnErr result (slave.new ≡ slave.old) }
+    {
+        let source = beat.source;
+        self.kept.insert(source, Flight::idle())?;
+        let Some(flight) = self.kept.get_mut(&source) else {
+            return Ok(());
+        };
+        if let Err(_) = flight.accept(alloc, place_at(port, source), under, beat, lanes, slave) {
+            self.kept.remove(&source);
+            return Err(AllocError);
+        }
+        Ok(())
+    }
+
+    /// The reply begins to the request in flight of a source, if that has ended: the slave of this port serves it now, if
+    /// requests take effect there as they are answered. Where there is no memory for a page, nothing is changed.
+    pub fn answer(
+        &mut self,
+        alloc: Global,
+        source: u16,
+        port: usize,
+        slave: &mut PortSlave,
+    ) -> Result<(), AllocError>
+        ensures flight { OnOk result (IsChanged self.old self.new source (λ flight.
+            flight_due flight (answer_by port slave.old (effect_at_reply slave.old (asked flight.turn))))) }
+        ensures slave { OnOk result (slave.new
+            ≡ slave_by slave.old (effect_at_reply slave.old (asked (flight_of self.old source).turn))) }
+        ensures err { OnErr result (self.new ≡ self.old) }
+        ensures slave_err { OnErr result (slave.new ≡ slave.old) }
+    {
+        let Some(flight) = self.kept.get_mut(&source) else {
+            return Ok(());
+        };
+        flight.answer(alloc, port, slave)
+    }
+
+    /// Nothing is in flight of a source any more.
+    pub fn clear(&mut self, source: u16)
+        ensures { IsChanged self.old self.new source (λ flight. idle) }
+    {
+        let Some(flight) = self.kept.get_mut(&source) else {
+            return;
+        };
+        flight.clear();
+    }
+}

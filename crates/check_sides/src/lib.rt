@@ -1,0 +1,28 @@
+//! The judge of what crossed the links of a crossbar, over links of any width, if not all links that are watched are
+//! judged together.
+//!
+//! A *group* is links that are judged together, by `check_watch`. With `Links::Both`, `Masters` and `Ports` all links
+//! that are watched are one group. With `Links::Each` the masters' links are one, as with `Masters`, and each port's
+//! link is one by itself: its sources are its own, nobody has to have them, and so are the slaves on the ports' side.
+//! So a crossbar may renumber sources, and split or combine messages, and each side is still judged (`specs/Groups.antt`).
+//!
+//! [`Watch::step`] takes one beat more. It answers `Ok` exactly if the list with this beat is lawful, if memory is not
+//! refused, and keeps that list then; an `Err` changes nothing, and is the first fault that the beat has in its group, or
+//! want of memory. [`Watch::take`] makes neither the fault nor the reply. Memory may be refused to a lawful beat with
+//! which a request takes effect; at a port's link that is judged by itself, also to the first request of a source, for
+//! which room is made there.
+//!
+//! No program uses it yet. Read on in `docs/MODEL.md`, "Groups of links of any width".
+#![tactic(auto)]
+
+mod flights;
+mod links;
+mod pending;
+mod port;
+mod port_steps;
+mod steps;
+mod watch;
+
+pub use check_watch::{Beat, Change, Ended, Entry, Fault, Link, Origin, Reason, Seen, StepError};
+pub use links::Links;
+pub use watch::Watch;

@@ -1,0 +1,251 @@
+//! Steps at a port's link that is judged by itself: a beat is judged, and then it is taken.
+ghost use Rattle.std.specs.Prelude.{◌≡◌, ◌≤◌, ◌↔◌, ◌⊎◌, ◌∷◌, ℕ, List, length, Some, None, Err, IsTrue, IfOk, OnOk, OnErr, IfErr, IsOk, IsSome, OnSome, IfSome, IfNone};
+ghost use Rattle.check_beats.specs.Form.{FitsAsk, FitsReply};
+ghost use Rattle.check_beats.specs.State.{ask_of, ends_ask, ends_reply, first_ask, first_reply};
+ghost use Rattle.check_flight.specs.Flight.Turn.{Asked};
+ghost use Rattle.check_flight.specs.Flight.{flight_due};
+ghost use Rattle.check_flight.specs.Order.{is_at_acceptance};
+ghost use Rattle.check_flight.specs.PortSlave.{answer_by, effect_at_acceptance, slave_by};
+ghost use Rattle.check_watch.specs.declared.beat.Beat.TheVariants.{A, D};
+ghost use Rattle.check_watch.specs.declared.beat.Link.TheVariants.{Port};
+ghost use Rattle.check_watch.specs.Lawful.{IsFirstFault, IsLawful, IsServed, OfFault, what_is_seen};
+ghost use Rattle.check_watch.specs.Plan.{Layout, Plan, Sighting, seen_at};
+ghost use Rattle.check_watch.specs.Scene.{ask_by, ended};
+ghost use Rattle.check_watch.specs.View.{FitsBeat};
+ghost use Rattle.check_sides.specs.Flights.{IsChanged, IsPut, kept_of};
+ghost use Rattle.check_sides.specs.Lawful.{IsFirstRequest};
+ghost use Rattle.check_sides.specs.View.{Beyond, IsAfter, IsOwnPort, KeepsPort, is_late_in, late_in};
+
+use crate::port::PortLink;
+use check_beats::{AskHead, ReplyHead};
+use check_map::Map;
+use check_watch::{Beat, Ended, Seen, StepError};
+use std::alloc::{AllocError, Global};
+
+impl PortLink {
+    /// The request that a beat ends is in flight from then on, and its slave serves it now, if requests take effect there
+    /// as they are accepted. Where there is no memory, nothing is changed.
+    fn end_ask(
+        &mut self,
+        alloc: Global,
+        port: usize,
+        beat: &AskHead,
+        lanes: &[u8],
+    ) -> Result<(), AllocError>
+        requires fits { FitsAsk self.old.under.bus (first_ask self.old.under.asking) beat.now }
+        requires ends { IsTrue (ends_ask self.old.under.bus self.old.under.asking beat.now) }
+        requires lanes { self.old.under.bus ≤ length lanes.now }
+        ensures under { self.new.under ≡ self.old.under }
+        ensures flight { let ask = ask_of self.old.under.bus self.old.under.asking beat.now lanes.now in
+            OnOk result (IsPut self.old.flights self.new.flights beat.now.source (record {
+              turn = Asked port ask;
+              due = answer_by port self.old.slave (effect_at_acceptance self.old.slave (Some ask));
+            })) }
+        ensures slave { let ask = ask_of self.old.under.bus self.old.under.asking beat.now lanes.now in
+            OnOk result (self.new.slave ≡ slave_by self.old.slave (effect_at_acceptance self.old.slave (Some ask))) }
+        ensures refused { OnErr result ((kept_of self.old.flights beat.now.source ≡ None)
+            ⊎ IsTrue (is_at_acceptance self.old.slave.order)) }
+        ensures err { OnErr result (self.new ≡ self.old) }
+    {
+        let _source = beat.source;
+        if self.slave.order().is_at_acceptance() {
+            return self
+                .flights
+                .accept(alloc, port, &self.under, beat, lanes, &mut self.slave);
+        }
+        self.flights.end(port, &self.under, beat, lanes)
+    }
+
+    /// Takes a beat of a request: whether it ends it. Where there is no memory, nothing is changed.
+    fn admit_ask(
+        &mut self,
+        alloc: Global,
+        port: usize,
+        beat: &AskHead,
+        lanes: &[u8],
+    ) -> Result<bool, AllocError>
+        requires fits { FitsAsk self.old.under.bus (first_ask self.old.under.asking) beat.now }
+        requires lanes { self.old.under.bus ≤ length lanes.now }
+        ensures after { (layout : Layout) (beyond : Beyond) (known : ℕ)
+            → OnOk result (IsAfter layout port beyond self.old self.new (A beat.now) known lanes.now) }
+        ensures ends { IfOk result (λ ends. ends ≡ ends_ask self.old.under.bus self.old.under.asking beat.now) }
+        ensures refused { OnErr result ((kept_of self.old.flights beat.now.source ≡ None)
+            ⊎ IsSome (effect_at_acceptance self.old.slave (ask_by self.old.under beat.now lanes.now))) }
+        ensures err { OnErr result (self.new ≡ self.old) }
+        ensures bus { self.new.under.bus ≡ self.old.under.bus }
+    {
+        let source = beat.source;
+        if !self.under.ends_ask(beat) {
+            self.flights.begin(source, port)?;
+            self.under.take_ask_part(beat, lanes);
+            return Ok(false);
+        }
+        self.end_ask(alloc, port, beat, lanes)?;
+        self.under.take_ask_end();
+        Ok(true)
+    }
+
+    /// The slave serves the request in flight of a source, if it takes effect as its reply begins. Where there is no
+    /// memory for a page, nothing is changed.
+    fn serve_late(&mut self, alloc: Global, port: usize, source: u16) -> Result<(), AllocError>
+        ensures under { self.new.under ≡ self.old.under }
+        ensures flight { OnOk result (IsChanged self.old.flights self.new.flights source (λ flight.
+            flight_due flight (answer_by port self.old.slave (late_in self.old source)))) }
+        ensures slave { OnOk result (self.new.slave ≡ slave_by self.old.slave (late_in self.old source)) }
+        ensures served { OnErr result (IsTrue (is_late_in self.old)) }
+        ensures err { OnErr result (self.new ≡ self.old) }
+    {
+        if self.is_late() {
+            return self.flights.answer(alloc, source, port, &mut self.slave);
+        }
+        Ok(())
+    }
+
+    /// Takes a beat of a reply: whether it ends it. Where there is no memory for a page, nothing is changed.
+    fn admit_reply(
+        &mut self,
+        alloc: Global,
+        port: usize,
+        beat: &ReplyHead,
+        known: u64,
+        lanes: &[u8],
+    ) -> Result<bool, AllocError>
+        requires fits { FitsReply (first_reply self.old.under.replying) beat.now }
+        requires lanes { self.old.under.bus ≤ length lanes.now }
+        ensures after { (layout : Layout) (beyond : Beyond)
+            → OnOk result (IsAfter layout port beyond self.old self.new (D beat.now) known lanes.now) }
+        ensures ends { IfOk result (λ ends. ends ≡ ends_reply self.old.under.bus self.old.under.replying beat.now) }
+        ensures served { OnErr result (IsTrue (is_late_in self.old)) }
+        ensures err { OnErr result (self.new ≡ self.old) }
+        ensures bus { self.new.under.bus ≡ self.old.under.bus }
+    {
+        let source = beat.source;
+        self.serve_late(alloc, port, source)?;
+        if !self.under.ends_reply(beat) {
+            self.under.take_reply_part(beat, known, lanes);
+            return Ok(false);
+        }
+        self.under.take_reply_end();
+        self.flights.clear(source);
+        Ok(true)
+    }
+
+    /// Takes one beat more, which is lawful: what it ends. Where there is no memory, nothing is changed.
+    fn admit(
+        &mut self,
+        alloc: Global,
+        port: usize,
+        beat: &Beat,
+        known: u64,
+        lanes: &[u8],
+    ) -> Result<Ended, AllocError>
+        requires fits { FitsBeat self.old.under beat.now }
+        requires lanes { self.old.under.bus ≤ length lanes.now }
+        ensures keeps { (plan : Plan) (past : List Sighting) → KeepsPort plan port past self.old
+            → IsLawful plan (seen_at (Port port) beat.now known lanes.now ∷ past)
+            → OnOk result (KeepsPort plan port (seen_at (Port port) beat.now known lanes.now ∷ past) self.new) }
+        ensures ended { (plan : Plan) (past : List Sighting) → KeepsPort plan port past self.old
+            → IsLawful plan (seen_at (Port port) beat.now known lanes.now ∷ past)
+            → IfOk result (λ e. e ≡ ended (what_is_seen plan past (seen_at (Port port) beat.now known lanes.now))) }
+        ensures needed { (plan : Plan) (past : List Sighting) → KeepsPort plan port past self.old
+            → IsLawful plan (seen_at (Port port) beat.now known lanes.now ∷ past)
+            → OnErr result (IsServed plan past (seen_at (Port port) beat.now known lanes.now)
+            ⊎ IsFirstRequest past beat.now) }
+        ensures err { OnErr result (self.new ≡ self.old) }
+        ensures bus { self.new.under.bus ≡ self.old.under.bus }
+    {
+        match beat {
+            Beat::A(beat) => {
+                let ends = self.admit_ask(alloc, port, beat, lanes)?;
+                Ok(if ends { Ended::Ask } else { Ended::Part })
+            }
+            Beat::D(beat) => {
+                let ends = self.admit_reply(alloc, port, beat, known, lanes)?;
+                Ok(if ends { Ended::Reply } else { Ended::Part })
+            }
+        }
+    }
+
+    /// Takes one beat more, if it is lawful: what it ends. `None` says that it is not. Then nothing changes, nor where
+    /// memory is refused.
+    pub fn take(
+        &mut self,
+        alloc: Global,
+        port: usize,
+        map: &Map,
+        beat: &Beat,
+        known: u64,
+        lanes: &[u8],
+    ) -> Result<Option<Ended>, AllocError>
+        requires lanes { self.old.under.bus ≤ length lanes.now }
+        ensures lawful { (plan : Plan) (past : List Sighting) → IsOwnPort plan.layout map.now
+            → KeepsPort plan port past self.old
+            → IfOk result (λ end. IsSome end ↔ IsLawful plan (seen_at (Port port) beat.now known lanes.now ∷ past)) }
+        ensures keeps { (plan : Plan) (past : List Sighting) → IsOwnPort plan.layout map.now
+            → KeepsPort plan port past self.old
+            → IfOk result (λ end. OnSome end
+            (KeepsPort plan port (seen_at (Port port) beat.now known lanes.now ∷ past) self.new)) }
+        ensures ended { (plan : Plan) (past : List Sighting) → IsOwnPort plan.layout map.now
+            → KeepsPort plan port past self.old
+            → IfOk result (λ end. IfSome end (λ e.
+            e ≡ ended (what_is_seen plan past (seen_at (Port port) beat.now known lanes.now)))) }
+        ensures none { IfOk result (λ end. IfNone end (self.new ≡ self.old)) }
+        ensures memory { (plan : Plan) (past : List Sighting) → IsOwnPort plan.layout map.now
+            → KeepsPort plan port past self.old
+            → OnErr result (IsLawful plan (seen_at (Port port) beat.now known lanes.now ∷ past)) }
+        ensures needed { (plan : Plan) (past : List Sighting) → IsOwnPort plan.layout map.now
+            → KeepsPort plan port past self.old
+            → OnErr result (IsServed plan past (seen_at (Port port) beat.now known lanes.now)
+            ⊎ IsFirstRequest past beat.now) }
+        ensures err { OnErr result (self.new ≡ self.old) }
+        ensures bus { self.new.under.bus ≡ self.old.under.bus }
+    {
+        if let Some(_reason) = self.reason(port, map, beat, known, lanes) {
+            return Ok(None);
+        }
+        let ended = self.admit(alloc, port, beat, known, lanes)?;
+        Ok(Some(ended))
+    }
+
+    /// Judges one beat more: what it ends, or its first fault. An `Err` changes nothing.
+    pub fn step(
+        &mut self,
+        alloc: Global,
+        port: usize,
+        map: &Map,
+        beat: &Beat,
+        known: u64,
+        lanes: &[u8],
+    ) -> Result<Seen, StepError>
+        requires lanes { self.old.under.bus ≤ length lanes.now }
+        ensures lawful { (plan : Plan) (past : List Sighting) → IsOwnPort plan.layout map.now
+            → KeepsPort plan port past self.old → (result ≡ Err StepError.Memory → ⊥)
+            → IsOk result ↔ IsLawful plan (seen_at (Port port) beat.now known lanes.now ∷ past) }
+        ensures keeps { (plan : Plan) (past : List Sighting) → IsOwnPort plan.layout map.now
+            → KeepsPort plan port past self.old
+            → OnOk result (KeepsPort plan port (seen_at (Port port) beat.now known lanes.now ∷ past) self.new) }
+        ensures seen { (plan : Plan) (past : List Sighting) → IsOwnPort plan.layout map.now
+            → KeepsPort plan port past self.old
+            → IfOk result (λ s. s ≡ what_is_seen plan past (seen_at (Port port) beat.now known lanes.now)) }
+        ensures fault { (plan : Plan) (past : List Sighting) → IsOwnPort plan.layout map.now
+            → KeepsPort plan port past self.old
+            → IfErr result (OfFault (IsFirstFault plan past (seen_at (Port port) beat.now known lanes.now))) }
+        ensures memory { (plan : Plan) (past : List Sighting) → IsOwnPort plan.layout map.now
+            → KeepsPort plan port past self.old → result ≡ Err StepError.Memory
+            → IsLawful plan (seen_at (Port port) beat.now known lanes.now ∷ past) }
+        ensures needed { (plan : Plan) (past : List Sighting) → IsOwnPort plan.layout map.now
+            → KeepsPort plan port past self.old → result ≡ Err StepError.Memory
+            → IsServed plan past (seen_at (Port port) beat.now known lanes.now) ⊎ IsFirstRequest past beat.now }
+        ensures err { OnErr result (self.new ≡ self.old) }
+        ensures bus { self.new.under.bus ≡ self.old.under.bus }
+    {
+        if let Some(reason) = self.reason(port, map, beat, known, lanes) {
+            return Err(StepError::Unlawful(self.fault(port, beat, known, lanes, reason)));
+        }
+        let seen = self.seen(port, beat, known, lanes);
+        match self.admit(alloc, port, beat, known, lanes) {
+            Ok(_ended) => Ok(seen),
+            Err(_refused) => Err(StepError::Memory),
+        }
+    }
+}

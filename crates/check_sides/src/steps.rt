@@ -1,0 +1,228 @@
+//! Steps of the judge: a beat is judged in the group of its link.
+ghost use Rattle.std.specs.Prelude.{◌≡◌, ◌≤◌, ◌↔◌, ◌∷◌, List, length, Err, IfOk, IsOk, OnOk, OnErr, IfErr, IfSome, IsSome, IfNone, OnSome, true, false};
+ghost use Rattle.check_watch.specs.declared.beat.Link.TheVariants.{Port};
+ghost use Rattle.check_watch.specs.Plan.{Sighting, seen_at};
+ghost use Rattle.check_watch.specs.Scene.{ended};
+ghost use Rattle.check_sides.specs.Groups.{is_alone};
+ghost use Rattle.check_sides.specs.Lawful.{IsFirstFault, IsLawful, IsServed, MayNeedMemory, OfFault, what_is_seen};
+ghost use Rattle.check_sides.specs.Plan.{Plan, HasLink, IsWatched, bus_of};
+ghost use Rattle.check_sides.specs.View.{Keeps};
+
+use crate::watch::Watch;
+use check_watch::{Beat, Ended, Link, Seen, StepError};
+use std::alloc::{AllocError, Global};
+
+impl Watch {
+    /// Judges one beat more at a port's link that is judged by itself.
+    fn step_alone(
+        &mut self,
+        alloc: Global,
+        port: usize,
+        link: Link,
+        beat: &Beat,
+        known: u64,
+        lanes: &[u8],
+    ) -> Result<Seen, StepError>
+        requires here { link ≡ Port port }
+        requires alone { is_alone self.old.layout.links link ≡ true }
+        requires known { HasLink self.old.layout link }
+        requires lanes { bus_of self.old.layout link ≤ length lanes.now }
+        ensures lawful { (plan : Plan) (past : List Sighting) → Keeps plan past self.old
+            → (result ≡ Err StepError.Memory → ⊥)
+            → IsOk result ↔ IsLawful plan (seen_at link beat.now known lanes.now ∷ past) }
+        ensures keeps { (plan : Plan) (past : List Sighting) → Keeps plan past self.old
+            → OnOk result (Keeps plan (seen_at link beat.now known lanes.now ∷ past) self.new) }
+        ensures seen { (plan : Plan) (past : List Sighting) → Keeps plan past self.old
+            → IfOk result (λ s. s ≡ what_is_seen plan past (seen_at link beat.now known lanes.now)) }
+        ensures fault { (plan : Plan) (past : List Sighting) → Keeps plan past self.old
+            → IfErr result (OfFault (IsFirstFault plan past (seen_at link beat.now known lanes.now))) }
+        ensures memory { (plan : Plan) (past : List Sighting) → Keeps plan past self.old
+            → result ≡ Err StepError.Memory
+            → IsLawful plan (seen_at link beat.now known lanes.now ∷ past) }
+        ensures needed { (plan : Plan) (past : List Sighting) → Keeps plan past self.old
+            → result ≡ Err StepError.Memory
+            → MayNeedMemory plan past (seen_at link beat.now known lanes.now) }
+        ensures err { OnErr result (self.new ≡ self.old) }
+        ensures layout { self.new.layout ≡ self.old.layout }
+    {
+        self.sized();
+        let map = self.shared.map();
+        self.ports[port].step(alloc, port, map, beat, known, lanes)
+    }
+
+    /// Takes one beat more at a port's link that is judged by itself, if it is lawful: what it ends.
+    fn take_alone(
+        &mut self,
+        alloc: Global,
+        port: usize,
+        link: Link,
+        beat: &Beat,
+        known: u64,
+        lanes: &[u8],
+    ) -> Result<Option<Ended>, AllocError>
+        requires here { link ≡ Port port }
+        requires alone { is_alone self.old.layout.links link ≡ true }
+        requires known { HasLink self.old.layout link }
+        requires lanes { bus_of self.old.layout link ≤ length lanes.now }
+        ensures lawful { (plan : Plan) (past : List Sighting) → Keeps plan past self.old
+            → IfOk result (λ end. IsSome end ↔ IsLawful plan (seen_at link beat.now known lanes.now ∷ past)) }
+        ensures keeps { (plan : Plan) (past : List Sighting) → Keeps plan past self.old
+            → IfOk result (λ end. OnSome end (Keeps plan (seen_at link beat.now known lanes.now ∷ past) self.new)) }
+        ensures ended { (plan : Plan) (past : List Sighting) → Keeps plan past self.old
+            → IfOk result (λ end. IfSome end (λ e.
+            e ≡ ended (what_is_seen plan past (seen_at link beat.now known lanes.now)))) }
+        ensures none { IfOk result (λ end. IfNone end (self.new ≡ self.old)) }
+        ensures memory { (plan : Plan) (past : List Sighting) → Keeps plan past self.old
+            → OnErr result (IsLawful plan (seen_at link beat.now known lanes.now ∷ past)) }
+        ensures needed { (plan : Plan) (past : List Sighting) → Keeps plan past self.old
+            → OnErr result (MayNeedMemory plan past (seen_at link beat.now known lanes.now)) }
+        ensures err { OnErr result (self.new ≡ self.old) }
+        ensures layout { self.new.layout ≡ self.old.layout }
+    {
+        self.sized();
+        let map = self.shared.map();
+        self.ports[port].take(alloc, port, map, beat, known, lanes)
+    }
+
+    /// Judges one beat more at a link that is judged with others.
+    fn step_shared(
+        &mut self,
+        alloc: Global,
+        link: Link,
+        beat: &Beat,
+        known: u64,
+        lanes: &[u8],
+    ) -> Result<Seen, StepError>
+        requires shared { is_alone self.old.layout.links link ≡ false }
+        requires known { HasLink self.old.layout link }
+        requires watched { IsWatched self.old.layout.links link }
+        requires lanes { bus_of self.old.layout link ≤ length lanes.now }
+        ensures lawful { (plan : Plan) (past : List Sighting) → Keeps plan past self.old
+            → (result ≡ Err StepError.Memory → ⊥)
+            → IsOk result ↔ IsLawful plan (seen_at link beat.now known lanes.now ∷ past) }
+        ensures keeps { (plan : Plan) (past : List Sighting) → Keeps plan past self.old
+            → OnOk result (Keeps plan (seen_at link beat.now known lanes.now ∷ past) self.new) }
+        ensures seen { (plan : Plan) (past : List Sighting) → Keeps plan past self.old
+            → IfOk result (λ s. s ≡ what_is_seen plan past (seen_at link beat.now known lanes.now)) }
+        ensures fault { (plan : Plan) (past : List Sighting) → Keeps plan past self.old
+            → IfErr result (OfFault (IsFirstFault plan past (seen_at link beat.now known lanes.now))) }
+        ensures memory { (plan : Plan) (past : List Sighting) → Keeps plan past self.old
+            → result ≡ Err StepError.Memory
+            → IsLawful plan (seen_at link beat.now known lanes.now ∷ past) }
+        ensures needed { (plan : Plan) (past : List Sighting) → Keeps plan past self.old
+            → result ≡ Err StepError.Memory
+            → IsServed plan past (seen_at link beat.now known lanes.now) }
+        ensures err { OnErr result (self.new ≡ self.old) }
+        ensures layout { self.new.layout ≡ self.old.layout }
+    {
+        self.shared.step(alloc, link, beat, known, lanes)
+    }
+
+    /// Takes one beat more at a link that is judged with others, if it is lawful: what it ends.
+    fn take_shared(
+        &mut self,
+        alloc: Global,
+        link: Link,
+        beat: &Beat,
+        known: u64,
+        lanes: &[u8],
+    ) -> Result<Option<Ended>, AllocError>
+        requires shared { is_alone self.old.layout.links link ≡ false }
+        requires known { HasLink self.old.layout link }
+        requires watched { IsWatched self.old.layout.links link }
+        requires lanes { bus_of self.old.layout link ≤ length lanes.now }
+        ensures lawful { (plan : Plan) (past : List Sighting) → Keeps plan past self.old
+            → IfOk result (λ end. IsSome end ↔ IsLawful plan (seen_at link beat.now known lanes.now ∷ past)) }
+        ensures keeps { (plan : Plan) (past : List Sighting) → Keeps plan past self.old
+            → IfOk result (λ end. OnSome end (Keeps plan (seen_at link beat.now known lanes.now ∷ past) self.new)) }
+        ensures ended { (plan : Plan) (past : List Sighting) → Keeps plan past self.old
+            → IfOk result (λ end. IfSome end (λ e.
+            e ≡ ended (what_is_seen plan past (seen_at link beat.now known lanes.now)))) }
+        ensures none { IfOk result (λ end. IfNone end (self.new ≡ self.old)) }
+        ensures memory { (plan : Plan) (past : List Sighting) → Keeps plan past self.old
+            → OnErr result (IsLawful plan (seen_at link beat.now known lanes.now ∷ past)) }
+        ensures needed { (plan : Plan) (past : List Sighting) → Keeps plan past self.old
+            → OnErr result (IsServed plan past (seen_at link beat.now known lanes.now)) }
+        ensures err { OnErr result (self.new ≡ self.old) }
+        ensures layout { self.new.layout ≡ self.old.layout }
+    {
+        self.shared.take(alloc, link, beat, known, lanes)
+    }
+
+    /// Takes one beat more, at a link that is watched, if it is lawful: what it ends. `None` says that it is not. Then
+    /// nothing changes, nor if memory is refused to a lawful one: a request takes effect with it, or it is the first of a
+    /// source at a port's link that is judged by itself. There are as many lanes as the link's bus has, or more; those
+    /// past the bus are not looked at.
+    ///
+    /// It costs less than [`Watch::step`], which makes the fault or the reply that a beat ends, too.
+    pub fn take(
+        &mut self,
+        alloc: Global,
+        link: Link,
+        beat: &Beat,
+        known: u64,
+        lanes: &[u8],
+    ) -> Result<Option<Ended>, AllocError>
+        requires known { HasLink self.old.layout link }
+        requires watched { IsWatched self.old.layout.links link }
+        requires lanes { bus_of self.old.layout link ≤ length lanes.now }
+        ensures lawful { (plan : Plan) (past : List Sighting) → Keeps plan past self.old
+            → IfOk result (λ end. IsSome end ↔ IsLawful plan (seen_at link beat.now known lanes.now ∷ past)) }
+        ensures keeps { (plan : Plan) (past : List Sighting) → Keeps plan past self.old
+            → IfOk result (λ end. OnSome end (Keeps plan (seen_at link beat.now known lanes.now ∷ past) self.new)) }
+        ensures ended { (plan : Plan) (past : List Sighting) → Keeps plan past self.old
+            → IfOk result (λ end. IfSome end (λ e.
+            e ≡ ended (what_is_seen plan past (seen_at link beat.now known lanes.now)))) }
+        ensures none { IfOk result (λ end. IfNone end (self.new ≡ self.old)) }
+        ensures memory { (plan : Plan) (past : List Sighting) → Keeps plan past self.old
+            → OnErr result (IsLawful plan (seen_at link beat.now known lanes.now ∷ past)) }
+        ensures needed { (plan : Plan) (past : List Sighting) → Keeps plan past self.old
+            → OnErr result (MayNeedMemory plan past (seen_at link beat.now known lanes.now)) }
+        ensures err { OnErr result (self.new ≡ self.old) }
+        ensures layout { self.new.layout ≡ self.old.layout }
+    {
+        match self.alone(link) {
+            Some(port) => self.take_alone(alloc, port, link, beat, known, lanes),
+            None => self.take_shared(alloc, link, beat, known, lanes),
+        }
+    }
+
+    /// Judges one beat more, at a link that is watched: what it ends, or its first fault. An `Err` changes nothing, and
+    /// [`StepError::Memory`] says that the beat is lawful, and that a request takes effect with it, or that it is the first
+    /// of a source at a port's link that is judged by itself. There are as many lanes as the link's bus has, or more; those
+    /// past the bus are not looked at.
+    pub fn step(
+        &mut self,
+        alloc: Global,
+        link: Link,
+        beat: &Beat,
+        known: u64,
+        lanes: &[u8],
+    ) -> Result<Seen, StepError>
+        requires known { HasLink self.old.layout link }
+        requires watched { IsWatched self.old.layout.links link }
+        requires lanes { bus_of self.old.layout link ≤ length lanes.now }
+        ensures lawful { (plan : Plan) (past : List Sighting) → Keeps plan past self.old
+            → (result ≡ Err StepError.Memory → ⊥)
+            → IsOk result ↔ IsLawful plan (seen_at link beat.now known lanes.now ∷ past) }
+        ensures keeps { (plan : Plan) (past : List Sighting) → Keeps plan past self.old
+            → OnOk result (Keeps plan (seen_at link beat.now known lanes.now ∷ past) self.new) }
+        ensures seen { (plan : Plan) (past : List Sighting) → Keeps plan past self.old
+            → IfOk result (λ s. s ≡ what_is_seen plan past (seen_at link beat.now known lanes.now)) }
+        ensures fault { (plan : Plan) (past : List Sighting) → Keeps plan past self.old
+            → IfErr result (OfFault (IsFirstFault plan past (seen_at link beat.now known lanes.now))) }
+        ensures memory { (plan : Plan) (past : List Sighting) → Keeps plan past self.old
+            → result ≡ Err StepError.Memory
+            → IsLawful plan (seen_at link beat.now known lanes.now ∷ past) }
+        ensures needed { (plan : Plan) (past : List Sighting) → Keeps plan past self.old
+            → result ≡ Err StepError.Memory
+            → MayNeedMemory plan past (seen_at link beat.now known lanes.now) }
+        ensures err { OnErr result (self.new ≡ self.old) }
+        ensures layout { self.new.layout ≡ self.old.layout }
+    {
+        match self.alone(link) {
+            Some(port) => self.step_alone(alloc, port, link, beat, known, lanes),
+            None => self.step_shared(alloc, link, beat, known, lanes),
+        }
+    }
+}

@@ -1,0 +1,184 @@
+//! The judge of what crossed the links of a crossbar.
+ghost use Rattle.std.specs.Prelude.{◌≡◌, ◌↔◌, ◌+◌, [], length, IsTrue, IfOk, IfSome, IfNone, true, false};
+ghost use Rattle.check_beats.specs.Bus.{bus_bytes};
+ghost use Rattle.check_watch.specs.declared.beat.Link.TheVariants.{Port};
+ghost use Rattle.check_sides.specs.Groups.{is_alone, together_of};
+ghost use Rattle.check_sides.specs.Plan.{Plan, IsPlan, HasLink, IsWatched, bus_of};
+ghost use Rattle.check_sides.specs.View.{IsSized, Keeps, fresh_links};
+
+use crate::links::Links;
+use crate::port::PortLink;
+use check_beats::Bus;
+use check_flight::PortSlave;
+use check_map::{Map, Sources};
+use check_watch::{Link, Watch as Together};
+use std::alloc::{AllocError, Global};
+use std::marker::Model;
+
+/// What a judge keeps of the beats so far.
+#[derive(Drop)]
+pub struct Watch {
+    pub(crate) links: Links,
+    /// Of the links that are judged together.
+    pub(crate) shared: Together,
+    /// Of each port's link that is judged by itself; nothing where none is.
+    pub(crate) ports: Vec<PortLink>,
+}
+
+impl Model for Watch {
+    ghost use Rattle.check_sides.specs.Groups.{layout_of};
+    ghost use Rattle.check_sides.specs.View.{View, IsSized};
+
+    ghost Value = { View };
+
+    ghost view = { λ w. record {
+      layout = layout_of w.links w.shared.layout;
+      shared = w.shared;
+      ports = w.ports.items;
+    } };
+
+    ghost invariant = { λ w. IsSized (record {
+      layout = layout_of w.links w.shared.layout;
+      shared = w.shared;
+      ports = w.ports.items;
+    }) };
+}
+
+/// The words of `check_watch` for the links that are judged together.
+fn together_of(links: Links) -> check_watch::Links
+    ensures { result ≡ together_of links }
+{
+    match links {
+        Links::Both => check_watch::Links::Both,
+        Links::Masters | Links::Each => check_watch::Links::Masters,
+        Links::Ports => check_watch::Links::Ports,
+    }
+}
+
+/// The links of these buses with these slaves, before any beat.
+fn links_of(
+    alloc: Global,
+    buses: &[Bus],
+    slaves: Vec<PortSlave>,
+) -> Result<Vec<PortLink>, AllocError>
+    ensures { IfOk result (λ links. links.items ≡ fresh_links buses.now slaves.items) }
+{
+    let mut links = Vec::with_capacity(alloc, buses.len())?;
+    for (bus, slave) in buses.iter().zip(slaves) {
+        links.push(PortLink::new(alloc, *bus, slave))?;
+    }
+    Ok(links)
+}
+
+impl Watch {
+    /// The judge of a crossbar with these ports and sources, before any beat. There is a slave for each port, the error
+    /// port's last, as it is at reset; a bus for each master's link, and one for each port's. With `Links::Each` the same
+    /// slaves are given a second time, for the ports' side; otherwise that list is not looked at.
+    pub fn new(
+        alloc: Global,
+        links: Links,
+        map: Map,
+        sources: Sources,
+        master_buses: Vec<Bus>,
+        port_buses: Vec<Bus>,
+        slaves: Vec<PortSlave>,
+        own: Vec<PortSlave>,
+    ) -> Result<Watch, AllocError>
+        requires slaves { length slaves.items ≡ length map + 1 }
+        requires masters { length master_buses.items ≡ length sources }
+        requires ports { length port_buses.items ≡ length map }
+        requires own { links ≡ Links.Each → own.items ≡ slaves.items }
+        ensures layout { IfOk result (λ watch. watch.layout ≡ record {
+          links = links;
+          owners = sources;
+          ports = map;
+          master_buses = master_buses.items;
+          port_buses = port_buses.items;
+        }) }
+        ensures plan { IfOk result (λ watch. (plan : Plan) × (plan.resets ≡ slaves.items) × Keeps plan [] watch) }
+        ensures keeps { (plan : Plan) → IsPlan plan
+            → plan.layout ≡ record {
+              links = links;
+              owners = sources;
+              ports = map;
+              master_buses = master_buses.items;
+              port_buses = port_buses.items;
+            }
+            → plan.resets ≡ slaves.items → IfOk result (Keeps plan []) }
+    {
+        let ports = links_of(alloc, &port_buses, own)?;
+        let together = together_of(links);
+        let shared = Together::new(
+            alloc,
+            together,
+            map,
+            sources,
+            master_buses,
+            port_buses,
+            slaves,
+        )?;
+        Ok(Watch {
+            links,
+            shared,
+            ports,
+        })
+    }
+
+    /// Whether the crossbar has a link, and it is watched.
+    pub fn watches(&self, link: Link) -> bool
+        ensures { IsTrue result
+            ↔ (HasLink self.now.layout link × IsWatched self.now.layout.links link) }
+    {
+        match (link, self.links) {
+            (Link::Master(master), Links::Both | Links::Masters | Links::Each) => {
+                master < self.shared.sources().masters()
+            }
+            (Link::Port(port), Links::Both | Links::Ports | Links::Each) => {
+                port < self.shared.map().ports() - 1
+            }
+            (Link::Master(_), Links::Ports) | (Link::Port(_), Links::Masters) => false,
+        }
+    }
+
+    /// The links that are watched.
+    pub fn links(&self) -> Links
+        ensures { result ≡ self.now.layout.links }
+    {
+        self.links
+    }
+
+    /// The wide sources of the masters.
+    pub fn sources(&self) -> &Sources
+        ensures { result.now ≡ self.now.layout.owners }
+    {
+        self.shared.sources()
+    }
+
+    /// The bus of a link.
+    pub fn bus(&self, link: Link) -> Bus
+        requires { HasLink self.now.layout link }
+        ensures { bus_bytes result ≡ bus_of self.now.layout link }
+    {
+        self.shared.bus(link)
+    }
+
+    /// That what is kept is of its sizes: it is called for its clauses alone.
+    pub(crate) fn sized(&self)
+        ensures { IsSized self.now }
+    {
+        // an invariant is known once a field is used
+        let _ = &self.links;
+    }
+
+    /// The port whose link this is, if it is judged by itself.
+    pub(crate) fn alone(&self, link: Link) -> Option<usize>
+        ensures alone { IfSome result (λ port. (link ≡ Port port)
+            × (is_alone self.now.layout.links link ≡ true)) }
+        ensures shared { IfNone result (is_alone self.now.layout.links link ≡ false) }
+    {
+        match (link, self.links) {
+            (Link::Port(port), Links::Each) => Some(port),
+            (Link::Master(_) | Link::Port(_), _) => None,
+        }
+    }
+}
