@@ -1,0 +1,5 @@
+pub mod Digits
+pub mod Numbers
+pub mod Shown
+pub mod ColumnLemmas
+pub mod MomentLemmas

@@ -1,0 +1,9 @@
+pub mod Reading
+pub mod Number
+pub mod Lanes
+pub mod Digit
+pub mod Buses
+pub mod Column
+pub mod Columns
+pub mod Row
+pub mod Moment

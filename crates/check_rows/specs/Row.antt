@@ -1,0 +1,117 @@
+-- The row that the columns of a record spell, or the first fault that they have, from the left. This project's own.
+use Rattle.std.specs.Prelude.{ℕ, ◌^◌, ◌-◌, ◌==◌, List, length, take, Result, Ok, Err, if◌then◌else◌}
+use Rattle.check_beats.specs.Bus.{bus_bytes}
+use Rattle.check_beats.specs.declared.bus.Bus.{Bus}
+use Rattle.check_watch.specs.Plan.{Sighting, seen_at}
+use Rattle.check_watch.specs.declared.beat.Beat.{Beat}
+use Rattle.check_watch.specs.declared.beat.Beat.TheVariants as beat
+use Rattle.check_rows.specs.Buses.{bus_of}
+use Rattle.check_rows.specs.Column.{column}
+use Rattle.check_rows.specs.Columns.{link_of, channel_of, flag_of, nothing_of}
+use Rattle.check_rows.specs.declared.column.Column.TheVariants as named
+use Rattle.check_rows.specs.Lanes.{Lanes, lanes_of}
+use Rattle.check_rows.specs.Number.{decimal_of, address_of, mask_of}
+use Rattle.check_rows.specs.Reading.{◌>>=◌}
+use Rattle.check_rows.specs.declared.columns.Channel.{Channel}
+use Rattle.check_rows.specs.declared.columns.Channel.TheVariants as channel
+use Rattle.check_rows.specs.declared.fault.RowFault.{RowFault}
+use Rattle.check_rows.specs.declared.fault.RowFault.TheVariants.{Columns}
+use Rattle.check_rows.specs.declared.row.Row.{Row}
+
+-- a beat with its lanes
+pub record SeenBeat : Type 0 where
+  pub beat : Beat
+  pub lanes : Lanes
+
+-- a row: the line on which it begins, and what was seen when
+pub record SeenRow : Type 0 where
+  pub line : ℕ
+  pub time : ℕ
+  pub sighting : Sighting
+
+-- a beat of channel A has no flags
+unfoldable pub ask_of : ℕ → List (List ℕ) → Result SeenBeat RowFault
+ask_of bus columns = do
+  opcode ← decimal_of 255 (column columns named.Opcode)
+  param ← decimal_of 255 (column columns named.Param)
+  size ← decimal_of 255 (column columns named.Size)
+  source ← decimal_of 65535 (column columns named.Source)
+  address ← address_of (column columns named.Address)
+  mask ← mask_of bus (column columns named.Mask)
+  lanes ← lanes_of bus (column columns named.Data)
+  _ ← nothing_of (column columns named.Denied)
+  _ ← nothing_of (column columns named.Corrupt)
+  Ok (record {
+    beat = beat.A (record {
+      opcode = opcode;
+      param = param;
+      size = size;
+      source = source;
+      address = address;
+      mask = mask;
+    });
+    lanes = lanes;
+  })
+
+-- a beat of channel D has no parameter, address or mask
+unfoldable pub reply_of : ℕ → List (List ℕ) → Result SeenBeat RowFault
+reply_of bus columns = do
+  opcode ← decimal_of 255 (column columns named.Opcode)
+  _ ← nothing_of (column columns named.Param)
+  size ← decimal_of 255 (column columns named.Size)
+  source ← decimal_of 65535 (column columns named.Source)
+  _ ← nothing_of (column columns named.Address)
+  _ ← nothing_of (column columns named.Mask)
+  lanes ← lanes_of bus (column columns named.Data)
+  denied ← flag_of (column columns named.Denied)
+  corrupt ← flag_of (column columns named.Corrupt)
+  Ok (record {
+    beat = beat.D (record {
+      opcode = opcode;
+      size = size;
+      source = source;
+      denied = denied;
+      corrupt = corrupt;
+    });
+    lanes = lanes;
+  })
+
+-- the beat of a row, by the bus of its link and by its channel
+abbrev pub beat_of : ℕ → Channel → List (List ℕ) → Result SeenBeat RowFault
+beat_of bus channel.A columns = ask_of bus columns
+beat_of bus channel.D columns = reply_of bus columns
+
+-- the row that twelve columns on this line spell, in a system whose masters' and ports' links have these buses
+unfoldable pub row_of : List Bus → List Bus → ℕ → List (List ℕ) → Result SeenRow RowFault
+row_of masters ports line columns =
+    if length columns == 12 then (do
+      time ← decimal_of (2 ^ 64 - 1) (column columns named.Time)
+      link ← link_of masters ports (column columns named.Link)
+      channel ← channel_of (column columns named.Channel)
+      seen ← beat_of (bus_of masters ports link) channel columns
+      Ok (record {
+        line = line;
+        time = time;
+        sighting = seen_at link seen.beat seen.lanes.known seen.lanes.bytes;
+      }))
+    else Err Columns
+
+-- ---- what is read
+
+-- a beat and the bits of its known lanes are the answer, and the lanes stand in the first places of a buffer
+abbrev pub beat_in : ℕ → List ℕ → Result (Beat × ℕ) RowFault → Result SeenBeat RowFault
+beat_in bus buffer (Ok seen) =
+    Ok (record { beat = seen.0; lanes = record { known = seen.1; bytes = take bus buffer } })
+beat_in bus buffer (Err fault) = Err fault
+
+-- a row with its lanes, which stand in the first places of a buffer
+abbrev pub seen_row : Row → List ℕ → SeenRow
+seen_row row buffer = record {
+  line = row.line;
+  time = row.time;
+  sighting = seen_at row.link row.beat row.known (take (bus_bytes row.bus) buffer);
+}
+
+abbrev pub row_in : List ℕ → Result Row RowFault → Result SeenRow RowFault
+row_in buffer (Ok row) = Ok (seen_row row buffer)
+row_in buffer (Err fault) = Err fault

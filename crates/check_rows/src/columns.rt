@@ -1,0 +1,81 @@
+//! The columns of a row that are no numbers.
+ghost use Rattle.std.specs.Prelude.{◌≡◌, ◌<◌, IfOk};
+ghost use Rattle.check_rows.specs.Buses.{IsLinkOf};
+ghost use Rattle.check_rows.specs.Columns.{channel_of, flag_of, index_of, link_of, nothing_of};
+
+use crate::buses::Buses;
+use crate::fault::RowFault;
+use crate::number::read_decimal;
+use check_watch::Link;
+
+/// A channel of a link.
+#[derive(Debug, Clone, Copy, PartialEq, Eq)]
+pub enum Channel {
+    A,
+    D,
+}
+
+/// The number that a link has among `count`, if its digits spell one.
+#[tactic(auto, unfolding(crate::specs::Columns::index_of, crate::specs::Number::decimal_of))]
+fn read_index(digits: &[u8], count: usize) -> Result<usize, RowFault>
+    ensures value { result ≡ index_of count digits.now }
+    ensures inside { IfOk result (λ index. index < count) }
+{
+    match read_decimal(digits, u64::MAX) {
+        Ok(index) if index < count as u64 => Ok(index as usize),
+        _ => Err(RowFault::Link),
+    }
+}
+
+/// The link that a word names.
+#[tactic(auto, unfolding(crate::specs::Columns::link_of))]
+pub fn read_link(buses: &Buses<'_>, word: &[u8]) -> Result<Link, RowFault>
+    ensures value { result ≡ link_of buses.now.masters.now buses.now.ports.now word.now }
+    ensures inside { IfOk result (IsLinkOf buses.now.masters.now buses.now.ports.now) }
+{
+    match word {
+        [b'm', digits @ ..] => Ok(Link::Master(read_index(digits, buses.masters.len())?)),
+        [b'p', digits @ ..] => Ok(Link::Port(read_index(digits, buses.ports.len())?)),
+        _ => Err(RowFault::Link),
+    }
+}
+
+/// The channel that a word names.
+#[tactic(auto, unfolding(crate::specs::Columns::channel_of))]
+pub fn read_channel(word: &[u8]) -> Result<Channel, RowFault>
+    ensures { result ≡ channel_of word.now }
+{
+    if word == b"A".as_slice() {
+        Ok(Channel::A)
+    } else if word == b"D".as_slice() {
+        Ok(Channel::D)
+    } else {
+        Err(RowFault::Channel)
+    }
+}
+
+/// A flag: `0` or `1`.
+#[tactic(auto, unfolding(crate::specs::Columns::flag_of))]
+pub fn read_flag(word: &[u8]) -> Result<bool, RowFault>
+    ensures { result ≡ flag_of word.now }
+{
+    if word == b"0".as_slice() {
+        Ok(false)
+    } else if word == b"1".as_slice() {
+        Ok(true)
+    } else {
+        Err(RowFault::Number)
+    }
+}
+
+/// A column that the channel does not have.
+#[tactic(auto, unfolding(crate::specs::Columns::nothing_of))]
+pub fn read_nothing(word: &[u8]) -> Result<(), RowFault>
+    ensures { result ≡ nothing_of word.now }
+{
+    if word.is_empty() {
+        Ok(())
+    } else {
+        Err(RowFault::Number)
+    }
+}

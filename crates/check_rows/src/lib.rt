@@ -1,0 +1,30 @@
+//! Captured traces over links of any width: the rows of a file, each a beat that was seen at a link, in the order in
+//! which the beats cross.
+//!
+//! [`read_row`] answers the row that a record's columns spell, or the first fault that they have (`specs/Row.antt`).
+//! The bus of the row's link ([`Buses`]) decides how many digits its mask and its data have. [`read_bare_row`] does so
+//! for a line without quotes, which it cuts at the commas and does not copy. A [`Row`] holds no lanes. They stand apart,
+//! in a buffer that is lent. A [`Moment`] takes the rows of one time with their lanes, and has them in the order in
+//! which their beats cross. It refuses a row whose time falls, and a second beat of one channel of one link
+//! (`specs/Moment.antt`).
+//!
+//! The columns and their names stand once (`specs/Column.antt`).
+//!
+//! Read on in `docs/CAPTURE.md`, which has the format with examples.
+#![tactic(auto)]
+
+mod buses;
+mod column;
+mod columns;
+mod digit;
+mod fault;
+mod lanes;
+mod moment;
+mod number;
+mod row;
+
+pub use buses::Buses;
+pub use column::{COLUMNS, column_name};
+pub use fault::RowFault;
+pub use moment::Moment;
+pub use row::{Row, read_bare_row, read_row};

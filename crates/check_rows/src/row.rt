@@ -1,0 +1,190 @@
+//! The rows of a capture.
+ghost use Rattle.std.specs.Prelude.{◌≡◌, IfOk};
+ghost use Rattle.csv.specs.Records.{fields_of};
+ghost use Rattle.check_beats.specs.Bus.{bus_bytes};
+ghost use Rattle.check_rows.specs.Buses.{HasBus};
+ghost use Rattle.check_rows.specs.Column.{parts_of, words_of};
+ghost use Rattle.check_rows.specs.Row.{ask_of, beat_in, beat_of, reply_of, row_in, row_of};
+
+use crate::buses::Buses;
+use crate::column::{Column, Columns, columns_of, cut_line};
+use crate::columns::{Channel, read_channel, read_flag, read_link, read_nothing};
+use crate::fault::RowFault;
+use crate::lanes::read_lanes;
+use crate::number::{read_address, read_decimal, read_mask};
+use check_beats::{AskHead, Bus, MAX_LANES, ReplyHead};
+use check_watch::{Beat, Link};
+use csv::ByteRecord;
+
+/// The largest opcode, parameter and size that a beat can have.
+const MAX_FIELD: u64 = u8::MAX as u64;
+
+/// The largest source that a beat can have.
+const MAX_SOURCE: u64 = u16::MAX as u64;
+
+/// A row of a capture, but for its lanes: the line on which it begins, and what was seen when, at a link with this bus.
+/// Bit k of `known` belongs to lane k.
+#[derive(Debug, Clone, Copy, PartialEq, Eq)]
+pub struct Row {
+    pub line: u64,
+    pub time: u64,
+    pub link: Link,
+    pub bus: Bus,
+    pub beat: Beat,
+    pub known: u64,
+}
+
+impl Default for Row {
+    fn default() -> Row {
+        Row {
+            line: 0,
+            time: 0,
+            link: Link::Master(0),
+            bus: Bus::One,
+            beat: Beat::A(AskHead::default()),
+            known: 0,
+        }
+    }
+}
+
+/// The beat of channel A that the columns spell, and which of its lanes are known.
+#[tactic(auto, unfolding(crate::specs::Row::ask_of))]
+fn read_ask(
+    bus: Bus,
+    columns: &Columns<'_>,
+    lanes: &mut [u8; MAX_LANES],
+) -> Result<(Beat, u64), RowFault>
+    ensures { beat_in (bus_bytes bus) lanes.new result ≡ ask_of (bus_bytes bus) (words_of columns.now) }
+{
+    let opcode = read_decimal(Column::Opcode.of(columns), MAX_FIELD)?;
+    let param = read_decimal(Column::Param.of(columns), MAX_FIELD)?;
+    let size = read_decimal(Column::Size.of(columns), MAX_FIELD)?;
+    let source = read_decimal(Column::Source.of(columns), MAX_SOURCE)?;
+    let address = read_address(Column::Address.of(columns))?;
+    let mask = read_mask(bus, Column::Mask.of(columns))?;
+    let known = read_lanes(bus, Column::Data.of(columns), lanes)?;
+    read_nothing(Column::Denied.of(columns))?;
+    read_nothing(Column::Corrupt.of(columns))?;
+    let beat = AskHead {
+        opcode: opcode as u8,
+        param: param as u8,
+        size: size as u8,
+        source: source as u16,
+        address,
+        mask,
+    };
+    Ok((Beat::A(beat), known))
+}
+
+/// The beat of channel D that the columns spell, and which of its lanes are known.
+#[tactic(auto, unfolding(crate::specs::Row::reply_of))]
+fn read_reply(
+    bus: Bus,
+    columns: &Columns<'_>,
+    lanes: &mut [u8; MAX_LANES],
+) -> Result<(Beat, u64), RowFault>
+    ensures { beat_in (bus_bytes bus) lanes.new result ≡ reply_of (bus_bytes bus) (words_of columns.now) }
+{
+    let opcode = read_decimal(Column::Opcode.of(columns), MAX_FIELD)?;
+    read_nothing(Column::Param.of(columns))?;
+    let size = read_decimal(Column::Size.of(columns), MAX_FIELD)?;
+    let source = read_decimal(Column::Source.of(columns), MAX_SOURCE)?;
+    read_nothing(Column::Address.of(columns))?;
+    read_nothing(Column::Mask.of(columns))?;
+    let known = read_lanes(bus, Column::Data.of(columns), lanes)?;
+    let denied = read_flag(Column::Denied.of(columns))?;
+    let corrupt = read_flag(Column::Corrupt.of(columns))?;
+    let beat = ReplyHead {
+        opcode: opcode as u8,
+        size: size as u8,
+        source: source as u16,
+        denied,
+        corrupt,
+    };
+    Ok((Beat::D(beat), known))
+}
+
+/// The beat of this channel that the columns spell.
+fn read_beat(
+    bus: Bus,
+    channel: Channel,
+    columns: &Columns<'_>,
+    lanes: &mut [u8; MAX_LANES],
+) -> Result<(Beat, u64), RowFault>
+    ensures { beat_in (bus_bytes bus) lanes.new result
+        ≡ beat_of (bus_bytes bus) channel (words_of columns.now) }
+{
+    match channel {
+        Channel::A => read_ask(bus, columns, lanes),
+        Channel::D => read_reply(bus, columns, lanes),
+    }
+}
+
+/// The row that columns spell, in a system whose links have these buses, or the first fault that they have, from the
+/// left.
+#[tactic(auto, unfolding(crate::specs::Row::row_of))]
+fn read_columns(
+    buses: &Buses<'_>,
+    line: u64,
+    columns: &Columns<'_>,
+    lanes: &mut [u8; MAX_LANES],
+) -> Result<Row, RowFault>
+    ensures value { row_in lanes.new result
+        ≡ row_of buses.now.masters.now buses.now.ports.now line (words_of columns.now) }
+    ensures bus { IfOk result (λ row.
+        HasBus buses.now.masters.now buses.now.ports.now row.link row.bus) }
+{
+    let time = read_decimal(Column::Time.of(columns), u64::MAX)?;
+    let link = read_link(buses, Column::Link.of(columns))?;
+    let channel = read_channel(Column::Channel.of(columns))?;
+    let bus = buses.of(link);
+    let (beat, known) = read_beat(bus, channel, columns, lanes)?;
+    Ok(Row {
+        line,
+        time,
+        link,
+        bus,
+        beat,
+        known,
+    })
+}
+
+/// The row that the columns of a record spell, in a system whose links have these buses, or the first fault that they
+/// have, from the left. The lanes of the row stand in the first places of the buffer, as many as its bus has bytes.
+/// After a fault nothing is said of the buffer.
+#[tactic(auto, unfolding(crate::specs::Row::row_of))]
+pub fn read_row(
+    buses: &Buses<'_>,
+    line: u64,
+    columns: &ByteRecord,
+    lanes: &mut [u8; MAX_LANES],
+) -> Result<Row, RowFault>
+    ensures value { row_in lanes.new result
+        ≡ row_of buses.now.masters.now buses.now.ports.now line (fields_of columns.now) }
+    ensures bus { IfOk result (λ row.
+        HasBus buses.now.masters.now buses.now.ports.now row.link row.bus) }
+{
+    match columns_of(columns) {
+        Some(columns) => read_columns(buses, line, &columns, lanes),
+        None => Err(RowFault::Columns),
+    }
+}
+
+/// The same of a line without quotes, between whose commas the columns stand.
+#[tactic(auto, unfolding(crate::specs::Row::row_of))]
+pub fn read_bare_row(
+    buses: &Buses<'_>,
+    line: u64,
+    text: &[u8],
+    lanes: &mut [u8; MAX_LANES],
+) -> Result<Row, RowFault>
+    ensures value { row_in lanes.new result
+        ≡ row_of buses.now.masters.now buses.now.ports.now line (parts_of text.now) }
+    ensures bus { IfOk result (λ row.
+        HasBus buses.now.masters.now buses.now.ports.now row.link row.bus) }
+{
+    match cut_line(text) {
+        Some(columns) => read_columns(buses, line, &columns, lanes),
+        None => Err(RowFault::Columns),
+    }
+}
