@@ -2,7 +2,7 @@
 ghost use Rattle.std.specs.Prelude.{◌≡◌, IfOk};
 ghost use Rattle.csv.specs.Records.{fields_of};
 ghost use Rattle.check_beats.specs.Bus.{bus_bytes};
-ghost use Rattle.check_rows.specs.Buses.{HasBus};
+ghost use Rattle.check_rows.specs.Buses.{HasBus, IsLinkOf};
 ghost use Rattle.check_rows.specs.Column.{parts_of, words_of};
 ghost use Rattle.check_rows.specs.Row.{ask_of, beat_in, beat_of, reply_of, row_in, row_of};
 
@@ -131,6 +131,8 @@ fn read_columns(
 ) -> Result<Row, RowFault>
     ensures value { row_in lanes.new result
         ≡ row_of buses.now.masters.now buses.now.ports.now line (words_of columns.now) }
+    ensures link { IfOk result (λ row.
+        IsLinkOf buses.now.masters.now buses.now.ports.now row.link) }
     ensures bus { IfOk result (λ row.
         HasBus buses.now.masters.now buses.now.ports.now row.link row.bus) }
 {
@@ -161,6 +163,8 @@ pub fn read_row(
 ) -> Result<Row, RowFault>
     ensures value { row_in lanes.new result
         ≡ row_of buses.now.masters.now buses.now.ports.now line (fields_of columns.now) }
+    ensures link { IfOk result (λ row.
+        IsLinkOf buses.now.masters.now buses.now.ports.now row.link) }
     ensures bus { IfOk result (λ row.
         HasBus buses.now.masters.now buses.now.ports.now row.link row.bus) }
 {
@@ -180,6 +184,8 @@ pub fn read_bare_row(
 ) -> Result<Row, RowFault>
     ensures value { row_in lanes.new result
         ≡ row_of buses.now.masters.now buses.now.ports.now line (parts_of text.now) }
+    ensures link { IfOk result (λ row.
+        IsLinkOf buses.now.masters.now buses.now.ports.now row.link) }
     ensures bus { IfOk result (λ row.
         HasBus buses.now.masters.now buses.now.ports.now row.link row.bus) }
 {
