@@ -106,6 +106,8 @@ fn cut_part(text: &[u8]) -> Option<(&[u8], &[u8])>
 }
 
 /// What stands between the commas of a line, if it has as many columns as a row.
+// a function of its own, so that its loops have the registers for themselves
+#[inline(never)]
 pub(crate) fn cut_line(line: &[u8]) -> Option<Columns<'_>>
     ensures some { IfSome result (λ columns. words_of columns ≡ parts_of line.now) }
     ensures none { IfNone result (length (parts_of line.now) ≢ COLUMNS) }
