@@ -1,0 +1,4 @@
+pub mod Alike
+pub mod NumbersAlike
+pub mod LanesAlike
+pub mod RowsAlike
