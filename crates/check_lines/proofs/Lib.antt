@@ -1,0 +1,4 @@
+pub mod Counted
+pub mod Naming
+pub mod Spelled
+pub mod Joined

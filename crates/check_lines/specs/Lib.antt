@@ -1,0 +1,5 @@
+pub mod Names
+pub mod Reply
+pub mod Target
+pub mod Trace
+pub mod Verdict

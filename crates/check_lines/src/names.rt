@@ -1,0 +1,61 @@
+//! The names of the links of a system.
+ghost use Rattle.std.specs.Prelude.{◌≡◌, option_map};
+ghost use Rattle.check_lines.specs.Names.{name_at, name_of, no_names, texts_of};
+
+use check_watch::Link;
+use std::alloc::Global;
+use std::marker::Model;
+
+/// The names of a system's masters and ports, if they have one, by their numbers.
+#[derive(Debug, Drop)]
+pub struct Names {
+    masters: Vec<Option<String>>,
+    ports: Vec<Option<String>>,
+}
+
+impl Model for Names {
+    ghost use Rattle.check_lines.specs.Names.{NamesView, texts_of};
+
+    ghost Value = { NamesView };
+
+    ghost view = { λ n. record { masters = texts_of n.masters.items; ports = texts_of n.ports.items } };
+}
+
+/// The name at a place, if there is one.
+fn name_at(names: &[Option<String>], number: usize) -> Option<&str>
+    ensures { option_map (λ name. name.now) result ≡ name_at (texts_of names.now) number }
+{
+    match names.get(number) {
+        Some(Some(name)) => Some(name),
+        Some(None) | None => None,
+    }
+}
+
+impl Names {
+    /// These names of masters and ports.
+    pub fn new(masters: Vec<Option<String>>, ports: Vec<Option<String>>) -> Names
+        ensures { result ≡ record { masters = texts_of masters.items; ports = texts_of ports.items } }
+    {
+        Names { masters, ports }
+    }
+
+    /// The names of a system in which nothing has one.
+    pub fn none(alloc: Global) -> Names
+        ensures { result ≡ no_names }
+    {
+        Names {
+            masters: Vec::new(alloc),
+            ports: Vec::new(alloc),
+        }
+    }
+
+    /// The name of a link's master or port, if it has one.
+    pub fn name(&self, link: Link) -> Option<&str>
+        ensures { option_map (λ name. name.now) result ≡ name_of self.now link }
+    {
+        match link {
+            Link::Master(number) => name_at(&self.masters, number),
+            Link::Port(number) => name_at(&self.ports, number),
+        }
+    }
+}

@@ -1,0 +1,125 @@
+//! The line of a reply that was seen at a link.
+ghost use Rattle.std.specs.Prelude.{◌≡◌, ◌++◌, OnErr, OnOk};
+ghost use Rattle.tl_script.specs.Data.{byte_text};
+ghost use Rattle.tl_script.specs.Trace.{ask_text, bytes_part};
+ghost use Rattle.tl_text.specs.Text.{BeginsWith};
+ghost use Rattle.check_lines.specs.Trace.{AppendsLine, entry_line, exchange_text, origin_text, place_text};
+
+use crate::reply::push_pattern;
+use crate::target::push_target;
+use check_map::Sources;
+use check_watch::{Entry, Link};
+use std::alloc::AllocError;
+use tl_text::{hex_digit, push_field, word};
+use tl_types::{Ask, Bytes};
+
+/// Appends a byte of a request as two hexadecimal digits, or an unset one as dashes.
+#[tactic(auto, using(tl_text::proofs::TextLemmas::begins))]
+fn push_byte(text: &mut Vec<u8>, byte: Option<u8>) -> Result<(), AllocError>
+    ensures ok { OnOk result (text.new.items ≡ text.old.items ++ byte_text byte) }
+    ensures err { OnErr result (BeginsWith text.old.items text.new.items) }
+{
+    let digits = match byte {
+        Some(byte) => [hex_digit(byte / 16), hex_digit(byte % 16)],
+        None => [b'-', b'-'],
+    };
+    text.extend_from_slice(&digits)
+}
+
+/// Appends a space and the bytes of a request, if it carries any.
+#[tactic(auto, using(tl_text::proofs::TextLemmas::begins))]
+fn push_bytes(text: &mut Vec<u8>, bytes: &Bytes) -> Result<(), AllocError>
+    ensures ok { OnOk result (text.new.items ≡ text.old.items ++ bytes_part bytes.now) }
+    ensures err { OnErr result (BeginsWith text.old.items text.new.items) }
+{
+    if bytes.is_empty() {
+        return Ok(());
+    }
+    text.push(b' ')?;
+    for place in 0..bytes.len() {
+        push_byte(text, bytes.get(place))?;
+    }
+    Ok(())
+}
+
+/// Appends a request.
+#[tactic(auto, using(tl_text::proofs::TextLemmas::begins))]
+fn push_ask(text: &mut Vec<u8>, ask: &Ask) -> Result<(), AllocError>
+    ensures ok { OnOk result (text.new.items ≡ text.old.items ++ ask_text ask.now) }
+    ensures err { OnErr result (BeginsWith text.old.items text.new.items) }
+{
+    push_target(text, word(ask.op()), ask.address(), ask.size())?;
+    push_bytes(text, ask.bytes())
+}
+
+/// Appends a request and the reply that was captured.
+#[tactic(auto, using(tl_text::proofs::TextLemmas::begins))]
+fn push_exchange(text: &mut Vec<u8>, entry: &Entry) -> Result<(), AllocError>
+    ensures ok { OnOk result (text.new.items ≡ text.old.items ++ exchange_text entry.now) }
+    ensures err { OnErr result (BeginsWith text.old.items text.new.items) }
+{
+    push_ask(text, &entry.ask)?;
+    text.extend_from_slice(b" -> ")?;
+    push_pattern(text, &entry.reply)
+}
+
+/// Appends a master and a source of its own.
+#[tactic(auto, using(tl_text::proofs::TextLemmas::begins))]
+fn push_origin(text: &mut Vec<u8>, master: usize, source: u16) -> Result<(), AllocError>
+    ensures ok { OnOk result (text.new.items ≡ text.old.items ++ origin_text master source) }
+    ensures err { OnErr result (BeginsWith text.old.items text.new.items) }
+{
+    push_field(text, b"m", master as u64)?;
+    push_field(text, b" s", u64::from(source))?;
+    text.extend_from_slice(b" ")
+}
+
+/// Appends the port that served a request, and its place in the port's list.
+#[tactic(auto, using(tl_text::proofs::TextLemmas::begins))]
+fn push_place(text: &mut Vec<u8>, port: usize, index: usize) -> Result<(), AllocError>
+    ensures ok { OnOk result (text.new.items ≡ text.old.items ++ place_text port index) }
+    ensures err { OnErr result (BeginsWith text.old.items text.new.items) }
+{
+    push_field(text, b" p", port as u64)?;
+    push_field(text, b" #", index as u64)
+}
+
+/// Appends the line of a request of a master from this source of its own, with the reply that was captured.
+#[tactic(auto, using(tl_text::proofs::TextLemmas::begins), unfolding(crate::specs::Trace::entry_line))]
+fn push_entry(
+    text: &mut Vec<u8>,
+    master: usize,
+    source: u16,
+    entry: &Entry,
+) -> Result<(), AllocError>
+    ensures ok { OnOk result (text.new.items ≡ text.old.items ++ entry_line master source entry.now) }
+    ensures err { OnErr result (BeginsWith text.old.items text.new.items) }
+{
+    push_origin(text, master, source)?;
+    push_exchange(text, entry)?;
+    push_place(text, entry.port, entry.index)?;
+    text.push(b'\n')?;
+    Ok(())
+}
+
+/// Appends the line of an entry whose reply was seen at a link, to this source of the link, as a trace has it. At a
+/// port's link that is a wide source, and the line has its master and the master's own source. If nobody has the
+/// source, there is none.
+pub fn push_answer(
+    text: &mut Vec<u8>,
+    sources: &Sources,
+    link: Link,
+    source: u16,
+    entry: &Entry,
+) -> Result<(), AllocError>
+    ensures ok { OnOk result (AppendsLine sources.now link source entry.now text.old.items text.new.items) }
+    ensures err { OnErr result (BeginsWith text.old.items text.new.items) }
+{
+    match link {
+        Link::Master(master) => push_entry(text, master, source, entry),
+        Link::Port(_) => match sources.owner(source) {
+            Some((master, own)) => push_entry(text, master, own, entry),
+            None => Ok(()),
+        },
+    }
+}

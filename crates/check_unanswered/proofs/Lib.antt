@@ -1,0 +1,3 @@
+mod Tables
+mod Flights
+mod Kept

@@ -1,0 +1,3 @@
+pub mod Table
+pub mod Began
+pub mod View

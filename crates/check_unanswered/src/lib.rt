@@ -1,0 +1,17 @@
+//! The requests that have no whole reply yet, each with the row of its first beat.
+//!
+//! [`Pending`] notes of each row that was judged what its beat did to the requests in flight (`Watch::change` of
+//! `check_sides`). [`Pending::left`] says what is left when no more rows come: `None` exactly if no request is in flight
+//! at the links that are judged together; else how many there are, and the oldest. Requests are counted at the masters'
+//! links; if none is in flight there, at the ports' (`specs/Began.antt`).
+//!
+//! A message that is under way is one of a request in flight, so it is left too. Read on in `docs/MODEL.md`, "Requests that
+//! are left".
+#![tactic(auto)]
+
+mod left;
+mod pending;
+mod request;
+
+pub use pending::Pending;
+pub use request::{Began, Left, Open};
