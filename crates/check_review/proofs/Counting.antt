@@ -1,0 +1,46 @@
+-- What is counted after one row more.
+use Rattle.std.proofs.Common.{◌≡◌, ◌∙◌, true, ◌&&◌, List, ◌∷◌, sym, ap, subst}
+use Rattle.check_watch.specs.Scene.{ended}
+use Rattle.check_watch.specs.declared.seen.Ended.{Ended}
+use Rattle.check_watch.specs.declared.seen.Seen.{Seen}
+use Rattle.check_sides.specs.Lawful.{what_is_seen}
+use Rattle.check_sides.specs.Plan.{Layout, Plan}
+use Rattle.check_sides.specs.View.{Keeps, View}
+use Rattle.check_rows.specs.Row.{SeenRow}
+use Rattle.check_review.specs.Count.{answered, asked, ends_a_reply, ends_an_ask, is_counted, one_more}
+use Rattle.check_review.specs.Order.{is_watched, seen}
+use Rattle.check_review.specs.View.{Tallied}
+use Rattle.check_review.specs.declared.tally.Tally.{Tally}
+use Rattle.check_review.proofs.Watched.{seen_one}
+
+-- a row at a watched link was taken, what it ends was counted, and nothing else changed
+pub record IsCounted (plan : Plan) (before : List SeenRow) (row : SeenRow) (old new : Tally) (watch : View) (sees : Seen)
+    (end : Ended) : Type 0 where
+  pub here : is_watched plan.layout row.sighting.link ≡ true
+  pub keeps : Keeps plan (row.sighting ∷ seen plan.layout before) watch
+  pub watch_is : new.watch ≡ watch
+  pub sees_is : sees ≡ what_is_seen plan (seen plan.layout before) row.sighting
+  pub end_is : end ≡ ended sees
+  pub requests : new.requests
+      ≡ one_more (is_counted watch.layout.links row.sighting.link && ends_an_ask end) old.requests
+  pub answered : new.answered
+      ≡ one_more (is_counted watch.layout.links row.sighting.link && ends_a_reply end) old.answered
+
+pub tallied_one : (plan : Plan) (before : List SeenRow) (row : SeenRow) (old new : Tally) (watch : View) (sees : Seen)
+    (end : Ended) → Tallied plan before old → IsCounted plan before row old new watch sees end
+    → Tallied plan (row ∷ before) new
+tallied_one plan before row old new watch sees end tallied step =
+    let all = seen_one plan.layout row before step.here in
+    let layout : watch.layout ≡ plan.layout = step.keeps.suits.layout in
+    let ends : end ≡ ended (what_is_seen plan (seen plan.layout before) row.sighting) =
+    step.end_is ∙ ap ended step.sees_is in
+    record {
+      keeps = subst (λ past. Keeps plan past new.watch) (sym all)
+          (subst (λ (w : View). Keeps plan (row.sighting ∷ seen plan.layout before) w) (sym step.watch_is) step.keeps);
+      requests = step.requests
+          ∙ (λ i. one_more (is_counted (layout i).links row.sighting.link && ends_an_ask (ends i)) (tallied.requests i))
+          ∙ ap (asked plan) (sym all);
+      answered = step.answered
+          ∙ (λ i. one_more (is_counted (layout i).links row.sighting.link && ends_a_reply (ends i)) (tallied.answered i))
+          ∙ ap (answered plan) (sym all);
+    }

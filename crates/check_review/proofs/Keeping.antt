@@ -1,0 +1,121 @@
+-- The row among some at which a judge stops, with what is told.
+use Rattle.std.proofs.Common.{◌≡◌, ◌∙◌, ℕ, ◌+◌, ◌<◌, ◌≤◌, All, Bool, List, [], ◌∷◌, ◌++◌, Some, reverse, length, get_or, slice_get, take, drop, Result, Ok, Err, IfOk, IfErr, sym, ap, subst, arith}
+use Rattle.std.specs.List.Sorted.{IsPermutation}
+use Rattle.std.proofs.lemmas.List.{drop_more, length-take-le, reverse-append, take-append-drop, take_all, take_more}
+use Rattle.std.proofs.lemmas.List.Elements.{All-append, All-from_recursion}
+use Rattle.std.proofs.lemmas.List.Sorted.{All-permutation}
+use Rattle.std.proofs.lemmas.Option.{get_or_from_slice_get}
+use Rattle.check_beats.specs.Bus.{bus_bytes}
+use Rattle.check_sides.specs.Plan.{Layout, Plan, bus_of}
+use Rattle.check_rows.specs.Row.{SeenRow, seen_row}
+use Rattle.check_rows.specs.declared.row.Row.{Row}
+use Rattle.check_unanswered.specs.Began.{row_with}
+use Rattle.check_review.specs.declared.stop.Refusal.{Refusal}
+use Rattle.check_review.specs.declared.stop.Refusal.TheVariants as refusal
+use Rattle.check_review.specs.declared.stop.Unlawful.{Unlawful}
+use Rattle.check_review.specs.Order.{seen}
+use Rattle.check_review.specs.Told.{AppendsTold}
+use Rattle.check_review.specs.Verdict.{IsUnlawfulAfter, MayWantAfter, MayWantAmong, OfUnlawful, StopsTelling}
+use Rattle.check_review.specs.View.{HasLanes}
+
+-- what follows from what is said of the unlawful row
+pub of_unlawful : (P Q : Unlawful → Type 0) (why : Refusal) → ((found : Unlawful) → P found → Q found)
+    → OfUnlawful P why → OfUnlawful Q why
+of_unlawful P Q (refusal.Unlawful found) to is = to found is
+of_unlawful P Q refusal.Memory to is = tt
+
+-- a row among some, those before it, and those after it
+split : (rows : List SeenRow) (i : ℕ) (row : SeenRow) → i < length rows → get_or rows i row ≡ row
+    → rows ≡ take i rows ++ row ∷ drop (i + 1) rows
+split rows i row inside here =
+    sym (take-append-drop i rows) ∙ ap (λ l. take i rows ++ l)
+    (drop_more rows i row inside ∙ ap (λ r. r ∷ drop (i + 1) rows) here)
+
+-- one row more, the latest first
+pub one_more : (rows before : List SeenRow) (i : ℕ) (row : SeenRow) → i < length rows → get_or rows i row ≡ row
+    → reverse (take (i + 1) rows) ++ before ≡ row ∷ (reverse (take i rows) ++ before)
+one_more rows before i row inside here =
+    ap (λ l. reverse l ++ before) (take_more rows i row inside ∙ ap (λ r. take i rows ++ r ∷ []) here)
+    ∙ ap (λ l. l ++ before) (reverse-append (take i rows) (row ∷ []))
+
+pub stops_there : (trace : Bool) (plan : Plan) (rows before : List SeenRow) (i : ℕ) (row : SeenRow)
+    (old now next : List ℕ) (why : Refusal) → i < length rows → get_or rows i row ≡ row
+    → OfUnlawful (IsUnlawfulAfter plan (reverse (take i rows) ++ before) row) why
+    → OfUnlawful (λ _. next ≡ now) why → AppendsTold trace plan (seen plan.layout before)
+    (seen plan.layout (reverse (take i rows) ++ before)) old now
+    → OfUnlawful (StopsTelling trace plan rows before old next) why
+stops_there trace plan rows before i row old now next (refusal.Unlawful found) inside here unlawful quiet told = record {
+  stops = record {
+    row = row;
+    done = take i rows;
+    left = drop (i + 1) rows;
+    are = split rows i row inside here;
+    is = unlawful;
+  };
+  told = subst (λ text. AppendsTold trace plan (seen plan.layout before)
+      (seen plan.layout (reverse (take i rows) ++ before)) old text) (sym quiet) told;
+}
+stops_there trace plan rows before i row old now next refusal.Memory inside here unlawful quiet told = tt
+
+pub wants_there : (trace : Bool) (plan : Plan) (rows before : List SeenRow) (i : ℕ) (row : SeenRow)
+    → i < length rows → get_or rows i row ≡ row → MayWantAfter trace plan (reverse (take i rows) ++ before) row
+    → MayWantAmong trace plan rows before
+wants_there trace plan rows before i row inside here wants = record {
+  row = row;
+  done = take i rows;
+  left = drop (i + 1) rows;
+  are = split rows i row inside here;
+  is = wants;
+}
+
+-- ---- the rows of a moment
+
+-- a row with as many lanes as its bus has
+pub whole_row : (row : Row) (lanes : List ℕ) → length lanes ≡ bus_bytes row.bus → seen_row row lanes ≡ row_with row lanes
+whole_row row lanes count = ap (λ l. row_with row l) (take_all (bus_bytes row.bus) lanes (omega (arith, count)))
+
+-- it stands at a place
+pub row_at : (rows : List SeenRow) (i : ℕ) (row : Row) (lanes : List ℕ) → length lanes ≡ bus_bytes row.bus
+    → slice_get rows i ≡ Some (seen_row row lanes) → get_or rows i (row_with row lanes) ≡ row_with row lanes
+row_at rows i row lanes count is =
+    get_or_from_slice_get rows i (seen_row row lanes) (row_with row lanes) is ∙ whole_row row lanes count
+
+-- it has the lanes of its link's bus
+pub lanes_at : (layout : Layout) (rows : List SeenRow) (i : ℕ) (row : Row) (lanes : List ℕ) → i < length rows
+    → length lanes ≡ bus_bytes row.bus → slice_get rows i ≡ Some (seen_row row lanes) → All (HasLanes layout) rows
+    → bus_of layout row.link ≤ length lanes
+lanes_at layout rows i row lanes inside count is all =
+    subst (HasLanes layout) (row_at rows i row lanes count is) (all i (row_with row lanes) inside)
+
+-- a moment of one row
+pub lanes_one : (layout : Layout) (row : SeenRow) → HasLanes layout row → All (HasLanes layout) (row ∷ [])
+lanes_one layout row here = All-from_recursion (HasLanes layout) (row ∷ []) (here, tt)
+
+-- the rows of a moment that took one more have their lanes, if that row has
+pub lanes_more : (layout : Layout) (row : SeenRow) (rows next : List SeenRow) → IsPermutation (row ∷ rows) next
+    → HasLanes layout row → All (HasLanes layout) rows → All (HasLanes layout) next
+lanes_more layout row rows next same here all =
+    All-permutation (HasLanes layout) (row ∷ rows) next same (All-append (HasLanes layout) (row ∷ []) rows (lanes_one layout row here) all)
+
+-- the lanes that stand in the first places of a slice
+pub lanes_of_row : (layout : Layout) (row : Row) (lanes : List ℕ) → bus_bytes row.bus ≤ length lanes
+    → bus_of layout row.link ≤ bus_bytes row.bus → HasLanes layout (seen_row row lanes)
+lanes_of_row layout row lanes count fits =
+    let whole = length-take-le (bus_bytes row.bus) lanes count in omega (arith, whole, fits)
+
+-- a moment of one row
+pub alone : (rows before : List SeenRow) (row : SeenRow) → length rows ≡ 1 → get_or rows 0 row ≡ row
+    → reverse rows ++ before ≡ row ∷ before
+alone [] before row one here = absurd (omega (arith, one))
+alone (first ∷ []) before row one here = ap (λ r. r ∷ before) here
+alone (first ∷ next ∷ rows) before row one here = absurd (omega (arith, one))
+
+-- ---- answers
+
+pub if_ok : {X E : Type 0} (r : Result X E) (P : X → Type 0) → ((x : X) → P x) → IfOk r P
+if_ok (Ok x) P all = all x
+if_ok (Err e) P all = tt
+
+pub if_err : {X E P Q : Type 0} (r : Result X E) → (P → Q) → IfErr r (λ _. P) → IfErr r (λ _. Q)
+if_err (Ok x) to is = tt
+if_err (Err e) to is = to is

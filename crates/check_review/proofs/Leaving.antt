@@ -1,0 +1,71 @@
+-- The requests that are left, if these are asked for.
+use Rattle.std.proofs.Common.{◌≡◌, ◌∙◌, Bool, true, false, List, ◌∷◌, Option, Some, None, IfNone, IfSome, is_some, ap, sym, subst}
+use Rattle.check_watch.specs.declared.pending.Change.{Change}
+use Rattle.check_sides.specs.Lawful.{IsLawful}
+use Rattle.check_sides.specs.Pending.{IsChange}
+use Rattle.check_sides.specs.Plan.{Plan}
+use Rattle.check_sides.specs.View.{Keeps}
+use Rattle.check_rows.specs.Row.{SeenRow}
+use Rattle.check_unanswered.specs.Began.{IsComplete, IsLeft, beats_of}
+use Rattle.check_unanswered.specs.View.{Holds, PendingView}
+use Rattle.check_unanswered.specs.declared.request.Left.{Left}
+use Rattle.check_review.specs.declared.tally.Tally.{Tally}
+use Rattle.check_review.specs.Count.{answered, asked}
+use Rattle.check_review.specs.Order.{is_watched, seen, watched}
+use Rattle.check_review.specs.Verdict.{IsWhatIsLeft}
+use Rattle.check_review.specs.View.{Kept, Tallied}
+use Rattle.check_review.proofs.Watched.{seen_one, seen_other, watched_one, watched_other}
+
+-- what is answered of the requests that are kept
+pub what_is_left : (plan : Plan) (rows : List SeenRow) (pending : Option PendingView) (kept : PendingView)
+    (left : Option Left) → pending ≡ Some kept → IfSome pending (Holds plan rows)
+    → (Holds plan rows kept → IfNone left (IsComplete plan rows))
+    → (Holds plan rows kept → IfSome left (IsLeft plan rows)) → IsWhatIsLeft (is_some pending) plan rows left
+what_is_left plan rows None kept left is holds complete some = absurd (cc)
+what_is_left plan rows (Some one) kept None is holds complete some =
+    let same : one ≡ kept = cc in complete (subst (Holds plan rows) same holds)
+what_is_left plan rows (Some one) kept (Some left) is holds complete some =
+    let same : one ≡ kept = cc in some (subst (Holds plan rows) same holds)
+
+-- a step at a watched link, with what it was seen to do to the requests in flight, and a note of that
+pub record IsNoted (plan : Plan) (before : List SeenRow) (row : SeenRow) (old mid new : Tally)
+    (what : Option Change) : Type 0 where
+  pub here : is_watched plan.layout row.sighting.link ≡ true
+  pub tallied : Tallied plan (row ∷ before) mid
+  pub same : mid.pending ≡ old.pending
+  pub asked : is_some what ≡ is_some old.pending
+  pub change : IsLawful plan (row.sighting ∷ seen plan.layout before)
+      → IfSome what (IsChange plan (seen plan.layout before) row.sighting)
+  pub noted : Tallied plan (row ∷ before) mid → Tallied plan (row ∷ before) new
+  pub holds : IfSome mid.pending (Holds plan (watched plan.layout before)) → is_some what ≡ is_some mid.pending
+      → IfSome what (IsChange plan (seen plan.layout before) row.sighting)
+      → IfSome new.pending (Holds plan (row ∷ watched plan.layout before))
+
+pub kept_noted : (plan : Plan) (before : List SeenRow) (row : SeenRow) (old mid new : Tally) (change : Option Change)
+    → Kept plan before old → IsNoted plan before row old mid new change → Kept plan (row ∷ before) new
+kept_noted plan before row old mid new change kept step =
+    let lawful : IsLawful plan (row.sighting ∷ seen plan.layout before) =
+    subst (IsLawful plan) (seen_one plan.layout row before step.here) step.tallied.keeps.lawful in
+    let H : Option PendingView → Type 0 = λ p. IfSome p (Holds plan (watched plan.layout before)) in
+    let R : List SeenRow → Type 0 = λ rows. IfSome new.pending (Holds plan rows) in
+    record {
+      tallied = step.noted step.tallied;
+      pending = subst R (sym (watched_one plan.layout row before step.here))
+          (step.holds (subst H (sym step.same) kept.pending) (step.asked ∙ ap is_some (sym step.same))
+          (step.change lawful));
+    }
+
+-- a row at a link that is not watched
+pub kept_unwatched : (plan : Plan) (before : List SeenRow) (row : SeenRow) (tally : Tally)
+    → is_watched plan.layout row.sighting.link ≡ false → Kept plan before tally → Kept plan (row ∷ before) tally
+kept_unwatched plan before row tally other kept =
+    let same = sym (seen_other plan.layout row before other) in
+    let R : List SeenRow → Type 0 = λ rows. IfSome tally.pending (Holds plan rows) in
+    record {
+      tallied = record {
+        keeps = subst (λ past. Keeps plan past tally.watch) same kept.tallied.keeps;
+        requests = kept.tallied.requests ∙ ap (asked plan) same;
+        answered = kept.tallied.answered ∙ ap (answered plan) same;
+      };
+      pending = subst R (sym (watched_other plan.layout row before other)) kept.pending;
+    }

@@ -1,0 +1,82 @@
+-- The last rows are not lawful, and what is told.
+use Rattle.std.proofs.Common.{◌≡◌, ◌↔◌, ◌++◌, Bool, Err, IsOk, IfErr, List, ℕ, ap, reverse, subst}
+use Rattle.check_rows.specs.Row.{SeenRow}
+use Rattle.check_review.specs.Order.{watched}
+use Rattle.check_review.specs.View.{HasTold, JudgeView, Judges, is_asked, is_traced}
+use Rattle.check_review.specs.Verdict.{HasCounts, HasLeft, IsFirstUnlawful, IsLawfulFile, IsToldBefore, IsToldFile, IsWhatIsLeft, MayWantMemory, OfUnlawful}
+use Rattle.check_review.specs.declared.stop.Refusal.TheVariants as refusals
+use Rattle.check_review.proofs.Judging.{first_unlawful, may_want, refused_is_not_lawful, told_before, told_file}
+use Rattle.check_review.proofs.Keeping.{of_unlawful}
+use Rattle.check_review.proofs.judge.Judge.end.Goals as goal
+
+pub returns-in-Err-clause-fault : goal.returns-in-Err-clause-fault
+returns-in-Err-clause-fault c plan file =
+    subst (λ (judge : JudgeView). Judges plan file judge → OfUnlawful (IsFirstUnlawful plan file) c.in-Err.refusal)
+    c.self.view_is
+    (λ judges. of_unlawful _ _ c.in-Err.refusal
+    (λ found stops. (first_unlawful plan file _ found judges stops.stops).0)
+    (c.in-Err.ensures.fault plan judges.before judges.kept))
+
+pub returns-in-Err-clause-lawful : goal.returns-in-Err-clause-lawful
+returns-in-Err-clause-lawful c plan file judges other =
+    let first : OfUnlawful (IsFirstUnlawful plan file) c.in-Err.refusal = returns-in-Err-clause-fault c plan file judges in (
+      (λ is. absurd (cc)),
+      λ lawful. absurd (refused_is_not_lawful plan file c.in-Err.refusal first (λ is. other (ap Err is)) lawful),
+    )
+
+pub returns-in-Err-clause-fault_told : goal.returns-in-Err-clause-fault_told
+returns-in-Err-clause-fault_told c plan file so_far =
+    let now = c.args.text.now.items in
+    let next = c.judge_rows.new.text.items in
+    subst (λ (judge : JudgeView). HasTold plan file judge so_far → OfUnlawful (λ found. (more : List ℕ)
+    × (next ≡ now ++ more) × IsToldBefore (is_traced judge) plan file (so_far ++ more) found) c.in-Err.refusal)
+    c.self.view_is
+    (λ has. of_unlawful _ _ c.in-Err.refusal (λ found stops. told_before plan file _ found so_far now next has stops)
+    (c.in-Err.ensures.fault plan has.judges.before has.judges.kept))
+
+pub returns-in-Err-clause-memory : goal.returns-in-Err-clause-memory
+returns-in-Err-clause-memory c plan file =
+    subst (λ (judge : JudgeView). Judges plan file judge → c.in-Err.refusal ≡ refusals.Memory
+    → MayWantMemory (is_traced judge) plan file) c.self.view_is
+    (λ judges is. may_want c.self.inside.tally.trace plan file _ judges
+    (c.in-Err.ensures.memory plan judges.before judges.kept is))
+
+pub returns-clause-told : goal.returns-clause-told
+returns-clause-told c plan file so_far =
+    let now = c.args.text.now.items in
+    let next = c.judge_rows.new.text.items in
+    subst (λ (judge : JudgeView). HasTold plan file judge so_far → (more : List ℕ) × (next ≡ now ++ more)
+    × IsToldFile (is_traced judge) plan file (so_far ++ more)) c.self.view_is
+    (λ has. told_file plan file _ c.judge_rows.new.self so_far now next has
+    (c.in_default.ensures.keeps plan has.judges.before has.judges.kept)
+    (c.in_default.ensures.told plan has.judges.before has.judges.kept))
+
+pub returns-clause-left : goal.returns-clause-left
+returns-clause-left c plan file =
+    subst (λ (judge : JudgeView). Judges plan file judge → HasLeft (is_asked judge) plan file c.left.result) c.self.view_is
+    (λ judges.
+    let crossed : List SeenRow = reverse c.self.inside.moment.rows ++ judges.before in
+    let kept = c.in_default.ensures.keeps plan judges.before judges.kept in
+    let A : Bool → Type 0 = λ asked. IsWhatIsLeft asked plan (watched plan.layout crossed) c.left.result in
+    record {
+      crossed = crossed;
+      crossing = judges.crossing;
+      is = subst A c.in_default.ensures.asked (c.left.ensures plan (watched plan.layout crossed) kept.pending);
+    })
+
+pub returns-clause-counts : goal.returns-clause-counts
+returns-clause-counts c plan file =
+    subst (λ (judge : JudgeView). Judges plan file judge → HasCounts plan file (record {
+      rows = c.self.inside.rows;
+      requests = c.judge_rows.new.self.requests;
+      answered = c.judge_rows.new.self.answered;
+    })) c.self.view_is
+    (λ judges.
+    let kept = c.in_default.ensures.keeps plan judges.before judges.kept in
+    record {
+      crossed = reverse c.self.inside.moment.rows ++ judges.before;
+      crossing = judges.crossing;
+      rows = judges.rows;
+      requests = kept.tallied.requests;
+      answered = kept.tallied.answered;
+    })

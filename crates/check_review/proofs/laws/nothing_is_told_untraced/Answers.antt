@@ -1,0 +1,5 @@
+use Rattle.check_review.proofs.Telling.{untraced}
+use Rattle.check_review.proofs.laws.nothing_is_told_untraced.Goals as goal
+
+pub returns : goal.returns
+returns c = untraced

@@ -1,0 +1,21 @@
+-- What is told of a row where replies are not told.
+use Rattle.std.proofs.Common.{◌≡◌, ◌∷◌, true, false, sym, subst}
+use Rattle.check_unanswered.specs.Began.{row_with}
+use Rattle.check_sides.specs.Plan.{HasLink, IsWatched, Layout}
+use Rattle.check_review.specs.Order.{is_watched, seen}
+use Rattle.check_review.specs.Told.{AppendsTold}
+use Rattle.check_review.proofs.Telling.{tells_quietly}
+use Rattle.check_review.proofs.Watched.{watched_is}
+use Rattle.check_review.proofs.tally.Tally.step_row.Goals as goal
+
+pub returns-in-Ok-true-clause-told : goal.returns-in-Ok-true-clause-told
+returns-in-Ok-true-clause-told c plan before tallied =
+    let row = row_with c.args.row.now c.args.lanes.now in
+    let P : Layout → Type 0 = λ l. HasLink l row.sighting.link × IsWatched l.links row.sighting.link in
+    let watched : is_watched plan.layout row.sighting.link ≡ true =
+    (watched_is plan.layout row.sighting.link).1
+    (subst P tallied.keeps.suits.layout (c.requires.known, c.requires.watched)) in
+    let quiet : c.args.self.now.trace ≡ false = c.if-self.false in
+    subst (λ t. AppendsTold t plan (seen plan.layout before)
+    (seen plan.layout (row ∷ before)) c.args.text.now.items c.args.text.now.items) (sym quiet)
+    (tells_quietly plan before row c.args.text.now.items watched)

@@ -1,0 +1,39 @@
+-- What is told of a row whose link is watched.
+use Rattle.std.proofs.Common.{◌≡◌, true, subst}
+use Rattle.check_unanswered.specs.Began.{row_with}
+use Rattle.check_sides.specs.Plan.{HasLink, IsWatched, Layout}
+use Rattle.check_review.specs.Order.{is_watched, seen}
+use Rattle.check_review.proofs.Counting.{tallied_one}
+use Rattle.check_review.proofs.Telling.{tells_row, tells_step}
+use Rattle.check_review.proofs.Watched.{watched_is}
+use Rattle.check_review.proofs.tally.Tally.tell_row.Goals as goal
+
+pub returns-in-Ok-tell-clause-told : goal.returns-in-Ok-tell-clause-told
+returns-in-Ok-tell-clause-told c plan before kept =
+    let row = row_with c.args.row.now c.args.lanes.now in
+    let past = seen plan.layout before in
+    let keeps = c.in-Ok.ensures.keeps plan past kept.keeps in
+    let P : Layout → Type 0 = λ l. HasLink l row.sighting.link × IsWatched l.links row.sighting.link in
+    let watched : is_watched plan.layout row.sighting.link ≡ true =
+    (watched_is plan.layout row.sighting.link).1
+    (subst P kept.keeps.suits.layout (c.requires.known, c.requires.watched)) in
+    tells_row c.args.self.now.trace plan before row c.args.text.now.items c.tell.new.text.items watched
+    (tells_step c.args.self.now.trace c.count.new.self.trace plan past row.sighting c.count.new.self.watch.layout c.in-Ok.seen c.args.text.now.items c.tell.new.text.items
+    c.count.ensures.trace (rw c.count.ensures.watch keeps.suits.layout)
+    (c.in-Ok.ensures.seen plan past kept.keeps) keeps.lawful.1 c.in-Ok-tell.ensures.told)
+
+pub returns-in-Ok-tell-clause-keeps : goal.returns-in-Ok-tell-clause-keeps
+returns-in-Ok-tell-clause-keeps c plan before tallied =
+    let row = row_with c.args.row.now c.args.lanes.now in
+    let past = seen plan.layout before in
+    let P : Layout → Type 0 = λ l. HasLink l row.sighting.link × IsWatched l.links row.sighting.link in
+    tallied_one plan before row c.args.self.now c.count.new.self c.step.new.self c.in-Ok.seen c.ended.result tallied (record {
+      here = (watched_is plan.layout row.sighting.link).1
+          (subst P tallied.keeps.suits.layout (c.requires.known, c.requires.watched));
+      keeps = c.in-Ok.ensures.keeps plan past tallied.keeps;
+      watch_is = c.count.ensures.watch;
+      sees_is = c.in-Ok.ensures.seen plan past tallied.keeps;
+      end_is = c.ended.ensures;
+      requests = c.count.ensures.requests;
+      answered = c.count.ensures.answered;
+    })

@@ -1,0 +1,5 @@
+pub mod Order
+pub mod Count
+pub mod Told
+pub mod Verdict
+pub mod View

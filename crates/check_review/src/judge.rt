@@ -1,0 +1,269 @@
+//! The judge of the rows of a file.
+ghost use Rattle.std.specs.Prelude.{◌≡◌, ◌+◌, ◌%◌, ◌^◌, ◌<◌, ◌≤◌, ◌↔◌, ℕ, true, false, List, [], ◌∷◌, ◌++◌, Err, is_some, length, IsOk, IfOk, OnOk, OnErr, IfErr, IfSome};
+ghost use Rattle.check_beats.specs.Bus.{bus_bytes};
+ghost use Rattle.check_sides.specs.Plan.{Plan, bus_of};
+ghost use Rattle.check_sides.specs.View.{Keeps};
+ghost use Rattle.check_rows.specs.Moment.{HasFault, IsLink, IsMoment, Takes};
+ghost use Rattle.check_rows.specs.Row.{SeenRow, seen_row};
+ghost use Rattle.check_unanswered.specs.View.{Holds};
+ghost use Rattle.check_review.specs.View.{HasTold, Judges, TellsOn, TellsStop, is_asked, is_traced};
+ghost use Rattle.check_review.specs.Verdict.{HasCounts, HasLeft, IsFirstUnlawful, IsLawfulFile, IsStop, IsToldBefore, IsToldFile, MayWantMemory, OfUnlawful};
+
+use crate::stop::{Ending, Refusal, Stop, stop_of};
+use crate::tally::Tally;
+use check_lines::Counts;
+use check_rows::{Moment, Row, RowFault};
+use check_sides::Watch;
+use check_unanswered::Pending;
+use std::alloc::{AllocError, Global};
+use std::marker::Model;
+
+/// The judge of the rows of a file, which it takes in the order in which they stand there.
+#[derive(Drop)]
+pub struct Judge {
+    tally: Tally,
+    moment: Moment,
+    rows: u64,
+}
+
+impl Model for Judge {
+    ghost use Rattle.check_review.specs.View.{IsJudge, JudgeView};
+
+    ghost Value = { JudgeView };
+
+    ghost view = { λ j. record { tally = j.tally; moment = j.moment; rows = j.rows } };
+
+    ghost invariant = { λ j. IsJudge (record { tally = j.tally; moment = j.moment; rows = j.rows }) };
+}
+
+impl Judge {
+    /// The judge of a capture, with a judge of beats that has seen none; it tells replies if they are traced. If it is
+    /// given the requests in flight, which are none yet, it says at the end which are left.
+    pub fn new(watch: Watch, trace: bool, pending: Option<Pending>) -> Judge
+        ensures judges { (plan : Plan) → Keeps plan [] watch → IfSome pending (Holds plan []) → Judges plan [] result }
+        ensures layout { result.tally.watch.layout ≡ watch.layout }
+        ensures trace { is_traced result ≡ trace }
+        ensures asked { is_asked result ≡ is_some pending }
+    {
+        Judge {
+            tally: Tally {
+                watch,
+                trace,
+                pending,
+                requests: 0,
+                answered: 0,
+            },
+            moment: Moment::new(),
+            rows: 0,
+        }
+    }
+
+    /// Takes a row of the time of the moment at hand, and counts it; answers whether it is of that time. A row of a later
+    /// time changes nothing, nor does one that is refused.
+    fn put(&mut self, row: &Row, lanes: &[u8]) -> Result<bool, RowFault>
+        requires link { IsLink row.now.link }
+        requires lanes { bus_bytes row.now.bus ≤ length lanes.now }
+        requires bus { bus_of self.old.tally.watch.layout row.now.link ≤ bus_bytes row.now.bus }
+        ensures tally { self.new.tally ≡ self.old.tally }
+        ensures was { IsMoment self.old.moment }
+        ensures moment { IsMoment self.new.moment }
+        ensures taken { IfOk result (λ taken. taken ≡ true
+            → Takes self.old.moment (seen_row row.now lanes.now) self.new.moment) }
+        ensures rows { IfOk result (λ taken. taken ≡ true → self.new.rows ≡ (self.old.rows + 1) % 2 ^ 64) }
+        ensures later { IfOk result (λ taken. taken ≡ false → self.old.moment.time < row.now.time) }
+        ensures left { IfOk result (λ taken. taken ≡ false → self.new ≡ self.old) }
+        ensures fault { IfErr result (HasFault self.old.moment (seen_row row.now lanes.now)) }
+        ensures err { OnErr result (self.new ≡ self.old) }
+    {
+        // asked for its clause that they are a moment, before and after
+        let _rows = self.moment.len();
+        let taken = self.moment.put(row, lanes)?;
+        let _next = self.moment.len();
+        if taken {
+            self.rows = self.rows.wrapping_add(1);
+        }
+        Ok(taken)
+    }
+
+    /// Goes on to the moment of a row of a later time, and counts the row.
+    fn begin_moment(&mut self, row: &Row, lanes: &[u8])
+        requires link { IsLink row.now.link }
+        requires lanes { bus_bytes row.now.bus ≤ length lanes.now }
+        requires bus { bus_of self.old.tally.watch.layout row.now.link ≤ bus_bytes row.now.bus }
+        requires later { self.old.moment.time < row.now.time }
+        ensures { self.new ≡ record {
+          tally = self.old.tally;
+          moment = record { time = row.now.time; rows = seen_row row.now lanes.now ∷ [] };
+          rows = (self.old.rows + 1) % 2 ^ 64;
+        } }
+    {
+        self.moment.go_on(row, lanes);
+        self.rows = self.rows.wrapping_add(1);
+    }
+
+    /// Judges the rows of the moment at hand, and goes on to that of this row.
+    fn go_on(
+        &mut self,
+        alloc: Global,
+        row: &Row,
+        lanes: &[u8],
+        text: &mut Vec<u8>,
+    ) -> Result<(), Stop>
+        requires link { IsLink row.now.link }
+        requires lanes { bus_bytes row.now.bus ≤ length lanes.now }
+        requires bus { bus_of self.old.tally.watch.layout row.now.link ≤ bus_bytes row.now.bus }
+        requires later { self.old.moment.time < row.now.time }
+        ensures layout { self.new.tally.watch.layout ≡ self.old.tally.watch.layout }
+        ensures trace { is_traced self.new ≡ is_traced self.old }
+        ensures asked { is_asked self.new ≡ is_asked self.old }
+        ensures keeps { (plan : Plan) (file : List SeenRow) → Judges plan file self.old
+            → OnOk result (Judges plan (file ++ seen_row row.now lanes.now ∷ []) self.new) }
+        ensures told { (plan : Plan) (file : List SeenRow) (so_far : List ℕ)
+            → HasTold plan file self.old so_far
+            → OnOk result (TellsOn plan (file ++ seen_row row.now lanes.now ∷ []) self.new so_far
+            text.old.items text.new.items) }
+        ensures stop { (plan : Plan) (file : List SeenRow) → Judges plan file self.old
+            → IfErr result (IsStop plan file (seen_row row.now lanes.now)) }
+        ensures stop_told { (plan : Plan) (file : List SeenRow) (so_far : List ℕ)
+            → HasTold plan file self.old so_far
+            → IfErr result (TellsStop (is_traced self.old) plan file so_far
+            text.old.items text.new.items) }
+        ensures memory { (plan : Plan) (file : List SeenRow) → Judges plan file self.old
+            → IfErr result (λ stop. stop ≡ Stop.Memory → MayWantMemory (is_traced self.old) plan file) }
+    {
+        // asked for its clause that they are a moment
+        let _rows = self.moment.len();
+        if let Err(refusal) = self.tally.judge_rows(alloc, &self.moment, text) {
+            return Err(stop_of(refusal));
+        }
+        self.begin_moment(row, lanes);
+        Ok(())
+    }
+
+    /// Takes the next row of the file, whose lanes stand in the first places of a slice. The rows of one time are judged
+    /// once a row of a later time comes, and what is told of them is appended.
+    pub fn take(
+        &mut self,
+        alloc: Global,
+        row: &Row,
+        lanes: &[u8],
+        text: &mut Vec<u8>,
+    ) -> Result<(), Stop>
+        requires link { IsLink row.now.link }
+        requires lanes { bus_bytes row.now.bus ≤ length lanes.now }
+        requires bus { bus_of self.old.tally.watch.layout row.now.link ≤ bus_bytes row.now.bus }
+        ensures layout { self.new.tally.watch.layout ≡ self.old.tally.watch.layout }
+        ensures trace { is_traced self.new ≡ is_traced self.old }
+        ensures asked { is_asked self.new ≡ is_asked self.old }
+        ensures keeps { (plan : Plan) (file : List SeenRow) → Judges plan file self.old
+            → OnOk result (Judges plan (file ++ seen_row row.now lanes.now ∷ []) self.new) }
+        ensures told { (plan : Plan) (file : List SeenRow) (so_far : List ℕ)
+            → HasTold plan file self.old so_far
+            → OnOk result (TellsOn plan (file ++ seen_row row.now lanes.now ∷ []) self.new so_far
+            text.old.items text.new.items) }
+        ensures stop { (plan : Plan) (file : List SeenRow) → Judges plan file self.old
+            → IfErr result (IsStop plan file (seen_row row.now lanes.now)) }
+        ensures stop_told { (plan : Plan) (file : List SeenRow) (so_far : List ℕ)
+            → HasTold plan file self.old so_far
+            → IfErr result (TellsStop (is_traced self.old) plan file so_far
+            text.old.items text.new.items) }
+        ensures memory { (plan : Plan) (file : List SeenRow) → Judges plan file self.old
+            → IfErr result (λ stop. stop ≡ Stop.Memory → MayWantMemory (is_traced self.old) plan file) }
+    {
+        match self.put(row, lanes) {
+            Ok(true) => Ok(()),
+            Ok(false) => self.go_on(alloc, row, lanes, text),
+            Err(fault) => Err(Stop::Row(fault)),
+        }
+    }
+
+    /// Judges the row of the moment at hand, if it is alone and nothing is told of it, and goes on to the moment of this
+    /// row; answers whether it did. Nothing changes if it did not.
+    fn go_on_quietly(&mut self, alloc: Global, row: &Row, lanes: &[u8]) -> Result<bool, AllocError>
+        requires link { IsLink row.now.link }
+        requires lanes { bus_bytes row.now.bus ≤ length lanes.now }
+        requires bus { bus_of self.old.tally.watch.layout row.now.link ≤ bus_bytes row.now.bus }
+        requires later { self.old.moment.time < row.now.time }
+        ensures layout { self.new.tally.watch.layout ≡ self.old.tally.watch.layout }
+        ensures trace { is_traced self.new ≡ is_traced self.old }
+        ensures asked { is_asked self.new ≡ is_asked self.old }
+        ensures told { (plan : Plan) (file : List SeenRow) (so_far text : List ℕ) → HasTold plan file self.old so_far
+            → IfOk result (λ taken. taken ≡ true
+            → TellsOn plan (file ++ seen_row row.now lanes.now ∷ []) self.new so_far text text) }
+        ensures left { IfOk result (λ taken. taken ≡ false → self.new ≡ self.old) }
+        ensures memory { (plan : Plan) (file : List SeenRow) → Judges plan file self.old
+            → IfErr result (λ _. MayWantMemory (is_traced self.old) plan file) }
+    {
+        // asked for its clause that they are a moment
+        let _rows = self.moment.len();
+        if !self.tally.pass_rows(alloc, &self.moment)? {
+            return Ok(false);
+        }
+        self.begin_moment(row, lanes);
+        Ok(true)
+    }
+
+    /// Takes the next row of the file, if that tells nothing, refuses nothing and judges one row at most; answers
+    /// whether it did. Nothing changes if it did not. It costs less than [`Judge::take`], which has room for a fault.
+    pub fn take_quietly(
+        &mut self,
+        alloc: Global,
+        row: &Row,
+        lanes: &[u8],
+    ) -> Result<bool, AllocError>
+        requires link { IsLink row.now.link }
+        requires lanes { bus_bytes row.now.bus ≤ length lanes.now }
+        requires bus { bus_of self.old.tally.watch.layout row.now.link ≤ bus_bytes row.now.bus }
+        ensures layout { self.new.tally.watch.layout ≡ self.old.tally.watch.layout }
+        ensures trace { is_traced self.new ≡ is_traced self.old }
+        ensures asked { is_asked self.new ≡ is_asked self.old }
+        ensures told { (plan : Plan) (file : List SeenRow) (so_far text : List ℕ) → HasTold plan file self.old so_far
+            → IfOk result (λ taken. taken ≡ true
+            → TellsOn plan (file ++ seen_row row.now lanes.now ∷ []) self.new so_far text text) }
+        ensures left { IfOk result (λ taken. taken ≡ false → self.new ≡ self.old) }
+        ensures memory { (plan : Plan) (file : List SeenRow) → Judges plan file self.old
+            → IfErr result (λ _. MayWantMemory (is_traced self.old) plan file) }
+    {
+        match self.put(row, lanes) {
+            Ok(true) => Ok(true),
+            Ok(false) => self.go_on_quietly(alloc, row, lanes),
+            Err(_) => Ok(false),
+        }
+    }
+
+    /// Judges the last rows, and appends what is told of them: the counts of the file and what is left of its requests,
+    /// if it is lawful.
+    pub fn end(mut self, alloc: Global, text: &mut Vec<u8>) -> Result<Ending, Refusal>
+        ensures lawful { (plan : Plan) (file : List SeenRow) → Judges plan file self
+            → (result ≡ Err Refusal.Memory → ⊥) → IsOk result ↔ IsLawfulFile plan file }
+        ensures counts { (plan : Plan) (file : List SeenRow) → Judges plan file self
+            → IfOk result (λ ending. HasCounts plan file ending.counts) }
+        ensures left { (plan : Plan) (file : List SeenRow) → Judges plan file self
+            → IfOk result (λ ending. HasLeft (is_asked self) plan file ending.left) }
+        ensures fault { (plan : Plan) (file : List SeenRow) → Judges plan file self
+            → IfErr result (OfUnlawful (IsFirstUnlawful plan file)) }
+        ensures told { (plan : Plan) (file : List SeenRow) (so_far : List ℕ) → HasTold plan file self so_far
+            → OnOk result ((more : List ℕ) × (text.new.items ≡ text.old.items ++ more)
+            × IsToldFile (is_traced self) plan file (so_far ++ more)) }
+        ensures fault_told { (plan : Plan) (file : List SeenRow) (so_far : List ℕ)
+            → HasTold plan file self so_far
+            → IfErr result (OfUnlawful (λ found. (more : List ℕ)
+            × (text.new.items ≡ text.old.items ++ more)
+            × IsToldBefore (is_traced self) plan file (so_far ++ more) found)) }
+        ensures memory { (plan : Plan) (file : List SeenRow) → Judges plan file self
+            → IfErr result (λ why. why ≡ Refusal.Memory → MayWantMemory (is_traced self) plan file) }
+    {
+        if let Err(refusal) = self.tally.judge_rows(alloc, &self.moment, text) {
+            return Err(refusal);
+        }
+        let counts = Counts {
+            rows: self.rows,
+            requests: self.tally.requests,
+            answered: self.tally.answered,
+        };
+        Ok(Ending {
+            counts,
+            left: self.tally.left(),
+        })
+    }
+}

@@ -1,0 +1,25 @@
+//! The verdict over the rows of a captured trace, over links of any width: lawful, with counts, or the first row that makes
+//! it unlawful, and why.
+//!
+//! A [`Judge`] is made of a judge of beats ([`check_sides::Watch`]). [`Judge::take`] takes the rows of a file one by one, in
+//! the order in which they stand there. It judges the beats of one time once a row of a later time comes, in the order in
+//! which they cross; [`Judge::end`] judges the last ones. What is promised is said of the whole file so far
+//! (`specs/Verdict.antt`): its rows in crossing order are lawful at the links that are watched, or [`Unlawful`] names the
+//! first one that makes them unlawful, with its first fault. Of a judge that has answered an error nothing is promised: it
+//! must not be used again.
+//!
+//! A judge that is given the requests in flight ([`check_unanswered::Pending`]) says at the end of a lawful file which of
+//! them are left. If replies are traced, what is told of rows is appended to a text as they are judged: a line for each
+//! whole reply that is counted, in the order in which the replies end (`specs/Told.antt`).
+//!
+//! No program uses it yet. Read on in `docs/MODEL.md`, "Traces of others".
+#![tactic(auto)]
+
+mod judge;
+pub mod laws;
+mod stop;
+mod tally;
+
+pub use judge::Judge;
+pub use stop::{Ending, Refusal, Stop, Unlawful};
+pub use tally::count_end;

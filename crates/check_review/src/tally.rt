@@ -1,0 +1,380 @@
+//! Beats judged in the order in which they cross, and what they end, counted.
+ghost use Rattle.std.specs.Prelude.{◌≡◌, ◌≤◌, ℕ, ◌&&◌, false, true, List, ◌∷◌, ◌++◌, All, length, reverse, is_some, OnOk, IfOk, IfErr, IfSome};
+ghost use Rattle.check_watch.specs.Plan.{Sighting, seen_at, source_of};
+ghost use Rattle.check_sides.specs.Lawful.{IsLawful};
+ghost use Rattle.check_sides.specs.Pending.{IsChange};
+ghost use Rattle.check_sides.specs.Plan.{Plan, HasLink, IsWatched, bus_of};
+ghost use Rattle.check_sides.specs.View.{Keeps};
+ghost use Rattle.check_rows.specs.Row.{SeenRow};
+ghost use Rattle.check_unanswered.specs.Began.{beats_of, row_with};
+ghost use Rattle.check_unanswered.specs.View.{Holds};
+ghost use Rattle.check_review.specs.Count.{ends_a_reply, ends_an_ask, is_counted, one_more};
+ghost use Rattle.check_review.specs.Order.{seen};
+ghost use Rattle.check_review.specs.Told.{AppendsTold, AppendsToldOf, IsCountedOfOwner};
+ghost use Rattle.check_review.specs.View.{HasLanes, Kept, Tallied};
+ghost use Rattle.check_review.specs.Verdict.{IsUnlawfulAfter, IsWhatIsLeft, MayWantAfter, MayWantAmong, OfUnlawful, StopsTelling};
+
+use crate::stop::{Refusal, Unlawful};
+use check_lines::push_answer;
+use check_rows::{Moment, Row};
+use check_sides::{Beat, Change, Ended, Link, Links, Seen, StepError, Watch};
+use check_unanswered::{Left, Pending};
+use std::alloc::{AllocError, Global};
+
+/// Whether messages are counted at a link: at the masters' if these are watched, else at the ports'.
+fn is_counted(links: Links, link: Link) -> bool
+    ensures { result ≡ is_counted links link }
+{
+    match link {
+        Link::Master(_) => matches!(links, Links::Both | Links::Masters | Links::Each),
+        Link::Port(_) => matches!(links, Links::Ports),
+    }
+}
+
+/// Counts what a beat ends at a link: a whole request or a whole reply, each modulo 2^64.
+pub fn count_end(links: Links, link: Link, end: Ended, requests: &mut u64, answered: &mut u64)
+    ensures requests { requests.new ≡ one_more (is_counted links link && ends_an_ask end) requests.old }
+    ensures answered { answered.new ≡ one_more (is_counted links link && ends_a_reply end) answered.old }
+{
+    if !is_counted(links, link) {
+        return;
+    }
+    match end {
+        Ended::Part => {}
+        Ended::Ask => *requests = requests.wrapping_add(1),
+        Ended::Reply => *answered = answered.wrapping_add(1),
+    }
+}
+
+/// The source of a beat.
+fn source_of(beat: &Beat) -> u16
+    ensures { result ≡ source_of beat.now }
+{
+    match beat {
+        Beat::A(beat) => beat.source,
+        Beat::D(beat) => beat.source,
+    }
+}
+
+/// The judge of beats in the order in which they cross, with how many whole requests and replies it has seen.
+#[derive(Drop)]
+pub struct Tally {
+    pub watch: Watch,
+    /// Whether replies are told.
+    pub trace: bool,
+    /// The requests in flight, if it is asked which are left at the end.
+    pub pending: Option<Pending>,
+    pub requests: u64,
+    pub answered: u64,
+}
+
+impl Tally {
+    /// Counts what a beat ends at a link.
+    fn count(&mut self, link: Link, end: Ended)
+        ensures watch { self.new.watch ≡ self.old.watch }
+        ensures trace { self.new.trace ≡ self.old.trace }
+        ensures pending { self.new.pending ≡ self.old.pending }
+        ensures requests { self.new.requests
+            ≡ one_more (is_counted self.old.watch.layout.links link && ends_an_ask end)
+            self.old.requests }
+        ensures answered { self.new.answered
+            ≡ one_more (is_counted self.old.watch.layout.links link && ends_a_reply end)
+            self.old.answered }
+    {
+        let links = self.watch.links();
+        count_end(links, link, end, &mut self.requests, &mut self.answered);
+    }
+
+    /// Appends what is told of a beat that ends this.
+    fn tell(
+        &self,
+        link: Link,
+        beat: &Beat,
+        seen: &Seen,
+        text: &mut Vec<u8>,
+    ) -> Result<(), AllocError>
+        ensures told { IsCountedOfOwner self.now.watch.layout.links self.now.watch.layout.owners link
+            (source_of beat.now) → OnOk result (AppendsToldOf
+            (self.now.trace && is_counted self.now.watch.layout.links link)
+            self.now.watch.layout.owners link (source_of beat.now) seen.now
+            text.old.items text.new.items) }
+        ensures memory { IfErr result (λ _. self.now.trace ≡ true) }
+    {
+        if !self.trace || !is_counted(self.watch.links(), link) {
+            return Ok(());
+        }
+        match seen {
+            Seen::Part | Seen::WholeAsk => Ok(()),
+            Seen::WholeReply(entry) => {
+                push_answer(text, self.watch.sources(), link, source_of(beat), entry)
+            }
+        }
+    }
+
+    /// Takes the beat of a row after those before it, if it is lawful, and tells nothing: whether it is. Most beats of
+    /// a file are, and if nothing is told of them nobody asks for their replies.
+    fn take_row(&mut self, alloc: Global, row: &Row, lanes: &[u8]) -> Result<bool, AllocError>
+        requires known { HasLink self.old.watch.layout row.now.link }
+        requires watched { IsWatched self.old.watch.layout.links row.now.link }
+        requires lanes { bus_of self.old.watch.layout row.now.link ≤ length lanes.now }
+        ensures layout { self.new.watch.layout ≡ self.old.watch.layout }
+        ensures trace { self.new.trace ≡ self.old.trace }
+        ensures pending { self.new.pending ≡ self.old.pending }
+        ensures keeps { (plan : Plan) (before : List SeenRow) → Tallied plan before self.old
+            → IfOk result (λ taken. taken ≡ true → Tallied plan (row_with row.now lanes.now ∷ before) self.new) }
+        ensures refused { IfOk result (λ taken. taken ≡ false → self.new ≡ self.old) }
+        ensures memory { (plan : Plan) (before : List SeenRow) → Tallied plan before self.old
+            → IfErr result (λ _. MayWantAfter self.old.trace plan before (row_with row.now lanes.now)) }
+    {
+        match self
+            .watch
+            .take(alloc, row.link, &row.beat, row.known, lanes)?
+        {
+            Some(end) => {
+                self.count(row.link, end);
+                Ok(true)
+            }
+            None => Ok(false),
+        }
+    }
+
+    /// Judges the beat of a row, whose link is watched, after those before it, and appends what is told of it.
+    fn tell_row(
+        &mut self,
+        alloc: Global,
+        row: &Row,
+        lanes: &[u8],
+        text: &mut Vec<u8>,
+    ) -> Result<(), Refusal>
+        requires known { HasLink self.old.watch.layout row.now.link }
+        requires watched { IsWatched self.old.watch.layout.links row.now.link }
+        requires lanes { bus_of self.old.watch.layout row.now.link ≤ length lanes.now }
+        ensures layout { self.new.watch.layout ≡ self.old.watch.layout }
+        ensures trace { self.new.trace ≡ self.old.trace }
+        ensures pending { self.new.pending ≡ self.old.pending }
+        ensures keeps { (plan : Plan) (before : List SeenRow) → Tallied plan before self.old
+            → OnOk result (Tallied plan (row_with row.now lanes.now ∷ before) self.new) }
+        ensures told { (plan : Plan) (before : List SeenRow) → Tallied plan before self.old
+            → OnOk result (AppendsTold self.old.trace plan (seen plan.layout before)
+            (seen plan.layout (row_with row.now lanes.now ∷ before)) text.old.items text.new.items) }
+        ensures fault { (plan : Plan) (before : List SeenRow) → Tallied plan before self.old
+            → IfErr result (OfUnlawful (IsUnlawfulAfter plan before (row_with row.now lanes.now))) }
+        ensures quiet { IfErr result (OfUnlawful (λ _. text.new.items ≡ text.old.items)) }
+        ensures memory { (plan : Plan) (before : List SeenRow) → Tallied plan before self.old
+            → IfErr result (λ why. why ≡ Refusal.Memory
+            → MayWantAfter self.old.trace plan before (row_with row.now lanes.now)) }
+    {
+        let seen = match self
+            .watch
+            .step(alloc, row.link, &row.beat, row.known, lanes)
+        {
+            Ok(seen) => seen,
+            Err(StepError::Unlawful(fault)) => {
+                return Err(Refusal::Unlawful(Unlawful { row: *row, fault }));
+            }
+            Err(StepError::Memory) => return Err(Refusal::Memory),
+        };
+        self.count(row.link, seen.ended());
+        match self.tell(row.link, &row.beat, &seen, text) {
+            Ok(()) => Ok(()),
+            Err(_) => Err(Refusal::Memory),
+        }
+    }
+
+    /// Judges the beat of a row, whose link is watched, after those before it, and appends what is told of it. Most rows
+    /// are lawful, and are judged without room for a fault if nothing is told of them.
+    fn step_row(
+        &mut self,
+        alloc: Global,
+        row: &Row,
+        lanes: &[u8],
+        text: &mut Vec<u8>,
+    ) -> Result<(), Refusal>
+        requires known { HasLink self.old.watch.layout row.now.link }
+        requires watched { IsWatched self.old.watch.layout.links row.now.link }
+        requires lanes { bus_of self.old.watch.layout row.now.link ≤ length lanes.now }
+        ensures layout { self.new.watch.layout ≡ self.old.watch.layout }
+        ensures trace { self.new.trace ≡ self.old.trace }
+        ensures pending { self.new.pending ≡ self.old.pending }
+        ensures keeps { (plan : Plan) (before : List SeenRow) → Tallied plan before self.old
+            → OnOk result (Tallied plan (row_with row.now lanes.now ∷ before) self.new) }
+        ensures told { (plan : Plan) (before : List SeenRow) → Tallied plan before self.old
+            → OnOk result (AppendsTold self.old.trace plan (seen plan.layout before)
+            (seen plan.layout (row_with row.now lanes.now ∷ before)) text.old.items text.new.items) }
+        ensures fault { (plan : Plan) (before : List SeenRow) → Tallied plan before self.old
+            → IfErr result (OfUnlawful (IsUnlawfulAfter plan before (row_with row.now lanes.now))) }
+        ensures quiet { IfErr result (OfUnlawful (λ _. text.new.items ≡ text.old.items)) }
+        ensures memory { (plan : Plan) (before : List SeenRow) → Tallied plan before self.old
+            → IfErr result (λ why. why ≡ Refusal.Memory
+            → MayWantAfter self.old.trace plan before (row_with row.now lanes.now)) }
+    {
+        if self.trace {
+            return self.tell_row(alloc, row, lanes, text);
+        }
+        match self.take_row(alloc, row, lanes) {
+            Ok(true) => Ok(()),
+            // it is judged again for its fault
+            Ok(false) => self.tell_row(alloc, row, lanes, text),
+            Err(AllocError) => Err(Refusal::Memory),
+        }
+    }
+
+    /// What the next beat does to the requests in flight, if these are asked for.
+    fn change(&self, row: &Row) -> Option<Change>
+        requires { HasLink self.now.watch.layout row.now.link }
+        ensures asked { is_some result ≡ is_some self.now.pending }
+        ensures change { (plan : Plan) (past : List Sighting) (lanes : List ℕ) → Keeps plan past self.now.watch
+            → IsLawful plan (seen_at row.now.link row.now.beat row.now.known lanes ∷ past)
+            → IfSome result (IsChange plan past (seen_at row.now.link row.now.beat row.now.known lanes)) }
+    {
+        match self.pending {
+            Some(_) => Some(self.watch.change(row.link, &row.beat)),
+            None => None,
+        }
+    }
+
+    /// Notes what the beat of a row that was judged did to the requests in flight, if these are asked for.
+    fn note(&mut self, change: Option<Change>, row: &Row)
+        ensures layout { self.new.watch.layout ≡ self.old.watch.layout }
+        ensures trace { self.new.trace ≡ self.old.trace }
+        ensures tallied { (plan : Plan) (before : List SeenRow) → Tallied plan before self.old → Tallied plan before self.new }
+        ensures asked { is_some self.new.pending ≡ is_some self.old.pending }
+        ensures holds { (plan : Plan) (rows : List SeenRow) (lanes : List ℕ)
+            → IfSome self.old.pending (Holds plan rows)
+            → is_some change ≡ is_some self.old.pending
+            → IfSome change (IsChange plan (beats_of rows) (seen_at row.now.link row.now.beat row.now.known lanes))
+            → IfSome self.new.pending (Holds plan (row_with row.now lanes ∷ rows)) }
+    {
+        match (&mut self.pending, change) {
+            (Some(pending), Some(change)) => pending.note(change, row),
+            (Some(_), None) | (None, _) => {}
+        }
+    }
+
+    /// What is left of the requests when no more rows come, if that is asked for.
+    pub fn left(&self) -> Option<Left>
+        ensures { (plan : Plan) (rows : List SeenRow) → IfSome self.now.pending (Holds plan rows)
+            → IsWhatIsLeft (is_some self.now.pending) plan rows result }
+    {
+        match &self.pending {
+            Some(pending) => pending.left(),
+            None => None,
+        }
+    }
+
+    /// Judges the beat of a row after those before it, if its link is watched, and appends what is told of it.
+    fn judge_row(
+        &mut self,
+        alloc: Global,
+        row: &Row,
+        lanes: &[u8],
+        text: &mut Vec<u8>,
+    ) -> Result<(), Refusal>
+        requires { bus_of self.old.watch.layout row.now.link ≤ length lanes.now }
+        ensures layout { self.new.watch.layout ≡ self.old.watch.layout }
+        ensures trace { self.new.trace ≡ self.old.trace }
+        ensures asked { is_some self.new.pending ≡ is_some self.old.pending }
+        ensures keeps { (plan : Plan) (before : List SeenRow) → Kept plan before self.old
+            → OnOk result (Kept plan (row_with row.now lanes.now ∷ before) self.new) }
+        ensures told { (plan : Plan) (before : List SeenRow) → Kept plan before self.old
+            → OnOk result (AppendsTold self.old.trace plan (seen plan.layout before)
+            (seen plan.layout (row_with row.now lanes.now ∷ before)) text.old.items text.new.items) }
+        ensures fault { (plan : Plan) (before : List SeenRow) → Kept plan before self.old
+            → IfErr result (OfUnlawful (IsUnlawfulAfter plan before (row_with row.now lanes.now))) }
+        ensures quiet { IfErr result (OfUnlawful (λ _. text.new.items ≡ text.old.items)) }
+        ensures memory { (plan : Plan) (before : List SeenRow) → Kept plan before self.old
+            → IfErr result (λ why. why ≡ Refusal.Memory
+            → MayWantAfter self.old.trace plan before (row_with row.now lanes.now)) }
+    {
+        if !self.watch.watches(row.link) {
+            return Ok(());
+        }
+        let change = self.change(row);
+        if let Err(refusal) = self.step_row(alloc, row, lanes, text) {
+            return Err(refusal);
+        }
+        self.note(change, row);
+        Ok(())
+    }
+
+    /// Takes the beat of a row after those before it, if it is lawful or its link is not watched, notes what it does to
+    /// the requests in flight, and tells nothing: whether it did.
+    fn pass_row(&mut self, alloc: Global, row: &Row, lanes: &[u8]) -> Result<bool, AllocError>
+        requires { bus_of self.old.watch.layout row.now.link ≤ length lanes.now }
+        ensures layout { self.new.watch.layout ≡ self.old.watch.layout }
+        ensures trace { self.new.trace ≡ self.old.trace }
+        ensures asked { is_some self.new.pending ≡ is_some self.old.pending }
+        ensures keeps { (plan : Plan) (before : List SeenRow) → Kept plan before self.old
+            → IfOk result (λ passed. passed ≡ true → Kept plan (row_with row.now lanes.now ∷ before) self.new) }
+        ensures refused { IfOk result (λ passed. passed ≡ false → self.new ≡ self.old) }
+        ensures memory { (plan : Plan) (before : List SeenRow) → Kept plan before self.old
+            → IfErr result (λ _. MayWantAfter self.old.trace plan before (row_with row.now lanes.now)) }
+    {
+        if !self.watch.watches(row.link) {
+            return Ok(true);
+        }
+        let change = self.change(row);
+        if !self.take_row(alloc, row, lanes)? {
+            return Ok(false);
+        }
+        self.note(change, row);
+        Ok(true)
+    }
+
+    /// Takes the beats of the rows of a moment after those before them, if nothing is told of them, they are lawful,
+    /// and there is but one: whether it did. Nothing changes if it did not. It costs less than [`Tally::judge_rows`],
+    /// which has room for a fault.
+    pub fn pass_rows(&mut self, alloc: Global, moment: &Moment) -> Result<bool, AllocError>
+        requires { All (HasLanes self.old.watch.layout) moment.now.rows }
+        ensures layout { self.new.watch.layout ≡ self.old.watch.layout }
+        ensures trace { self.new.trace ≡ self.old.trace }
+        ensures asked { is_some self.new.pending ≡ is_some self.old.pending }
+        ensures keeps { (plan : Plan) (before : List SeenRow) → Kept plan before self.old
+            → IfOk result (λ passed. passed ≡ true → Kept plan (reverse moment.now.rows ++ before) self.new) }
+        ensures told { (plan : Plan) (before : List SeenRow) (text : List ℕ) → Kept plan before self.old
+            → IfOk result (λ passed. passed ≡ true → AppendsTold self.old.trace plan (seen plan.layout before)
+            (seen plan.layout (reverse moment.now.rows ++ before)) text text) }
+        ensures refused { IfOk result (λ passed. passed ≡ false → self.new ≡ self.old) }
+        ensures memory { (plan : Plan) (before : List SeenRow) → Kept plan before self.old
+            → IfErr result (λ _. MayWantAmong self.old.trace plan moment.now.rows before) }
+    {
+        if self.trace || moment.len() != 1 {
+            return Ok(false);
+        }
+        let (row, lanes) = moment.get(0);
+        self.pass_row(alloc, row, lanes)
+    }
+
+    /// Judges the beats of the rows of a moment after those before them, in the order in which they cross, up to the
+    /// first that is not lawful, and appends what is told of them.
+    pub fn judge_rows(
+        &mut self,
+        alloc: Global,
+        moment: &Moment,
+        text: &mut Vec<u8>,
+    ) -> Result<(), Refusal>
+        requires { All (HasLanes self.old.watch.layout) moment.now.rows }
+        ensures layout { self.new.watch.layout ≡ self.old.watch.layout }
+        ensures trace { self.new.trace ≡ self.old.trace }
+        ensures asked { is_some self.new.pending ≡ is_some self.old.pending }
+        ensures keeps { (plan : Plan) (before : List SeenRow) → Kept plan before self.old
+            → OnOk result (Kept plan (reverse moment.now.rows ++ before) self.new) }
+        ensures told { (plan : Plan) (before : List SeenRow) → Kept plan before self.old
+            → OnOk result (AppendsTold self.old.trace plan (seen plan.layout before)
+            (seen plan.layout (reverse moment.now.rows ++ before)) text.old.items text.new.items) }
+        ensures fault { (plan : Plan) (before : List SeenRow) → Kept plan before self.old
+            → IfErr result (OfUnlawful (StopsTelling self.old.trace plan moment.now.rows before
+            text.old.items text.new.items)) }
+        ensures memory { (plan : Plan) (before : List SeenRow) → Kept plan before self.old
+            → IfErr result (λ why. why ≡ Refusal.Memory
+            → MayWantAmong self.old.trace plan moment.now.rows before) }
+    {
+        for place in 0..moment.len() {
+            let (row, lanes) = moment.get(place);
+            if let Err(refusal) = self.judge_row(alloc, row, lanes, text) {
+                return Err(refusal);
+            }
+        }
+        Ok(())
+    }
+}
