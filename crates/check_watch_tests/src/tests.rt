@@ -1,2 +1,3 @@
 mod captures;
 mod scene;
+mod sides;

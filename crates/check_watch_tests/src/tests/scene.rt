@@ -6,6 +6,7 @@
 ghost use Rattle.std.specs.Prelude.{◌↔◌, IsTrue, ◌≡◌, true, All};
 ghost use Rattle.check_map.specs.Ranges.{AreRanges, IsLawfulRange, lists_in};
 ghost use Rattle.check_watch_tests.specs.Port.{IsPort};
+ghost use Rattle.check_watch_tests.specs.Slaves.{ram_of, slaves_at_reset};
 
 use check_beats::{AskHead, Bus, ReplyHead};
 use check_flight::{Order, PortSlave};
@@ -50,7 +51,8 @@ fn port_at(rt: &impl Abort, alloc: Global, base: u64) -> Vec<Range> {
     Vec::from_slice(alloc, &[Range { base, length: 64 }]).expect(rt, "memory")
 }
 
-fn map_of(rt: &impl Abort, alloc: Global) -> Map {
+/// Its address map.
+pub fn map_of(rt: &impl Abort, alloc: Global) -> Map {
     let ports = [port_at(rt, alloc, 0x1000), port_at(rt, alloc, 0x2000)];
     let ports = Vec::from_array(alloc, ports).expect(rt, "memory");
     assert!(rt; are_ranges(&ports));
@@ -58,7 +60,7 @@ fn map_of(rt: &impl Abort, alloc: Global) -> Map {
 }
 
 /// A host with two sources, told by the low bits.
-const fn host(number: u16) -> Owner {
+pub const fn host(number: u16) -> Owner {
     Owner {
         first: number,
         count: 2,
@@ -67,14 +69,18 @@ const fn host(number: u16) -> Owner {
 }
 
 /// A RAM in these pieces, whose bytes are zero, or unknown.
-fn ram(rt: &impl Abort, alloc: Global, pieces: &[Piece], known: bool) -> Slave {
+fn ram(rt: &impl Abort, alloc: Global, pieces: &[Piece], known: bool) -> Slave
+    ensures { result ≡ ram_of pieces.now known }
+{
     let ranges = Vec::from_slice(alloc, pieces).expect(rt, "memory");
     assert!(rt; are_within(&ranges));
     Slave::Memory(Memory::new(alloc, Kind::Ram, Sizes::of(Kind::Ram), ranges, known))
 }
 
 /// The slaves of the ports, the error port's last.
-fn slaves_of(rt: &impl Abort, alloc: Global, known: bool) -> Vec<PortSlave> {
+pub fn slaves_of(rt: &impl Abort, alloc: Global, known: bool) -> Vec<PortSlave>
+    ensures { result.items ≡ slaves_at_reset known }
+{
     let piece = Piece {
         base: 0x1000,
         length: 64,
@@ -123,7 +129,8 @@ fn mask_at(link: Link, address: u64, size: u8) -> u64 {
     }
 }
 
-fn beat_of(row: &Row) -> Beat {
+/// The beat itself.
+pub fn beat_of(row: &Row) -> Beat {
     let (link, what, source, address, _known, _byte) = *row;
     match what {
         What::Put => ask(0, 2, source, address, mask_at(link, address, 2)),
