@@ -94,7 +94,8 @@ impl Flights {
         requires ends { IsTrue (ends_ask under.now.bus under.now.asking beat.now) }
         requires lanes { under.now.bus ≤ length lanes.now }
         ensures ended { let ask = ask_of under.now.bus under.now.asking beat.now lanes.now in
-            OnOk result (IsPut self.old self.new beat.now.source (record { turn = Asked number ask; due = None })) }
+            OnOk result (IsPut self.old self.new beat.now.source
+            (record { turn = Asked number ask; due = None })) }
         ensures refused { OnErr result (kept_of self.old beat.now.source ≡ None) }
         ensures err { OnErr result (self.new ≡ self.old) }
     {
@@ -110,7 +111,7 @@ impl Flights {
     }
 
     /// A request has ended at the link of a port, by a beat after those under way, and its slave accepts it: the slave
-    /// serves it now, if requests take effect there as they are accepted. Where there is no memory, nothing is changed.
+    /// serves it now, if requests take effect there as they are accepted. If there is no memory, nothing is changed.
     pub fn accept(
         &mut self,
         alloc: Global,
@@ -178,7 +179,7 @@ impl Flights {
     }
 
     /// The reply begins to the request in flight of a source, if that has ended: the slave of this port serves it now, if
-    /// requests take effect there as they are answered. Where there is no memory for a page, nothing is changed.
+    /// requests take effect there as they are answered. If there is no memory for a page, nothing is changed.
     pub fn answer(
         &mut self,
         alloc: Global,
@@ -187,7 +188,8 @@ impl Flights {
         slave: &mut PortSlave,
     ) -> Result<(), AllocError>
         ensures flight { OnOk result (IsChanged self.old self.new source (λ flight.
-            flight_due flight (answer_by port slave.old (effect_at_reply slave.old (asked flight.turn))))) }
+            flight_due flight
+            (answer_by port slave.old (effect_at_reply slave.old (asked flight.turn))))) }
         ensures slave { OnOk result (slave.new
             ≡ slave_by slave.old (effect_at_reply slave.old (asked (flight_of self.old source).turn))) }
         ensures err { OnErr result (self.new ≡ self.old) }

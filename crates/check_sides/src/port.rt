@@ -70,8 +70,8 @@ impl PortLink {
         self.under.begins_reply() && self.slave.order().is_at_reply()
     }
 
-    /// What the reply has to fit to what is in flight of a source. Where the request takes effect as its reply begins, and
-    /// that begins now, the answer is written into the room.
+    /// What the reply has to fit to what is in flight of a source. If the request takes effect as its reply begins, and that
+    /// begins now, the answer is written into the room.
     fn due<'a>(&'a self, port: usize, source: u16, room: &'a mut Answer) -> Option<&'a Answer>
         ensures { option_map (λ answer. answer.now) result ≡ due_in self.now port source }
     {
@@ -110,7 +110,8 @@ impl PortLink {
         ensures allowed { (layout : Layout) (beyond : Beyond) (lanes : List ℕ) → IsOwnPort layout map.now
             → IfNone result (IsAllowedAsk layout (Port port)
             (port_scene layout port beyond self.now (A beat.now)) beat.now known lanes) }
-        ensures fits { IfNone result (FitsAsk self.now.under.bus (first_ask self.now.under.asking) beat.now) }
+        ensures fits { IfNone result
+            (FitsAsk self.now.under.bus (first_ask self.now.under.asking) beat.now) }
     {
         let source = beat.source;
         if let Some(fault) = self.under.ask_fault(beat, known) {
@@ -155,11 +156,11 @@ impl PortLink {
         lanes: &[u8],
     ) -> Option<Reason>
         requires lanes { self.now.under.bus ≤ length lanes.now }
-        ensures reason { (layout : Layout) (beyond : Beyond) (map : List (List Range)) → IsOwnPort layout map
-            → IfSome result (IsFirstReplyReason layout (Port port)
+        ensures reason { (layout : Layout) (beyond : Beyond) (map : List (List Range))
+            → IsOwnPort layout map → IfSome result (IsFirstReplyReason layout (Port port)
             (port_scene layout port beyond self.now (D beat.now)) beat.now known lanes.now) }
-        ensures allowed { (layout : Layout) (beyond : Beyond) (map : List (List Range)) → IsOwnPort layout map
-            → IfNone result (IsAllowedReply layout (Port port)
+        ensures allowed { (layout : Layout) (beyond : Beyond) (map : List (List Range))
+            → IsOwnPort layout map → IfNone result (IsAllowedReply layout (Port port)
             (port_scene layout port beyond self.now (D beat.now)) beat.now known lanes.now) }
         ensures fits { IfNone result (FitsReply (first_reply self.now.under.replying) beat.now) }
     {
@@ -208,7 +209,8 @@ impl PortLink {
         ensures { (layout : Layout) (beyond : Beyond)
             → IsFirstReplyReason layout (Port port)
             (port_scene layout port beyond self.now (D beat.now)) beat.now known lanes.now WrongReply
-            → IsWrongReply (port_scene layout port beyond self.now (D beat.now)) beat.now known lanes.now result }
+            → IsWrongReply (port_scene layout port beyond self.now (D beat.now))
+            beat.now known lanes.now result }
     {
         if let Some(_fault) = self.under.reply_fault(beat) {
             return Fault::NotGiven;

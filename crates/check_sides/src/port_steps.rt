@@ -24,7 +24,7 @@ use std::alloc::{AllocError, Global};
 
 impl PortLink {
     /// The request that a beat ends is in flight from then on, and its slave serves it now, if requests take effect there
-    /// as they are accepted. Where there is no memory, nothing is changed.
+    /// as they are accepted. If there is no memory, nothing is changed.
     fn end_ask(
         &mut self,
         alloc: Global,
@@ -42,7 +42,8 @@ impl PortLink {
               due = answer_by port self.old.slave (effect_at_acceptance self.old.slave (Some ask));
             })) }
         ensures slave { let ask = ask_of self.old.under.bus self.old.under.asking beat.now lanes.now in
-            OnOk result (self.new.slave ≡ slave_by self.old.slave (effect_at_acceptance self.old.slave (Some ask))) }
+            OnOk result (self.new.slave
+            ≡ slave_by self.old.slave (effect_at_acceptance self.old.slave (Some ask))) }
         ensures refused { OnErr result ((kept_of self.old.flights beat.now.source ≡ None)
             ⊎ IsTrue (is_at_acceptance self.old.slave.order)) }
         ensures err { OnErr result (self.new ≡ self.old) }
@@ -56,7 +57,7 @@ impl PortLink {
         self.flights.end(port, &self.under, beat, lanes)
     }
 
-    /// Takes a beat of a request: whether it ends it. Where there is no memory, nothing is changed.
+    /// Takes a beat of a request: whether it ends it. If there is no memory, nothing is changed.
     fn admit_ask(
         &mut self,
         alloc: Global,
@@ -68,7 +69,8 @@ impl PortLink {
         requires lanes { self.old.under.bus ≤ length lanes.now }
         ensures after { (layout : Layout) (beyond : Beyond) (known : ℕ)
             → OnOk result (IsAfter layout port beyond self.old self.new (A beat.now) known lanes.now) }
-        ensures ends { IfOk result (λ ends. ends ≡ ends_ask self.old.under.bus self.old.under.asking beat.now) }
+        ensures ends { IfOk result (λ ends.
+            ends ≡ ends_ask self.old.under.bus self.old.under.asking beat.now) }
         ensures refused { OnErr result ((kept_of self.old.flights beat.now.source ≡ None)
             ⊎ IsSome (effect_at_acceptance self.old.slave (ask_by self.old.under beat.now lanes.now))) }
         ensures err { OnErr result (self.new ≡ self.old) }
@@ -85,13 +87,14 @@ impl PortLink {
         Ok(true)
     }
 
-    /// The slave serves the request in flight of a source, if it takes effect as its reply begins. Where there is no
+    /// The slave serves the request in flight of a source, if it takes effect as its reply begins. If there is no
     /// memory for a page, nothing is changed.
     fn serve_late(&mut self, alloc: Global, port: usize, source: u16) -> Result<(), AllocError>
         ensures under { self.new.under ≡ self.old.under }
         ensures flight { OnOk result (IsChanged self.old.flights self.new.flights source (λ flight.
             flight_due flight (answer_by port self.old.slave (late_in self.old source)))) }
-        ensures slave { OnOk result (self.new.slave ≡ slave_by self.old.slave (late_in self.old source)) }
+        ensures slave { OnOk result
+            (self.new.slave ≡ slave_by self.old.slave (late_in self.old source)) }
         ensures served { OnErr result (IsTrue (is_late_in self.old)) }
         ensures err { OnErr result (self.new ≡ self.old) }
     {
@@ -101,7 +104,7 @@ impl PortLink {
         Ok(())
     }
 
-    /// Takes a beat of a reply: whether it ends it. Where there is no memory for a page, nothing is changed.
+    /// Takes a beat of a reply: whether it ends it. If there is no memory for a page, nothing is changed.
     fn admit_reply(
         &mut self,
         alloc: Global,
@@ -114,7 +117,8 @@ impl PortLink {
         requires lanes { self.old.under.bus ≤ length lanes.now }
         ensures after { (layout : Layout) (beyond : Beyond)
             → OnOk result (IsAfter layout port beyond self.old self.new (D beat.now) known lanes.now) }
-        ensures ends { IfOk result (λ ends. ends ≡ ends_reply self.old.under.bus self.old.under.replying beat.now) }
+        ensures ends { IfOk result (λ ends.
+            ends ≡ ends_reply self.old.under.bus self.old.under.replying beat.now) }
         ensures served { OnErr result (IsTrue (is_late_in self.old)) }
         ensures err { OnErr result (self.new ≡ self.old) }
         ensures bus { self.new.under.bus ≡ self.old.under.bus }
@@ -130,7 +134,7 @@ impl PortLink {
         Ok(true)
     }
 
-    /// Takes one beat more, which is lawful: what it ends. Where there is no memory, nothing is changed.
+    /// Takes one beat more, which is lawful: what it ends. If there is no memory, nothing is changed.
     fn admit(
         &mut self,
         alloc: Global,
@@ -143,10 +147,12 @@ impl PortLink {
         requires lanes { self.old.under.bus ≤ length lanes.now }
         ensures keeps { (plan : Plan) (past : List Sighting) → KeepsPort plan port past self.old
             → IsLawful plan (seen_at (Port port) beat.now known lanes.now ∷ past)
-            → OnOk result (KeepsPort plan port (seen_at (Port port) beat.now known lanes.now ∷ past) self.new) }
+            → OnOk result
+            (KeepsPort plan port (seen_at (Port port) beat.now known lanes.now ∷ past) self.new) }
         ensures ended { (plan : Plan) (past : List Sighting) → KeepsPort plan port past self.old
             → IsLawful plan (seen_at (Port port) beat.now known lanes.now ∷ past)
-            → IfOk result (λ e. e ≡ ended (what_is_seen plan past (seen_at (Port port) beat.now known lanes.now))) }
+            → IfOk result (λ e.
+            e ≡ ended (what_is_seen plan past (seen_at (Port port) beat.now known lanes.now))) }
         ensures needed { (plan : Plan) (past : List Sighting) → KeepsPort plan port past self.old
             → IsLawful plan (seen_at (Port port) beat.now known lanes.now ∷ past)
             → OnErr result (IsServed plan past (seen_at (Port port) beat.now known lanes.now)
@@ -166,7 +172,7 @@ impl PortLink {
         }
     }
 
-    /// Takes one beat more, if it is lawful: what it ends. `None` says that it is not. Then nothing changes, nor where
+    /// Takes one beat more, if it is lawful: what it ends. `None` says that it is not. Then nothing changes, nor if
     /// memory is refused.
     pub fn take(
         &mut self,
@@ -180,7 +186,8 @@ impl PortLink {
         requires lanes { self.old.under.bus ≤ length lanes.now }
         ensures lawful { (plan : Plan) (past : List Sighting) → IsOwnPort plan.layout map.now
             → KeepsPort plan port past self.old
-            → IfOk result (λ end. IsSome end ↔ IsLawful plan (seen_at (Port port) beat.now known lanes.now ∷ past)) }
+            → IfOk result (λ end.
+            IsSome end ↔ IsLawful plan (seen_at (Port port) beat.now known lanes.now ∷ past)) }
         ensures keeps { (plan : Plan) (past : List Sighting) → IsOwnPort plan.layout map.now
             → KeepsPort plan port past self.old
             → IfOk result (λ end. OnSome end
@@ -223,19 +230,23 @@ impl PortLink {
             → IsOk result ↔ IsLawful plan (seen_at (Port port) beat.now known lanes.now ∷ past) }
         ensures keeps { (plan : Plan) (past : List Sighting) → IsOwnPort plan.layout map.now
             → KeepsPort plan port past self.old
-            → OnOk result (KeepsPort plan port (seen_at (Port port) beat.now known lanes.now ∷ past) self.new) }
+            → OnOk result
+            (KeepsPort plan port (seen_at (Port port) beat.now known lanes.now ∷ past) self.new) }
         ensures seen { (plan : Plan) (past : List Sighting) → IsOwnPort plan.layout map.now
             → KeepsPort plan port past self.old
-            → IfOk result (λ s. s ≡ what_is_seen plan past (seen_at (Port port) beat.now known lanes.now)) }
+            → IfOk result (λ s.
+            s ≡ what_is_seen plan past (seen_at (Port port) beat.now known lanes.now)) }
         ensures fault { (plan : Plan) (past : List Sighting) → IsOwnPort plan.layout map.now
             → KeepsPort plan port past self.old
-            → IfErr result (OfFault (IsFirstFault plan past (seen_at (Port port) beat.now known lanes.now))) }
+            → IfErr result
+            (OfFault (IsFirstFault plan past (seen_at (Port port) beat.now known lanes.now))) }
         ensures memory { (plan : Plan) (past : List Sighting) → IsOwnPort plan.layout map.now
             → KeepsPort plan port past self.old → result ≡ Err StepError.Memory
             → IsLawful plan (seen_at (Port port) beat.now known lanes.now ∷ past) }
         ensures needed { (plan : Plan) (past : List Sighting) → IsOwnPort plan.layout map.now
             → KeepsPort plan port past self.old → result ≡ Err StepError.Memory
-            → IsServed plan past (seen_at (Port port) beat.now known lanes.now) ⊎ IsFirstRequest past beat.now }
+            → IsServed plan past (seen_at (Port port) beat.now known lanes.now)
+            ⊎ IsFirstRequest past beat.now }
         ensures err { OnErr result (self.new ≡ self.old) }
         ensures bus { self.new.under.bus ≡ self.old.under.bus }
     {

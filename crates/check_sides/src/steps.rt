@@ -65,9 +65,11 @@ impl Watch {
         requires known { HasLink self.old.layout link }
         requires lanes { bus_of self.old.layout link ≤ length lanes.now }
         ensures lawful { (plan : Plan) (past : List Sighting) → Keeps plan past self.old
-            → IfOk result (λ end. IsSome end ↔ IsLawful plan (seen_at link beat.now known lanes.now ∷ past)) }
+            → IfOk result (λ end.
+            IsSome end ↔ IsLawful plan (seen_at link beat.now known lanes.now ∷ past)) }
         ensures keeps { (plan : Plan) (past : List Sighting) → Keeps plan past self.old
-            → IfOk result (λ end. OnSome end (Keeps plan (seen_at link beat.now known lanes.now ∷ past) self.new)) }
+            → IfOk result (λ end. OnSome end
+            (Keeps plan (seen_at link beat.now known lanes.now ∷ past) self.new)) }
         ensures ended { (plan : Plan) (past : List Sighting) → Keeps plan past self.old
             → IfOk result (λ end. IfSome end (λ e.
             e ≡ ended (what_is_seen plan past (seen_at link beat.now known lanes.now)))) }
@@ -132,9 +134,11 @@ impl Watch {
         requires watched { IsWatched self.old.layout.links link }
         requires lanes { bus_of self.old.layout link ≤ length lanes.now }
         ensures lawful { (plan : Plan) (past : List Sighting) → Keeps plan past self.old
-            → IfOk result (λ end. IsSome end ↔ IsLawful plan (seen_at link beat.now known lanes.now ∷ past)) }
+            → IfOk result (λ end.
+            IsSome end ↔ IsLawful plan (seen_at link beat.now known lanes.now ∷ past)) }
         ensures keeps { (plan : Plan) (past : List Sighting) → Keeps plan past self.old
-            → IfOk result (λ end. OnSome end (Keeps plan (seen_at link beat.now known lanes.now ∷ past) self.new)) }
+            → IfOk result (λ end. OnSome end
+            (Keeps plan (seen_at link beat.now known lanes.now ∷ past) self.new)) }
         ensures ended { (plan : Plan) (past : List Sighting) → Keeps plan past self.old
             → IfOk result (λ end. IfSome end (λ e.
             e ≡ ended (what_is_seen plan past (seen_at link beat.now known lanes.now)))) }
@@ -167,9 +171,11 @@ impl Watch {
         requires watched { IsWatched self.old.layout.links link }
         requires lanes { bus_of self.old.layout link ≤ length lanes.now }
         ensures lawful { (plan : Plan) (past : List Sighting) → Keeps plan past self.old
-            → IfOk result (λ end. IsSome end ↔ IsLawful plan (seen_at link beat.now known lanes.now ∷ past)) }
+            → IfOk result (λ end.
+            IsSome end ↔ IsLawful plan (seen_at link beat.now known lanes.now ∷ past)) }
         ensures keeps { (plan : Plan) (past : List Sighting) → Keeps plan past self.old
-            → IfOk result (λ end. OnSome end (Keeps plan (seen_at link beat.now known lanes.now ∷ past) self.new)) }
+            → IfOk result (λ end. OnSome end
+            (Keeps plan (seen_at link beat.now known lanes.now ∷ past) self.new)) }
         ensures ended { (plan : Plan) (past : List Sighting) → Keeps plan past self.old
             → IfOk result (λ end. IfSome end (λ e.
             e ≡ ended (what_is_seen plan past (seen_at link beat.now known lanes.now)))) }

@@ -21,7 +21,7 @@ pub struct Watch {
     pub(crate) links: Links,
     /// Of the links that are judged together.
     pub(crate) shared: Together,
-    /// Of each port's link that is judged by itself; nothing where none is.
+    /// Of each port's link that is judged by itself; nothing if none is.
     pub(crate) ports: Vec<PortLink>,
 }
 
@@ -95,7 +95,8 @@ impl Watch {
           master_buses = master_buses.items;
           port_buses = port_buses.items;
         }) }
-        ensures plan { IfOk result (λ watch. (plan : Plan) × (plan.resets ≡ slaves.items) × Keeps plan [] watch) }
+        ensures plan { IfOk result (λ watch.
+            (plan : Plan) × (plan.resets ≡ slaves.items) × Keeps plan [] watch) }
         ensures keeps { (plan : Plan) → IsPlan plan
             → plan.layout ≡ record {
               links = links;
