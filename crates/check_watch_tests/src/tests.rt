@@ -1,3 +1,4 @@
 mod captures;
+mod rows;
 mod scene;
 mod sides;
