@@ -5,6 +5,7 @@
 mod faults;
 mod limits;
 mod memory;
+mod ports;
 mod resets;
 mod scripts;
 mod systems;

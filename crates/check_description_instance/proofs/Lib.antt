@@ -1,0 +1,4 @@
+pub mod Steps
+pub mod Ports
+pub mod Files
+pub mod Described
