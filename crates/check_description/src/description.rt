@@ -1,5 +1,5 @@
 //! Descriptions: the ports and masters of a file, with their addresses and their wide sources.
-ghost use Rattle.std.specs.Prelude.{◌≡◌, ◌≢◌, IfErr, IfOk, OnOk, map};
+ghost use Rattle.std.specs.Prelude.{◌≡◌, ◌≢◌, IfErr, IfOk, OnOk, length, map};
 ghost use Rattle.check_map.specs.Ranges.{AreRanges, IsFirstMapFault, IsLawfulMap};
 ghost use Rattle.check_keys.specs.declared.fault.SystemFault.TheVariants.{Memory};
 ghost use Rattle.check_ports.specs.Port.{port_view};
@@ -35,7 +35,7 @@ pub struct Described {
 }
 
 impl Model for Description {
-    ghost use Rattle.std.specs.Prelude.{◌≡◌, map};
+    ghost use Rattle.std.specs.Prelude.{◌≡◌, length, map};
     ghost use Rattle.check_ports.specs.Port.{port_view};
     ghost use Rattle.check_description.specs.Description.{Description as Said, described, ranges_of};
 
@@ -43,13 +43,15 @@ impl Model for Description {
 
     ghost view = { λ s. described s.ports.items s.masters.items s.sources };
 
-    ghost invariant = { λ s. s.addresses ≡ ranges_of (map port_view s.ports.items) };
+    ghost invariant = { λ s. (s.addresses ≡ ranges_of (map port_view s.ports.items))
+        × (length s.sources ≡ length s.masters.items) };
 }
 
 impl Description {
-    /// The description of these parts.
+    /// The description of these parts, with the sources of each master.
     fn new(ports: Vec<Port>, masters: Vec<Master>, addresses: Map, sources: Sources) -> Description
-        requires { addresses ≡ ranges_of (map port_view ports.items) }
+        requires addresses { addresses ≡ ranges_of (map port_view ports.items) }
+        requires counted { length sources ≡ length masters.items }
         ensures { result ≡ described ports.items masters.items sources }
     {
         Description {
@@ -94,6 +96,7 @@ impl Description {
         ensures masters { map master_view result.masters.items ≡ self.masters }
         ensures addresses { result.addresses ≡ ranges_of self.ports }
         ensures sources { result.sources ≡ self.owners }
+        ensures counted { length result.sources ≡ length result.masters.items }
     {
         Described {
             ports: self.ports,
