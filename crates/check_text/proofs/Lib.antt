@@ -1,0 +1,5 @@
+mod HeaderLemmas
+mod OutLemmas
+mod Taking
+mod Answering
+mod Fitting

@@ -1,0 +1,5 @@
+pub mod Fault
+pub mod Out
+pub mod Buses
+pub mod Rows
+pub mod Capture

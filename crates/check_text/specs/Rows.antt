@@ -1,0 +1,237 @@
+-- One row of a capture after another, as a judge takes them. This project's own.
+use Rattle.std.specs.Prelude.{◌≡◌, ◌⊎◌, ℕ, List, [], ◌∷◌, ◌++◌, Option, Some, None, Result, Ok, Err, ⊤, Bool, true, false, IfSome}
+use Rattle.check_rows.specs.Moment.{IsLink}
+use Rattle.check_rows.specs.Row.{row_of}
+use Rattle.check_rows.specs.declared.fault.RowFault.{RowFault}
+use Rattle.check_rows.specs.Buses.{HasBus}
+use Rattle.check_rows.specs.Row.{SeenRow, seen_row}
+use Rattle.check_rows.specs.declared.row.Row.{Row}
+use Rattle.check_review.specs.Order.{HasRowFault, IsLater}
+use Rattle.check_review.specs.Verdict.{HasCounts, HasLeft, IsFirstUnlawful, IsLawfulFile, IsToldBefore, IsToldEarlier, IsToldFile, IsToldPart}
+use Rattle.check_review.specs.View.{HasTold, Judges, TellsOn, is_asked, is_traced}
+use Rattle.check_review.specs.View.{JudgeView}
+use Rattle.check_lines.specs.declared.verdict.Counts.{Counts}
+use Rattle.check_review.specs.declared.stop.Ending.{Ending}
+use Rattle.check_review.specs.declared.stop.Refusal.{Refusal}
+use Rattle.check_review.specs.declared.stop.Refusal.TheVariants as refusal
+use Rattle.check_review.specs.declared.stop.Stop.{Stop}
+use Rattle.check_review.specs.declared.stop.Stop.TheVariants as stop
+use Rattle.check_review.specs.declared.stop.Unlawful.{Unlawful}
+use Rattle.check_records.specs.Source.{Between, Left}
+use Rattle.check_records.specs.Text.{Ends, Gives, IsTooLong, Place, Reads}
+use Rattle.check_records.specs.Text.{Row as Record}
+use Rattle.check_records.specs.Reading.{Reading, StopsLong}
+use Rattle.check_sides.specs.Plan.{Plan}
+use Rattle.check_unanswered.specs.declared.request.Left.{Left as LeftOver}
+use Rattle.check_text.specs.declared.fault.CaptureFault.{CaptureFault}
+use Rattle.check_text.specs.declared.fault.CaptureFault.TheVariants as fault
+use Rattle.check_text.specs.Out.{WritesAll, WritesFront, WritesPart, Wrote}
+use Rattle.check_text.specs.declared.fault.Verdict.{Verdict}
+use Rattle.check_text.specs.declared.fault.Verdict.TheVariants.{Incomplete, Lawful, Unlawful as NotLawful}
+use Rattle.check_text.specs.declared.rows.Halt.{Halt}
+use Rattle.check_text.specs.declared.rows.Halt.TheVariants as halt
+use Rattle.check_text.specs.declared.rows.Next.{Next}
+use Rattle.check_text.specs.declared.rows.Next.TheVariants as next
+use Rattle.check_text.specs.Buses.{LinkBuses}
+
+-- a record spells a row
+abbrev pub Spells : LinkBuses → Record → SeenRow → Type 0
+Spells buses r row = row_of buses.masters buses.ports r.line r.fields ≡ Ok row
+
+-- records spell rows, one for one
+abbrev pub SpellAll : LinkBuses → List Record → List SeenRow → Type 0
+SpellAll buses [] [] = ⊤
+SpellAll buses [] (row ∷ rows) = ⊥
+SpellAll buses (r ∷ records) [] = ⊥
+SpellAll buses (r ∷ records) (row ∷ rows) = Spells buses r row × SpellAll buses records rows
+
+-- the next record is this row
+pub record GivesRow (buses : LinkBuses) (row : SeenRow) (from to : Place) : Type 0 where
+  pub next : Record
+  pub gives : Gives from next to
+  pub spells : Spells buses next row
+
+-- these rows stand between two places
+pub record HasRows (buses : LinkBuses) (rows : List SeenRow) (from to : Place) : Type 0 where
+  pub records : List Record
+  pub reads : Reads from records to
+  pub spell : SpellAll buses records rows
+
+-- why the next record is no row after these
+abbrev pub IsNoRow : LinkBuses → List SeenRow → Record → RowFault → Type 0
+IsNoRow buses rows r fault =
+    (row_of buses.masters buses.ports r.line r.fields ≡ Err fault)
+    ⊎ ((row : SeenRow) × Spells buses r row × HasRowFault rows row fault)
+
+-- the record on this line, the next one after these rows, is no row there
+pub record HasNoRow (buses : LinkBuses) (rows : List SeenRow) (line : ℕ) (fault : RowFault) (from to : Place) : Type 0 where
+  pub next : Record
+  pub gives : Gives from next to
+  pub on_line : line ≡ next.line
+  pub no_row : IsNoRow buses rows next fault
+
+-- no row of the time of these rows is to come: the text ends, or a row of a later time is next
+abbrev pub IsTimeOver : LinkBuses → List SeenRow → Place → Type 0
+IsTimeOver buses rows at =
+    ((end : Place) × Ends at end) ⊎ ((row : SeenRow) × (to : Place) × GivesRow buses row at to × IsLater rows row)
+
+-- ---- what becomes of rows, and of the text after them
+
+-- what is said of the rows that were taken, and of the place after them, if this is answered
+abbrev pub IsAnswer : Bool → Plan → LinkBuses → Result Verdict CaptureFault → List SeenRow → Place → Type 0
+IsAnswer asked plan buses (Ok (Lawful counts)) rows at =
+    ((end : Place) × Ends at end) × IsLawfulFile plan rows × HasCounts plan rows counts × HasLeft asked plan rows None
+IsAnswer asked plan buses (Ok (Incomplete left)) rows at =
+    ((end : Place) × Ends at end) × IsLawfulFile plan rows × HasLeft asked plan rows (Some left)
+IsAnswer asked plan buses (Ok (NotLawful found)) rows at = IsTimeOver buses rows at × IsFirstUnlawful plan rows found
+IsAnswer asked plan buses (Err (fault.Header line)) rows at = ⊥
+IsAnswer asked plan buses (Err (fault.TooLong line)) rows at = IsTooLong at line
+IsAnswer asked plan buses (Err (fault.Row line why)) rows at = (to : Place) × HasNoRow buses rows line why at to
+IsAnswer asked plan buses (Err fault.Read) rows at = ⊤
+IsAnswer asked plan buses (Err fault.Memory) rows at = ⊤
+IsAnswer asked plan buses (Err fault.Write) rows at = ⊤
+
+-- what is told with a verdict: of lawful rows all, also if requests are left; of unlawful ones what crosses before the first that is
+abbrev pub IsToldBy : Bool → Plan → Verdict → List SeenRow → List ℕ → Type 0
+IsToldBy trace plan (Lawful counts) rows text = IsToldFile trace plan rows text
+IsToldBy trace plan (Incomplete left) rows text = IsToldFile trace plan rows text
+IsToldBy trace plan (NotLawful found) rows text = IsToldBefore trace plan rows text found
+
+-- what is written of the rows that were taken, if this is answered: all that is told with a verdict; before a fault
+-- of the text, or a read that failed, all that is told of those of an earlier time than the last; where memory was
+-- refused a front of what is told of those that cross first; where a write failed such a front, and not all of it
+abbrev pub IsOut : Bool → Plan → Result Verdict CaptureFault → List SeenRow → Option (List ℕ) → Option (List ℕ) → Type 0
+IsOut trace plan (Ok verdict) rows old new = WritesAll (IsToldBy trace plan verdict rows) old new
+IsOut trace plan (Err (fault.Header line)) rows old new = ⊥
+IsOut trace plan (Err (fault.TooLong line)) rows old new = WritesAll (IsToldEarlier trace plan rows) old new
+IsOut trace plan (Err (fault.Row line why)) rows old new = WritesAll (IsToldEarlier trace plan rows) old new
+IsOut trace plan (Err fault.Read) rows old new = WritesAll (IsToldEarlier trace plan rows) old new
+IsOut trace plan (Err fault.Memory) rows old new = WritesFront (IsToldPart trace plan rows) old new
+IsOut trace plan (Err fault.Write) rows old new = WritesPart (IsToldPart trace plan rows) old new
+
+-- ---- for the proofs: a judge that takes rows
+
+-- rows are unlawful, the first by this one, and the next row is of a later time
+pub record IsUnlawfulBefore (plan : Plan) (buses : LinkBuses) (rows : List SeenRow) (found : Unlawful)
+    (from to : Place) : Type 0 where
+  pub row : SeenRow
+  pub next : GivesRow buses row from to
+  pub later : IsLater rows row
+  pub first : IsFirstUnlawful plan rows found
+
+-- the judge took this row, and a text grew by what is told
+pub record Took (old : JudgeView) (row : SeenRow) (new : JudgeView) (text grown : List ℕ) : Type 0 where
+  pub traced : is_traced new ≡ is_traced old
+  pub asked : is_asked new ≡ is_asked old
+  pub tells : (plan : Plan) (rows : List SeenRow) (so_far : List ℕ) → HasTold plan rows old so_far
+      → TellsOn plan (rows ++ row ∷ []) new so_far text grown
+
+-- the judge took the next row, or there is none
+abbrev pub TakesNext : LinkBuses → JudgeView → JudgeView → List ℕ → List ℕ → Bool → Place → Place → Type 0
+TakesNext buses old new text grown true from to = (row : SeenRow) × GivesRow buses row from to × Took old row new text grown
+TakesNext buses old new text grown false from to = Ends from to × (new ≡ old) × (grown ≡ text)
+
+-- a text grew by what is told before the first unlawful row
+abbrev pub TellsBefore : Bool → Plan → List SeenRow → List ℕ → List ℕ → List ℕ → Unlawful → Type 0
+TellsBefore trace plan rows so_far text grown found =
+    (more : List ℕ) × (grown ≡ text ++ more) × IsToldBefore trace plan rows (so_far ++ more) found
+
+-- why it did not, whatever rows it had taken
+abbrev pub StopsAt : LinkBuses → JudgeView → List ℕ → List ℕ → Left → Left → Halt → Type 0
+StopsAt buses judge text grown old new (halt.Unlawful found) =
+    Between old new (λ from to. (plan : Plan) (rows : List SeenRow) (so_far : List ℕ) → HasTold plan rows judge so_far
+    → IsUnlawfulBefore plan buses rows found from to × TellsBefore (is_traced judge) plan rows so_far text grown found)
+StopsAt buses judge text grown old new (halt.Fault (fault.Row line why)) =
+    Between old new (λ from to. (plan : Plan) (rows : List SeenRow) (so_far : List ℕ) → HasTold plan rows judge so_far
+    → HasNoRow buses rows line why from to × (grown ≡ text))
+StopsAt buses judge text grown old new (halt.Fault (fault.TooLong line)) = StopsLong old line × (grown ≡ text)
+StopsAt buses judge text grown old new (halt.Fault (fault.Header line)) = ⊥
+StopsAt buses judge text grown old new (halt.Fault fault.Read) = grown ≡ text
+StopsAt buses judge text grown old new (halt.Fault fault.Memory) = ⊤
+StopsAt buses judge text grown old new (halt.Fault fault.Write) = ⊥
+
+-- what becomes of the next row, which this record spells, while nothing is told and no row is refused: the judge took it,
+-- it is left with its lanes in the first places of a buffer, there is none, or it stops the judge
+abbrev pub IsNext : LinkBuses → JudgeView → JudgeView → Left → Left → Record → List ℕ → Next → Type 0
+IsNext buses old new from to r lanes next.Taken =
+    Between from to (λ a b. Gives a r b)
+    × ((row : SeenRow) × Spells buses r row × ((text : List ℕ) → Took old row new text text))
+IsNext buses old new from to r lanes (next.Left row) =
+    Between from to (λ a b. Gives a r b) × Spells buses r (seen_row row lanes) × (new ≡ old)
+IsNext buses old new from to r lanes next.End = Between from to Ends × (new ≡ old)
+IsNext buses old new from to r lanes (next.Fault why) =
+    (text : List ℕ) → StopsAt buses old text text from to (halt.Fault why)
+
+-- a row that is left is one that a judge can take: of a link that a system can have, with that link's bus
+pub record IsTakable (buses : LinkBuses) (row : Row) : Type 0 where
+  pub link : IsLink row.link
+  pub bus : HasBus buses.masters buses.ports row.link row.bus
+
+-- the reader goes on after a row that is no fault
+abbrev pub GoesOn : LinkBuses → Reading → Next → Type 0
+GoesOn buses records next.Taken = records.fault ≡ None
+GoesOn buses records (next.Left row) = (records.fault ≡ None) × IsTakable buses row
+GoesOn buses records next.End = ⊤
+GoesOn buses records (next.Fault why) = ⊤
+
+-- why the judge stops at a row on this line
+abbrev pub halt_of : ℕ → Stop → Halt
+halt_of line (stop.Row why) = halt.Fault (fault.Row line why)
+halt_of line (stop.Beat found) = halt.Unlawful found
+halt_of line stop.Memory = halt.Fault fault.Memory
+
+-- a judge of no rows took these, from one place to another; what it told was written, but for this text
+pub record TookRows (buses : LinkBuses) (first now : JudgeView) (old new : Option (List ℕ)) (text : List ℕ)
+    (from to : Place) : Type 0 where
+  pub rows : List SeenRow
+  pub has : HasRows buses rows from to
+  pub traced : is_traced now ≡ is_traced first
+  pub asked : is_asked now ≡ is_asked first
+  pub told : (plan : Plan) → Judges plan [] first → Wrote (HasTold plan rows now) old new text
+
+-- and then there were no more
+abbrev pub AllTaken : LinkBuses → JudgeView → JudgeView → Option (List ℕ) → Option (List ℕ) → List ℕ → Place → Place → Type 0
+AllTaken buses first now old new text from to =
+    (last : Place) × TookRows buses first now old new text from last × Ends last to
+
+-- what is told by an answer was written, but for this text; or a front of it
+abbrev pub WroteBy : Bool → Plan → Result Verdict CaptureFault → List SeenRow → Option (List ℕ) → Option (List ℕ) → List ℕ
+    → Type 0
+WroteBy trace plan (Ok verdict) rows old new text = Wrote (IsToldBy trace plan verdict rows) old new text
+WroteBy trace plan (Err (fault.Header line)) rows old new text = ⊥
+WroteBy trace plan (Err (fault.TooLong line)) rows old new text = Wrote (IsToldEarlier trace plan rows) old new text
+WroteBy trace plan (Err (fault.Row line why)) rows old new text = Wrote (IsToldEarlier trace plan rows) old new text
+WroteBy trace plan (Err fault.Read) rows old new text = Wrote (IsToldEarlier trace plan rows) old new text
+WroteBy trace plan (Err fault.Memory) rows old new text = WritesFront (IsToldPart trace plan rows) old new
+WroteBy trace plan (Err fault.Write) rows old new text = WritesPart (IsToldPart trace plan rows) old new
+
+-- a judge of no rows took some and answers this
+pub record IsJudgedAt (buses : LinkBuses) (first : JudgeView) (old new : Option (List ℕ)) (text : List ℕ)
+    (answer : Result Verdict CaptureFault) (from : Place) : Type 0 where
+  pub rows : List SeenRow
+  pub last : Place
+  pub has : HasRows buses rows from last
+  pub answers : (plan : Plan) → Judges plan [] first → IsAnswer (is_asked first) plan buses answer rows last
+  pub told : (plan : Plan) → Judges plan [] first → WroteBy (is_traced first) plan answer rows old new text
+
+abbrev pub IsJudged : LinkBuses → JudgeView → Option (List ℕ) → Option (List ℕ) → List ℕ → Left → Result Verdict CaptureFault
+    → Type 0
+IsJudged buses first old new text at answer =
+    IfSome at.text (λ left. IsJudgedAt buses first old new text answer (record { line = at.line; text = left }))
+
+-- what is answered where no more rows are taken, and where the last ones are refused
+abbrev pub answer_of : Halt → Result Verdict CaptureFault
+answer_of (halt.Unlawful found) = Ok (NotLawful found)
+answer_of (halt.Fault why) = Err why
+
+abbrev pub refused : Refusal → Result Verdict CaptureFault
+refused (refusal.Unlawful found) = Ok (NotLawful found)
+refused refusal.Memory = Err fault.Memory
+
+-- the verdict over rows that are lawful: so many they are, and these requests are left, if it is asked which
+abbrev pub ended_with : Counts → Option LeftOver → Verdict
+ended_with counts None = Lawful counts
+ended_with counts (Some left) = Incomplete left
+
+abbrev pub ended : Ending → Verdict
+ended ending = ended_with ending.counts ending.left

@@ -1,0 +1,67 @@
+//! The verdict over a capture.
+ghost use Rattle.std.specs.Prelude.{◌≡◌, ◌≤◌, [], None, length, OnOk, IfOk, IfErr, IfSome};
+ghost use Rattle.check_records.specs.Source.{Between};
+ghost use Rattle.check_records.specs.Text.{start_of};
+ghost use Rattle.check_sides.specs.Plan.{Plan};
+ghost use Rattle.check_review.specs.View.{Judges, is_asked, is_traced};
+ghost use Rattle.check_text.specs.Buses.{HasBuses, link_buses};
+ghost use Rattle.check_text.specs.Capture.{HasHeader, HasHeaderFault, IsFault, IsVerdict, IsWritten};
+
+use crate::fault::{CaptureFault, Verdict};
+use crate::header::is_header;
+use crate::out::finish;
+use crate::rows::judge_rows;
+use check_map::{MAX_MASTERS, MAX_PORTS};
+use check_records::Records;
+use check_review::Judge;
+use check_rows::Buses;
+use std::alloc::Global;
+use std::io::{Read, Write};
+use tl_streams::LimitedWriter;
+
+/// Reads the header.
+fn read_header<R: Read + Drop>(records: &mut Records<R>) -> Result<(), CaptureFault>
+    requires { records.old.fault ≡ None }
+    ensures ok { OnOk result (Between records.old.left records.new.left HasHeader) }
+    ensures goes_on { OnOk result (records.new.fault ≡ None) }
+    ensures fault { IfErr result (HasHeaderFault records.old.left records.new.left) }
+{
+    if !records.read()? {
+        return Err(CaptureFault::Header(1));
+    }
+    if !is_header(records.columns()) {
+        return Err(CaptureFault::Header(records.line()));
+    }
+    Ok(())
+}
+
+/// Judges a capture that a reader gives, of a system whose links have these buses, by a judge that has taken no row.
+/// It reads to the end, or to the first row of a later time than one that is unlawful, or to the first record that is
+/// no row; what the judge tells of the rows by then is written.
+pub fn judge_capture<R: Read + Drop, W: Write>(
+    alloc: Global,
+    reader: R,
+    writer: &mut LimitedWriter<'_, W>,
+    judge: Judge,
+    buses: &Buses<'_>,
+) -> Result<Verdict, CaptureFault>
+    requires masters { length buses.now.masters.now ≤ MAX_MASTERS }
+    requires ports { length buses.now.ports.now ≤ MAX_PORTS }
+    requires buses { HasBuses judge.tally.watch.layout (link_buses buses.now) }
+    ensures verdict { (plan : Plan) → Judges plan [] judge
+        → IfOk result (λ verdict. IfSome (R.remaining reader) (λ text.
+        IsVerdict (is_asked judge) plan (link_buses buses.now) (start_of text) verdict)) }
+    ensures fault { (plan : Plan) → Judges plan [] judge
+        → IfErr result (λ fault. IfSome (R.remaining reader) (λ text.
+        IsFault plan (link_buses buses.now) (start_of text) fault)) }
+    ensures same { writer.new.writer.ghost_name ≡ writer.old.writer.ghost_name }
+    ensures told { (plan : Plan) → Judges plan [] judge → IfSome (R.remaining reader) (λ text.
+        IsWritten (is_asked judge) (is_traced judge) plan (link_buses buses.now) (start_of text)
+        (W.contents writer.old.writer.now) (W.contents writer.new.writer.now) result) }
+{
+    let mut records = Records::new(alloc, reader)?;
+    read_header(&mut records)?;
+    let mut text = Vec::new(alloc);
+    let answer = judge_rows(alloc, &mut records, judge, buses, writer, &mut text);
+    finish(writer, &text, answer)
+}

@@ -1,0 +1,136 @@
+-- A row that columns spell has as many lanes as its link's bus has bytes.
+use Rattle.std.proofs.Common.{◌≡◌, ◌∙◌, ℕ, suc, ◌*◌, ◌-◌, ◌^◌, Bool, true, false, if◌then◌else◌, List, [], ◌∷◌, length, map, replicate, Option, None, Some, Result, Ok, Err, IfSome, option_map, option_and_then, refl, ap, subst}
+use Rattle.std.specs.Prelude.{◌==◌, ok_or}
+use Rattle.std.specs.List.{range_with_len}
+use Rattle.std.proofs.lemmas.List.{length-map, length-replicate}
+use Rattle.std.proofs.lemmas.List.FromFn.{length-map-range_with_len}
+use Rattle.check_beats.specs.declared.bus.Bus.{Bus}
+use Rattle.check_rows.specs.Buses.{bus_of}
+use Rattle.check_rows.specs.Lanes.{Lanes, all_of, byte_in, lane_at, lanes_of, seen_of, shown_by, zeros}
+use Rattle.check_rows.specs.Column.{column}
+use Rattle.check_rows.specs.Columns.{channel_of, flag_of, link_of, nothing_of}
+use Rattle.check_rows.specs.Number.{address_of, decimal_of, mask_of}
+use Rattle.check_rows.specs.Reading.{◌>>=◌}
+use Rattle.check_rows.specs.Row.{SeenBeat, SeenRow, ask_of, beat_of, reply_of, row_of}
+use Rattle.check_rows.specs.declared.columns.Channel.{Channel}
+use Rattle.check_rows.specs.declared.columns.Channel.TheVariants as channel
+use Rattle.check_rows.specs.declared.column.Column.TheVariants as named
+use Rattle.check_rows.specs.declared.fault.RowFault.{RowFault}
+
+-- an answer that is no fault
+abbrev ok : {A : Type 0} → A → Result A RowFault
+ok x = Ok x
+
+-- what a step gave, and the rest
+step : {A B : Type 0} (r : Result A RowFault) (f : A → Result B RowFault) (y : B) → (r >>= f) ≡ Ok y
+    → (x : A) × (r ≡ Ok x) × (f x ≡ Ok y)
+step (Ok x) f y is = (x, refl, is)
+step (Err e) f y is = absurd (cc)
+
+-- what was tested, if the other way there is a fault
+tested : {B : Type 0} (b : Bool) (r : Result B RowFault) (e : RowFault) (y : B)
+    → (if b then r else Err e) ≡ Ok y → r ≡ Ok y
+tested true r e y is = is
+tested false r e y is = absurd (cc)
+
+-- ---- lanes
+
+all_counted : (xs : List (Option (Option ℕ))) → IfSome (all_of xs) (λ l. length l ≡ length xs)
+all_counted [] = refl
+all_counted (None ∷ xs) = tt
+all_counted (Some x ∷ xs) = go (all_of xs) (all_counted xs)
+  where
+    go : (rest : Option (List (Option ℕ))) → IfSome rest (λ l. length l ≡ length xs)
+        → IfSome (option_map (λ l. x ∷ l) rest) (λ l. length l ≡ length (Some x ∷ xs))
+    go None is = tt
+    go (Some l) is = ap suc is
+
+shown_counted : (bus : ℕ) (word : List ℕ) → IfSome (shown_by bus word) (λ lanes. length lanes.bytes ≡ bus)
+unfolding shown_by
+shown_counted bus word =
+    go (all_of (map (lane_at bus word) (range_with_len 0 bus))) (all_counted (map (lane_at bus word) (range_with_len 0 bus)))
+  where
+    go : (all : Option (List (Option ℕ))) → IfSome all (λ l. length l ≡ length (map (lane_at bus word) (range_with_len 0 bus)))
+        → IfSome (option_map seen_of all) (λ lanes. length lanes.bytes ≡ bus)
+    go None is = tt
+    go (Some l) is = length-map l byte_in ∙ is ∙ length-map-range_with_len (lane_at bus word) 0 bus
+
+ok_counted : (bus : ℕ) (shown : Option Lanes) (e : RowFault) (lanes : Lanes)
+    → IfSome shown (λ l. length l.bytes ≡ bus) → ok_or shown e ≡ Ok lanes → length lanes.bytes ≡ bus
+ok_counted bus None e lanes counted is = absurd (cc)
+ok_counted bus (Some shown) e lanes counted is = let same : shown ≡ lanes = cc in
+    subst (λ (l : Lanes). length l.bytes ≡ bus) same counted
+
+zeros_or : (bus : ℕ) (b : Bool) (rest : Result Lanes RowFault) (lanes : Lanes)
+    → (rest ≡ Ok lanes → length lanes.bytes ≡ bus) → (if b then Ok (zeros bus) else rest) ≡ Ok lanes
+    → length lanes.bytes ≡ bus
+zeros_or bus true rest lanes other is = let same : zeros bus ≡ lanes = cc in
+    subst (λ (l : Lanes). length l.bytes ≡ bus) same (length-replicate bus 0)
+zeros_or bus false rest lanes other is = other is
+
+lanes_counted : (bus : ℕ) (word : List ℕ) (lanes : Lanes) → lanes_of bus word ≡ Ok lanes → length lanes.bytes ≡ bus
+unfolding lanes_of
+lanes_counted bus word lanes is =
+    zeros_or bus (length word == 0) _ lanes
+    (λ rest. ok_counted bus (shown_by bus word) _ lanes (shown_counted bus word) (tested _ _ _ _ rest)) is
+
+-- ---- beats and rows
+
+seen_counted : (bus : ℕ) (beat seen : SeenBeat) → length beat.lanes.bytes ≡ bus
+    → ok beat ≡ Ok seen → length seen.lanes.bytes ≡ bus
+seen_counted bus beat seen counted is = let same : beat ≡ seen = cc in
+    subst (λ (b : SeenBeat). length b.lanes.bytes ≡ bus) same counted
+
+ask_counted : (bus : ℕ) (columns : List (List ℕ)) (seen : SeenBeat) → ask_of bus columns ≡ Ok seen
+    → length seen.lanes.bytes ≡ bus
+unfolding ask_of
+ask_counted bus columns seen is =
+    let opcode = step (decimal_of 255 (column columns named.Opcode)) _ seen is in
+    let param = step (decimal_of 255 (column columns named.Param)) _ seen opcode.2 in
+    let size = step (decimal_of 255 (column columns named.Size)) _ seen param.2 in
+    let source = step (decimal_of 65535 (column columns named.Source)) _ seen size.2 in
+    let address = step (address_of (column columns named.Address)) _ seen source.2 in
+    let mask = step (mask_of bus (column columns named.Mask)) _ seen address.2 in
+    let lanes = step (lanes_of bus (column columns named.Data)) _ seen mask.2 in
+    let denied = step (nothing_of (column columns named.Denied)) _ seen lanes.2 in
+    let corrupt = step (nothing_of (column columns named.Corrupt)) _ seen denied.2 in
+    seen_counted bus _ seen (lanes_counted bus (column columns named.Data) lanes.0 lanes.1) corrupt.2
+
+reply_counted : (bus : ℕ) (columns : List (List ℕ)) (seen : SeenBeat) → reply_of bus columns ≡ Ok seen
+    → length seen.lanes.bytes ≡ bus
+unfolding reply_of
+reply_counted bus columns seen is =
+    let opcode = step (decimal_of 255 (column columns named.Opcode)) _ seen is in
+    let param = step (nothing_of (column columns named.Param)) _ seen opcode.2 in
+    let size = step (decimal_of 255 (column columns named.Size)) _ seen param.2 in
+    let source = step (decimal_of 65535 (column columns named.Source)) _ seen size.2 in
+    let address = step (nothing_of (column columns named.Address)) _ seen source.2 in
+    let mask = step (nothing_of (column columns named.Mask)) _ seen address.2 in
+    let lanes = step (lanes_of bus (column columns named.Data)) _ seen mask.2 in
+    let denied = step (flag_of (column columns named.Denied)) _ seen lanes.2 in
+    let corrupt = step (flag_of (column columns named.Corrupt)) _ seen denied.2 in
+    seen_counted bus _ seen (lanes_counted bus (column columns named.Data) lanes.0 lanes.1) corrupt.2
+
+beat_counted : (bus : ℕ) (channel : Channel) (columns : List (List ℕ)) (seen : SeenBeat)
+    → beat_of bus channel columns ≡ Ok seen → length seen.lanes.bytes ≡ bus
+beat_counted bus channel.A columns seen is = ask_counted bus columns seen is
+beat_counted bus channel.D columns seen is = reply_counted bus columns seen is
+
+abbrev HasItsLanes : List Bus → List Bus → SeenRow → Type 0
+HasItsLanes masters ports row = length row.sighting.lanes ≡ bus_of masters ports row.sighting.link
+
+row_counted : (masters ports : List Bus) (made row : SeenRow) → HasItsLanes masters ports made
+    → ok made ≡ Ok row → HasItsLanes masters ports row
+row_counted masters ports made row counted is = let same : made ≡ row = cc in
+    subst (HasItsLanes masters ports) same counted
+
+pub lanes_of_row_are : (masters ports : List Bus) (line : ℕ) (columns : List (List ℕ)) (row : SeenRow)
+    → row_of masters ports line columns ≡ Ok row → HasItsLanes masters ports row
+unfolding row_of
+lanes_of_row_are masters ports line columns row is =
+    let read = tested (length columns == 12) _ _ row is in
+    let time = step (decimal_of (2 ^ 64 - 1) (column columns named.Time)) _ row read in
+    let link = step (link_of masters ports (column columns named.Link)) _ row time.2 in
+    let channel = step (channel_of (column columns named.Channel)) _ row link.2 in
+    let seen = step (beat_of (bus_of masters ports link.0) channel.0 columns) _ row channel.2 in
+    row_counted masters ports _ row (beat_counted (bus_of masters ports link.0) channel.0 columns seen.0 seen.1) seen.2

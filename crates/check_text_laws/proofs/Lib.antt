@@ -1,0 +1,2 @@
+mod Lanes
+pub mod Rules

@@ -1,0 +1,188 @@
+-- What lawful verdicts say of rows.
+use Rattle.std.proofs.Common.{◌≡◌, ℕ, ◌<◌, ◌≤◌, Bool, if◌then◌else◌, true, false, List, [], ◌∷◌, ◌++◌, map, filter, refl, sym, ap, ltb→lt, T, subst, arith}
+use Rattle.std.specs.Prelude.{◌&&◌, nat_lt, length}
+use Rattle.std.specs.List.Sorted.{IsPermutation}
+use Rattle.std.proofs.lemmas.List.Elements.{All-from_recursion, recursion_from_All}
+use Rattle.std.proofs.lemmas.List.Sorted.{All-permutation}
+use Rattle.check_flight.specs.Side.{bus_at}
+use Rattle.check_watch.specs.declared.beat.Link.{Link}
+use Rattle.check_watch.specs.declared.beat.Link.TheVariants.{Master, Port}
+use Rattle.check_sides.specs.declared.links.Links.{Links}
+use Rattle.check_sides.specs.declared.links.Links.TheVariants.{Both, Masters, Ports, Each}
+use Rattle.check_sides.specs.Plan.{Plan, Layout, IsPlan, HasLink, IsWatched, bus_of}
+use Rattle.check_rows.specs.Buses.{bus_of as row_bus}
+use Rattle.check_rows.specs.Row.{SeenRow}
+use Rattle.check_review.specs.Order.{are_masters_watched, are_ports_watched, is_watched, seen}
+use Rattle.check_review.specs.Verdict.{IsLawfulFile, IsFirstUnlawful}
+use Rattle.check_unanswered.specs.declared.request.Left.{Left}
+use Rattle.check_lines.specs.declared.verdict.Counts.{Counts}
+use Rattle.check_review.specs.declared.stop.Unlawful.{Unlawful}
+use Rattle.check_records.specs.Text.{Place}
+use Rattle.check_records.specs.Text.{Row as Record}
+use Rattle.check_text.specs.Buses.{HasBuses, LinkBuses}
+use Rattle.check_text.specs.Capture.{IsVerdict}
+use Rattle.check_text.specs.Rows.{HasRows, SpellAll}
+use Rattle.check_text.specs.declared.fault.Verdict.TheVariants.{Incomplete, Lawful, Unlawful as Not}
+use Rattle.check_sides_laws.specs.Rules.{AreWatched}
+use Rattle.check_sides_laws.proofs.Rules.{always_keeps, rules_make_lawful, seen_whole}
+use Rattle.check_text_laws.proofs.Lanes.{lanes_of_row_are}
+use Rattle.check_text_laws.specs.Rules.{FileKeepsRules, BreaksRules, CaptureKeepsRules, CaptureBreaksRules, CaptureLeaves, HaveLanes}
+
+less : (m n : ℕ) → nat_lt m n ≡ true → m < n
+less m n is = ltb→lt m n (subst (λ b. T b) (sym is) tt)
+
+both_true : (a b : Bool) → (a && b) ≡ true → (a ≡ true) × (b ≡ true)
+both_true true b is = (refl, is)
+both_true false b is = cc
+
+masters_watched : (links : Links) (m : ℕ) → are_masters_watched links ≡ true → IsWatched links (Master m)
+masters_watched Both m is = tt
+masters_watched Masters m is = tt
+masters_watched Ports m is = cc
+masters_watched Each m is = tt
+
+ports_watched : (links : Links) (p : ℕ) → are_ports_watched links ≡ true → IsWatched links (Port p)
+ports_watched Both p is = tt
+ports_watched Masters p is = cc
+ports_watched Ports p is = tt
+ports_watched Each p is = tt
+
+watched_link : (layout : Layout) (link : Link) → is_watched layout link ≡ true → HasLink layout link
+    × IsWatched layout.links link
+watched_link layout (Master m) is =
+    let both = both_true (are_masters_watched layout.links) (nat_lt m (length layout.owners)) is in
+    (less m (length layout.owners) both.1, masters_watched layout.links m both.0)
+watched_link layout (Port p) is =
+    let both = both_true (are_ports_watched layout.links) (nat_lt p (length layout.ports)) is in
+    (less p (length layout.ports) both.1, ports_watched layout.links p both.0)
+
+-- what is seen of rows with their lanes is at links that are watched
+seen_watched : (layout : Layout) (crossed : List SeenRow) → HaveLanes layout crossed → AreWatched layout (seen layout crossed)
+seen_watched layout [] have = tt
+seen_watched layout (row ∷ crossed) have =
+    go (seen_watched layout crossed have.1) (is_watched layout row.sighting.link) refl
+  where
+    go : AreWatched layout (seen layout crossed) → (watched : Bool) → is_watched layout row.sighting.link ≡ watched
+        → AreWatched layout (map (λ (r : SeenRow). r.sighting)
+        (if watched then row ∷ filter (λ (r : SeenRow). is_watched layout r.sighting.link) crossed else filter
+        (λ (r : SeenRow). is_watched layout r.sighting.link) crossed))
+    go before true is =
+        let link = watched_link layout row.sighting.link is in
+        (record { link = link.0; watched = link.1; lanes = have.0 }, before)
+    go before false is = before
+
+-- the rows of a file have their lanes in whatever order they cross
+have_crossed : (layout : Layout) (file crossed : List SeenRow) → HaveLanes layout file → IsPermutation file crossed
+    → HaveLanes layout crossed
+have_crossed layout file crossed have same =
+    let P : SeenRow → Type 0 = λ row. bus_of layout row.sighting.link ≤ length row.sighting.lanes in
+    recursion_from_All P crossed (All-permutation P file crossed same (All-from_recursion P file have))
+
+pub file_keeps : (plan : Plan) (file : List SeenRow) → IsPlan plan → HaveLanes plan.layout file → IsLawfulFile plan file
+    → FileKeepsRules plan file
+file_keeps plan file is have lawful =
+    let crossed = have_crossed plan.layout file lawful.crossed have lawful.crossing.same in
+    record {
+      crossed = lawful.crossed;
+      crossing = lawful.crossing;
+      keeps = always_keeps plan (seen plan.layout lawful.crossed) is
+          (seen_watched plan.layout lawful.crossed crossed) lawful.lawful;
+      whole = seen_whole plan (seen plan.layout lawful.crossed) lawful.lawful;
+    }
+
+pub rules_make_lawful_file : (plan : Plan) (file : List SeenRow) → IsPlan plan → HaveLanes plan.layout file
+    → FileKeepsRules plan file → IsLawfulFile plan file
+rules_make_lawful_file plan file is have rules =
+    let crossed = have_crossed plan.layout file rules.crossed have rules.crossing.same in
+    record {
+      crossed = rules.crossed;
+      crossing = rules.crossing;
+      lawful = rules_make_lawful plan (seen plan.layout rules.crossed) is
+          (seen_watched plan.layout rules.crossed crossed) rules.whole rules.keeps;
+    }
+
+-- what stands after some of a list
+rest_have : (layout : Layout) (after before : List SeenRow) → HaveLanes layout (after ++ before) → HaveLanes layout before
+rest_have layout [] before have = have
+rest_have layout (row ∷ after) before have = rest_have layout after before have.1
+
+-- the first row that makes a file unlawful is the first after which the rules are not kept
+pub unlawful_breaks : (plan : Plan) (file : List SeenRow) (found : Unlawful) → IsPlan plan → HaveLanes plan.layout file
+    → IsFirstUnlawful plan file found → BreaksRules plan file found.row
+unlawful_breaks plan file found is have first =
+    let row = first.row in
+    let before = seen plan.layout first.before in
+    let here : HaveLanes plan.layout (row ∷ first.before) = rest_have plan.layout first.after (row ∷ first.before)
+    (have_crossed plan.layout file (first.after ++ row ∷ first.before) have first.crossing.same) in
+    let watched = seen_watched plan.layout first.before here.1 in
+    let link = watched_link plan.layout row.sighting.link first.is.watched in
+    record {
+      row = row;
+      is = first.is.named;
+      after = first.after;
+      before = first.before;
+      crossing = first.crossing;
+      kept = always_keeps plan before is watched first.is.lawful;
+      whole = seen_whole plan before first.is.lawful;
+      broken = λ whole keeps. first.is.unlawful
+          (rules_make_lawful plan (row.sighting ∷ before) is
+          (record { link = link.0; watched = link.1; lanes = here.0 }, watched) whole keeps);
+    }
+
+-- ---- the rows of a text have the lanes that its system's buses give them
+
+bus_same : (layout : Layout) (buses : LinkBuses) (link : Link) → HasBuses layout buses
+    → bus_of layout link ≡ row_bus buses.masters buses.ports link
+bus_same layout buses (Master number) same = ap (λ all. bus_at all number) same.masters
+bus_same layout buses (Port number) same = ap (λ all. bus_at all number) same.ports
+
+all_have : (layout : Layout) (buses : LinkBuses) (records : List Record) (rows : List SeenRow) → HasBuses layout buses
+    → SpellAll buses records rows → HaveLanes layout rows
+all_have layout buses [] [] same spell = tt
+all_have layout buses [] (row ∷ rows) same spell = absurd spell
+all_have layout buses (r ∷ records) [] same spell = absurd spell
+all_have layout buses (r ∷ records) (row ∷ rows) same spell =
+    let lanes = lanes_of_row_are buses.masters buses.ports r.line r.fields row spell.0 in
+    let bus = bus_same layout buses row.sighting.link same in
+    (omega (arith, lanes, bus), all_have layout buses records rows same spell.1)
+
+pub rows_have : (layout : Layout) (buses : LinkBuses) (rows : List SeenRow) (from at : Place) → HasBuses layout buses
+    → HasRows buses rows from at → HaveLanes layout rows
+rows_have layout buses rows from at same has = all_have layout buses has.records rows same has.spell
+
+pub capture_keeps : (asked : Bool) (plan : Plan) (buses : LinkBuses) (from : Place) (counts : Counts) → IsPlan plan
+    → HasBuses plan.layout buses → IsVerdict asked plan buses from (Lawful counts)
+    → CaptureKeepsRules asked plan buses from counts
+capture_keeps asked plan buses from counts is same verdict =
+    let begins = verdict.1.begins in
+    record {
+      rows = verdict.0;
+      is = verdict.1;
+      keeps = file_keeps plan verdict.0 is (rows_have plan.layout buses verdict.0 _ _ same begins.has) verdict.2;
+      counted = verdict.3;
+      complete = verdict.4;
+    }
+
+pub capture_leaves : (asked : Bool) (plan : Plan) (buses : LinkBuses) (from : Place) (over : Left) → IsPlan plan
+    → HasBuses plan.layout buses → IsVerdict asked plan buses from (Incomplete over)
+    → CaptureLeaves asked plan buses from over
+capture_leaves asked plan buses from over is same verdict =
+    let begins = verdict.1.begins in
+    record {
+      rows = verdict.0;
+      is = verdict.1;
+      keeps = file_keeps plan verdict.0 is (rows_have plan.layout buses verdict.0 _ _ same begins.has) verdict.2;
+      left = verdict.3;
+    }
+
+pub capture_breaks : (asked : Bool) (plan : Plan) (buses : LinkBuses) (from : Place) (found : Unlawful) → IsPlan plan
+    → HasBuses plan.layout buses → IsVerdict asked plan buses from (Not found)
+    → CaptureBreaksRules plan buses from found
+capture_breaks asked plan buses from found is same verdict = record {
+  rows = verdict.0;
+  place = verdict.1;
+  begins = verdict.2;
+  over = verdict.3;
+  breaks = unlawful_breaks plan verdict.0 found is
+      (rows_have plan.layout buses verdict.0 _ _ same verdict.2.has) verdict.4;
+}
