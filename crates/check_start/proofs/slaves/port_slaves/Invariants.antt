@@ -1,0 +1,12 @@
+-- The slaves so far, and those of the ports that are left, are those of all ports.
+use Rattle.std.proofs.Common.{◌≡◌, ◌++◌, drop, map, Ok}
+use Rattle.check_keys.specs.Reading.{with_front}
+use Rattle.check_ports.specs.Port.{port_view}
+use Rattle.check_start.specs.Slaves.{slaves_from}
+use Rattle.check_start.proofs.slaves.port_slaves.Given as goal
+
+abbrev pub invariant-loop-number : goal.invariant-loop-number
+invariant-loop-number l =
+    with_front l.slaves.items
+    (slaves_from l.order (map (λ image. image.items) l.images) l.number (map port_view (drop l.number l.ports)))
+    ≡ slaves_from l.order (map (λ image. image.items) l.images) 0 (map port_view l.ports)

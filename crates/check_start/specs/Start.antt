@@ -1,0 +1,45 @@
+-- How the judge of a system begins. This project's own.
+use Rattle.std.specs.Prelude.{◌≡◌, ℕ, List, map, Ok}
+use Rattle.check_beats.specs.declared.bus.Bus.{Bus}
+use Rattle.check_ports.specs.Port.{Port}
+use Rattle.check_description.specs.Description.{Description, ranges_of}
+use Rattle.check_description.specs.Master.{Master}
+use Rattle.check_sides.specs.Plan.{IsPlan, Layout, Plan}
+use Rattle.check_lines.specs.Names.{NamesView}
+use Rattle.check_start.specs.Slaves.{slaves_at_reset}
+use Rattle.check_start.specs.declared.start.Terms.{Terms}
+
+abbrev pub master_buses : List Master → List Bus
+master_buses masters = map (λ (master : Master). master.bus) masters
+
+abbrev pub port_buses : List Port → List Bus
+port_buses ports = map (λ (port : Port). port.bus) ports
+
+-- what a judge knows of the system ahead
+abbrev pub layout_of : Terms → Description → Layout
+layout_of terms system = record {
+  links = terms.links;
+  owners = system.owners;
+  ports = ranges_of system.ports;
+  master_buses = master_buses system.masters;
+  port_buses = port_buses system.ports;
+}
+
+-- the plan is one of the system, by these terms, with these bytes of its images
+pub record IsPlanOf (terms : Terms) (system : Description) (images : List (List ℕ)) (plan : Plan) : Type 0 where
+  pub is : IsPlan plan
+  pub layout : plan.layout ≡ layout_of terms system
+  pub resets : slaves_at_reset terms.order images system.ports ≡ Ok plan.resets
+
+-- something holds by each plan of the system; and there is one
+pub record ByThePlan (terms : Terms) (system : Description) (images : List (List ℕ)) (Holds : Plan → Type 0)
+    : Type 0 where
+  pub some : (plan : Plan) × IsPlanOf terms system images plan
+  pub each : (plan : Plan) → IsPlanOf terms system images plan → Holds plan
+
+-- the names of a system's masters and ports
+abbrev pub names_of : Description → NamesView
+names_of system = record {
+  masters = map (λ (master : Master). master.name) system.masters;
+  ports = map (λ (port : Port). port.name) system.ports;
+}

@@ -1,0 +1,15 @@
+//! How a judge of beats begins: the judge of the crossbar that a system file describes, before any beat.
+//!
+//! [`begin`] makes the judge ([`check_sides::Watch`]) of a description, by the bytes of its ports' images and by [`Terms`]:
+//! which links are watched, and in which order requests take effect at a port for which the file says none. The judge is one
+//! for each plan of that system (`specs/Start.antt`): each port's slave is the one that it is at reset, and each link has the
+//! bus that the file gives it. An image that is longer than its range is refused; beside that only memory is.
+//!
+//! A [`Beginning`] has the names of the links beside the judge, and [`pending_of`] the requests in flight of such a judge:
+//! none yet. No program uses this crate yet. Read on in `docs/MODEL.md`, "Descriptions".
+#![tactic(auto)]
+
+mod slaves;
+mod start;
+
+pub use start::{Beginning, Terms, begin, pending_of};

@@ -1,0 +1,164 @@
+//! The judge of a system's beats, before any.
+ghost use Rattle.std.specs.Prelude.{◌≡◌, ◌≢◌, [], map, option_map, string_bytes, Err, IfOk, IfErr, Ok};
+ghost use Rattle.check_keys.specs.declared.fault.SystemFault.TheVariants.{Memory};
+ghost use Rattle.check_ports.specs.Port.{port_view};
+ghost use Rattle.check_description.specs.Master.{master_view};
+ghost use Rattle.check_sides.specs.Plan.{Plan};
+ghost use Rattle.check_sides.specs.View.{Keeps};
+ghost use Rattle.check_unanswered.specs.View.{Holds};
+ghost use Rattle.check_lines.specs.Names.{texts_of};
+ghost use Rattle.check_start.specs.Slaves.{slaves_at_reset};
+ghost use Rattle.check_start.specs.Start.{ByThePlan, layout_of, master_buses as buses_of_masters, names_of, port_buses as buses_of_ports};
+
+use crate::slaves::slaves_of;
+use check_beats::Bus;
+use check_description::{Description, Master};
+use check_flight::{Order, PortSlave};
+use check_keys::SystemFault;
+use check_lines::Names;
+use check_ports::Port;
+use check_sides::{Links, Watch};
+use check_unanswered::Pending;
+use std::alloc::{AllocError, Global};
+
+/// By what terms beats are judged: which links are watched, and when the requests of a port take effect for which the
+/// system does not say it.
+#[derive(Debug, Clone, Copy, PartialEq, Eq)]
+pub struct Terms {
+    pub links: Links,
+    pub order: Order,
+}
+
+/// The judge of a system's beats, and the names of its links.
+#[derive(Drop)]
+pub struct Beginning {
+    pub watch: Watch,
+    pub names: Names,
+}
+
+/// A copy of a name, if there is one.
+fn copy_name(alloc: Global, name: &Option<String>) -> Result<Option<String>, AllocError>
+    ensures { IfOk result (λ copy. option_map string_bytes copy ≡ option_map string_bytes name.now) }
+{
+    match name {
+        Some(name) => Ok(Some(String::from_str(alloc, name)?)),
+        None => Ok(None),
+    }
+}
+
+/// The names of ports.
+fn port_names(alloc: Global, ports: &[Port]) -> Result<Vec<Option<String>>, AllocError>
+    ensures { IfOk result (λ names. texts_of names.items
+        ≡ map (λ port. port.name) (map port_view ports.now)) }
+{
+    let mut names = Vec::with_capacity(alloc, ports.len())?;
+    for port in ports {
+        names.push(copy_name(alloc, &port.name)?)?;
+    }
+    Ok(names)
+}
+
+/// The names of masters.
+fn master_names(alloc: Global, masters: &[Master]) -> Result<Vec<Option<String>>, AllocError>
+    ensures { IfOk result (λ names. texts_of names.items
+        ≡ map (λ master. master.name) (map master_view masters.now)) }
+{
+    let mut names = Vec::with_capacity(alloc, masters.len())?;
+    for master in masters {
+        names.push(copy_name(alloc, &master.name)?)?;
+    }
+    Ok(names)
+}
+
+/// The names of a system's masters and ports.
+fn names_of(alloc: Global, system: &Description) -> Result<Names, AllocError>
+    ensures { IfOk result (λ names. names ≡ names_of system.now) }
+{
+    let masters = master_names(alloc, system.masters())?;
+    let ports = port_names(alloc, system.ports())?;
+    Ok(Names::new(masters, ports))
+}
+
+/// The buses of the ports' links.
+fn port_buses(alloc: Global, ports: &[Port]) -> Result<Vec<Bus>, AllocError>
+    ensures { IfOk result (λ buses. buses.items ≡ buses_of_ports (map port_view ports.now)) }
+{
+    let mut buses = Vec::with_capacity(alloc, ports.len())?;
+    for port in ports {
+        buses.push(port.bus)?;
+    }
+    Ok(buses)
+}
+
+/// The buses of the masters' links.
+fn master_buses(alloc: Global, masters: &[Master]) -> Result<Vec<Bus>, AllocError>
+    ensures { IfOk result (λ buses. buses.items ≡ buses_of_masters (map master_view masters.now)) }
+{
+    let mut buses = Vec::with_capacity(alloc, masters.len())?;
+    for master in masters {
+        buses.push(master.bus)?;
+    }
+    Ok(buses)
+}
+
+/// The slaves that ports' links have by themselves: the same once more if each is judged by itself, else none.
+fn own_slaves(
+    alloc: Global,
+    ports: &[Port],
+    images: &[Vec<u8>],
+    terms: Terms,
+) -> Result<Vec<PortSlave>, SystemFault>
+    ensures own { IfOk result (λ own. terms.links ≡ Links.Each
+        → slaves_at_reset terms.order (map (λ image. image.items) images.now) (map port_view ports.now)
+        ≡ Ok own.items) }
+    ensures fault { IfErr result (λ fault. fault ≢ Memory
+        → slaves_at_reset terms.order (map (λ image. image.items) images.now) (map port_view ports.now)
+        ≡ Err fault) }
+{
+    match terms.links {
+        Links::Each => slaves_of(alloc, ports, images, terms.order),
+        Links::Both | Links::Masters | Links::Ports => Ok(Vec::new(alloc)),
+    }
+}
+
+/// The judge of a crossbar that is this system, before any beat, and the names of its links. Images has the bytes of the
+/// image of each port by its number, none of a port that names no image. An image that is longer than its range is refused;
+/// beside that only memory is.
+pub fn begin(
+    alloc: Global,
+    system: Description,
+    images: &[Vec<u8>],
+    terms: Terms,
+) -> Result<Beginning, SystemFault>
+    ensures layout { IfOk result (λ begun. begun.watch.layout ≡ layout_of terms system) }
+    ensures keeps { IfOk result (λ begun.
+        ByThePlan terms system (map (λ image. image.items) images.now) (λ plan. Keeps plan [] begun.watch)) }
+    ensures names { IfOk result (λ begun. begun.names ≡ names_of system) }
+    ensures fault { IfErr result (λ fault. fault ≢ Memory
+        → slaves_at_reset terms.order (map (λ image. image.items) images.now) system.ports ≡ Err fault) }
+{
+    let names = names_of(alloc, &system)?;
+    let parts = system.into_parts();
+    let slaves = slaves_of(alloc, &parts.ports, images, terms.order)?;
+    let own = own_slaves(alloc, &parts.ports, images, terms)?;
+    let masters = master_buses(alloc, &parts.masters)?;
+    let ports = port_buses(alloc, &parts.ports)?;
+    let watch = Watch::new(
+        alloc,
+        terms.links,
+        parts.addresses,
+        parts.sources,
+        masters,
+        ports,
+        slaves,
+        own,
+    )?;
+    Ok(Beginning { watch, names })
+}
+
+/// The requests in flight of a judge that has seen no beat: none yet.
+pub fn pending_of(alloc: Global, watch: &Watch) -> Result<Pending, AllocError>
+    ensures { IfOk result (λ pending. (plan : Plan) → Keeps plan [] watch.now → Holds plan [] pending) }
+{
+    Pending::new(alloc, watch.sources())
+}
