@@ -1,6 +1,7 @@
 -- Lanes that are read one after the other, the last first.
 use Rattle.std.proofs.Common.{◌≡◌, ◌∙◌, ℕ, zero, suc, ◌+◌, ◌*◌, ◌-◌, ◌^◌, ◌<◌, ◌≤◌, List, [], ◌∷◌, length, map, get_or, set, drop, Option, Some, None, unwrap_or, refl, ap, arith, add-one}
 use Rattle.std.proofs.Math.Nat.{pow-succ'}
+use Rattle.std.proofs.lemmas.Nat.{pow_pos}
 use mir.Val.{bool_byte}
 use Rattle.std.specs.Option.{is_some, option_and_then, option_map}
 use Rattle.std.specs.List.{range_with_len}
@@ -95,3 +96,10 @@ byte-or (Some byte) = refl
 pub bit-some : (lane : Option ℕ) → bool_byte (is_some lane) ≡ known_bit lane
 bit-some None = refl
 bit-some (Some byte) = refl
+
+-- one bit more is set
+pub all_ones : (k : ℕ) → 2 ^ (k + 1) - 1 ≡ 2 * (2 ^ k - 1) + 1
+all_ones k =
+    let next : 2 ^ (k + 1) ≡ 2 * 2 ^ k = rw add-one (pow-succ' 2 k) in
+    let some = pow_pos k in
+    omega (arith, next, some)

@@ -1,5 +1,5 @@
 //! The lanes of a beat, as a waveform shows them.
-ghost use Rattle.std.specs.Prelude.{◌≡◌, ◌≤◌, ◌*◌, length, option_map};
+ghost use Rattle.std.specs.Prelude.{◌≡◌, ◌≤◌, ◌*◌, ◌-◌, ◌^◌, true, Some, length};
 ghost use Rattle.check_beats.specs.Bus.{bus_bytes};
 ghost use Rattle.check_beats.specs.declared.bus.TheConstants.{MAX_LANES};
 ghost use Rattle.check_rows.specs.Lanes.{Lanes, lane_of, lanes_in, lanes_of, shown_by, shown_in};
@@ -24,6 +24,26 @@ fn read_lane(high: u8, low: u8) -> Option<Option<u8>>
     } else {
         None
     }
+}
+
+/// Reads lanes that are all known, of which two digits show each. It answers whether they are.
+fn read_known(word: &[u8], lanes: &mut [u8]) -> bool
+    requires whole { length word.now ≡ 2 * length lanes.old }
+    requires in_limit { length lanes.old ≤ MAX_LANES }
+    ensures { result ≡ true
+        → shown_in lanes.new (Some (2 ^ length lanes.old - 1)) ≡ shown_by (length lanes.old) word.now }
+{
+    let count = lanes.len();
+    // the digits of the last lane stand first
+    for k in 0..count {
+        let high = digit_code(word[2 * k]);
+        let low = digit_code(word[2 * k + 1]);
+        if high.max(low) >= UNKNOWN {
+            return false;
+        }
+        lanes[count - 1 - k] = 16 * high + low;
+    }
+    true
 }
 
 /// Reads lanes, of which two digits show each. It answers which of them are known.
@@ -54,6 +74,10 @@ pub fn read_lanes(bus: Bus, word: &[u8], lanes: &mut [u8; MAX_LANES]) -> Result<
         lanes[..count].fill(0);
         Ok(all_lanes(bus))
     } else if word.len() == 2 * count {
+        // most words are known, and take less work then
+        if read_known(word, &mut lanes[..count]) {
+            return Ok(all_lanes(bus));
+        }
         read_shown(word, &mut lanes[..count]).ok_or(RowFault::Number)
     } else {
         Err(RowFault::Number)
