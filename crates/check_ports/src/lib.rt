@@ -23,5 +23,6 @@ mod slave;
 
 pub use kind::PortKind;
 pub use port::{Contents, Port};
+pub use ranges::first_length;
 pub use read::{read_port, read_ports};
 pub use slave::{error_slave, slave_of};

@@ -5,8 +5,8 @@
 //! for each plan of that system (`specs/Start.antt`): each port's slave is the one that it is at reset, and each link has the
 //! bus that the file gives it. An image that is longer than its range is refused; beside that only memory is.
 //!
-//! A [`Beginning`] has the names of the links beside the judge, and [`pending_of`] the requests in flight of such a judge:
-//! none yet. No program uses this crate yet. Read on in `docs/MODEL.md`, "Descriptions".
+//! A [`Beginning`] has the names and buses of the links beside the judge, and [`pending_of`] the requests in flight of
+//! such a judge: none yet. No program uses this crate yet. Read on in `docs/MODEL.md`, "How a judge begins".
 #![tactic(auto)]
 
 mod slaves;

@@ -1,5 +1,6 @@
 //! The judge of a system's beats, before any.
-ghost use Rattle.std.specs.Prelude.{◌≡◌, ◌≢◌, [], map, option_map, string_bytes, Err, IfOk, IfErr, Ok};
+ghost use Rattle.std.specs.Prelude.{◌≡◌, ◌≢◌, ◌≤◌, [], length, map, option_map, string_bytes, Err, IfOk, IfErr, Ok};
+ghost use Rattle.check_map.specs.declared.limits.TheConstants.{MAX_MASTERS, MAX_PORTS};
 ghost use Rattle.check_keys.specs.declared.fault.SystemFault.TheVariants.{Memory};
 ghost use Rattle.check_ports.specs.Port.{port_view};
 ghost use Rattle.check_description.specs.Master.{master_view};
@@ -16,6 +17,7 @@ use check_description::{Description, Master};
 use check_flight::{Order, PortSlave};
 use check_keys::SystemFault;
 use check_lines::Names;
+use check_map::{Map, Sources};
 use check_ports::Port;
 use check_sides::{Links, Watch};
 use check_unanswered::Pending;
@@ -29,11 +31,13 @@ pub struct Terms {
     pub order: Order,
 }
 
-/// The judge of a system's beats, and the names of its links.
+/// The judge of a system's beats, and the names and buses of its links.
 #[derive(Drop)]
 pub struct Beginning {
     pub watch: Watch,
     pub names: Names,
+    pub master_buses: Vec<Bus>,
+    pub port_buses: Vec<Bus>,
 }
 
 /// A copy of a name, if there is one.
@@ -80,10 +84,12 @@ fn names_of(alloc: Global, system: &Description) -> Result<Names, AllocError>
 }
 
 /// The buses of the ports' links.
-fn port_buses(alloc: Global, ports: &[Port]) -> Result<Vec<Bus>, AllocError>
-    ensures { IfOk result (λ buses. buses.items ≡ buses_of_ports (map port_view ports.now)) }
+fn port_buses(alloc: Global, addresses: &Map, ports: &[Port]) -> Result<Vec<Bus>, AllocError>
+    requires { length addresses.now ≡ length ports.now }
+    ensures buses { IfOk result (λ buses. buses.items ≡ buses_of_ports (map port_view ports.now)) }
+    ensures few { IfOk result (λ buses. length buses.items ≤ MAX_PORTS) }
 {
-    let mut buses = Vec::with_capacity(alloc, ports.len())?;
+    let mut buses = Vec::with_capacity(alloc, addresses.ports() - 1)?;
     for port in ports {
         buses.push(port.bus)?;
     }
@@ -91,10 +97,16 @@ fn port_buses(alloc: Global, ports: &[Port]) -> Result<Vec<Bus>, AllocError>
 }
 
 /// The buses of the masters' links.
-fn master_buses(alloc: Global, masters: &[Master]) -> Result<Vec<Bus>, AllocError>
-    ensures { IfOk result (λ buses. buses.items ≡ buses_of_masters (map master_view masters.now)) }
+fn master_buses(
+    alloc: Global,
+    sources: &Sources,
+    masters: &[Master],
+) -> Result<Vec<Bus>, AllocError>
+    requires { length sources.now ≡ length masters.now }
+    ensures buses { IfOk result (λ buses. buses.items ≡ buses_of_masters (map master_view masters.now)) }
+    ensures few { IfOk result (λ buses. length buses.items ≤ MAX_MASTERS) }
 {
-    let mut buses = Vec::with_capacity(alloc, masters.len())?;
+    let mut buses = Vec::with_capacity(alloc, sources.masters())?;
     for master in masters {
         buses.push(master.bus)?;
     }
@@ -121,9 +133,9 @@ fn own_slaves(
     }
 }
 
-/// The judge of a crossbar that is this system, before any beat, and the names of its links. Images has the bytes of the
-/// image of each port by its number, none of a port that names no image. An image that is longer than its range is refused;
-/// beside that only memory is.
+/// The judge of a crossbar that is this system, before any beat, and the names and buses of its links. Images has the
+/// bytes of the image of each port by its number, none of a port that names no image. An image that is longer than its
+/// range is refused; beside that only memory is.
 pub fn begin(
     alloc: Global,
     system: Description,
@@ -134,6 +146,10 @@ pub fn begin(
     ensures keeps { IfOk result (λ begun.
         ByThePlan terms system (map (λ image. image.items) images.now) (λ plan. Keeps plan [] begun.watch)) }
     ensures names { IfOk result (λ begun. begun.names ≡ names_of system) }
+    ensures masters { IfOk result (λ begun. begun.master_buses.items ≡ buses_of_masters system.masters) }
+    ensures ports { IfOk result (λ begun. begun.port_buses.items ≡ buses_of_ports system.ports) }
+    ensures few_masters { IfOk result (λ begun. length begun.master_buses.items ≤ MAX_MASTERS) }
+    ensures few_ports { IfOk result (λ begun. length begun.port_buses.items ≤ MAX_PORTS) }
     ensures fault { IfErr result (λ fault. fault ≢ Memory
         → slaves_at_reset terms.order (map (λ image. image.items) images.now) system.ports ≡ Err fault) }
 {
@@ -141,8 +157,10 @@ pub fn begin(
     let parts = system.into_parts();
     let slaves = slaves_of(alloc, &parts.ports, images, terms.order)?;
     let own = own_slaves(alloc, &parts.ports, images, terms)?;
-    let masters = master_buses(alloc, &parts.masters)?;
-    let ports = port_buses(alloc, &parts.ports)?;
+    let master_buses = master_buses(alloc, &parts.sources, &parts.masters)?;
+    let port_buses = port_buses(alloc, &parts.addresses, &parts.ports)?;
+    let masters = Vec::from_slice(alloc, &master_buses)?;
+    let ports = Vec::from_slice(alloc, &port_buses)?;
     let watch = Watch::new(
         alloc,
         terms.links,
@@ -153,7 +171,12 @@ pub fn begin(
         slaves,
         own,
     )?;
-    Ok(Beginning { watch, names })
+    Ok(Beginning {
+        watch,
+        names,
+        master_buses,
+        port_buses,
+    })
 }
 
 /// The requests in flight of a judge that has seen no beat: none yet.

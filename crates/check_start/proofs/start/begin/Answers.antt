@@ -1,11 +1,17 @@
 -- There is a slave for each port, and the judge keeps no beat by each plan of the system.
 use Rattle.std.proofs.Common.{rules, ◌≡◌, ◌∙◌, ◌+◌, ap, length, map, Ok, sym}
 use Rattle.std.proofs.lemmas.List.{length-map}
-use Rattle.check_ports.specs.Port.{Port}
+use Rattle.check_ports.specs.Port.{Port, port_view}
 use Rattle.check_start.specs.Slaves.{slaves_at_reset}
 use Rattle.check_start.specs.Start.{layout_of}
 use Rattle.check_start.proofs.Counted.{same_slaves, slaves_counted}
 use Rattle.check_start.proofs.start.begin.Goals as goal
+
+pub port_buses-requires : goal.port_buses-requires
+port_buses-requires c =
+    rw c.deref-4.ensures.value (ap length c.into_parts-parts.ensures.addresses
+    ∙ length-map c.args.system.ports (λ (port : Port). port.ranges)
+    ∙ ap length (sym c.into_parts-parts.ensures.ports) ∙ length-map c.into_parts-parts.result.ports.items port_view)
 
 pub new-requires-clause-slaves : goal.new-requires-clause-slaves
 new-requires-clause-slaves c =
