@@ -1,0 +1,106 @@
+-- What a judge finds by each plan that it judges by is what is found by the plan of its system.
+use Rattle.std.proofs.Common.{◌≡◌, ◌∙◌, ℕ, Bool, List, [], Option, Result, Ok, Err, IfSome, ap, subst}
+use Rattle.check_beats.specs.declared.bus.Bus.{Bus}
+use Rattle.check_description.specs.Description.{Description, Makes}
+use Rattle.check_review.specs.View.{Judges, is_asked, is_traced}
+use Rattle.check_review.specs.declared.judge.Judge.{Judge}
+use Rattle.check_records.specs.Text.{start_of}
+use Rattle.check_start.specs.Start.{ByThePlan, master_buses, port_buses}
+use Rattle.check_text.specs.Buses.{LinkBuses}
+use Rattle.check_text.specs.Capture.{IsFault, IsVerdict, IsWritten}
+use Rattle.check_text.specs.declared.fault.CaptureFault.{CaptureFault}
+use Rattle.check_text.specs.declared.fault.Verdict.{Verdict}
+use Rattle.check_sides.specs.Plan.{Plan}
+use Rattle.check_engine.specs.declared.asked.Asked.{Asked}
+use Rattle.check_engine.specs.Engine.{Given, HasVerdict, IsStopped, IsWrittenOf, buses_of}
+
+abbrev with_buses : List Bus → List Bus → LinkBuses
+with_buses masters ports = record { masters = masters; ports = ports }
+
+-- a judge of a system, and the buses of its links
+pub record IsJudgeOf (asked : Asked) (given : Given) (system : Description) (judge : Judge) (buses : LinkBuses)
+    : Type 0 where
+  pub judges : ByThePlan asked.terms system given.images (λ plan. Judges plan [] judge)
+  pub trace : is_traced judge ≡ asked.trace
+  pub complete : is_asked judge ≡ asked.complete
+  pub have : buses ≡ buses_of system
+
+-- the buses of the links are those of the system
+pub buses_are : (masters ports : List Bus) (system : Description)
+    → masters ≡ master_buses system.masters → ports ≡ port_buses system.ports
+    → ◌≡◌ {A = LinkBuses} (record { masters = masters; ports = ports }) (buses_of system)
+buses_are masters ports system of_masters of_ports =
+    ap (λ (m : List Bus). with_buses m ports) of_masters
+    ∙ ap (λ (p : List Bus). with_buses (master_buses system.masters) p) of_ports
+
+-- a judge that is made of a judge of beats and of the requests in flight, if it is asked which are left
+pub is_judge_of : (asked : Asked) (given : Given) (system : Description) (judge : Judge) (buses : LinkBuses)
+    (Begins IsPending : Plan → Type 0)
+    → ByThePlan asked.terms system given.images Begins → ((plan : Plan) → Begins plan → IsPending plan)
+    → ((plan : Plan) → Begins plan → IsPending plan → Judges plan [] judge)
+    → is_traced judge ≡ asked.trace → is_asked judge ≡ asked.complete → buses ≡ buses_of system
+    → IsJudgeOf asked given system judge buses
+is_judge_of asked given system judge buses Begins IsPending begun pending judges trace complete have = record {
+  judges = record {
+    some = begun.some;
+    each = λ plan is. let begins = begun.each plan is in judges plan begins (pending plan begins);
+  };
+  trace = trace;
+  complete = complete;
+  have = have;
+}
+
+by_the_plan : (asked : Asked) (given : Given) (system : Description) (judge : Judge) (buses : LinkBuses)
+    (Holds : LinkBuses → Plan → Type 0) → IsJudgeOf asked given system judge buses
+    → ((plan : Plan) → Judges plan [] judge → Holds buses plan)
+    → ByThePlan asked.terms system given.images (Holds (buses_of system))
+by_the_plan asked given system judge buses Holds of_it holds = record {
+  some = of_it.judges.some;
+  each = λ plan is. subst (λ b. Holds b plan) of_it.have (holds plan (of_it.judges.each plan is));
+}
+
+by_the_traced_plan : (asked : Asked) (given : Given) (system : Description) (judge : Judge) (buses : LinkBuses)
+    (old new : Option (List ℕ)) (answer : Result Verdict CaptureFault)
+    → IsJudgeOf asked given system judge buses
+    → ((plan : Plan) → Judges plan [] judge → IfSome given.capture
+    (λ text. IsWritten (is_asked judge) (is_traced judge) plan buses (start_of text) old new answer))
+    → IsWrittenOf asked given system old new answer
+by_the_traced_plan asked given system judge buses old new answer of_it tells =
+    let W : Bool → Bool → Type 0 = λ a t. ByThePlan asked.terms system given.images (λ plan. IfSome given.capture
+    (λ text. IsWritten a t plan (buses_of system) (start_of text) old new answer)) in
+    let is : W (is_asked judge) (is_traced judge) =
+    by_the_plan asked given system judge buses (λ b plan. IfSome given.capture
+    (λ text. IsWritten (is_asked judge) (is_traced judge) plan b (start_of text) old new answer)) of_it tells in
+    subst (λ a. W a asked.trace) of_it.complete (subst (λ t. W (is_asked judge) t) of_it.trace is)
+
+pub has_verdict : (asked : Asked) (given : Given) (system : Description) (judge : Judge) (buses : LinkBuses)
+    (old told : Option (List ℕ)) (verdict : Verdict)
+    → IsJudgeOf asked given system judge buses → Makes given.parts system
+    → ((plan : Plan) → Judges plan [] judge → IfSome given.capture
+    (λ text. IsVerdict (is_asked judge) plan buses (start_of text) verdict))
+    → ((plan : Plan) → Judges plan [] judge → IfSome given.capture
+    (λ text. IsWritten (is_asked judge) (is_traced judge) plan buses (start_of text) old told (Ok verdict)))
+    → HasVerdict asked given old told system verdict
+has_verdict asked given system judge buses old told verdict of_it made found tells = record {
+  made = made;
+  is = subst (λ a. ByThePlan asked.terms system given.images
+      (λ plan. IfSome given.capture (λ text. IsVerdict a plan (buses_of system) (start_of text) verdict))) of_it.complete
+      (by_the_plan asked given system judge buses
+      (λ b plan. IfSome given.capture (λ text. IsVerdict (is_asked judge) plan b (start_of text) verdict)) of_it found);
+  tells = by_the_traced_plan asked given system judge buses old told (Ok verdict) of_it tells;
+}
+
+pub is_stopped : (asked : Asked) (given : Given) (system : Description) (judge : Judge) (buses : LinkBuses)
+    (old new : Option (List ℕ)) (fault : CaptureFault)
+    → IsJudgeOf asked given system judge buses → Makes given.parts system
+    → ((plan : Plan) → Judges plan [] judge → IfSome given.capture (λ text. IsFault plan buses (start_of text) fault))
+    → ((plan : Plan) → Judges plan [] judge → IfSome given.capture
+    (λ text. IsWritten (is_asked judge) (is_traced judge) plan buses (start_of text) old new (Err fault)))
+    → IsStopped asked given old new fault
+is_stopped asked given system judge buses old new fault of_it made found tells = record {
+  system = system;
+  made = made;
+  is = by_the_plan asked given system judge buses
+      (λ b plan. IfSome given.capture (λ text. IsFault plan b (start_of text) fault)) of_it found;
+  tells = by_the_traced_plan asked given system judge buses old new (Err fault) of_it tells;
+}
