@@ -1,5 +1,5 @@
 -- What is read of a system: its file, and the images of its ports. This project's own.
-use Rattle.std.specs.Prelude.{◌≡◌, ◌⊎◌, ℕ, ◌+◌, ◌<◌, ◌≤◌, List, length, Option, Ok}
+use Rattle.std.specs.Prelude.{◌≡◌, ℕ, ◌+◌, ◌<◌, ◌≤◌, List, length, Option, Ok}
 use Rattle.std.specs.Io.KnownBytes.{Consumes}
 use Rattle.tl_streams.specs.Streams.{ReadsAll, ReadsUpTo}
 use Rattle.check_keys.specs.declared.fault.SystemFault.{SystemFault}

@@ -2,7 +2,7 @@
 use Rattle.std.proofs.Common.{◌∙◌, ap, inl, inr}
 use Rattle.std.proofs.KnownBytes.{Keeps-refl}
 use Rattle.check_engine.proofs.Failing.{checked_by, of_stopped}
-use Rattle.check_engine.proofs.Judged.{IsJudgeOf, buses_are, has_verdict, is_judge_of, is_stopped}
+use Rattle.check_engine.proofs.Judged.{buses_are, has_verdict, is_judge_of, is_stopped}
 use Rattle.check_engine.specs.Engine.{line_of}
 use Rattle.check_engine.specs.Fault.{of_capture}
 use Rattle.check_engine.specs.declared.fault.CheckFault.TheVariants as check
