@@ -1,0 +1,9 @@
+mod buses;
+mod memories;
+mod refused;
+mod scene;
+mod sides;
+mod slaves;
+mod sources;
+mod texts;
+mod told;

@@ -1,0 +1,211 @@
+//! A system and a capture, as texts, through the judge to the lines that are printed.
+ghost use Rattle.std.specs.Prelude.{◌≡◌, map, IfOk};
+ghost use Rattle.check_ports.specs.Port.{port_view};
+ghost use Rattle.check_description.specs.Master.{master_view};
+ghost use Rattle.check_start.specs.Start.{master_buses, port_buses};
+
+use check_beats::Bus;
+use check_description::{Description, Master, describe, read_parts};
+use check_flight::Order;
+use check_keys::SystemFault;
+use check_lines::{Names, push_incomplete, push_lawful, push_unlawful};
+use check_map::{MAX_MASTERS, MAX_PORTS};
+use check_ports::Port;
+use check_review::Judge;
+use check_rows::Buses;
+use check_sides::{Links, Watch};
+use check_start::{Beginning, Terms, begin, pending_of};
+use check_text::{CaptureFault, Verdict, judge_capture};
+use check_unanswered::Pending;
+use std::alloc::{AllocError, Global};
+use std::process::Abort;
+use tl_streams::LimitedWriter;
+
+pub const HEADER: &str =
+    "time,link,channel,opcode,param,size,source,address,mask,data,denied,corrupt\n";
+
+/// How a capture is judged.
+#[derive(Clone, Copy)]
+pub struct Asked {
+    pub links: Links,
+    pub order: Order,
+    pub trace: bool,
+    pub complete: bool,
+}
+
+/// These links are watched, and nothing else is asked for.
+pub fn watching(links: Links) -> Asked {
+    Asked {
+        links,
+        order: Order::Accept,
+        trace: false,
+        complete: false,
+    }
+}
+
+/// The buses of the masters' links.
+fn buses_of_masters(alloc: Global, masters: &[Master]) -> Result<Vec<Bus>, AllocError>
+    ensures { IfOk result (λ buses. buses.items ≡ master_buses (map master_view masters.now)) }
+{
+    let mut buses = Vec::with_capacity(alloc, masters.len())?;
+    for master in masters {
+        buses.push(master.bus)?;
+    }
+    Ok(buses)
+}
+
+/// The buses of the ports' links.
+fn buses_of_ports(alloc: Global, ports: &[Port]) -> Result<Vec<Bus>, AllocError>
+    ensures { IfOk result (λ buses. buses.items ≡ port_buses (map port_view ports.now)) }
+{
+    let mut buses = Vec::with_capacity(alloc, ports.len())?;
+    for port in ports {
+        buses.push(port.bus)?;
+    }
+    Ok(buses)
+}
+
+/// The system that a file describes.
+fn read_system(alloc: Global, file: &str) -> Result<Description, SystemFault> {
+    let parts = read_parts(alloc, file.as_bytes())?;
+    describe(alloc, parts)
+}
+
+/// The bytes of images.
+fn images_of(alloc: Global, images: &[&[u8]]) -> Result<Vec<Vec<u8>>, AllocError> {
+    let mut made = Vec::with_capacity(alloc, images.len())?;
+    for image in images {
+        made.push(Vec::from_slice(alloc, image)?)?;
+    }
+    Ok(made)
+}
+
+/// A header and these lines after it.
+fn text_of(alloc: Global, lines: &[&str]) -> Result<String, AllocError> {
+    let mut text = String::new(alloc);
+    text.push_str(HEADER)?;
+    for line in lines {
+        text.push_str(line)?;
+        text.push_str("\n")?;
+    }
+    Ok(text)
+}
+
+/// The requests in flight, if they are asked for.
+fn pending_if(alloc: Global, asked: bool, watch: &Watch) -> Result<Option<Pending>, AllocError> {
+    if !asked {
+        return Ok(None);
+    }
+    Ok(Some(pending_of(alloc, watch)?))
+}
+
+/// Appends what is printed at last.
+fn push_end(
+    alloc: Global,
+    text: &mut Vec<u8>,
+    names: &Names,
+    answer: Result<Verdict, CaptureFault>,
+) -> Result<(), AllocError> {
+    match answer {
+        Ok(Verdict::Lawful(counts)) => push_lawful(text, &counts),
+        Ok(Verdict::Unlawful(found)) => push_unlawful(text, names, &found.row, &found.fault),
+        Ok(Verdict::Incomplete(left)) => push_incomplete(text, &left),
+        Err(CaptureFault::Memory) => Err(AllocError),
+        Err(fault) => text.extend_from_slice(format!(in alloc; "{fault}\n")?.as_bytes()),
+    }
+}
+
+/// What is printed of a capture of a system.
+fn judge_text(
+    rt: &impl Abort,
+    alloc: Global,
+    asked: Asked,
+    system: Description,
+    images: &[Vec<u8>],
+    text: &str,
+) -> Result<Vec<u8>, SystemFault> {
+    let masters = buses_of_masters(alloc, system.masters())?;
+    let ports = buses_of_ports(alloc, system.ports())?;
+    assert!(rt; masters.len() <= MAX_MASTERS);
+    assert!(rt; ports.len() <= MAX_PORTS);
+    let buses = Buses {
+        masters: &masters,
+        ports: &ports,
+    };
+    let terms = Terms {
+        links: asked.links,
+        order: asked.order,
+    };
+    let Beginning { watch, names } = begin(alloc, system, images, terms)?;
+    let pending = pending_if(alloc, asked.complete, &watch)?;
+    let judge = Judge::new(watch, asked.trace, pending);
+    let mut out = Vec::new(alloc);
+    let mut writer = LimitedWriter::new(&mut out);
+    let answer = judge_capture(alloc, text.as_bytes(), &mut writer, judge, &buses);
+    push_end(alloc, &mut out, &names, answer)?;
+    Ok(out)
+}
+
+/// What is printed of a text, for the system of a file whose ports have these images.
+fn try_print_text(
+    rt: &impl Abort,
+    alloc: Global,
+    asked: Asked,
+    file: &str,
+    images: &[&[u8]],
+    text: &str,
+) -> Result<Vec<u8>, SystemFault> {
+    let system = read_system(alloc, file)?;
+    let images = images_of(alloc, images)?;
+    judge_text(rt, alloc, asked, system, &images, text)
+}
+
+/// The same of a header and these lines.
+pub fn try_print(
+    rt: &impl Abort,
+    alloc: Global,
+    asked: Asked,
+    file: &str,
+    images: &[&[u8]],
+    lines: &[&str],
+) -> Result<Vec<u8>, SystemFault> {
+    let text = text_of(alloc, lines)?;
+    try_print_text(rt, alloc, asked, file, images, text.as_str())
+}
+
+/// What is printed of a text; a fault of the system is printed too.
+pub fn print_text(
+    rt: &impl Abort,
+    alloc: Global,
+    asked: Asked,
+    file: &str,
+    images: &[&[u8]],
+    text: &str,
+) -> Vec<u8> {
+    match try_print_text(rt, alloc, asked, file, images, text) {
+        Ok(text) => text,
+        Err(fault) => {
+            let line = format!(in alloc; "{fault}\n").expect(rt, "memory");
+            Vec::from_slice(alloc, line.as_bytes()).expect(rt, "memory")
+        }
+    }
+}
+
+/// The lines of a capture after its header, and what is printed of it.
+pub type Capture = (&'static [&'static str], &'static str);
+
+/// This is printed of each capture of a system.
+pub fn expect_all(
+    rt: &impl Abort,
+    alloc: Global,
+    asked: Asked,
+    file: &str,
+    images: &[&[u8]],
+    captures: &[Capture],
+) {
+    for (lines, wanted) in captures {
+        let text = text_of(alloc, lines).expect(rt, "memory");
+        let found = print_text(rt, alloc, asked, file, images, text.as_str());
+        assert!(rt; found.as_slice() == wanted.as_bytes(), "{wanted}");
+    }
+}
