@@ -38,7 +38,7 @@ const IMAGES: [&[u8]; 1] = [&[9, 2]];
 /// This is printed, or memory was refused.
 fn expect_or_none(rt: &impl Abort, alloc: Global, asked: Asked, capture: &Capture) {
     let (lines, wanted) = *capture;
-    match try_print(rt, alloc, asked, SYSTEM, &IMAGES, lines) {
+    match try_print(alloc, asked, SYSTEM, &IMAGES, lines) {
         Ok(text) => assert!(rt; text.as_slice() == wanted.as_bytes(), "{wanted}"),
         Err(fault) => assert!(rt; matches!(fault, SystemFault::Memory)),
     }

@@ -1,20 +1,12 @@
 //! A system and a capture, as texts, through the judge to the lines that are printed.
-ghost use Rattle.std.specs.Prelude.{◌≡◌, map, IfOk};
-ghost use Rattle.check_ports.specs.Port.{port_view};
-ghost use Rattle.check_description.specs.Master.{master_view};
-ghost use Rattle.check_start.specs.Start.{master_buses, port_buses};
-
-use check_beats::Bus;
-use check_description::{Description, Master, describe, read_parts};
+use check_description::{Description, describe, read_parts};
 use check_flight::Order;
 use check_keys::SystemFault;
 use check_lines::{Names, push_incomplete, push_lawful, push_unlawful};
-use check_map::{MAX_MASTERS, MAX_PORTS};
-use check_ports::Port;
 use check_review::Judge;
 use check_rows::Buses;
 use check_sides::{Links, Watch};
-use check_start::{Beginning, Terms, begin, pending_of};
+use check_start::{Terms, begin, pending_of};
 use check_text::{CaptureFault, Verdict, judge_capture};
 use check_unanswered::Pending;
 use std::alloc::{AllocError, Global};
@@ -41,28 +33,6 @@ pub fn watching(links: Links) -> Asked {
         trace: false,
         complete: false,
     }
-}
-
-/// The buses of the masters' links.
-fn buses_of_masters(alloc: Global, masters: &[Master]) -> Result<Vec<Bus>, AllocError>
-    ensures { IfOk result (λ buses. buses.items ≡ master_buses (map master_view masters.now)) }
-{
-    let mut buses = Vec::with_capacity(alloc, masters.len())?;
-    for master in masters {
-        buses.push(master.bus)?;
-    }
-    Ok(buses)
-}
-
-/// The buses of the ports' links.
-fn buses_of_ports(alloc: Global, ports: &[Port]) -> Result<Vec<Bus>, AllocError>
-    ensures { IfOk result (λ buses. buses.items ≡ port_buses (map port_view ports.now)) }
-{
-    let mut buses = Vec::with_capacity(alloc, ports.len())?;
-    for port in ports {
-        buses.push(port.bus)?;
-    }
-    Ok(buses)
 }
 
 /// The system that a file describes.
@@ -99,7 +69,7 @@ fn pending_if(alloc: Global, asked: bool, watch: &Watch) -> Result<Option<Pendin
     Ok(Some(pending_of(alloc, watch)?))
 }
 
-/// Appends what is printed at last.
+/// Appends what is printed at last. What is traced goes to a `Vec`, whose writes fail only if memory is refused.
 fn push_end(
     alloc: Global,
     text: &mut Vec<u8>,
@@ -110,45 +80,39 @@ fn push_end(
         Ok(Verdict::Lawful(counts)) => push_lawful(text, &counts),
         Ok(Verdict::Unlawful(found)) => push_unlawful(text, names, &found.row, &found.fault),
         Ok(Verdict::Incomplete(left)) => push_incomplete(text, &left),
-        Err(CaptureFault::Memory) => Err(AllocError),
+        Err(CaptureFault::Memory | CaptureFault::Write) => Err(AllocError),
         Err(fault) => text.extend_from_slice(format!(in alloc; "{fault}\n")?.as_bytes()),
     }
 }
 
 /// What is printed of a capture of a system.
 fn judge_text(
-    rt: &impl Abort,
     alloc: Global,
     asked: Asked,
     system: Description,
     images: &[Vec<u8>],
     text: &str,
 ) -> Result<Vec<u8>, SystemFault> {
-    let masters = buses_of_masters(alloc, system.masters())?;
-    let ports = buses_of_ports(alloc, system.ports())?;
-    assert!(rt; masters.len() <= MAX_MASTERS);
-    assert!(rt; ports.len() <= MAX_PORTS);
-    let buses = Buses {
-        masters: &masters,
-        ports: &ports,
-    };
     let terms = Terms {
         links: asked.links,
         order: asked.order,
     };
-    let Beginning { watch, names } = begin(alloc, system, images, terms)?;
-    let pending = pending_if(alloc, asked.complete, &watch)?;
-    let judge = Judge::new(watch, asked.trace, pending);
+    let begun = begin(alloc, system, images, terms)?;
+    let pending = pending_if(alloc, asked.complete, &begun.watch)?;
+    let judge = Judge::new(begun.watch, asked.trace, pending);
+    let buses = Buses {
+        masters: &begun.master_buses,
+        ports: &begun.port_buses,
+    };
     let mut out = Vec::new(alloc);
     let mut writer = LimitedWriter::new(&mut out);
     let answer = judge_capture(alloc, text.as_bytes(), &mut writer, judge, &buses);
-    push_end(alloc, &mut out, &names, answer)?;
+    push_end(alloc, &mut out, &begun.names, answer)?;
     Ok(out)
 }
 
 /// What is printed of a text, for the system of a file whose ports have these images.
 fn try_print_text(
-    rt: &impl Abort,
     alloc: Global,
     asked: Asked,
     file: &str,
@@ -157,12 +121,11 @@ fn try_print_text(
 ) -> Result<Vec<u8>, SystemFault> {
     let system = read_system(alloc, file)?;
     let images = images_of(alloc, images)?;
-    judge_text(rt, alloc, asked, system, &images, text)
+    judge_text(alloc, asked, system, &images, text)
 }
 
 /// The same of a header and these lines.
 pub fn try_print(
-    rt: &impl Abort,
     alloc: Global,
     asked: Asked,
     file: &str,
@@ -170,7 +133,7 @@ pub fn try_print(
     lines: &[&str],
 ) -> Result<Vec<u8>, SystemFault> {
     let text = text_of(alloc, lines)?;
-    try_print_text(rt, alloc, asked, file, images, text.as_str())
+    try_print_text(alloc, asked, file, images, text.as_str())
 }
 
 /// What is printed of a text; a fault of the system is printed too.
@@ -182,7 +145,7 @@ pub fn print_text(
     images: &[&[u8]],
     text: &str,
 ) -> Vec<u8> {
-    match try_print_text(rt, alloc, asked, file, images, text) {
+    match try_print_text(alloc, asked, file, images, text) {
         Ok(text) => text,
         Err(fault) => {
             let line = format!(in alloc; "{fault}\n").expect(rt, "memory");
