@@ -2,3 +2,4 @@ pub mod ValueLemmas
 pub mod RowsLemmas
 pub mod TakeLemmas
 pub mod LeftLemmas
+pub mod BitLemmas

@@ -1,6 +1,7 @@
 //! The row of a beat.
-ghost use Rattle.std.specs.Prelude.{◌≡◌, ◌++◌, ◌∷◌, OnOk};
+ghost use Rattle.std.specs.Prelude.{[], ◌≡◌, ◌++◌, ◌∷◌, OnOk};
 ghost use Rattle.std.specs.Fmt.{decimal};
+ghost use Rattle.tl_text.specs.Number.{number_of};
 ghost use Rattle.check_samples.specs.Values.{all_before};
 ghost use Rattle.check_samples.specs.Row.{ask_lanes, ask_numbers, ask_text, cells_of_ask, cells_of_reply, digit_of, head_text, hex_text, hexes, known, link_text, reply_lanes, reply_numbers, reply_text};
 
@@ -34,11 +35,30 @@ pub struct ReplyCells {
     corrupt: u64,
 }
 
+/// The number that one to 64 bits spell, if each is known.
+fn read_bits(bits: &[u8]) -> Option<u64>
+    ensures { result ≡ number_of 2 MAX_BITS bits.now }
+{
+    if bits.is_empty() || bits.len() > MAX_BITS {
+        return None;
+    }
+    let mut value: u64 = 0;
+    for bit in bits {
+        let digit = match *bit {
+            b'0' => 0,
+            b'1' => 1,
+            _ => return None,
+        };
+        value = 2 * value + digit;
+    }
+    Some(value)
+}
+
 /// The number that bits spell, if each is known.
 fn known(signal: Signal, bits: &[u8]) -> Result<u64, Signal>
     ensures { result ≡ known signal bits.now }
 {
-    match read_number(bits, 2, MAX_BITS) {
+    match read_bits(bits) {
         Some(number) => Ok(number),
         None => Err(signal),
     }
@@ -54,13 +74,38 @@ fn digit_of(bits: &[u8]) -> u8
     }
 }
 
+/// The same of four bits, each of which is known in most dumps.
+fn digit_of_four(a: u8, b: u8, c: u8, d: u8) -> u8
+    ensures { result ≡ digit_of (a ∷ b ∷ c ∷ d ∷ []) }
+{
+    match (a, b, c, d) {
+        (b'0', b'0', b'0', b'0') => b'0',
+        (b'0', b'0', b'0', b'1') => b'1',
+        (b'0', b'0', b'1', b'0') => b'2',
+        (b'0', b'0', b'1', b'1') => b'3',
+        (b'0', b'1', b'0', b'0') => b'4',
+        (b'0', b'1', b'0', b'1') => b'5',
+        (b'0', b'1', b'1', b'0') => b'6',
+        (b'0', b'1', b'1', b'1') => b'7',
+        (b'1', b'0', b'0', b'0') => b'8',
+        (b'1', b'0', b'0', b'1') => b'9',
+        (b'1', b'0', b'1', b'0') => b'a',
+        (b'1', b'0', b'1', b'1') => b'b',
+        (b'1', b'1', b'0', b'0') => b'c',
+        (b'1', b'1', b'0', b'1') => b'd',
+        (b'1', b'1', b'1', b'0') => b'e',
+        (b'1', b'1', b'1', b'1') => b'f',
+        _ => digit_of(&[a, b, c, d]),
+    }
+}
+
 /// Appends the hexadecimal digits of bits, of which there are four for each.
 fn push_hexes(text: &mut Vec<u8>, bits: &[u8]) -> Result<(), AllocError>
     ensures { OnOk result (text.new.items ≡ text.old.items ++ hexes bits.now) }
 {
     let mut rest = bits;
     while let [a, b, c, d, more @ ..] = rest {
-        text.push(digit_of(&[*a, *b, *c, *d]))?;
+        text.push(digit_of_four(*a, *b, *c, *d))?;
         rest = more;
     }
     Ok(())
