@@ -16,7 +16,7 @@ overflow_add-value c =
     let small = c.loop-bit.invariant.small in
     let most = room c.loop-bit.bit-index (omega arith) in
     let below : c.match-bit.digit < 2 =
-        elim c.match-bit.branch [ in-48 w ↦ omega (arith, w.digit-is) | in-49 w ↦ omega (arith, w.digit-is) ] in
+    elim c.match-bit.branch [ in-48 w ↦ omega (arith, w.digit-is) | in-49 w ↦ omega (arith, w.digit-is) ] in
     omega arith
 
 pub loop-bit-preserved : goal.loop-bit-preserved
@@ -26,8 +26,9 @@ loop-bit-preserved c =
     let here : IsBitAt bits i c.match-bit.digit = record {
       inside = omega arith;
       is = elim c.match-bit.branch [
-        in-48 w ↦ grind (arith, common_steps)
-        | in-49 w ↦ grind (arith, common_steps) ];
+        | in-48 w ↦ grind (arith, common_steps)
+        | in-49 w ↦ grind (arith, common_steps)
+      ];
       small = elim c.match-bit.branch [ in-48 w ↦ omega (arith, w.digit-is) | in-49 w ↦ omega (arith, w.digit-is) ];
     } in
     record {
