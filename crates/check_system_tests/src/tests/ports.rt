@@ -11,7 +11,9 @@ use std::process::Abort;
 
 /// The ports of a file in a system of eight bytes, or its first fault.
 fn read_file(rt: &impl Abort, alloc: Global, file: &str) -> Result<Vec<Port>, SystemFault> {
-    let table = toml::table_from_str(alloc, file).ok().expect(rt, "a document");
+    let table = toml::table_from_str(alloc, file)
+        .ok()
+        .expect(rt, "a document");
     read_ports(alloc, Bus::Eight, &table)
 }
 

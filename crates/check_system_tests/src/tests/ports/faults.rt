@@ -98,13 +98,19 @@ const SIZES: [Row; 19] = [
     ("sizes = { get = 1 }", "system: wrong type of sizes"),
     ("sizes = { get = [0] }", "system: wrong type of sizes"),
     ("sizes = { get = [0, 1, 2] }", "system: wrong type of sizes"),
-    ("sizes = { intent = [0, '1'] }", "system: wrong type of sizes"),
+    (
+        "sizes = { intent = [0, '1'] }",
+        "system: wrong type of sizes",
+    ),
     ("sizes = { get = [0, 9] }", "system: sizes out of range"),
     ("sizes = { get = [-1, 8] }", "system: sizes out of range"),
     ("sizes = { putfull = [3, 2] }", "system: sizes out of range"),
     ("sizes = { putpart = [8, 8] }", ""),
     ("sizes = { arithmetic = [2, 3] }", ""),
-    ("sizes = { arithmetic = [2, 4] }", "system: sizes out of range"),
+    (
+        "sizes = { arithmetic = [2, 4] }",
+        "system: sizes out of range",
+    ),
     ("sizes = { logical = [1, 3] }", "system: sizes out of range"),
     ("sizes = { logical = [3, 3] }", ""),
     ("sizes = { intent = [0, 8] }", ""),
@@ -161,5 +167,8 @@ fn there_is_a_most_of_ports(rt: HostRuntime) {
     let most = file_of(&rt, rt.alloc(), 255);
     assert!(rt; read_file(&rt, rt.alloc(), &most).is_ok());
     let more = file_of(&rt, rt.alloc(), 256);
-    assert_eq!(rt; fault_line(&rt, rt.alloc(), &more).as_str(), "system: port out of range");
+    assert_eq!(rt;
+        fault_line(&rt, rt.alloc(), &more).as_str(),
+        "system: port out of range"
+    );
 }

@@ -104,5 +104,11 @@ fn sizes_are_those_of_the_file(rt: HostRuntime) {
     let port = port_at(&rt, &ports, 0);
     let sizes = port.sizes.as_ref().expect(&rt, "sizes");
     are_allowed(&rt, sizes);
-    assert!(rt; sizes.table().get == Some(Span { least: 0, greatest: 6 }));
+    assert!(rt;
+        sizes.table().get
+            == Some(Span {
+                least: 0,
+                greatest: 6
+            })
+    );
 }

@@ -79,7 +79,12 @@ const KNOWN: [Row; 4] = [
         Some(false),
         &[Some(0xaa), Some(0xbb), Some(3), Some(4)],
     ),
-    (2, 0x1004, Some(false), &[Some(0), Some(0), Some(0), Some(0)]),
+    (
+        2,
+        0x1004,
+        Some(false),
+        &[Some(0), Some(0), Some(0), Some(0)],
+    ),
     (1, 0x2002, Some(false), &[Some(0), Some(0)]),
     (1, 0x2004, Some(true), &[Some(0), Some(0)]),
 ];
@@ -116,10 +121,7 @@ fn other_bytes_may_be_unknown(rt: HostRuntime) {
 }
 
 /// A device answers as it likes.
-const DEVICE: [Row; 2] = [
-    (0, 0x1000, None, &[None]),
-    (0, 0x9000, None, &[None]),
-];
+const DEVICE: [Row; 2] = [(0, 0x1000, None, &[None]), (0, 0x9000, None, &[None])];
 
 #[test]
 fn a_device_answers_anything(rt: HostRuntime) {
@@ -131,8 +133,18 @@ fn a_device_answers_anything(rt: HostRuntime) {
 
 /// A ROM of 16 GiB, at whose sizes there is one alone.
 const ROM: [Row; 3] = [
-    (2, 0x4_7fff_fffc, Some(false), &[Some(0), Some(0), Some(0), Some(0)]),
-    (2, 0x4_8000_0000, Some(true), &[Some(0), Some(0), Some(0), Some(0)]),
+    (
+        2,
+        0x4_7fff_fffc,
+        Some(false),
+        &[Some(0), Some(0), Some(0), Some(0)],
+    ),
+    (
+        2,
+        0x4_8000_0000,
+        Some(true),
+        &[Some(0), Some(0), Some(0), Some(0)],
+    ),
     (1, 0x8000_0000, Some(true), &[Some(0), Some(0)]),
 ];
 
