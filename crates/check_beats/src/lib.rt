@@ -8,7 +8,8 @@
 //! (`check_cells`), since unknown lanes are judged only when a reply has ended.
 //!
 //! [`laws`] say that a channel is so cut up into the beats of lawful messages and a beginning of one, and that lanes
-//! and bits past the bus mean nothing. On a bus of 8 bytes all of it is what `check_link` says (`check_beats_eight`).
+//! and bits past the bus mean nothing. On a bus of 8 bytes the beats of a message are those of `tl_beats`
+//! (`check_beats_eight`).
 //!
 //! Read on in `docs/MODEL.md`, "Links of any width".
 #![tactic(auto)]

@@ -8,7 +8,7 @@
 //!
 //! What is a TOML document, and what its table is, is the crate `toml`'s own definition, `parse_document`.
 //!
-//! Read on in `docs/MODEL.md`, "Descriptions". No program uses this crate yet.
+//! Read on in `docs/MODEL.md`, "Descriptions".
 #![tactic(auto)]
 
 mod description;

@@ -6,7 +6,7 @@
 //! are lawful for that system. With [`Asked::trace`] the replies are written before, as the capture is read. If there is
 //! no verdict, a [`CheckFault`] says why.
 //!
-//! No program uses this crate yet. Read on in `docs/CAPTURE.md`.
+//! Read on in `docs/CAPTURE.md`.
 #![tactic(auto)]
 
 mod asked;

@@ -8,7 +8,7 @@
 //! (`specs/Slave.antt`), and [`error_slave`] that of the error port, which denies everything. What is long and not
 //! given takes no memory. `laws` says that a port that is wholly known at reset is the sequential memory of `tl_ops`.
 //!
-//! Read on in `docs/MODEL.md`, "Ports of system files". No program uses this crate yet.
+//! Read on in `docs/MODEL.md`, "Ports of system files".
 #![tactic(auto)]
 
 mod contents;

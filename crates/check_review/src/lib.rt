@@ -12,7 +12,7 @@
 //! them are left. If replies are traced, what is told of rows is appended to a text as they are judged: a line for each
 //! whole reply that is counted, in the order in which the replies end (`specs/Told.antt`).
 //!
-//! No program uses it yet. Read on in `docs/MODEL.md`, "Traces of others".
+//! Read on in `docs/MODEL.md`, "Traces of others".
 #![tactic(auto)]
 
 mod judge;

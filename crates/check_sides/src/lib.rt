@@ -12,7 +12,7 @@
 //! which a request takes effect; at a port's link that is judged by itself, also to the first request of a source, for
 //! which room is made there.
 //!
-//! No program uses it yet. Read on in `docs/MODEL.md`, "Groups of links of any width".
+//! Read on in `docs/MODEL.md`, "Groups of links of any width".
 #![tactic(auto)]
 
 mod flights;

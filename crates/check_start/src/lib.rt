@@ -6,7 +6,7 @@
 //! bus that the file gives it. An image that is longer than its range is refused; beside that only memory is.
 //!
 //! A [`Beginning`] has the names and buses of the links beside the judge, and [`pending_of`] the requests in flight of
-//! such a judge: none yet. No program uses this crate yet. Read on in `docs/MODEL.md`, "How a judge begins".
+//! such a judge: none yet. Read on in `docs/MODEL.md`, "How a judge begins".
 #![tactic(auto)]
 
 mod slaves;

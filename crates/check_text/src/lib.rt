@@ -7,8 +7,8 @@
 //! stand there, by its line (`specs/Capture.antt`). What the judge tells of the rows by then goes to a writer: in parts, as
 //! it grows long, and the rest before the answer (`specs/Out.antt`).
 //!
-//! Nothing here keeps a row: memory is that of the judge, of one record, and of what is told of one time. No program uses
-//! this crate yet. Read on in `docs/CAPTURE.md`.
+//! Nothing here keeps a row: memory is that of the judge, of one record, and of what is told of one time. Read on in
+//! `docs/CAPTURE.md`.
 #![tactic(auto)]
 
 mod capture;
