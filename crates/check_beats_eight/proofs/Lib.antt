@@ -1,4 +1,3 @@
-pub mod Alike
-pub mod SpelledAlike
-pub mod NamedAlike
-pub mod ReplyNamed
+pub mod Mapped
+pub mod Requests
+pub mod Replies

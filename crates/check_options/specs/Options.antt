@@ -8,10 +8,10 @@ use Rattle.clap.specs.declared.builder.action.ArgAction.TheVariants.{Set, SetTru
 use Rattle.clap.specs.declared.builder.value_parser.ValueParser.TheVariants as values
 use Rattle.clap.specs.declared.error.Error.{Error}
 use Rattle.clap.specs.declared.error.ErrorKind.{ErrorKind}
-use Rattle.check_groups.specs.declared.links.Links.{Links}
-use Rattle.check_groups.specs.declared.links.Links.TheVariants.{Both, Masters, Ports, Each}
-use Rattle.check_crossbar.specs.declared.order.Order.{Order}
-use Rattle.check_crossbar.specs.declared.order.Order.TheVariants.{Accept, Reply}
+use Rattle.check_sides.specs.declared.links.Links.{Links}
+use Rattle.check_sides.specs.declared.links.Links.TheVariants.{Both, Masters, Ports, Each}
+use Rattle.check_flight.specs.declared.order.Order.{Order}
+use Rattle.check_flight.specs.declared.order.Order.TheVariants.{Accept, Reply}
 use Rattle.check_options.specs.declared.options.Options.{Options}
 
 -- ---- the command line

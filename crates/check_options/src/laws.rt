@@ -2,8 +2,8 @@
 //! for, or are refused as. A function has two lines at most: what clap's rules say of a line is computed.
 ghost use Rattle.std.specs.Prelude.{[], ◌∷◌, codes, true, false, Some, None};
 ghost use Rattle.clap.specs.declared.error.ErrorKind.TheVariants.{DisplayHelp, DisplayVersion, InvalidValue, MissingRequiredArgument, TooManyValues, UnknownArgument};
-ghost use Rattle.check_groups.specs.declared.links.Links.TheVariants.{Both, Masters, Ports, Each};
-ghost use Rattle.check_crossbar.specs.declared.order.Order.TheVariants.{Accept, Reply};
+ghost use Rattle.check_sides.specs.declared.links.Links.TheVariants.{Both, Masters, Ports, Each};
+ghost use Rattle.check_flight.specs.declared.order.Order.TheVariants.{Accept, Reply};
 ghost use Rattle.check_options.specs.Options.{AskFor, AreRefusedAs};
 
 /// The lines that name SYSTEM, and SYSTEM and CAPTURE. The first word is the program's name.

@@ -2,12 +2,12 @@
 //! SYSTEM [CAPTURE]`.
 //!
 //! [`read_options`] carries the promise: the words are taken or refused just as the command line says, by clap's own
-//! definitions (`IsCommandLine`, `specs/Options.antt`), and where they are taken the answer is what they ask for. The
+//! definitions (`IsCommandLine`, `specs/Options.antt`), and if they are taken the answer is what they ask for. The
 //! laws say of lines that the documents name what they ask for, or as what they are refused. What help and refusals
 //! read as is clap's.
 //!
-//! This crate stands on clap, and of the crates for captures on the two choices that the options name (`check_groups`, `check_crossbar`).
-//! Read on in `docs/CAPTURE.md`, "The command".
+//! This crate stands on clap, and of the crates for captures on the two choices that the options name: `Links` of
+//! `check_sides` and `Order` of `check_flight`. Read on in `docs/CAPTURE.md`, "The command".
 #![tactic(auto)]
 
 pub mod laws;

@@ -3,8 +3,8 @@ ghost use Rattle.std.specs.Prelude.{◌≡◌, IfOk, [], map, false, option_map,
 ghost use Rattle.clap.specs.Words.{app_of, first_value, found_of, rule_of};
 ghost use Rattle.check_options.specs.Options.{Answers, IsCommandLine, IsLinksRule, IsOrderRule, capture_rule, complete_rule, file_of, flag_of, links_of, order_of, program, system_rule, trace_rule};
 
-use check_crossbar::Order;
-use check_groups::Links;
+use check_flight::Order;
+use check_sides::Links;
 use clap::builder::ValueParser;
 use clap::{Arg, ArgAction, ArgMatches, Command, Error, value_parser};
 use std::alloc::{AllocError, Global};

@@ -1,3 +1,1 @@
-pub mod Failing
-pub mod Judged
-mod Files
+pub mod Fitting

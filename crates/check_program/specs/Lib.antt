@@ -1,2 +1,2 @@
-pub mod Fault
-pub mod Engine
+pub mod Images
+pub mod Program

@@ -1,18 +1,17 @@
-//! What the program `tlcheck` does: it reads a system and a capture, judges the capture, and writes the verdict.
+//! What the program `tlcheck` does: it reads a system with the images of its ports, judges a capture, and writes the
+//! verdict.
 //!
-//! `check` (`engine`) carries the theorem, over the bytes of both files: lawful is written exactly where the rows that
-//! the capture spells are lawful for the system that SYSTEM spells. The crates `check_system` and `check_verdict` read
-//! the two, `check_options` reads the command line. `check_as_asked` judges as that asks, and `ended` says with which
-//! status the program ends. Read on in `docs/CAPTURE.md`.
+//! `check_engine` carries the theorem, over the bytes of all files: lawful is written exactly if the rows that the capture
+//! spells are lawful for the system. Here stands what the program adds. [`read_images`] reads the image of each port that
+//! names one, from the folder of SYSTEM. [`check_as_asked`] judges as the command line asks (`check_options`), and
+//! [`ended`] says with which status the program ends. Read on in `docs/CAPTURE.md`.
 //!
-//! It is a library, so that its tests stand in a crate above it (`check_judge_tests`): a crate with tests is proved
+//! It is a library, so that its tests stand in a crate above it (`check_program_tests`): a crate with tests is proved
 //! twice.
 #![tactic(auto)]
 
-pub mod asked;
-pub mod engine;
-pub mod fault;
+mod images;
 mod program;
-pub mod system;
 
+pub use images::read_images;
 pub use program::{check_as_asked, ended};

@@ -1,14 +1,15 @@
 //! The program, save for its words and its files: what is asked of a capture, and the status that the program ends with.
-ghost use Rattle.std.specs.Prelude.{◌≡◌, IfOk, IfErr};
+ghost use Rattle.std.specs.Prelude.{◌≡◌, IfOk, IfErr, map};
 ghost use Rattle.std.specs.Process.{exit_status};
-ghost use Rattle.check_program.specs.Engine.{IsChecked, asked_of};
-ghost use Rattle.check_program.specs.Fault.{status_of, status_of_verdict};
+ghost use Rattle.check_description.specs.File.{parts_view};
+ghost use Rattle.check_engine.specs.Engine.{IsChecked};
+ghost use Rattle.check_engine.specs.Fault.{status_of};
+ghost use Rattle.check_program.specs.Program.{asked_of, status_of_verdict};
 
-use crate::asked::Asked;
-use crate::engine::check;
-use crate::fault::CheckFault;
-use check_judge::Terms;
+use check_description::Parts;
+use check_engine::{Asked, CheckFault, check};
 use check_options::Options;
+use check_start::Terms;
 use std::alloc::Global;
 use std::io::{Eprint, Read, Write};
 use std::process::ExitCode;
@@ -17,16 +18,20 @@ use tl_streams::fail;
 /// The status of a capture that is not lawful, or incomplete.
 const UNLAWFUL: u8 = 3;
 
-/// Judges a capture as the command line asks.
-pub fn check_as_asked<S: Read, C: Read + Drop, W: Write>(
+/// Judges a capture as the command line asks, for the system of these parts and images.
+pub fn check_as_asked<C: Read + Drop, W: Write>(
     alloc: Global,
-    system: &mut S,
+    parts: Parts,
+    images: &[Vec<u8>],
     capture: C,
     writer: &mut W,
     options: &Options<'_>,
 ) -> Result<bool, CheckFault>
-    ensures { IsChecked (asked_of options.now) (S.remaining system.old) (S.remaining system.new)
-        (C.remaining capture) (W.contents writer.old) (W.contents writer.new) result }
+    ensures { IsChecked (asked_of options.now) (record {
+      parts = parts_view parts;
+      images = map (λ image. image.items) images.now;
+      capture = C.remaining capture;
+    }) (W.contents writer.old) (W.contents writer.new) result }
 {
     let asked = Asked {
         terms: Terms {
@@ -36,7 +41,7 @@ pub fn check_as_asked<S: Read, C: Read + Drop, W: Write>(
         trace: options.trace,
         complete: options.complete,
     };
-    check(alloc, system, capture, writer, asked)
+    check(alloc, parts, images, capture, writer, asked)
 }
 
 /// Ends the program after a verdict, or with the line and the status of a fault.

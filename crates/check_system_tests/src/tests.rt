@@ -6,17 +6,25 @@ mod faults;
 mod limits;
 mod memory;
 mod ports;
-mod resets;
 mod scripts;
 mod systems;
 
-use check_system::{System, read_system};
+use check_description::{Description, describe, read_parts};
+use check_keys::SystemFault;
 use std::alloc::Global;
 use std::process::Abort;
 
+/// The system that a file describes, or its first fault.
+fn read_system(alloc: Global, file: &[u8]) -> Result<Description, SystemFault> {
+    let parts = read_parts(alloc, file)?;
+    describe(alloc, parts)
+}
+
 /// The system that a file describes.
-fn system_of(rt: &impl Abort, alloc: Global, file: &str) -> System {
-    read_system(alloc, file.as_bytes()).expect(rt, "a system")
+fn system_of(rt: &impl Abort, alloc: Global, file: &str) -> Description {
+    read_system(alloc, file.as_bytes())
+        .ok()
+        .expect(rt, "a system")
 }
 
 /// The line of a file's fault, and nothing where it has none.

@@ -8,8 +8,8 @@
 //! ([`laws::beats_that_keep_the_rules_are_lawful`]).
 //!
 //! Nothing runs here. Read `specs/Crossed.antt` first (which messages a list of beats shows), and then the file of each
-//! law: `specs/Messages.antt`, `specs/Memories.antt`, `specs/Crossings.antt`. `docs/MODEL.md`, "What `lawful` means over
-//! links of any width", reads them aloud.
+//! law: `specs/Messages.antt`, `specs/Memories.antt`, `specs/Crossings.antt`. `docs/MODEL.md`, "What `lawful` means", reads
+//! them aloud.
 #![tactic(auto)]
 
 pub mod laws;

@@ -14,10 +14,14 @@ fn have_lines(rt: &impl Abort, alloc: Global, head: &str, rows: &[Row]) {
     }
 }
 
-const DOCUMENTS: [Row; 14] = [
+const DOCUMENTS: [Row; 18] = [
     ("", "system: missing master"),
     ("port", "system: not TOML"),
     ("x = 1\nx = 1", "system: not TOML"),
+    ("bus = '4'", "system: wrong type of bus"),
+    ("bus = 3\nport = 1", "system: bus out of range"),
+    ("bus = 128", "system: bus out of range"),
+    ("bus = 64", "system: missing master"),
     ("port = 1", "system: wrong type of port"),
     ("port = {}", "system: wrong type of port"),
     ("port = [{}, 1]", "system: wrong type of port"),
@@ -159,7 +163,7 @@ fn resets_and_orders_have_faults(rt: HostRuntime) {
     have_lines(&rt, rt.alloc(), head, &RESETS_AND_ORDERS);
 }
 
-const MASTERS: [Row; 13] = [
+const MASTERS: [Row; 16] = [
     ("name = 1\nsources = 0", "system: wrong type of name"),
     ("name = 'm7'", "system: name out of range"),
     ("first = 'x'", "system: missing sources"),
@@ -189,6 +193,12 @@ const MASTERS: [Row; 13] = [
     ),
     // Without a first the stride is looked at too.
     ("sources = 1\nstride = 0", "system: stride out of range"),
+    ("sources = 1\nbus = 'x'", "system: wrong type of bus"),
+    ("sources = 1\nbus = 5", "system: bus out of range"),
+    (
+        "sources = 1\nstride = 0\nbus = 5",
+        "system: stride out of range",
+    ),
 ];
 
 #[test]

@@ -1,7 +1,8 @@
 //! How long a file may be, and how much it may say.
 use super::fault_line;
+use check_description::MAX_SYSTEM;
+use check_keys::MAX_NAME;
 use check_map::{MAX_MASTERS, MAX_PORTS, MAX_RANGES};
-use check_system::{MAX_NAME, MAX_SYSTEM};
 use std::alloc::Global;
 use std::process::Abort;
 

@@ -1,13 +1,17 @@
 //! What is answered if memory is refused. This test holds whether its requests for memory are granted or not, so that
 //! each request may be refused in turn (`rt try --test --fail-alloc N`): the file is read, or want of memory is told.
-use check_system::{SystemFault, read_system};
+use super::read_system;
+use check_keys::SystemFault;
 
-const FILE: &str = "[[port]]
+const FILE: &str = "bus = 4
+[[port]]
 name = 'ram'
 kind = 'ram'
 ranges = [[0, 64], [0x1000, 64]]
 reset = '0102'
 order = 'reply'
+image = 'ram.bin'
+sizes = { get = [0, 2] }
 [[master]]
 name = 'cpu'
 sources = 4

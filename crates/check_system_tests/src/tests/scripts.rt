@@ -1,6 +1,7 @@
 //! Scripts of tlx, read as system files.
 use super::system_of;
-use check_system::{Port, System};
+use check_description::Description;
+use check_ports::{Port, PortKind};
 use std::alloc::Global;
 use std::process::Abort;
 use tl_script::{Device, System as Script, read_system as read_script};
@@ -36,11 +37,11 @@ ops = ['wait', '0 get 0 0']
 
 /// Whether the port's bytes at reset are the device's, but for the zeros after them.
 fn has_same_reset(device: &Device, port: &Port) -> bool {
-    device.reset.starts_with(&port.reset)
+    device.reset.starts_with(&port.contents.reset)
         && device
             .reset
             .iter()
-            .skip(port.reset.len())
+            .skip(port.contents.reset.len())
             .all(|byte| *byte == 0)
 }
 
@@ -49,13 +50,13 @@ fn is_same_port(device: &Device, port: &Port) -> bool {
     let [range] = port.ranges.as_slice() else {
         return false;
     };
-    device.kind == port.kind
+    port.kind == PortKind::Memory(device.kind)
         && device.base == range.base
         && device.reset.len() as u64 == range.length
         && has_same_reset(device, port)
 }
 
-fn have_same_ports(script: &Script, system: &System) -> bool {
+fn have_same_ports(script: &Script, system: &Description) -> bool {
     script.devices().len() == system.ports().len()
         && script
             .devices()
@@ -65,7 +66,7 @@ fn have_same_ports(script: &Script, system: &System) -> bool {
 }
 
 /// Whether the master's sources here are those of its block there.
-fn has_same_sources(script: &Script, system: &System, master: usize) -> bool {
+fn has_same_sources(script: &Script, system: &Description, master: usize) -> bool {
     match (script.sources().count(master), system.sources().at(master)) {
         (Some(count), Some(owner)) => {
             owner.count == u32::from(count)

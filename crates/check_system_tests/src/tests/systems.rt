@@ -1,7 +1,9 @@
 //! The systems that files describe.
 use super::system_of;
+use check_description::{Description, Master};
+use check_flight::Order;
 use check_map::Owner;
-use check_system::{Master, Order, Port, System};
+use check_ports::{Port, PortKind};
 use tl_map::Range;
 use tl_ops::Kind;
 
@@ -51,8 +53,8 @@ fn has_name(name: &Option<String>, given: &str) -> bool {
 /// Whether the port has this kind, these bytes at reset and this order.
 fn has_keys(port: &Port, name: &str, kind: Kind, reset: &[u8], order: Option<Order>) -> bool {
     has_name(&port.name, name)
-        && port.kind == kind
-        && port.reset.as_slice() == reset
+        && port.kind == PortKind::Memory(kind)
+        && port.contents.reset.as_slice() == reset
         && port.order == order
 }
 
@@ -62,7 +64,7 @@ fn has_ranges(port: &Port, ranges: &[Range]) -> bool {
 
 /// Whether there is a port with this number and these keys.
 fn has_port(
-    system: &System,
+    system: &Description,
     port: usize,
     name: &str,
     kind: Kind,
@@ -75,7 +77,7 @@ fn has_port(
     }
 }
 
-fn has_port_ranges(system: &System, port: usize, ranges: &[Range]) -> bool {
+fn has_port_ranges(system: &Description, port: usize, ranges: &[Range]) -> bool {
     match system.ports().get(port) {
         Some(port) => has_ranges(port, ranges),
         None => false,
@@ -90,7 +92,7 @@ fn is_master(master: &Master, name: &str, sources: u32, first: Option<u16>, stri
 }
 
 fn has_master(
-    system: &System,
+    system: &Description,
     master: usize,
     name: &str,
     sources: u32,

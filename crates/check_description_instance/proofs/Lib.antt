@@ -1,4 +1,0 @@
-pub mod Steps
-pub mod Ports
-pub mod Files
-pub mod Described

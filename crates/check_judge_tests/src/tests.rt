@@ -1,6 +1,0 @@
-mod capture;
-mod judge;
-mod options;
-mod program;
-mod rule;
-mod verdict;

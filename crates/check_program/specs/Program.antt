@@ -1,0 +1,17 @@
+-- What the program asks of a capture, and how it ends. This project's own.
+use Rattle.std.specs.Prelude.{ℕ, Bool, true, false}
+use Rattle.check_options.specs.declared.options.Options.{Options}
+use Rattle.check_engine.specs.declared.asked.Asked.{Asked}
+
+-- what the command line asks for
+abbrev pub asked_of : Options → Asked
+asked_of options = record {
+  terms = record { links = options.links; order = options.order };
+  trace = options.trace;
+  complete = options.complete;
+}
+
+-- the status of a verdict: whether the capture is lawful
+abbrev pub status_of_verdict : Bool → ℕ
+status_of_verdict true = 0
+status_of_verdict false = 3

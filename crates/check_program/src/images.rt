@@ -1,0 +1,62 @@
+//! The images of a system's ports.
+ghost use Rattle.std.specs.Prelude.{◌≡◌, IfErr, IfOk, map};
+ghost use Rattle.std.specs.Path.{path_buf_bytes, path_with_file_name};
+ghost use Rattle.check_ports.specs.Port.{port_view};
+ghost use Rattle.check_program.specs.Images.{AreImagesOf, IsFaultOfImages, IsFaultOfPort, IsImageOf};
+
+use check_description::Parts;
+use check_engine::{CheckFault, read_image};
+use check_ports::Port;
+use std::alloc::{AllocError, Global};
+use std::path::{Path, PathBuf};
+use std::rt::Files;
+use tl_streams::NamedFile;
+
+/// The name of an image's file: it is named from the folder of SYSTEM. An absolute name is taken as it is.
+fn path_of(alloc: Global, system: &str, image: &str) -> Result<PathBuf, AllocError>
+    ensures { IfOk result (λ path. path_buf_bytes path ≡ path_with_file_name system.now image.now) }
+{
+    Path::new(system).with_file_name(alloc, image)
+}
+
+/// Reads the image of the port of this number. One that names none has no bytes.
+fn read_image_of<F: Files>(
+    alloc: Global,
+    files: &F,
+    system: &str,
+    number: usize,
+    port: &Port,
+) -> Result<Vec<u8>, CheckFault>
+    ensures ok { IfOk result (λ bytes. IsImageOf (port_view port.now) bytes.items) }
+    ensures fault { IfErr result (IsFaultOfPort number (port_view port.now)) }
+{
+    let Some(image) = &port.contents.image else {
+        return Ok(Vec::new(alloc));
+    };
+    let path = path_of(alloc, system, image.as_str())?;
+    let mut file = NamedFile::new(files, path.as_str());
+    read_image(alloc, &mut file, number, port)
+}
+
+/// Reads the images that the ports of a system name, port by port, each to its end. The answer has one for each port by
+/// its number, without bytes if the port names none. A file that can't be read, or has more bytes than the port's first
+/// range, is the fault of the system.
+pub fn read_images<F: Files>(
+    alloc: Global,
+    files: &F,
+    system: &str,
+    parts: &Parts,
+) -> Result<Vec<Vec<u8>>, CheckFault>
+    ensures ok { IfOk result (λ images. AreImagesOf (map port_view parts.now.ports.items)
+        (map (λ image. image.items) images.items)) }
+    ensures fault { IfErr result (IsFaultOfImages (map port_view parts.now.ports.items)) }
+{
+    let mut images = Vec::with_capacity(alloc, parts.ports.len())?;
+    for (number, port) in parts.ports.iter().enumerate() {
+        let image = read_image_of(alloc, files, system, number, port)?;
+        let Ok(()) = images.push(image) else {
+            return Err(CheckFault::Memory);
+        };
+    }
+    Ok(images)
+}

@@ -1,0 +1,6 @@
+mod map;
+mod options;
+mod program;
+mod records;
+mod refused;
+mod sources;

@@ -1,0 +1,113 @@
+//! The command line, row by row.
+use check_flight::Order;
+use check_options::{Options, read_options};
+use check_sides::Links;
+use tl_streams::line_status;
+
+#[test]
+fn words_give_options(rt: HostRuntime) {
+    let rows: [(&[&str], Links, Order, [bool; 2], Option<&str>); 9] = [
+        (
+            &["tlcheck", "s"],
+            Links::Both,
+            Order::Accept,
+            [false, false],
+            None,
+        ),
+        (
+            &["tlcheck", "s", "c"],
+            Links::Both,
+            Order::Accept,
+            [false, false],
+            Some("c"),
+        ),
+        (
+            &["tlcheck", "s", "-"],
+            Links::Both,
+            Order::Accept,
+            [false, false],
+            None,
+        ),
+        (
+            &["tlcheck", "--links", "masters", "s"],
+            Links::Masters,
+            Order::Accept,
+            [false, false],
+            None,
+        ),
+        (
+            &["tlcheck", "s", "--links=ports", "--order=reply", "c"],
+            Links::Ports,
+            Order::Reply,
+            [false, false],
+            Some("c"),
+        ),
+        (
+            &["tlcheck", "--trace", "s", "c"],
+            Links::Both,
+            Order::Accept,
+            [true, false],
+            Some("c"),
+        ),
+        (
+            &["tlcheck", "--order", "accept", "--", "s", "--links"],
+            Links::Both,
+            Order::Accept,
+            [false, false],
+            Some("--links"),
+        ),
+        (
+            &["tlcheck", "--complete", "s", "c"],
+            Links::Both,
+            Order::Accept,
+            [false, true],
+            Some("c"),
+        ),
+        (
+            &["tlcheck", "--trace", "s", "--complete", "--links", "each"],
+            Links::Each,
+            Order::Accept,
+            [true, true],
+            None,
+        ),
+    ];
+    for (words, links, order, [trace, complete], capture) in rows {
+        let options = read_options(rt.alloc(), words).expect(&rt, "options");
+        assert!(rt;
+            options
+                == Options {
+                    links,
+                    order,
+                    trace,
+                    complete,
+                    system: "s",
+                    capture
+                }
+        );
+    }
+}
+
+#[test]
+fn other_words_have_a_status(rt: HostRuntime) {
+    let rows: [(&[&str], u8); 13] = [
+        (&["tlcheck"], 2),
+        (&["tlcheck", "s", "c", "stray"], 2),
+        (&["tlcheck", "--links", "all", "s"], 2),
+        (&["tlcheck", "--links", "Both", "s"], 2),
+        (&["tlcheck", "--order", "reply", "--order", "reply", "s"], 2),
+        (&["tlcheck", "s", "--order"], 2),
+        (&["tlcheck", "--trace=yes", "s"], 2),
+        (&["tlcheck", "--trace", "--trace", "s"], 2),
+        (&["tlcheck", "--complete=yes", "s"], 2),
+        (&["tlcheck", "--complete", "s", "--complete"], 2),
+        (&["tlcheck", "--verbose", "s"], 2),
+        (&["tlcheck", "--version"], 0),
+        (&["tlcheck", "--help"], 0),
+    ];
+    for (words, status) in rows {
+        match read_options(rt.alloc(), words) {
+            Ok(_) => panic!(&rt; "options"),
+            Err(error) => assert!(rt; line_status(&error) == status),
+        }
+    }
+}

@@ -1,0 +1,82 @@
+//! What is answered if memory is refused. These tests hold whether their requests for memory are granted or not, so
+//! that each request may be refused in turn (`rt try --test --fail-alloc N`): the answer is the right one, or that
+//! memory was refused.
+use super::map::are_ranges;
+use check_map::{Map, MapFault, Owner, SourceFault, Sources, blocks};
+use std::alloc::{AllocError, Global};
+use tl_map::Range;
+
+const OWNERS: [Owner; 2] = [
+    Owner {
+        first: 2,
+        count: 3,
+        stride: 4,
+    },
+    Owner {
+        first: 0,
+        count: 1,
+        stride: 1,
+    },
+];
+
+#[test]
+fn sources_are_made_or_memory_is_refused(rt: HostRuntime) {
+    match Sources::new(rt.alloc(), &OWNERS) {
+        Ok(sources) => {
+            assert!(rt; sources.owner(10) == Some((0, 2)));
+            assert!(rt; sources.wides() == 11);
+        }
+        Err(fault) => assert!(rt; fault == SourceFault::Memory),
+    }
+}
+
+#[test]
+fn blocks_are_made_or_memory_is_refused(rt: HostRuntime) {
+    match blocks(rt.alloc(), &[3, 5]) {
+        Ok(owners) => assert!(rt;
+            owners.get(1).copied()
+                == Some(Owner {
+                    first: 8,
+                    count: 5,
+                    stride: 1,
+                })
+        ),
+        Err(fault) => assert!(rt; fault == SourceFault::Memory),
+    }
+}
+
+/// A port of two ranges, and one of one.
+fn two_ports(alloc: Global) -> Result<Vec<Vec<Range>>, AllocError> {
+    let mut ports = Vec::new(alloc);
+    let low = Range {
+        base: 0,
+        length: 16,
+    };
+    let high = Range {
+        base: 64,
+        length: 16,
+    };
+    let middle = Range {
+        base: 16,
+        length: 16,
+    };
+    ports.push(Vec::from_slice(alloc, &[high, low])?)?;
+    ports.push(Vec::from_slice(alloc, &[middle])?)?;
+    Ok(ports)
+}
+
+#[test]
+fn a_map_is_made_or_memory_is_refused(rt: HostRuntime) {
+    let Ok(ports) = two_ports(rt.alloc()) else {
+        return;
+    };
+    assert!(rt; are_ranges(&ports));
+    match Map::new(rt.alloc(), &ports) {
+        Ok(map) => {
+            assert!(rt; map.ports() == 3);
+            assert!(rt; map.route_bytes(79, 0) == 0);
+            assert!(rt; map.route_bytes(80, 0) == 2);
+        }
+        Err(fault) => assert!(rt; fault == MapFault::Memory),
+    }
+}

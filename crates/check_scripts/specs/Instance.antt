@@ -1,0 +1,96 @@
+-- What a script of tlx is as a system file. This project's own.
+use Rattle.std.specs.Prelude.{◌≡◌, ◌<◌, ℕ, List, [], ◌∷◌, length, map, None, Ok}
+use Rattle.std.specs.List.{AllByRecursion}
+use Rattle.toml.specs.Data.{Members, get_member}
+use Rattle.tl_ops.specs.Store.{Store}
+use Rattle.tl_script.specs.Script.{Spells}
+use Rattle.tl_script.specs.System.{System, range_of}
+use Rattle.check_beats.specs.declared.bus.Bus.TheVariants.{Eight}
+use Rattle.check_keys.specs.Key.{key_name}
+use Rattle.check_keys.specs.declared.fault.Key.{Key}
+use Rattle.check_keys.specs.declared.fault.Key.TheVariants.{Bus, Name, Ranges, Image, Unknown, Sizes, Order, First, Stride}
+use Rattle.check_ports.specs.Laws.{IsPlainMemory, store_of}
+use Rattle.check_ports.specs.Port.{Port, port_tables}
+use Rattle.check_description.specs.Description.{Description, Makes}
+use Rattle.check_description.specs.File.{Parts, document_of, parts_of}
+use Rattle.check_description.specs.Master.{IsInBlocks, Master, master_tables}
+use Rattle.check_description.specs.Name.{names_of}
+
+-- ---- files that say nothing that a script does not
+
+abbrev pub IsAbsent : Key → Members → Type 0
+IsAbsent key members = get_member (key_name key) members ≡ None
+
+-- a port's table has no key that is nothing to a script
+pub record IsPlainPort (members : Members) : Type 0 where
+  pub name : IsAbsent Name members
+  pub ranges : IsAbsent Ranges members
+  pub image : IsAbsent Image members
+  pub unknown : IsAbsent Unknown members
+  pub sizes : IsAbsent Sizes members
+  pub order : IsAbsent Order members
+  pub bus : IsAbsent Bus members
+
+-- a master's table has no such key
+pub record IsPlainMaster (members : Members) : Type 0 where
+  pub name : IsAbsent Name members
+  pub first : IsAbsent First members
+  pub stride : IsAbsent Stride members
+  pub bus : IsAbsent Bus members
+
+-- the file has no bus, and no table of a port or of a master has such a key
+pub record SaysNothingNew (bytes : List ℕ) : Type 0 where
+  pub bus : (members : Members) → document_of bytes ≡ Ok members → IsAbsent Bus members
+  pub ports : (members : Members) (tables : List Members) → document_of bytes ≡ Ok members
+      → port_tables members ≡ Ok tables → AllByRecursion IsPlainPort tables
+  pub masters : (members : Members) (tables : List Members) → document_of bytes ≡ Ok members
+      → master_tables members ≡ Ok tables → AllByRecursion IsPlainMaster tables
+
+-- ---- the ports and masters of such a file
+
+-- the port is a memory of the store's kind, with the store's one range. It is wholly known at reset, where it holds what
+-- the store holds, and nothing more is said of it
+pub record IsPortOf (store : Store) (port : Port) : Type 0 where
+  pub plain : IsPlainMemory store.kind (range_of store) port
+  pub holds : store_of store.kind (range_of store) port [] ≡ store
+  pub name : port.name ≡ None
+  pub image : port.contents.image ≡ None
+  pub order : port.order ≡ None
+  pub bus : port.bus ≡ Eight
+
+-- a port for each store, in order
+abbrev pub ArePortsOf : List Store → List Port → Type 0
+ArePortsOf [] [] = Unit {0}
+ArePortsOf [] (port ∷ ports) = ⊥
+ArePortsOf (store ∷ stores) [] = ⊥
+ArePortsOf (store ∷ stores) (port ∷ ports) = IsPortOf store port × ArePortsOf stores ports
+
+-- a master that says only how many sources it has
+abbrev pub plain_master : ℕ → Master
+plain_master count = record { name = None; sources = count; first = None; stride = 1; bus = Eight }
+
+-- ---- what is said of them
+
+-- the file names these parts: a port for each slave of the script, and a master for each count of sources, of which there
+-- is one
+pub record NamesSame (script : System) (bytes : List ℕ) : Type 0 where
+  pub parts : Parts
+  pub named : parts_of bytes ≡ Ok parts
+  pub slaves : ArePortsOf script.stores parts.ports
+  pub masters : parts.masters ≡ map plain_master script.counts
+  pub names : names_of parts ≡ []
+  pub some : 0 < length script.counts
+
+abbrev pub NamesTheSame : Type 0
+NamesTheSame = (bytes : List ℕ) (script : System) → Spells bytes script → SaysNothingNew bytes → NamesSame script bytes
+
+-- the system has the script's slaves, and its masters have the blocks of the script's counts
+pub record IsSameSystem (script : System) (system : Description) : Type 0 where
+  pub slaves : ArePortsOf script.stores system.ports
+  pub masters : system.masters ≡ map plain_master script.counts
+  pub owners : IsInBlocks script.counts system.owners
+
+abbrev pub DescribesTheSame : Type 0
+DescribesTheSame =
+    (bytes : List ℕ) (script : System) (parts : Parts) (system : Description) → Spells bytes script
+    → SaysNothingNew bytes → parts_of bytes ≡ Ok parts → Makes parts system → IsSameSystem script system
