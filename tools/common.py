@@ -12,17 +12,26 @@ SECONDS = 60
 LONGEST_SCRIPT = 1_048_576
 MAX_SIZE = 8
 KINDS = ("ram", "rom", "regs", "w1c")
+# What a system file may have in place of a kind of slave: a device keeps nothing, and answers what it likes.
+SYSTEM_KINDS = (*KINDS, "device")
+# How many bytes a data bus may have, and how many it has if nobody says.
+BUSES = (1, 2, 4, 8, 16, 32, 64)
+BUS = 8
 # The keys of a script: of the document, of a port and of a master.
 KEYS = {"": ("slots", "port", "master"), "port": ("kind", "base", "length", "reset"), "master": ("sources", "ops")}
 # The keys of a system file; those of a script that it may have too; and those that say where signals are (docs/CAPTURE.md).
-SYSTEM_KEYS = {"": ("port", "master", "slots", "clock", "reset", "reset_active"),
-               "port": ("name", "kind", "base", "length", "ranges", "reset", "order", "signals", "wires"),
-               "master": ("name", "sources", "first", "stride", "ops", "signals", "wires")}
+SYSTEM_KEYS = {"": ("bus", "port", "master", "slots", "clock", "reset", "reset_active"),
+               "port": ("name", "kind", "base", "length", "ranges", "reset", "image", "unknown", "sizes", "order", "bus", "signals", "wires"),
+               "master": ("name", "sources", "first", "stride", "bus", "ops", "signals", "wires")}
 
 # The opcode and the parameter of each operation on channel A, and the opcode of each reply on channel D.
 OPERATIONS = {"putfull": (0, 0), "putpart": (1, 0), "min": (2, 0), "max": (2, 1), "minu": (2, 2), "maxu": (2, 3), "add": (2, 4),
               "xor": (3, 0), "or": (3, 1), "and": (3, 2), "swap": (3, 3), "get": (4, 0), "prefetchr": (5, 0), "prefetchw": (5, 1)}
 REPLIES = {"AccessAck": 0, "AccessAckData": 1, "HintAck": 2}
+# The names of the table of sizes, and the operations of each.
+GROUPS = {"get": ("get",), "putfull": ("putfull",), "putpart": ("putpart",), "arithmetic": ("min", "max", "minu", "maxu", "add"),
+          "logical": ("xor", "or", "and", "swap"), "intent": ("prefetchr", "prefetchw")}
+GROUP_OF = {name: group for group, names in GROUPS.items() for name in names}
 
 # The columns of a capture.
 HEADER = "time,link,channel,opcode,param,size,source,address,mask,data,denied,corrupt"

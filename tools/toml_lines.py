@@ -247,11 +247,11 @@ def asked(command, text):
 
 def run(program, whole, keys, document_faults, ask):
     """Reads the file that the command line names, or standard input, and prints what is wrong with it. `ask` answers the program's
-    own line for a text, which decides."""
+    own line for a text of a path, which decides."""
     words = sys.argv[1:]
     if len(words) > 1 or words and words[0].startswith("-"):
         sys.exit(f"usage: {os.path.basename(sys.argv[0])} [FILE]")
-    name = words[0] if words else "standard input"
+    name, path = (words[0], words[0]) if words else ("standard input", "/dev/stdin")
     try:
         with open(words[0], "rb") if words else sys.stdin.buffer as given:
             text = given.read()
@@ -261,11 +261,11 @@ def run(program, whole, keys, document_faults, ask):
     faults, warnings = [], []
     try:
         table, places = read(text)
-        faults = document_faults(table, places)
+        faults = document_faults(table, places, os.path.dirname(path))
         warnings = list(unknown_keys(table, places, keys, whole))
     except Fault as fault:
         faults = [fault]
-    said = ask(text)
+    said = ask(text, path)
     if said == "" and faults:
         print(f"{name}: {program} takes it; this reader of TOML 1.0 does not: line {faults[0].line}: {faults[0].why}")
         faults = []

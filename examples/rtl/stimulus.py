@@ -14,19 +14,16 @@ LANES = 8
 TOP = os.path.dirname(os.path.dirname(os.path.dirname(os.path.abspath(__file__))))
 sys.path.insert(0, os.path.join(TOP, "tools"))
 sys.dont_write_bytecode = True
-from capture import beats_of, bytes_of, widths  # noqa: E402, F401
+from bus import Bus  # noqa: E402
+from capture import bytes_of, widths  # noqa: E402, F401
 from common import HEADER, OPERATIONS, REPLIES  # noqa: E402, F401
 
+BUS = Bus(LANES)
 NAMES = {codes: name for name, codes in OPERATIONS.items()}
 ANSWERS = {code: name for name, code in REPLIES.items()}
 CARRIES = 4
 # the kinds of lines of operations_N.hex but operations; an end stands behind the last
 WAIT, END = 1, 2
-
-
-def beat_count(size):
-    """How many beats a message has that carries 2^size bytes."""
-    return max(1, (1 << size) // LANES)
 
 
 def operation_of(line):
@@ -36,9 +33,9 @@ def operation_of(line):
     source, name, address, size, *data = line.split()
     address, size = int(address, 0), int(size)
     opcode, param = OPERATIONS[name]
-    beats = list(beats_of(address, size, bytes_of(data[0]) if data else [0] * (1 << size)))
-    mask = "".join(f"{mask:02x}" for mask, _ in reversed(beats))
-    lanes = "".join(lanes for _, lanes in reversed(beats))
+    beats = list(BUS.beats(address, size, bytes_of(data[0]) if data else [0] * (1 << size)))
+    mask = "".join(BUS.spell_mask(mask) for mask, _ in reversed(beats))
+    lanes = "".join(BUS.spell_lanes(lanes) for _, lanes in reversed(beats))
     return f"00{opcode:02x}{param:02x}{size:02x}{int(source):04x}{address:016x}{mask:0>64}{lanes:0>512}"
 
 
@@ -89,7 +86,7 @@ def messages_of(rows, link, channel):
             continue
         beats.append(row)
         carries = int(row[3]) < CARRIES if channel == "A" else int(row[3]) == REPLIES["AccessAckData"]
-        if not carries or len(beats) == beat_count(int(row[5])):
+        if not carries or len(beats) == BUS.count(int(row[5]), True):
             messages.append((beats[0], [beat[9] for beat in beats], [int(beat[8] or "0", 16) for beat in beats]))
             beats = []
     return messages

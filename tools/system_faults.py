@@ -1,0 +1,247 @@
+"""System files with their first fault, worked out by hand from docs/FORMATS.md: for each table a head, and parts with the line that a file of
+the head and the part has. An empty line is that of a file without fault."""
+
+import os
+
+# One byte of a port and one master, where a row is about something else.
+MASTER = "[[master]]\nsources = 1\n"
+PORT = "[[port]]\nkind = 'ram'\nbase = 0\nlength = 2\n"
+# As many ports as a system may have.
+DEVICES = ", ".join(f"{{ kind = 'device', base = {at}, length = 1 }}" for at in range(255))
+DOCUMENTS = ("", {
+    "": "missing master",
+    "port": "not TOML",
+    "x = 1\nx = 1": "not TOML",
+    "port = 1": "wrong type of port",
+    "port = {}": "wrong type of port",
+    "port = [{}, 1]": "wrong type of port",
+    "port = []": "missing master",
+    "master = {}": "wrong type of master",
+    "master = [{}, 1]": "wrong type of master",
+    "master = []": "master out of range",
+    # keys of tlx are nothing to a system
+    "slots = 'x'\nmaster = []": "master out of range",
+    # of two faults the first is answered
+    "port = 1\nmaster = []": "wrong type of port",
+    "port = [{}]\nmaster = 1": "missing kind",
+    "port = [{ kind = 'ram' }]": "missing base",
+    # the bus of the file comes before all else
+    "bus = '8'\nport = 1": "wrong type of bus",
+    "bus = 3\nport = 1": "bus out of range",
+    "bus = 16": "missing master",
+    "bus = true": "wrong type of bus",
+    "bus = 8.0": "wrong type of bus",
+})
+NAMES = ("[[port]]\n", {
+    "name = 1": "wrong type of name",
+    "name = 1\nkind = 1": "wrong type of name",
+    "name = ''": "name out of range",
+    "name = 'a b'": "name out of range",
+    "name = 'a/b'": "name out of range",
+    "name = 'é'": "name out of range",
+    "name = 'm0'": "name out of range",
+    "name = 'p12'": "name out of range",
+    f"name = '{'a' * 33}'": "name out of range",
+    # without digits, with others after them, and in capitals these are names
+    **{f"name = '{name}'": "missing kind" for name in ("m", "p", "p1x", "M0", "s0", "Uart_0.rx-9", "a" * 32)},
+})
+PLAIN_PORTS = ("[[port]]\n", {
+    "base = 0\nlength = 1": "missing kind",
+    "kind = 1": "wrong type of kind",
+    "kind = 'RAM'": "kind out of range",
+    "kind = 'Device'": "kind out of range",
+    "kind = 'device'": "missing base",
+    "kind = 'ram'\nlength = 0": "missing base",
+    "kind = 'ram'\nbase = '0'": "wrong type of base",
+    "kind = 'ram'\nbase = -1\nlength = 0": "base out of range",
+    "kind = 'ram'\nbase = 0\nreset = 1": "missing length",
+    "kind = 'ram'\nbase = 0\nlength = true": "wrong type of length",
+    "kind = 'ram'\nbase = 0\nlength = 0\nreset = 1": "length out of range",
+    "kind = 'ram'\nbase = 0\nlength = -1": "length out of range",
+    # the last base and the greatest length
+    "kind = 'ram'\nbase = 9223372036854775807\nlength = 9223372036854775807": "missing master",
+    # the first port's last key comes before the second port's first
+    "kind = 'ram'\nbase = 0\nlength = 1\nbus = 3\n[[port]]": "bus out of range",
+    "kind = 'ram'\nbase = 0\nlength = 1\n[[port]]": "missing kind",
+})
+RANGES = ("[[port]]\nkind = 'ram'\n", {
+    "ranges = 1": "wrong type of ranges",
+    "ranges = [1]": "wrong type of ranges",
+    "ranges = [[]]": "wrong type of ranges",
+    "ranges = [[0]]": "wrong type of ranges",
+    "ranges = [[0, 1, 2]]": "wrong type of ranges",
+    "ranges = [['0', 1]]": "wrong type of ranges",
+    "ranges = [[0, 1.0]]": "wrong type of ranges",
+    # a wrong type comes before a range, whichever stands first
+    "ranges = [[-1, 1], 1]": "wrong type of ranges",
+    "ranges = 1\nbase = 0": "wrong type of ranges",
+    "ranges = []": "ranges out of range",
+    f"ranges = {[[8 * at, 1] for at in range(17)]}": "ranges out of range",
+    f"ranges = {[[8 * at, 1] for at in range(16)]}": "missing master",
+    "ranges = [[-1, 1]]": "ranges out of range",
+    "ranges = [[0, 0]]": "ranges out of range",
+    "ranges = [[0, 1], [8, -1]]": "ranges out of range",
+    # beside a base or a length, which are looked at before
+    "ranges = [[0, 1]]\nbase = 0": "ranges out of range",
+    "ranges = [[0, 1]]\nlength = 1": "ranges out of range",
+    "ranges = 1\nbase = 'x'": "wrong type of base",
+    "ranges = 1\nlength = 0": "length out of range",
+    "ranges = [[0, 1], [8, 8]]": "missing master",
+})
+CONTENTS = ("[[port]]\nkind = 'ram'\nranges = [[0, 2], [8, 8]]\n", {
+    "reset = 1": "wrong type of reset",
+    "reset = '0'": "reset out of range",
+    "reset = '0g'": "reset out of range",
+    "reset = '--'": "reset out of range",
+    # the first range has two bytes, the second more
+    "reset = '000000'": "reset out of range",
+    "reset = 'aBcD'": "missing master",
+    "image = 1": "wrong type of image",
+    "image = ['a']": "wrong type of image",
+    # a file is looked for when the keys have no fault
+    "image = 'none.bin'": "missing master",
+    "unknown = 1": "wrong type of unknown",
+    "unknown = 'true'": "wrong type of unknown",
+    "unknown = true": "missing master",
+    # of two faults that of the earlier key is told
+    "image = 1\nreset = 1": "wrong type of reset",
+    "unknown = 1\nimage = 1": "wrong type of image",
+    "sizes = 1\nunknown = 1": "wrong type of unknown",
+    "order = 1\nsizes = 1": "wrong type of sizes",
+    "bus = 3\norder = 1": "wrong type of order",
+})
+SIZES = (PORT, {
+    "sizes = {}": "missing master",
+    "sizes = []": "wrong type of sizes",
+    "sizes = { get = 1 }": "wrong type of sizes",
+    "sizes = { get = [0] }": "wrong type of sizes",
+    "sizes = { get = [0, 1, 2] }": "wrong type of sizes",
+    "sizes = { intent = [0, '1'] }": "wrong type of sizes",
+    "sizes = { get = [0, 9] }": "sizes out of range",
+    "sizes = { get = [-1, 8] }": "sizes out of range",
+    "sizes = { putfull = [3, 2] }": "sizes out of range",
+    "sizes = { putpart = [8, 8] }": "missing master",
+    "sizes = { arithmetic = [2, 3] }": "missing master",
+    "sizes = { arithmetic = [2, 4] }": "sizes out of range",
+    "sizes = { logical = [1, 3] }": "sizes out of range",
+    "sizes = { logical = [3, 3] }": "missing master",
+    "sizes = { intent = [0, 8] }": "missing master",
+    # a wrong type of any operation comes before a range of any
+    "sizes = { get = [0, 9], intent = 1 }": "wrong type of sizes",
+    # keys that are not named are nothing
+    "sizes = { acquire = 1, Get = 1, atomics = [0, 9] }": "missing master",
+})
+ORDERS_AND_BUSES = (PORT, {
+    "order = 1": "wrong type of order",
+    "order = 'Reply'": "order out of range",
+    "order = 'any'": "order out of range",
+    "order = 'accept'": "missing master",
+    "order = 'reply'": "missing master",
+    "bus = '8'": "wrong type of bus",
+    **{f"bus = {width}": "bus out of range" for width in (0, -8, 3, 128, 2**40)},
+    **{f"bus = {width}": "missing master" for width in (1, 2, 4, 8, 16, 32, 64)},
+})
+MASTERS = ("[[master]]\n", {
+    "name = 1\nsources = 0": "wrong type of name",
+    "name = 'm7'": "name out of range",
+    "first = 'x'": "missing sources",
+    "sources = 'x'\nfirst = 'x'": "wrong type of sources",
+    "sources = 0": "sources out of range",
+    "sources = 65537": "sources out of range",
+    "sources = 1\nfirst = 'x'\nstride = 0": "wrong type of first",
+    "sources = 1\nfirst = -1": "first out of range",
+    "sources = 1\nfirst = 65536": "first out of range",
+    "sources = 1\nfirst = 0\nstride = 'x'": "wrong type of stride",
+    "sources = 1\nfirst = 0\nstride = 0": "stride out of range",
+    "sources = 1\nfirst = 0\nstride = 65536": "stride out of range",
+    # without a first the stride is looked at too
+    "sources = 1\nstride = 0": "stride out of range",
+    "sources = 1\nbus = '4'": "wrong type of bus",
+    "sources = 1\nbus = 12": "bus out of range",
+    "sources = 1\nstride = 0\nbus = 12": "stride out of range",
+    "sources = 1\nbus = 64": "",
+})
+# If one of two masters has a first wide source, the other has to have one.
+TWO_MASTERS = (MASTER, {
+    "[[master]]": "missing sources",
+    "[[master]]\nsources = 1\nfirst = 1": "missing first",
+    # it is missing at the first master, before any fault of the second one
+    "[[master]]\nfirst = 'x'": "missing first",
+    "stride = 0\n[[master]]\nsources = 1\nfirst = 0": "missing first",
+    "first = 0\n[[master]]\nsources = 1\nstride = 0": "missing first",
+    "stride = 7\n[[master]]\nsources = 1\nstride = 'x'": "wrong type of stride",
+})
+# Tables that have no fault each: two names, two ranges or two masters' sources do not go together.
+PARTS = ("", {
+    "master = [{ name = 'x', sources = 1 }, { name = 'x', sources = 1 }]": "two are called x",
+    # the first name that stood before, not the first that comes again
+    "master = [{ name = 'x', sources = 1 }, { name = 'y', sources = 1 }, { name = 'y', sources = 1 }, { name = 'x', sources = 1 }]":
+        "two are called y",
+    "master = [{ name = 'dma', sources = 1 }]\nport = [{ name = 'dma', kind = 'ram', base = 0, length = 1 }]": "two are called dma",
+    "master = [{ name = 'x', sources = 1 }, { name = 'X', sources = 1 }]": "",
+    "master = [{ sources = 257 }]\nport = [{ kind = 'ram', base = 0, length = 2 }, { kind = 'ram', base = 1, length = 1 }]":
+        "ports 0 and 1 overlap",
+    "master = [{ sources = 1 }]\nport = [{ kind = 'ram', base = 0, length = 2 }, { kind = 'ram', base = 2, length = 1 }]": "",
+    "master = [{ sources = 1 }]\nport = [{ kind = 'ram', ranges = [[0, 8], [4, 8]] }]": "ports 0 and 0 overlap",
+    "master = [{ sources = 1 }]\nport = [{ kind = 'ram', base = 9, length = 1 }, { kind = 'ram', ranges = [[0, 8], [9, 1]] }]":
+        "ports 0 and 1 overlap",
+    # ranges of any length, and up to the greatest address that a file can name
+    "master = [{ sources = 1 }]\nport = [{ kind = 'ram', base = 0, length = 65537 }]": "",
+    "master = [{ sources = 1 }]\nport = [{ kind = 'ram', base = 0x80000000, length = 0x400000000, unknown = true }]": "",
+    "master = [{ sources = 1 }]\nport = [{ kind = 'ram', base = 9223372036854775807, length = 9223372036854775807 }]": "",
+    "master = [{ sources = 1 }]\nport = [{ kind = 'ram', base = 0, length = 9223372036854775807 }, "
+    "{ kind = 'device', base = 9223372036854775806, length = 1 }]": "ports 0 and 1 overlap",
+    # blocks of at most 256 sources
+    "master = [{ sources = 256 }]": "",
+    "master = [{ sources = 257 }]": "too many masters or sources",
+    # the last wide source is 65,535
+    "master = [{ sources = 65536, first = 0 }]": "",
+    "master = [{ sources = 65536, first = 1 }]": "too many masters or sources",
+    "master = [{ sources = 4, first = 0, stride = 2 }, { sources = 4, first = 1, stride = 2 }]": "",
+    "master = [{ sources = 4, first = 0 }, { sources = 4, first = 3 }]": "masters 0 and 1 share source 3",
+    # too many is tried over all masters first
+    "master = [{ sources = 1, first = 0 }, { sources = 1, first = 0 }, { sources = 2, first = 65535 }]": "too many masters or sources",
+    f"master = [{', '.join(['{ sources = 1 }'] * 64)}]": "",
+    f"master = [{', '.join(['{ sources = 1 }'] * 65)}]": "master out of range",
+    f"master = [{{ sources = 1 }}]\nport = [{DEVICES}]": "",
+    f"master = [{{ sources = 1 }}]\nport = [{', '.join(['{}'] * 256)}]": "port out of range",
+})
+# The images that stand in the folder, and how many bytes each has.
+FILES = {"two.bin": 2, "three.bin": 3, "empty.bin": 0}
+FOLDER = "folder"
+IMAGES = (f"{MASTER}{PORT}", {
+    "image = 'two.bin'": "",
+    "image = 'empty.bin'": "",
+    "image = './folder/../two.bin'": "",
+    "image = 'three.bin'": "port 0: image is longer than its range",
+    "image = 'none.bin'": "port 0: image can't be read",
+    "image = 'folder'": "port 0: image can't be read",
+    "image = ''": "port 0: image can't be read",
+    "image = 'two.bin/'": "port 0: image can't be read",
+    "image = 'two.bin\\u0000'": "port 0: image can't be read",
+    'image = "two.bin\\u0000"': "port 0: image can't be read",
+    f"image = '{'a' * 5000}'": "port 0: image can't be read",
+    # they are read port by port, after names and before ranges and sources; for devices too
+    "image = 'three.bin'\n[[port]]\nkind = 'ram'\nbase = 0\nlength = 1\nimage = 'none.bin'": "port 0: image is longer than its range",
+    "[[port]]\nkind = 'device'\nbase = 0\nlength = 1\nimage = 'none.bin'": "port 1: image can't be read",
+    "[[port]]\nkind = 'device'\nranges = [[0, 1], [8, 8]]\nimage = 'two.bin'": "port 1: image is longer than its range",
+    "name = 'x'\nimage = 'none.bin'\n[[port]]\nname = 'x'\nkind = 'ram'\nbase = 8\nlength = 1": "two are called x",
+    "image = 'two.bin'\n[[port]]\nkind = 'ram'\nbase = 0\nlength = 1": "ports 0 and 1 overlap",
+    "image = 'none.bin'\n[[master]]\nsources = 257": "port 0: image can't be read",
+})
+TABLES = (DOCUMENTS, NAMES, PLAIN_PORTS, RANGES, CONTENTS, SIZES, ORDERS_AND_BUSES, MASTERS, TWO_MASTERS, PARTS, IMAGES)
+
+
+def rows():
+    """Each file with the line that a program prints for it."""
+    for head, parts in TABLES:
+        for part, line in parts.items():
+            yield f"{head}{part}\n".encode(), line and f"system: {line}"
+
+
+def put_images(folder):
+    """Makes what the rows of images find in their folder."""
+    os.mkdir(os.path.join(folder, FOLDER))
+    for name, count in FILES.items():
+        with open(os.path.join(folder, name), "wb") as image:
+            image.write(bytes(count))
