@@ -57,13 +57,13 @@ class Bus:
                     mask |= 1 << lane
             yield mask, word
 
-    def asks(self, name, size, source, address, data):
+    def asks(self, name, size, source, address, data, idle=lambda: 0):
         """The columns of a request's beats, from its opcode on. A request without bytes is one beat, whose mask has the lanes that it reads."""
         opcode, param = OPERATIONS[name]
         front = f"{opcode},{param},{size},{source},{address:x}"
         if not carries_data(name):
             return [f"{front},{self.spell_mask(self.active(address, size))},,,"]
-        return [f"{front},{self.spell_mask(mask)},{self.spell_lanes(lanes)},," for mask, lanes in self.beats(address, size, data)]
+        return [f"{front},{self.spell_mask(mask)},{self.spell_lanes(lanes)},," for mask, lanes in self.beats(address, size, data, idle)]
 
     def replies(self, reply, size, source, address, data, denied):
         """The columns of a reply's beats, from its opcode on; a denied one that carries bytes is corrupt."""

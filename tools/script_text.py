@@ -3,8 +3,8 @@
 import json
 
 # The keys of a system file and of a script, in the order in which they are written.
-PORT_KEYS = ("name", "kind", "base", "length", "ranges", "reset", "order")
-MASTER_KEYS = ("name", "sources", "first", "stride")
+PORT_KEYS = ("name", "kind", "base", "length", "ranges", "reset", "image", "unknown", "sizes", "order", "bus")
+MASTER_KEYS = ("name", "sources", "first", "stride", "bus")
 
 
 def value_of(key, value):
@@ -13,7 +13,9 @@ def value_of(key, value):
         return f"{value:#x}"
     if key == "ranges":
         return "[" + ", ".join(f"[{base:#x}, {length}]" for base, length in value) + "]"
-    # a string of JSON in ASCII is one of TOML
+    if key == "sizes":
+        return "{" + ", ".join(f" {group} = {list(pair)}" for group, pair in value.items()) + " }"
+    # a string of JSON in ASCII is one of TOML, and so are numbers and flags
     return json.dumps(value)
 
 
@@ -23,8 +25,8 @@ def table_of(name, keys, values):
 
 
 def text_of(system):
-    """The text of a script; `slots` and the `ops` of a master are left out where the system has none."""
-    lines = [f"slots = {system['slots']}"] if "slots" in system else []
+    """The text of a script or of a system file; `slots`, `bus` and the `ops` of a master are left out where the system has none."""
+    lines = [f"{key} = {system[key]}" for key in ("slots", "bus") if key in system]
     for port in system.get("port", []):
         lines += ["", *table_of("port", PORT_KEYS, port)]
     for master in system["master"]:

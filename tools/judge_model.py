@@ -1,0 +1,366 @@
+"""A judge of captures, written from docs/CAPTURE.md and docs/FORMATS.md alone: what tlcheck has to print of a system and a capture, byte by
+byte. It has all rows in memory, and shares no code with the programs."""
+
+import collections
+import re
+
+from bus import Bus, bus_of, reply_of
+from capture import widths
+from common import HEADER, MAX_SIZE, OPERATIONS, REPLIES, carries_data
+from partial_memory import ERROR_PORT, Ask, Reply, Slave, fits, port_of
+
+NAMES = {codes: name for name, codes in OPERATIONS.items()}
+ANSWERS = {code: name for name, code in REPLIES.items()}
+LONGEST_ROW, LONGEST_TIME = 4096, (1 << 64) - 1
+# The channels in the order in which their beats cross within one time.
+TURNS = {("m", "A"): 0, ("p", "A"): 1, ("p", "D"): 2, ("m", "D"): 3}
+
+Row = collections.namedtuple("Row", ["line", "time", "side", "number", "channel", "opcode", "param", "size", "source", "address", "mask", "lanes",
+                                     "denied", "corrupt"])
+
+
+class NoRow(Exception):
+    """A record of a capture that is no row."""
+
+
+class Unlawful(Exception):
+    """The fault of a beat."""
+
+
+def number_of(word, most):
+    """A decimal number up to this one: first its form is judged, then its range."""
+    if not re.fullmatch("[0-9]+", word):
+        raise NoRow("bad number")
+    if int(word) > most:
+        raise NoRow("number out of range")
+    return int(word)
+
+
+def digits_of(word, pattern):
+    """A word of hexadecimal digits of this form."""
+    if not re.fullmatch(pattern, word):
+        raise NoRow("bad number")
+    return word
+
+
+class Link:
+    """A link between a master or a port and the crossbar: its bus, what is in flight by source, and what is under way on A and on D."""
+
+    def __init__(self, side, number, table, width):
+        self.side, self.number, self.bus = side, number, Bus(width)
+        self.name = table.get("name", f"{side}{number}")
+        self.flights, self.asking, self.answering = {}, None, None
+
+
+class Flight:
+    """A request from its first beat to the last beat of its reply."""
+
+    def __init__(self, row, owner, port):
+        self.row, self.owner, self.port = row, owner, port
+        self.name = NAMES[row.opcode, row.param]
+        self.data, self.answer = [], []
+        # the beats that have crossed of the request and of its reply, and the row that the reply began with
+        self.asked, self.answered, self.reply_row = 0, 0, None
+        self.is_whole, self.place, self.expected = False, None, None
+        # with both sides watched: a port's flight knows its master's, and this one what the port gave
+        self.origin, self.has_crossed, self.given = None, False, None
+
+    def ask(self):
+        return Ask(self.name, self.row.address, self.row.size, self.data)
+
+
+class Rows:
+    """Reads the rows of a capture."""
+
+    def __init__(self, links):
+        self.links, self.last, self.seen = links, -1, set()
+
+    def row_of(self, line, text):
+        if len(text) > LONGEST_ROW:
+            raise NoRow("row too long")
+        words = text.split(",")
+        if len(words) != 12:
+            raise NoRow("wrong count of columns")
+        time = number_of(words[0], LONGEST_TIME)
+        named = re.fullmatch("([mp])([0-9]+)", words[1])
+        link = named and self.links.get((named[1], int(named[2])))
+        if not link:
+            raise NoRow("no such link")
+        if words[2] not in ("A", "D"):
+            raise NoRow("no such channel")
+        row = Row(line, time, link.side, link.number, words[2], *self.columns(words, words[2] == "A", link.bus))
+        self.keep_order(row)
+        return row
+
+    def columns(self, words, is_ask, bus):
+        """The columns from the opcode on, each of which is judged before the next."""
+        yield number_of(words[3], 255)
+        yield number_of(words[4], 255) if is_ask else digits_of(words[4], "")
+        yield number_of(words[5], 255)
+        yield number_of(words[6], 65535)
+        yield int(digits_of(words[7], "[0-9a-fA-F]{1,16}"), 16) if is_ask else digits_of(words[7], "")
+        mask = int(digits_of(words[8], f"[0-9a-fA-F]{{{bus.mask_digits}}}"), 16) if is_ask else digits_of(words[8], "")
+        if is_ask and mask >> bus.width:
+            raise NoRow("bad number")
+        yield mask
+        word = digits_of(words[9], f"([0-9a-fA-FxXzZ]{{{bus.data_digits}}})?") or "0" * bus.data_digits
+        pairs = [word[at:at + 2] for at in range(0, len(word), 2)]
+        yield [None if set(pair) & set("xXzZ") else int(pair, 16) for pair in reversed(pairs)]
+        yield digits_of(words[10], "" if is_ask else "[01]") == "1"
+        yield digits_of(words[11], "" if is_ask else "[01]") == "1"
+
+    def keep_order(self, row):
+        """The time does not fall, and a channel of a link has one beat at a time."""
+        if row.time < self.last:
+            raise NoRow("time falls")
+        if row.time > self.last:
+            self.last, self.seen = row.time, set()
+        if (row.side, row.number, row.channel) in self.seen:
+            raise NoRow("two beats at one time")
+        self.seen.add((row.side, row.number, row.channel))
+
+
+def owners_of(masters):
+    """The master and the own source of each wide source."""
+    firsts = [master.get("first") for master in masters]
+    if None in firsts:
+        firsts = widths([master["sources"] for master in masters])
+        masters = [{**master, "stride": 1} for master in masters]
+    return {first + master.get("stride", 1) * source: (number, source)
+            for number, (first, master) in enumerate(zip(firsts, masters)) for source in range(master["sources"])}
+
+
+class Judge:
+    """Watches links of a system, in the views and by the order that the command line names."""
+
+    def __init__(self, system, images, links, order):
+        ports, masters = system.get("port", []), system["master"]
+        self.ports, self.masters, self.view, self.order = ports, masters, links, order
+        self.owners = owners_of(masters)
+        self.links = {(side, number): Link(side, number, table, bus_of(system, table))
+                      for side, tables in (("m", masters), ("p", ports)) for number, table in enumerate(tables)}
+        self.watched = {"masters": "m", "ports": "p"}.get(links, "mp")
+        # what is counted and traced
+        self.told = "p" if links == "ports" else "m"
+        self.slaves = {side: [*(Slave(port, images.get(number, b"")) for number, port in enumerate(ports)), Slave(ERROR_PORT)]
+                       for side in self.watched}
+        self.requests, self.answered, self.lines = 0, 0, []
+
+    def step(self, row):
+        if row.side in self.watched:
+            link = self.links[row.side, row.number]
+            (self.ask if row.channel == "A" else self.reply)(link, row)
+
+    def owner_of(self, link, source):
+        """Whose a source of a link is: a master's own, or at a port's link that of some master; alone, a port has each source."""
+        if link.side == "m":
+            return (link.number, source) if source < self.masters[link.number]["sources"] else None
+        return (None, source) if self.view == "each" else self.owners.get(source)
+
+    def is_in_flight(self, link, source):
+        if link.side == "m" or self.view == "each":
+            return source in link.flights
+        return any(source in other.flights for other in self.links.values() if other.side == "p")
+
+    def crosses(self, link, flight):
+        """Whether what is asked and answered at a link is compared with the other side."""
+        return self.view == "both" and (link.side == "p" or flight.port < len(self.ports))
+
+    def slave_of(self, link, flight):
+        """The slave that a request is served by, as this link shows it; none where the port's link shows it."""
+        return None if link.side == "m" and self.crosses(link, flight) else self.slaves[link.side][flight.port]
+
+    def serve(self, link, flight, moment):
+        """A request takes effect if this is the moment for it."""
+        slave = self.slave_of(link, flight)
+        if slave and (slave.order or self.order) == moment:
+            flight.expected, flight.place = slave.served_next(flight.ask())
+
+    # ---- channel A
+
+    def ask(self, link, row):
+        flight = link.asking
+        self.check_ask(link, row, flight)
+        if flight is None:
+            flight = link.asking = link.flights[row.source] = self.begun(link, row)
+        if carries_data(flight.name):
+            _, lanes = link.bus.lanes(row.address, row.size)
+            flight.data += [row.lanes[lane] if row.mask >> lane & 1 else None for lane in lanes]
+        flight.asked += 1
+        if flight.asked == link.bus.count(row.size, carries_data(flight.name)):
+            link.asking, flight.is_whole = None, True
+            self.end_ask(link, flight)
+
+    def check_ask(self, link, row, flight):
+        """The faults of a beat by itself and beside the first one of its message."""
+        name = NAMES.get((row.opcode, row.param))
+        if flight is None:
+            if name is None:
+                raise Unlawful("unknown opcode")
+            if row.size > MAX_SIZE:
+                raise Unlawful("size out of range")
+        elif any(getattr(row, field) != getattr(flight.row, field) for field in ("opcode", "param", "size", "source", "address")):
+            raise Unlawful("field changed")
+        active = link.bus.active(row.address, row.size)
+        if row.mask != active and not (name == "putpart" and row.mask & ~active == 0):
+            raise Unlawful("wrong mask")
+        if carries_data(name) and any(row.mask >> lane & 1 and byte is None for lane, byte in enumerate(row.lanes)):
+            raise Unlawful("unknown data")
+
+    def begun(self, link, row):
+        """The flight that a request's first beat begins."""
+        owner, port = self.owner_of(link, row.source), port_of(self.ports, row.address, row.size)
+        if owner is None:
+            raise Unlawful("no such source")
+        if self.is_in_flight(link, row.source):
+            raise Unlawful("source in flight")
+        if link.side == "p" and port != link.number:
+            raise Unlawful("not this port's address")
+        return Flight(row, owner, port)
+
+    def end_ask(self, link, flight):
+        if link.side == "p" and self.crosses(link, flight):
+            origin = self.links["m", flight.owner[0]].flights.get(flight.owner[1])
+            if origin is None or not origin.is_whole or origin.has_crossed or origin.ask() != flight.ask():
+                raise Unlawful("no master sent this request")
+            origin.has_crossed, flight.origin = True, origin
+        self.serve(link, flight, "accept")
+        self.requests += link.side == self.told
+
+    # ---- channel D
+
+    def reply(self, link, row):
+        flight, is_first = link.answering, link.answering is None
+        self.check_reply(row, flight)
+        if is_first:
+            flight = link.answering = self.begun_reply(link, row)
+            self.serve(link, flight, "reply")
+        carries = ANSWERS[row.opcode] == "AccessAckData"
+        if carries:
+            _, lanes = link.bus.lanes(flight.row.address, row.size)
+            flight.answer += [0 if row.denied else row.lanes[lane] for lane in lanes]
+            if None in flight.answer and not self.slaves[link.side][flight.port].may_answer_unknown():
+                raise Unlawful("unknown data")
+        flight.answered += 1
+        if flight.answered == link.bus.count(row.size, carries):
+            link.answering = None
+            self.end_reply(link, flight, Reply(row.denied, flight.answer))
+            del link.flights[row.source]
+
+    def check_reply(self, row, flight):
+        if flight is None:
+            if row.opcode not in ANSWERS:
+                raise Unlawful("unknown opcode")
+            if row.size > MAX_SIZE:
+                raise Unlawful("size out of range")
+        elif any(getattr(row, field) != getattr(flight.reply_row, field) for field in ("opcode", "size", "source", "denied")):
+            raise Unlawful("field changed")
+        if row.corrupt and not (row.denied and ANSWERS[row.opcode] == "AccessAckData"):
+            raise Unlawful("wrong corrupt flag")
+
+    def begun_reply(self, link, row):
+        """The flight that a reply's first beat answers."""
+        if self.owner_of(link, row.source) is None:
+            raise Unlawful("no such source")
+        flight = link.flights.get(row.source)
+        if flight is None:
+            raise Unlawful("reply without request")
+        if not flight.is_whole:
+            raise Unlawful("reply before its request ended")
+        if row.size != flight.row.size:
+            raise Unlawful("size of another request")
+        if ANSWERS[row.opcode] != reply_of(flight.name):
+            raise Unlawful("opcode of another operation")
+        flight.reply_row = row
+        return flight
+
+    def end_reply(self, link, flight, reply):
+        if link.side == "m" and self.crosses(link, flight):
+            if flight.given != reply:
+                raise Unlawful("the port gave no such reply")
+        elif not fits(flight.expected, reply):
+            raise Unlawful(f"wrong reply: expected {reply_text(flight.name, flight.expected)}, captured {reply_text(flight.name, reply)}")
+        if flight.origin:
+            flight.origin.given, flight.origin.place = reply, flight.place
+        if link.side == self.told:
+            self.answered += 1
+            master, source = flight.owner
+            self.lines.append(f"m{master} s{source} {ask_text(flight)} -> {reply_text(flight.name, reply)} p{flight.port} #{flight.place}")
+
+    # ---- the end
+
+    def left(self):
+        """The requests that are left at the end, the oldest first."""
+        for side in "p" if self.view == "ports" else "m" if self.view in ("masters", "each") else "mp":
+            flights = [flight for link in self.links.values() if link.side == side for flight in link.flights.values()]
+            if flights:
+                return sorted(flights, key=lambda flight: turn_of(flight.row))
+        return []
+
+
+def turn_of(row):
+    """Where a row stands in the order in which beats cross."""
+    return row.time, TURNS[row.side, row.channel], row.number
+
+
+def bytes_text(data, unset):
+    return "".join(unset if byte is None else f"{byte:02x}" for byte in data)
+
+
+def ask_text(flight):
+    data = f" {bytes_text(flight.data, '--')}" if flight.data else ""
+    return f"{flight.name} {flight.row.address:#x} {flight.row.size}{data}"
+
+
+def reply_text(name, reply):
+    data = f" {bytes_text(reply.data, 'xx')}" if reply.data else ""
+    return f"{reply_of(name)}{' denied' * reply.denied}{data}"
+
+
+def verdict_of(judge, rows, last_line):
+    """The last line of what is written, and the status; the judge has the lines of a trace."""
+    judged, group, reader = 0, [], Rows(judge.links)
+
+    def judge_group():
+        for row in sorted(group, key=turn_of):
+            try:
+                judge.step(row)
+            except Unlawful as fault:
+                raise Unlawful(f"unlawful: line {row.line}, time {row.time}, {judge.links[row.side, row.number].name} {row.channel}: "
+                               f"{fault}") from None
+        group.clear()
+
+    # empty lines are no rows, in front of the header neither
+    records = [(line, text) for line, text in enumerate(rows, 1) if text]
+    line = records[0][0] if records else 1
+    try:
+        if not records or records[0][1] != HEADER:
+            raise NoRow("wrong header")
+        for line, text in records[1:]:
+            row = reader.row_of(line, text)
+            judged += 1
+            if group and group[0].time < row.time:
+                judge_group()
+            group.append(row)
+        judge_group()
+    except NoRow as fault:
+        return f"capture: line {line}: {fault}", 1
+    except Unlawful as fault:
+        return str(fault), 3
+    return last_line(judged)
+
+
+def judged(system, images, capture, links="both", order="accept", trace=False, complete=False):
+    """What tlcheck writes of a capture with these options, and its status. `images` has the bytes of the ports that have an image."""
+    judge = Judge(system, images, links, order)
+
+    def last_line(count):
+        left = judge.left() if complete else []
+        if left:
+            (master, source), row = left[0].owner, left[0].row
+            return (f"incomplete: {len(left)} requests without reply, the first: line {row.line}, time {row.time}, m{master} s{source} "
+                    f"{left[0].name} {row.address:#x} {row.size}", 3)
+        return f"lawful: {count} rows, {judge.requests} requests, {judge.answered} answered", 0
+
+    last, status = verdict_of(judge, capture.replace("\r\n", "\n").split("\n"), last_line)
+    return "".join(line + "\n" for line in [*(judge.lines if trace else []), last]), status

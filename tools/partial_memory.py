@@ -1,0 +1,116 @@
+"""What a slave of a system file answers, worked out from docs/FORMATS.md: a memory each of whose bytes is known or unknown, a device, or the
+error port. An unknown byte is None; so is a byte that a put leaves unset. This shares no code with the programs."""
+
+import collections
+
+from bus import reply_of
+from common import GROUP_OF, MAX_SIZE
+
+# A request: its operation, and its bytes where it carries some. A reply: whether it is denied, and its bytes where it carries some.
+Ask = collections.namedtuple("Ask", ["name", "address", "size", "data"])
+Reply = collections.namedtuple("Reply", ["denied", "data"])
+
+ALL = (0, MAX_SIZE)
+# The least and the greatest size of each group of operations that a kind of slave supports.
+SUPPORT = {
+    "ram": {"get": ALL, "putfull": ALL, "putpart": ALL, "arithmetic": (2, 3), "logical": (2, 3), "intent": ALL},
+    "rom": {"get": ALL, "intent": ALL},
+    "regs": {"get": (2, 3), "putfull": (2, 3)},
+    "w1c": {"get": (2, 3), "putfull": (2, 3)},
+    "error": {},
+}
+LOGIC = {"xor": lambda old, new: old ^ new, "or": lambda old, new: old | new, "and": lambda old, new: old & new, "swap": lambda old, new: new}
+
+
+def signed(number, bits):
+    return number - (1 << bits) if number >> bits - 1 else number
+
+
+def combined(name, old, operand):
+    """The bytes that an atomic leaves of an old window, all of whose bytes are known."""
+    bits = 8 * len(old)
+    before, given = int.from_bytes(old, "little"), int.from_bytes(operand, "little")
+    if name in LOGIC:
+        made = LOGIC[name](before, given)
+    elif name == "add":
+        made = (before + given) % (1 << bits)
+    else:
+        choose, key = min if name.startswith("min") else max, (lambda value: value) if name.endswith("u") else lambda value: signed(value, bits)
+        made = choose(before, given, key=key)
+    return list(made.to_bytes(len(old), "little"))
+
+
+def ranges_of(port):
+    """The bases and lengths of a port."""
+    return [tuple(pair) for pair in port["ranges"]] if "ranges" in port else [(port["base"], port["length"])]
+
+
+def port_of(ports, address, size):
+    """The number of the port one of whose ranges holds all bytes of a request; that of the error port if none does."""
+    for number, port in enumerate(ports):
+        if any(base <= address and address + (1 << size) <= base + length for base, length in ranges_of(port)):
+            return number
+    return len(ports)
+
+
+ERROR_PORT = {"kind": "error", "base": 0, "length": 0}
+
+
+class Slave:
+    """A slave from reset on, and how many requests it has served."""
+
+    def __init__(self, port, image=b""):
+        self.kind, self.sizes, self.order = port["kind"], port.get("sizes"), port.get("order")
+        self.is_unknown, self.served = port.get("unknown", False), 0
+        base = ranges_of(port)[0][0]
+        self.cells = {base + place: byte for given in (image, bytes.fromhex(port.get("reset", ""))) for place, byte in enumerate(given)}
+
+    def may_answer_unknown(self):
+        return self.kind == "device" or self.is_unknown
+
+    def supports(self, name, size):
+        table = SUPPORT[self.kind] if self.sizes is None else self.sizes
+        least, greatest = table.get(GROUP_OF[name], (1, 0))
+        return least <= size <= greatest
+
+    def window(self, ask):
+        return [self.cells.get(at, None if self.is_unknown else 0) for at in range(ask.address, ask.address + (1 << ask.size))]
+
+    def served_next(self, ask):
+        """What a request expects after all before it, and its place among them; of a device it expects nothing."""
+        self.served += 1
+        return (None if self.kind == "device" else self.answer(ask)), self.served - 1
+
+    def answer(self, ask):
+        """What a memory answers to a request, which then has taken effect."""
+        carries = reply_of(ask.name) == "AccessAckData"
+        if not self.supports(ask.name, ask.size) or ask.address % (1 << ask.size):
+            return Reply(True, [0] * (1 << ask.size) if carries else [])
+        old = self.window(ask)
+        if ask.data:
+            self.cells.update(zip(range(ask.address, ask.address + len(old)), self.left_by(ask, old)))
+        return Reply(False, old if carries else [])
+
+    def left_by(self, ask, old):
+        """The bytes that a put or an atomic leaves."""
+        if not ask.name.startswith("put"):
+            is_known = None not in old
+            return combined(ask.name, old, ask.data) if is_known else ask.data if ask.name == "swap" else [None] * len(old)
+        if self.kind == "w1c":
+            return [cleared(before, given) for before, given in zip(old, ask.data)]
+        return [before if given is None else given for before, given in zip(old, ask.data)]
+
+
+def cleared(before, given):
+    """A byte of which these bits are cleared: it is known if it was, or if all are."""
+    if given is None:
+        return before
+    return 0 if given == 255 else None if before is None else before & ~given
+
+
+def fits(expected, captured):
+    """Whether a captured reply is one that is expected: as to its unknown bytes it is free."""
+    if expected is None:
+        return True
+    return expected.denied == captured.denied and (captured.denied or all(
+        byte is None or byte == other for byte, other in zip(expected.data, captured.data)))

@@ -1,0 +1,316 @@
+"""Random systems, and random runs of a crossbar of such a system: what its monitors capture. Requests overlap, messages of different links
+interleave, and what carries no byte is anything. With a planted bug the run is one of another crossbar, mostly no lawful one."""
+
+import collections
+
+from bus import Bus, bus_of, reply_of
+from common import BUSES, GROUPS, KINDS, OPERATIONS, carries_data
+from judge_model import owners_of
+from partial_memory import ERROR_PORT, Ask, Reply, Slave, port_of, ranges_of
+
+# What a crossbar or a slave of a run may do wrong.
+BUGS = ("byte of a reply at its port", "byte of a reply at its master", "byte of a request", "denial of a reply", "lost put", "sent twice",
+        "sent to another port", "early reply", "reply to another source", "unknown byte of a reply")
+
+
+def sizes_of(rng):
+    """A table of sizes, in which some operations are left out."""
+    table = {}
+    for group in GROUPS:
+        if rng.random() < 0.8:
+            sizes = (2, 3) if group in ("arithmetic", "logical") else range(9)
+            table[group] = sorted([rng.choice(sizes), rng.choice(sizes)])
+    return table
+
+
+def port_of_system(rng, number, images):
+    """A port, at addresses that are its own."""
+    base = 0x10000 * (number + 1)
+    port = {"kind": rng.choice([*KINDS, "ram", "ram", "device"])}
+    lengths = [rng.choice([1, 8, 16, 60, 64, 256, 4096]) for _ in range(rng.choice([1, 1, 1, 2, 3]))]
+    ranges = [[base + 0x4000 * place + rng.choice([0, 0, 0, 4, 9]), length] for place, length in enumerate(lengths)]
+    if len(ranges) == 1 and rng.random() < 0.7:
+        ranges = [[ranges[0][0], rng.choice([lengths[0], 0xc000])]]
+        port.update(base=ranges[0][0], length=ranges[0][1])
+    else:
+        port["ranges"] = ranges
+    if number == 0 and rng.random() < 0.2:
+        # memory as large as a file can name, behind all others
+        port = {"kind": "ram", "base": 0x80000000, "length": rng.choice([2**30, 2**40, 2**62])}
+        ranges = [[port["base"], port["length"]]]
+    most = min(ranges[0][1], 64)
+    if rng.random() < 0.5:
+        port["reset"] = rng.randbytes(rng.randint(1, most)).hex()
+    if rng.random() < 0.4:
+        images[number] = rng.randbytes(rng.randrange(1 + rng.choice([most, min(ranges[0][1], 5000)])))
+        port["image"] = f"image_{number}.bin"
+    if rng.random() < 0.5:
+        port["unknown"] = rng.random() < 0.8
+    if rng.random() < 0.3:
+        port["sizes"] = sizes_of(rng)
+    if rng.random() < 0.3:
+        port["order"] = rng.choice(["accept", "reply"])
+    if rng.random() < 0.3:
+        port["name"] = f"slave_{number}"
+    return port
+
+
+def sources_of(rng, masters):
+    """Gives the masters wide sources: in blocks, by the low bits, or at random places."""
+    how = rng.choice(["blocks", "low bits", "places"])
+    end, stride = rng.randrange(50), len(masters) + rng.randrange(4)
+    for number, master in enumerate(masters):
+        if how == "low bits":
+            master.update(first=number, stride=stride)
+        elif how == "places":
+            master["first"] = end
+            end += master["sources"] + rng.randrange(50)
+
+
+def system_of(rng):
+    """A random system, and the bytes of each image by its port."""
+    images, system = {}, {"bus": rng.choice(BUSES)}
+    system["port"] = [port_of_system(rng, number, images) for number in range(rng.randint(1, 4))]
+    system["master"] = [{"sources": rng.randint(1, 4)} for _ in range(rng.randint(1, 3))]
+    sources_of(rng, system["master"])
+    if rng.random() < 0.4:
+        # some links have width adapters
+        for table in system["port"] + system["master"]:
+            if rng.random() < 0.5:
+                table["bus"] = rng.choice(BUSES)
+    elif system["bus"] == 8 and rng.random() < 0.5:
+        del system["bus"]
+    for number, master in enumerate(system["master"]):
+        if rng.random() < 0.3:
+            master["name"] = f"host.{number}"
+    return system, images
+
+
+def address_of(rng, ports, size):
+    """An address: mostly one of a port's, and mostly a multiple of the size."""
+    if rng.random() < 0.08:
+        return rng.choice([0x8000, 0, 2**64 - (1 << size), 0x80000000 - (1 << size)])
+    base, length = rng.choice(ranges_of(rng.choice(ports)))
+    offset = rng.choice([rng.randrange(min(length, 64)), rng.randrange(min(length, 64)), max(0, length - rng.randint(1, 16))])
+    return base + offset if rng.random() < 0.1 else (base + offset) >> size << size
+
+
+def ask_of(rng, ports):
+    """A random request."""
+    name = rng.choice([*OPERATIONS, "get", "get", "get", "putfull", "putfull", "putpart", "putpart"])
+    atomic = [2, 2, 3] if OPERATIONS[name][0] in (2, 3) and rng.random() < 0.9 else [0, 1, 2, 2, 2, 3, 3, 3, 4, 5]
+    size = rng.choice(atomic) if rng.random() < 0.97 else rng.randrange(6, 9)
+    hole = 0.3 if name == "putpart" else 0
+    data = [None if rng.random() < hole else rng.choice([0, 255, rng.randrange(256)]) for _ in range(1 << size)] if carries_data(name) else []
+    return Ask(name, address_of(rng, ports, size), size, data)
+
+
+class Message:
+    """The beats of a message that are still to cross a link, and what is done when one of them has."""
+
+    def __init__(self, rows, may_end, on_end):
+        self.rows, self.may_end, self.on_end = collections.deque(rows), may_end, on_end
+
+
+class Channel:
+    """A channel of a link: the message under way there, and those that may begin."""
+
+    def __init__(self, front):
+        self.front, self.message, self.waiting = front, None, []
+
+    def beat(self, rng):
+        """The row of a beat that crosses now, if one does."""
+        if self.message is None and self.waiting and rng.random() < 0.7:
+            self.message = self.waiting.pop(rng.randrange(len(self.waiting)))()
+        message = self.message
+        if message is None or rng.random() < 0.2 or len(message.rows) == 1 and not message.may_end():
+            return None
+        row = message.rows.popleft()
+        if not message.rows:
+            self.message = None
+            message.on_end()
+        return f"{self.front},{row}"
+
+
+class Transfer:
+    """A request on its way through the crossbar and back."""
+
+    def __init__(self, ask, master, source, port):
+        self.ask, self.master, self.source, self.port = ask, master, source, port
+        self.has_left, self.reply, self.has_come = False, None, False
+
+
+class Run:
+    """A run of a crossbar: each master's requests go to their port, are served there in its order, and their replies come back. One that
+    renumbers sources has one request at a time: else ports may take requests in another order than they leave the masters."""
+
+    def __init__(self, rng, system, images, order, bug=None, is_renumbering=False):
+        self.rng, self.ports, self.masters, self.order, self.is_renumbering = rng, system["port"], system["master"], order, is_renumbering
+        self.bug = bug
+        self.buses = {"m": [Bus(bus_of(system, master)) for master in self.masters], "p": [Bus(bus_of(system, port)) for port in self.ports]}
+        self.slaves = [*(Slave(port, images.get(number, b"")) for number, port in enumerate(self.ports)), Slave(ERROR_PORT)]
+        self.channels = {(side, number, channel): Channel(f"{side}{number},{channel}")
+                         for side, channel in (("m", "A"), ("p", "A"), ("p", "D"), ("m", "D")) for number in range(len(self.buses[side]))}
+        self.wides = {owner: wide for wide, owner in owners_of(self.masters).items()}
+        self.free = [set(range(master["sources"])) for master in self.masters]
+        self.freed, self.used = [], [set() for _ in self.ports]
+        self.asks = [[ask_of(rng, self.ports) for _ in range(rng.randint(1, 8))] for _ in self.masters]
+
+    def has_bug(self, name, chance=0.3):
+        """Whether a bug shows itself now, which it does once."""
+        shows = self.bug == name and self.rng.random() < chance
+        if shows:
+            self.bug = None
+        return shows
+
+    def junk(self):
+        return None if self.rng.random() < 0.1 else self.rng.randrange(256)
+
+    def rows(self):
+        """All rows of the run, with their times."""
+        time, rows = self.rng.randrange(100), []
+        for _ in range(2000):
+            self.offer()
+            crossed = [row for channel in self.channels.values() if (row := channel.beat(self.rng))]
+            self.rng.shuffle(crossed)
+            rows += [f"{time},{row}" for row in crossed]
+            for master, source in self.freed:
+                self.free[master].add(source)
+            self.freed.clear()
+            time += self.rng.choice([1, 1, 2, 5])
+            if not any(self.asks) and self.is_idle():
+                break
+        return rows
+
+    def is_idle(self):
+        """Whether no request is in flight."""
+        return all(len(free) == master["sources"] for free, master in zip(self.free, self.masters))
+
+    def offer(self):
+        """Has masters with a free source ask next."""
+        for master, asks in enumerate(self.asks):
+            channel = self.channels["m", master, "A"]
+            is_busy = self.is_renumbering and not self.is_idle()
+            if asks and self.free[master] and not channel.message and not channel.waiting and not is_busy:
+                source = self.rng.choice(sorted(self.free[master]))
+                self.free[master].remove(source)
+                ask = asks.pop()
+                transfer = Transfer(ask, master, source, port_of(self.ports, ask.address, ask.size))
+                channel.waiting.append(lambda transfer=transfer: self.ask_at_master(transfer))
+
+    def ask_at_master(self, transfer):
+        port = transfer.port
+        if port < len(self.ports):
+            if self.has_bug("sent to another port"):
+                port = self.rng.randrange(len(self.ports))
+            for _ in range(1 + self.has_bug("sent twice")):
+                self.channels["p", port, "A"].waiting.append(lambda: self.ask_at_port(transfer, port))
+
+        def leave():
+            transfer.has_left = True
+            if transfer.port == len(self.ports):
+                self.accept(transfer)
+
+        return Message(self.columns("m", transfer.master, transfer.ask, transfer.source), lambda: True, leave)
+
+    def columns(self, side, number, ask, source):
+        return self.buses[side][number].asks(ask.name, ask.size, source, ask.address, ask.data, self.junk)
+
+    def wide_of(self, transfer, port):
+        """The source at the port's link: that of its owner, or a free one of the port's own."""
+        if not self.is_renumbering:
+            return self.wides[transfer.master, transfer.source]
+        wide = self.rng.choice([number for number in (0, 1, 2, 3, 4, 5, 6, 7, 300, 65535, *range(20, 40)) if number not in self.used[port]])
+        self.used[port].add(wide)
+        return wide
+
+    def ask_at_port(self, transfer, port):
+        wide, ask = self.wide_of(transfer, port), transfer.ask
+        if ask.data and self.has_bug("byte of a request"):
+            ask = ask._replace(data=self.spoiled(ask.data))
+        early = self.has_bug("early reply")
+        if early:
+            self.reply_begins(transfer, port, wide, self.slave_reply(transfer, port))
+
+        def end():
+            if not early:
+                self.accept(transfer, port, wide)
+
+        return Message(self.columns("p", port, ask, wide), lambda: transfer.has_left, end)
+
+    def accept(self, transfer, port=None, wide=None):
+        """The last beat of a request has crossed at its port's link, or at its master's if it is the error port's."""
+        number = transfer.port if port is None else port
+        if (self.slaves[number].order or self.order) == "accept":
+            reply = self.slave_reply(transfer, number)
+            self.reply_begins(transfer, port, wide, reply)
+        else:
+            self.reply_begins(transfer, port, wide, None)
+
+    def slave_reply(self, transfer, number):
+        """What the slave answers: bytes that nobody knows are anything, and a device answers what it likes."""
+        rng, slave = self.rng, self.slaves[number]
+        if transfer.ask.data and self.has_bug("lost put"):
+            return Reply(False, slave.window(transfer.ask) if reply_of(transfer.ask.name) == "AccessAckData" else [])
+        expected, _ = slave.served_next(transfer.ask)
+        carries = reply_of(transfer.ask.name) == "AccessAckData"
+        if expected is None:
+            denied = rng.random() < 0.2
+            expected = Reply(denied, [0 if denied else None] * (carries << transfer.ask.size))
+        reply = Reply(expected.denied, [self.junk() if byte is None else byte for byte in expected.data])
+        if self.has_bug("denial of a reply"):
+            reply = Reply(not reply.denied, [0] * len(reply.data) if reply.denied or rng.random() < 0.5 else reply.data)
+            reply = reply._replace(data=[0] * len(reply.data) if reply.denied else reply.data)
+        if reply.data and not reply.denied and self.has_bug("byte of a reply at its port"):
+            reply = reply._replace(data=self.spoiled(reply.data))
+        if reply.data and not reply.denied and self.has_bug("unknown byte of a reply"):
+            reply = reply._replace(data=self.spoiled(reply.data, None))
+        return reply
+
+    def spoiled(self, data, byte=0):
+        """The bytes with one of them changed."""
+        at = self.rng.randrange(len(data))
+        other = None if byte is None else ((data[at] or 0) + self.rng.randrange(1, 256)) % 256
+        return [*data[:at], other, *data[at + 1:]]
+
+    def reply_begins(self, transfer, port, wide, reply):
+        """A reply waits for its turn: at the port's link, or at the master's if it is the error port's."""
+        if port is None:
+            self.channels["m", transfer.master, "D"].waiting.append(lambda: self.reply_at_master(transfer, reply))
+        else:
+            self.channels["p", port, "D"].waiting.append(lambda: self.reply_at_port(transfer, port, wide, reply))
+
+    def reply_columns(self, side, number, transfer, source, reply):
+        bus, ask = self.buses[side][number], transfer.ask
+        kind = reply_of(ask.name)
+        data = [None] * (1 << ask.size) if reply.denied else reply.data
+        words = [*bus.beats(ask.address, ask.size, data, self.junk)] if kind == "AccessAckData" else [(0, [])]
+        rows = []
+        for beat, (_, lanes) in enumerate(words):
+            if not reply.denied and kind == "AccessAckData":
+                places, active = bus.lanes(ask.address, ask.size, beat)
+                for place, lane in zip(places, active):
+                    lanes[lane] = reply.data[place]
+            corrupt = int(reply.denied and kind == "AccessAckData" and self.rng.random() < 0.7)
+            code = {"AccessAck": 0, "AccessAckData": 1, "HintAck": 2}[kind]
+            rows.append(f"{code},,{ask.size},{source},,,{bus.spell_lanes(lanes)},{int(reply.denied)},{corrupt}")
+        return rows
+
+    def reply_at_port(self, transfer, port, wide, reply):
+        transfer.reply = reply = reply or self.slave_reply(transfer, port)
+        self.channels["m", transfer.master, "D"].waiting.append(lambda: self.reply_at_master(transfer, reply))
+
+        def end():
+            transfer.has_come = True
+            self.used[port].discard(wide)
+
+        source = self.rng.choice([wide, wide + 1, 3]) if self.has_bug("reply to another source") else wide
+        return Message(self.reply_columns("p", port, transfer, source, reply), lambda: True, end)
+
+    def reply_at_master(self, transfer, reply):
+        if transfer.port == len(self.ports):
+            reply, transfer.has_come = reply or self.slave_reply(transfer, transfer.port), True
+        if reply.data and not reply.denied and self.has_bug("byte of a reply at its master"):
+            reply = reply._replace(data=self.spoiled(reply.data))
+        return Message(self.reply_columns("m", transfer.master, transfer, transfer.source, reply), lambda: transfer.has_come,
+                       lambda: self.freed.append((transfer.master, transfer.source)))
