@@ -37,6 +37,14 @@ GROUP_OF = {name: group for group, names in GROUPS.items() for name in names}
 HEADER = "time,link,channel,opcode,param,size,source,address,mask,data,denied,corrupt"
 
 
+def system_of(front):
+    """The system file of an example's capture FRONT.csv: its own, that of all captures whose names begin with its first word, or its folder's."""
+    for path in (front + ".toml", front.split("_")[0] + ".toml"):
+        if os.path.exists(path):
+            return path
+    return os.path.join(os.path.dirname(front), "system.toml")
+
+
 def carries_data(name):
     """Whether requests of this operation carry bytes: the two puts and the atomics do."""
     return OPERATIONS[name][0] < 4
