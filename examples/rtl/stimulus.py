@@ -2,23 +2,21 @@
 """What the bench reads of a tlx script: examples/rtl/stimulus.py SCRIPT DIRECTORY.
 
 It writes there system.vh (the parameters of the system), ram_0.hex and ram_1.hex (what the RAMs hold at reset), and operations_0.hex
-and operations_1.hex (what the masters do). The script has two ports of kind ram and two masters. `trace_of` is the way back: the lines
-that `tlx --serial` prints, read off a capture.
+and operations_1.hex (what the masters do). The script has two ports of kind ram and two masters, and one bus for all links. `trace_of` is the way
+back: the lines that `tlx --serial` prints, read off a capture.
 """
 
 import os
 import sys
 import tomllib
 
-LANES = 8
 TOP = os.path.dirname(os.path.dirname(os.path.dirname(os.path.abspath(__file__))))
 sys.path.insert(0, os.path.join(TOP, "tools"))
 sys.dont_write_bytecode = True
-from bus import Bus  # noqa: E402
+from bus import Bus, bus_of  # noqa: E402
 from capture import bytes_of, widths  # noqa: E402, F401
 from common import HEADER, OPERATIONS, REPLIES  # noqa: E402, F401
 
-BUS = Bus(LANES)
 NAMES = {codes: name for name, codes in OPERATIONS.items()}
 ANSWERS = {code: name for name, code in REPLIES.items()}
 CARRIES = 4
@@ -26,38 +24,38 @@ CARRIES = 4
 WAIT, END = 1, 2
 
 
-def operation_of(line):
-    """A line of a script as a line of operations_N.hex."""
+def operation_of(line, bus):
+    """A line of a script as a line of operations_N.hex: the mask and the data of a message have 256 bytes, its first beat lowest."""
     if line.strip() == "wait":
         return f"{WAIT:02x}{0:0602x}"
     source, name, address, size, *data = line.split()
     address, size = int(address, 0), int(size)
     opcode, param = OPERATIONS[name]
-    beats = list(BUS.beats(address, size, bytes_of(data[0]) if data else [0] * (1 << size)))
-    mask = "".join(BUS.spell_mask(mask) for mask, _ in reversed(beats))
-    lanes = "".join(BUS.spell_lanes(lanes) for _, lanes in reversed(beats))
-    return f"00{opcode:02x}{param:02x}{size:02x}{int(source):04x}{address:016x}{mask:0>64}{lanes:0>512}"
+    beats = list(bus.beats(address, size, bytes_of(data[0]) if data else [0] * (1 << size)))
+    mask = sum(mask << bus.width * beat for beat, (mask, _) in enumerate(beats))
+    lanes = "".join(bus.spell_lanes(lanes) for _, lanes in reversed(beats))
+    return f"00{opcode:02x}{param:02x}{size:02x}{int(source):04x}{address:016x}{mask:064x}{lanes:0>512}"
 
 
-def words_of(port):
+def words_of(port, lanes):
     """The words of a RAM at reset, from the one that its first byte lies in."""
-    skipped, given = port["base"] % LANES, bytes.fromhex(port.get("reset", ""))
+    skipped, given = port["base"] % lanes, bytes.fromhex(port.get("reset", ""))
     held = bytes(skipped) + given + bytes(port["length"] - len(given))
-    held += bytes(-len(held) % LANES)
-    return [held[at:at + LANES][::-1].hex() for at in range(0, len(held), LANES)]
+    held += bytes(-len(held) % lanes)
+    return [held[at:at + lanes][::-1].hex() for at in range(0, len(held), lanes)]
 
 
 def write_stimulus(script, directory):
     """Writes what the bench reads of a script."""
     system = tomllib.loads(script)
-    counts = [master["sources"] for master in system["master"]]
-    defines = {"FIRST_1": widths(counts)[1], "SOURCES_0": counts[0], "SOURCES_1": counts[1]}
+    counts, bus = [master["sources"] for master in system["master"]], Bus(bus_of(system))
+    defines = {"DATA_BITS": 8 * bus.width, "FIRST_1": widths(counts)[1], "SOURCES_0": counts[0], "SOURCES_1": counts[1]}
     files = {}
     for n, port in enumerate(system["port"]):
         defines[f"BASE_{n}"], defines[f"LENGTH_{n}"] = f"64'h{port['base']:x}", f"64'h{port['length']:x}"
-        files[f"ram_{n}.hex"] = words_of(port)
+        files[f"ram_{n}.hex"] = words_of(port, bus.width)
     for n, master in enumerate(system["master"]):
-        files[f"operations_{n}.hex"] = [operation_of(line) for line in master["ops"]] + [f"{END:02x}{0:0602x}"]
+        files[f"operations_{n}.hex"] = [operation_of(line, bus) for line in master["ops"]] + [f"{END:02x}{0:0602x}"]
         defines[f"OPERATIONS_{n}"] = len(master["ops"])
     files["system.vh"] = [f"`define {name} {value}" for name, value in defines.items()]
     for name, lines in files.items():
@@ -65,20 +63,17 @@ def write_stimulus(script, directory):
             file.writelines(line + "\n" for line in lines)
 
 
-def lanes_of(address, size, words, masks=None):
+def lanes_of(bus, address, size, words, masks=None):
     """The bytes of a message in the order of their addresses, spelled as a trace does, from the words of its beats."""
-    length = 1 << size
-    first = address & ~(length - 1)
     spelled = ""
-    for byte in range(length):
-        lane = (first + byte) % LANES
-        beat = byte // LANES
-        set_ = masks is None or masks[beat] >> lane & 1
-        spelled += words[beat][14 - 2 * lane:16 - 2 * lane] if set_ else "--"
+    for beat, word in enumerate(words):
+        pairs = [word[at:at + 2] for at in range(0, len(word), 2)][::-1]
+        _, lanes = bus.lanes(address, size, beat)
+        spelled += "".join(pairs[lane] if masks is None or masks[beat] >> lane & 1 else "--" for lane in lanes)
     return spelled
 
 
-def messages_of(rows, link, channel):
+def messages_of(bus, rows, link, channel):
     """The messages of a channel of a link: the first beat's columns, the words, the masks and the line of the first beat."""
     messages, beats = [], []
     for row in rows:
@@ -86,34 +81,34 @@ def messages_of(rows, link, channel):
             continue
         beats.append(row)
         carries = int(row[3]) < CARRIES if channel == "A" else int(row[3]) == REPLIES["AccessAckData"]
-        if not carries or len(beats) == BUS.count(int(row[5]), True):
+        if not carries or len(beats) == bus.count(int(row[5]), True):
             messages.append((beats[0], [beat[9] for beat in beats], [int(beat[8] or "0", 16) for beat in beats]))
             beats = []
     return messages
 
 
-def request_text(message):
+def request_text(bus, message):
     """A request as a trace spells it."""
     first, words, masks = message
     name, address, size = NAMES[int(first[3]), int(first[4])], int(first[7], 16), int(first[5])
-    data = " " + lanes_of(address, size, words, masks) if int(first[3]) < CARRIES else ""
+    data = " " + lanes_of(bus, address, size, words, masks) if int(first[3]) < CARRIES else ""
     return f"{name} 0x{address:x} {size}{data}"
 
 
-def reply_text(message, address, size):
+def reply_text(bus, message, address, size):
     """A reply as a trace spells it."""
     first, words, _ = message
     denied = first[10] == "1"
     if int(first[3]) != REPLIES["AccessAckData"]:
         return ANSWERS[int(first[3])] + " denied" * denied
-    data = "00" * (1 << size) if denied else lanes_of(address, size, words)
+    data = "00" * (1 << size) if denied else lanes_of(bus, address, size, words)
     return ANSWERS[int(first[3])] + " denied" * denied + " " + data
 
 
 def trace_of(capture, system):
     """Master 0's requests in a capture with their replies, in the order of issue, as `tlx --serial` prints them; no other runs."""
-    rows = [line.split(",") for line in capture.splitlines()[1:]]
-    asks, replies = messages_of(rows, "m0", "A"), messages_of(rows, "m0", "D")
+    rows, bus = [line.split(",") for line in capture.splitlines()[1:]], Bus(bus_of(system))
+    asks, replies = messages_of(bus, rows, "m0", "A"), messages_of(bus, rows, "m0", "D")
     ranges = [(port["base"], port["base"] + port["length"]) for port in system["port"]]
     served = [0] * (len(ranges) + 1)
     lines = []
@@ -122,7 +117,7 @@ def trace_of(capture, system):
         reply = next(reply for reply in replies if reply[0][6] == source)
         replies.remove(reply)
         port = next((n for n, (low, high) in enumerate(ranges) if low <= address and address + (1 << size) <= high), len(ranges))
-        lines.append(f"m0 s{source} {request_text(ask)} -> {reply_text(reply, address, size)} p{port} #{served[port]}")
+        lines.append(f"m0 s{source} {request_text(bus, ask)} -> {reply_text(bus, reply, address, size)} p{port} #{served[port]}")
         served[port] += 1
     return lines
 
