@@ -56,9 +56,9 @@ def port_of_system(rng, number, images):
 
 
 def sources_of(rng, masters):
-    """Gives the masters wide sources: in blocks, by the low bits, or at random places."""
+    """Gives the masters wide sources: in blocks, by the low bits, or at random places up to the greatest source."""
     how = rng.choice(["blocks", "low bits", "places"])
-    end, stride = rng.randrange(50), len(masters) + rng.randrange(4)
+    end, stride = rng.choice([rng.randrange(50), 65_536 - 60 * len(masters)]), len(masters) + rng.randrange(4)
     for number, master in enumerate(masters):
         if how == "low bits":
             master.update(first=number, stride=stride)
@@ -70,8 +70,10 @@ def sources_of(rng, masters):
 def system_of(rng):
     """A random system, and the bytes of each image by its port."""
     images, system = {}, {"bus": rng.choice(BUSES)}
-    system["port"] = [port_of_system(rng, number, images) for number in range(rng.randint(1, 4))]
-    system["master"] = [{"sources": rng.randint(1, 4)} for _ in range(rng.randint(1, 3))]
+    # now and then as many as a system may have, or nearly so
+    ports, masters = (rng.choice([40, 255]), 64) if rng.random() < 0.01 else (rng.randint(1, 4), rng.randint(1, 3))
+    system["port"] = [port_of_system(rng, number, images) for number in range(ports)]
+    system["master"] = [{"sources": rng.randint(1, 4)} for _ in range(masters)]
     sources_of(rng, system["master"])
     if rng.random() < 0.4:
         # some links have width adapters
@@ -91,7 +93,9 @@ def address_of(rng, ports, size):
     if rng.random() < 0.08:
         return rng.choice([0x8000, 0, 2**64 - (1 << size), 0x80000000 - (1 << size)])
     base, length = rng.choice(ranges_of(rng.choice(ports)))
-    offset = rng.choice([rng.randrange(min(length, 64)), rng.randrange(min(length, 64)), max(0, length - rng.randint(1, 16))])
+    # near the beginning, near the end, or anywhere, mostly where 4 KiB end and begin
+    offset = rng.choice([rng.randrange(min(length, 64)), rng.randrange(min(length, 64)), max(0, length - rng.randint(1, 16)),
+                         min(length - 1, rng.choice([rng.randrange(length), 0x1000 * rng.randrange(1, 5) - 8 + rng.randrange(16)]))])
     return base + offset if rng.random() < 0.1 else (base + offset) >> size << size
 
 
@@ -141,11 +145,12 @@ class Transfer:
 
 
 class Run:
-    """A run of a crossbar: each master's requests go to their port, are served there in its order, and their replies come back. One that
-    renumbers sources has one request at a time: else ports may take requests in another order than they leave the masters."""
+    """A run of a crossbar: each master's requests go to their port, are served there in its order, and their replies come back. One that is
+    serial has one request at a time: else ports may take requests in another order than they leave the masters."""
 
-    def __init__(self, rng, system, images, order, bug=None, is_renumbering=False):
-        self.rng, self.ports, self.masters, self.order, self.is_renumbering = rng, system["port"], system["master"], order, is_renumbering
+    def __init__(self, rng, system, images, order, bug=None, is_renumbering=False, is_serial=False):
+        self.rng, self.ports, self.masters, self.order = rng, system["port"], system["master"], order
+        self.is_renumbering, self.is_serial = is_renumbering, is_serial
         self.bug = bug
         self.buses = {"m": [Bus(bus_of(system, master)) for master in self.masters], "p": [Bus(bus_of(system, port)) for port in self.ports]}
         self.slaves = [*(Slave(port, images.get(number, b"")) for number, port in enumerate(self.ports)), Slave(ERROR_PORT)]
@@ -168,7 +173,7 @@ class Run:
 
     def rows(self):
         """All rows of the run, with their times."""
-        time, rows = self.rng.randrange(100), []
+        time, rows = self.rng.choice([0, 10, self.rng.randrange(10_000), 2**64 - 20_000]), []
         for _ in range(2000):
             self.offer()
             crossed = [row for channel in self.channels.values() if (row := channel.beat(self.rng))]
@@ -190,7 +195,7 @@ class Run:
         """Has masters with a free source ask next."""
         for master, asks in enumerate(self.asks):
             channel = self.channels["m", master, "A"]
-            is_busy = self.is_renumbering and not self.is_idle()
+            is_busy = self.is_serial and not self.is_idle()
             if asks and self.free[master] and not channel.message and not channel.waiting and not is_busy:
                 source = self.rng.choice(sorted(self.free[master]))
                 self.free[master].remove(source)
