@@ -4,74 +4,84 @@ use check_options::{Options, read_options};
 use check_sides::Links;
 use tl_streams::line_status;
 
+/// The words of a command line, and the options that they ask for: `--trace` and `--complete` stand together.
+type Line = (
+    &'static [&'static str],
+    Links,
+    Order,
+    [bool; 2],
+    Option<&'static str>,
+);
+
+const LINES: [Line; 9] = [
+    (
+        &["tlcheck", "s"],
+        Links::Both,
+        Order::Accept,
+        [false, false],
+        None,
+    ),
+    (
+        &["tlcheck", "s", "c"],
+        Links::Both,
+        Order::Accept,
+        [false, false],
+        Some("c"),
+    ),
+    (
+        &["tlcheck", "s", "-"],
+        Links::Both,
+        Order::Accept,
+        [false, false],
+        None,
+    ),
+    (
+        &["tlcheck", "--links", "masters", "s"],
+        Links::Masters,
+        Order::Accept,
+        [false, false],
+        None,
+    ),
+    (
+        &["tlcheck", "s", "--links=ports", "--order=reply", "c"],
+        Links::Ports,
+        Order::Reply,
+        [false, false],
+        Some("c"),
+    ),
+    (
+        &["tlcheck", "--trace", "s", "c"],
+        Links::Both,
+        Order::Accept,
+        [true, false],
+        Some("c"),
+    ),
+    (
+        &["tlcheck", "--order", "accept", "--", "s", "--links"],
+        Links::Both,
+        Order::Accept,
+        [false, false],
+        Some("--links"),
+    ),
+    (
+        &["tlcheck", "--complete", "s", "c"],
+        Links::Both,
+        Order::Accept,
+        [false, true],
+        Some("c"),
+    ),
+    (
+        &["tlcheck", "--trace", "s", "--complete", "--links", "each"],
+        Links::Each,
+        Order::Accept,
+        [true, true],
+        None,
+    ),
+];
+
 #[test]
 fn words_give_options(rt: HostRuntime) {
-    let rows: [(&[&str], Links, Order, [bool; 2], Option<&str>); 9] = [
-        (
-            &["tlcheck", "s"],
-            Links::Both,
-            Order::Accept,
-            [false, false],
-            None,
-        ),
-        (
-            &["tlcheck", "s", "c"],
-            Links::Both,
-            Order::Accept,
-            [false, false],
-            Some("c"),
-        ),
-        (
-            &["tlcheck", "s", "-"],
-            Links::Both,
-            Order::Accept,
-            [false, false],
-            None,
-        ),
-        (
-            &["tlcheck", "--links", "masters", "s"],
-            Links::Masters,
-            Order::Accept,
-            [false, false],
-            None,
-        ),
-        (
-            &["tlcheck", "s", "--links=ports", "--order=reply", "c"],
-            Links::Ports,
-            Order::Reply,
-            [false, false],
-            Some("c"),
-        ),
-        (
-            &["tlcheck", "--trace", "s", "c"],
-            Links::Both,
-            Order::Accept,
-            [true, false],
-            Some("c"),
-        ),
-        (
-            &["tlcheck", "--order", "accept", "--", "s", "--links"],
-            Links::Both,
-            Order::Accept,
-            [false, false],
-            Some("--links"),
-        ),
-        (
-            &["tlcheck", "--complete", "s", "c"],
-            Links::Both,
-            Order::Accept,
-            [false, true],
-            Some("c"),
-        ),
-        (
-            &["tlcheck", "--trace", "s", "--complete", "--links", "each"],
-            Links::Each,
-            Order::Accept,
-            [true, true],
-            None,
-        ),
-    ];
-    for (words, links, order, [trace, complete], capture) in rows {
+    for (words, links, order, [trace, complete], capture) in LINES {
         let options = read_options(rt.alloc(), words).expect(&rt, "options");
         assert!(rt;
             options

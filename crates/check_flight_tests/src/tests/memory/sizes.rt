@@ -19,102 +19,67 @@ const fn span(least: u8, greatest: u8) -> Option<Span> {
     Some(Span { least, greatest })
 }
 
-/// A table, and whether it is within the rules.
-fn try_table(rt: &impl Abort, table: SizeTable, lawful: bool) {
-    assert!(rt; Sizes::new(table).is_some() == lawful);
+/// Tables with sizes of one operation alone.
+const fn gets(sizes: Option<Span>) -> SizeTable {
+    SizeTable { get: sizes, ..NONE }
 }
+
+const fn full_puts(sizes: Option<Span>) -> SizeTable {
+    SizeTable {
+        put_full: sizes,
+        ..NONE
+    }
+}
+
+const fn partial_puts(sizes: Option<Span>) -> SizeTable {
+    SizeTable {
+        put_partial: sizes,
+        ..NONE
+    }
+}
+
+const fn arithmetic(sizes: Option<Span>) -> SizeTable {
+    SizeTable {
+        arithmetic: sizes,
+        ..NONE
+    }
+}
+
+const fn logical(sizes: Option<Span>) -> SizeTable {
+    SizeTable {
+        logical: sizes,
+        ..NONE
+    }
+}
+
+const fn intents(sizes: Option<Span>) -> SizeTable {
+    SizeTable {
+        intent: sizes,
+        ..NONE
+    }
+}
+
+/// Tables, and whether each is within the rules.
+const TABLES: [(SizeTable, bool); 12] = [
+    (NONE, true),
+    (gets(span(0, 8)), true),
+    (gets(span(8, 8)), true),
+    (gets(span(0, 9)), false),
+    (full_puts(span(3, 2)), false),
+    (partial_puts(span(9, 8)), false),
+    (intents(span(0, 255)), false),
+    (arithmetic(span(2, 3)), true),
+    (arithmetic(span(1, 3)), false),
+    (logical(span(3, 3)), true),
+    (logical(span(2, 4)), false),
+    (logical(span(3, 2)), false),
+];
 
 #[test]
 fn a_table_keeps_the_rules(rt: HostRuntime) {
-    try_table(&rt, NONE, true);
-    try_table(
-        &rt,
-        SizeTable {
-            get: span(0, 8),
-            ..NONE
-        },
-        true,
-    );
-    try_table(
-        &rt,
-        SizeTable {
-            get: span(8, 8),
-            ..NONE
-        },
-        true,
-    );
-    try_table(
-        &rt,
-        SizeTable {
-            get: span(0, 9),
-            ..NONE
-        },
-        false,
-    );
-    try_table(
-        &rt,
-        SizeTable {
-            put_full: span(3, 2),
-            ..NONE
-        },
-        false,
-    );
-    try_table(
-        &rt,
-        SizeTable {
-            put_partial: span(9, 8),
-            ..NONE
-        },
-        false,
-    );
-    try_table(
-        &rt,
-        SizeTable {
-            intent: span(0, 255),
-            ..NONE
-        },
-        false,
-    );
-    try_table(
-        &rt,
-        SizeTable {
-            arithmetic: span(2, 3),
-            ..NONE
-        },
-        true,
-    );
-    try_table(
-        &rt,
-        SizeTable {
-            arithmetic: span(1, 3),
-            ..NONE
-        },
-        false,
-    );
-    try_table(
-        &rt,
-        SizeTable {
-            logical: span(3, 3),
-            ..NONE
-        },
-        true,
-    );
-    try_table(
-        &rt,
-        SizeTable {
-            logical: span(2, 4),
-            ..NONE
-        },
-        false,
-    );
-    try_table(
-        &rt,
-        SizeTable {
-            logical: span(3, 2),
-            ..NONE
-        },
-        false,
-    );
+    for (table, lawful) in TABLES {
+        assert!(rt; Sizes::new(table).is_some() == lawful);
+    }
 }
 
 /// A memory of this kind with this table, 64 bytes from 0 on, serves one request after the other.
