@@ -19,65 +19,43 @@ const fn span(least: u8, greatest: u8) -> Option<Span> {
     Some(Span { least, greatest })
 }
 
-/// Tables with sizes of one operation alone.
-const fn gets(sizes: Option<Span>) -> SizeTable {
-    SizeTable { get: sizes, ..NONE }
-}
-
-const fn full_puts(sizes: Option<Span>) -> SizeTable {
-    SizeTable {
-        put_full: sizes,
-        ..NONE
-    }
-}
-
-const fn partial_puts(sizes: Option<Span>) -> SizeTable {
-    SizeTable {
-        put_partial: sizes,
-        ..NONE
-    }
-}
-
-const fn arithmetic(sizes: Option<Span>) -> SizeTable {
-    SizeTable {
-        arithmetic: sizes,
-        ..NONE
-    }
-}
-
-const fn logical(sizes: Option<Span>) -> SizeTable {
-    SizeTable {
-        logical: sizes,
-        ..NONE
-    }
-}
-
-const fn intents(sizes: Option<Span>) -> SizeTable {
-    SizeTable {
-        intent: sizes,
-        ..NONE
-    }
-}
+/// The least and the greatest size of each operation, in the order of the table's fields.
+type Pairs = [Option<(u8, u8)>; 6];
 
 /// Tables, and whether each is within the rules.
-const TABLES: [(SizeTable, bool); 12] = [
-    (NONE, true),
-    (gets(span(0, 8)), true),
-    (gets(span(8, 8)), true),
-    (gets(span(0, 9)), false),
-    (full_puts(span(3, 2)), false),
-    (partial_puts(span(9, 8)), false),
-    (intents(span(0, 255)), false),
-    (arithmetic(span(2, 3)), true),
-    (arithmetic(span(1, 3)), false),
-    (logical(span(3, 3)), true),
-    (logical(span(2, 4)), false),
-    (logical(span(3, 2)), false),
+const TABLES: [(Pairs, bool); 12] = [
+    ([None, None, None, None, None, None], true),
+    ([Some((0, 8)), None, None, None, None, None], true),
+    ([Some((8, 8)), None, None, None, None, None], true),
+    ([Some((0, 9)), None, None, None, None, None], false),
+    ([None, Some((3, 2)), None, None, None, None], false),
+    ([None, None, Some((9, 8)), None, None, None], false),
+    ([None, None, None, None, None, Some((0, 255))], false),
+    ([None, None, None, Some((2, 3)), None, None], true),
+    ([None, None, None, Some((1, 3)), None, None], false),
+    ([None, None, None, None, Some((3, 3)), None], true),
+    ([None, None, None, None, Some((2, 4)), None], false),
+    ([None, None, None, None, Some((3, 2)), None], false),
 ];
+
+fn span_of(pair: Option<(u8, u8)>) -> Option<Span> {
+    match pair {
+        Some((least, greatest)) => span(least, greatest),
+        None => None,
+    }
+}
 
 #[test]
 fn a_table_keeps_the_rules(rt: HostRuntime) {
-    for (table, lawful) in TABLES {
+    for ([get, put_full, put_partial, arithmetic, logical, intent], lawful) in TABLES {
+        let table = SizeTable {
+            get: span_of(get),
+            put_full: span_of(put_full),
+            put_partial: span_of(put_partial),
+            arithmetic: span_of(arithmetic),
+            logical: span_of(logical),
+            intent: span_of(intent),
+        };
         assert!(rt; Sizes::new(table).is_some() == lawful);
     }
 }
