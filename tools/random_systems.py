@@ -264,8 +264,7 @@ class Run:
             expected = Reply(denied, [0 if denied else None] * (carries << transfer.ask.size))
         reply = Reply(expected.denied, [self.junk() if byte is None else byte for byte in expected.data])
         if self.has_bug("denial of a reply"):
-            reply = Reply(not reply.denied, [0] * len(reply.data) if reply.denied or rng.random() < 0.5 else reply.data)
-            reply = reply._replace(data=[0] * len(reply.data) if reply.denied else reply.data)
+            reply = Reply(not reply.denied, [0] * len(reply.data))
         if reply.data and not reply.denied and self.has_bug("byte of a reply at its port"):
             reply = reply._replace(data=self.spoiled(reply.data))
         if reply.data and not reply.denied and self.has_bug("unknown byte of a reply"):
