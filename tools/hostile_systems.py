@@ -29,7 +29,7 @@ ENDS = {
 }
 # Images that are there, and names that are none of a file that can be read to its end within a range.
 IMAGES = {"none.bin": None, "short.bin": 16, "page.bin": 4096, "long.bin": 70000}
-OTHERS = ("missing.bin", "folder", "dangling.bin", "", ".", "short.bin/", "/proc/self/mem", "/dev/null", "/dev/zero", "a" * 300, "\\u0000")
+OTHERS = ("missing.bin", "folder", "dangling.bin", "", ".", "short.bin/", "/proc/self/mem", "/dev/null", "a" * 300, "\\u0000")
 WORDS = ["bus", "port", "master", "kind", "base", "length", "ranges", "image", "unknown", "sizes", "order", "sources", "first", "stride", "name", "=",
          "=", "[[port]]", "[[master]]", "[", "]", "{", "}", ",", "\n", "\n", "0", "1", "4", "64", "-1", "65536", "0x1000", "1.5", "true", "'ram'",
          "'device'", "'short.bin'", "'00ff'", "'accept'", "[0, 3]", "'''", '"""', "#", "\\", "\0", "é"]
