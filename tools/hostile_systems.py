@@ -25,7 +25,8 @@ TRACE = re.compile(rf"m\d+ s\d+ ({'|'.join(OPERATIONS)}) 0x[0-9a-f]+ [0-8]( ([0-
 ENDS = {
     0: re.compile(r"lawful: \d+ rows, \d+ requests, \d+ answered"),
     3: re.compile(rf"unlawful: line \d+, time \d+, {NAME} [AD]: ([a-z' ]+|wrong reply: expected {REPLY}, captured {REPLY})"
-                  rf"|incomplete: [1-9]\d* requests without reply, the first: line \d+, time \d+, m\d+ s\d+ ({'|'.join(OPERATIONS)}) 0x[0-9a-f]+ [0-8]"),
+                  r"|incomplete: [1-9]\d* requests without reply, the first: "
+                  rf"line \d+, time \d+, m\d+ s\d+ ({'|'.join(OPERATIONS)}) 0x[0-9a-f]+ [0-8]"),
 }
 # Images that are there, and names that are none of a file that can be read to its end within a range.
 IMAGES = {"none.bin": None, "short.bin": 16, "page.bin": 4096, "long.bin": 70000}
@@ -120,7 +121,8 @@ def port_of(rng, place, wild):
 
 def valued(rng, wild):
     """A system of random values."""
-    text = [f"bus = {rng.choice([1, 2, 4, 8, 16, 32, 64] + [0, 3, 128, 1.5, True] * (wild and rng.random() < 0.1))}".lower()] if rng.random() < 0.7 else []
+    buses = [1, 2, 4, 8, 16, 32, 64] + [0, 3, 128, 1.5, "true"] * (wild and rng.random() < 0.1)
+    text = [f"bus = {rng.choice(buses)}"] if rng.random() < 0.7 else []
     text += [port_of(rng, place, wild) for place in range(rng.choice([0, 1, 2, 3] + [15, 255, 256] * (rng.random() < 0.05)))]
     for place in range(rng.choice([1, 2, 3] + [0, 64, 65] * (wild and rng.random() < 0.1))):
         text.append(f"[[master]]\nsources = {rng.choice([1, 2, 4] + [0, 257, 65536, 65537] * (wild and rng.random() < 0.2))}")
