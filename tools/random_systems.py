@@ -56,9 +56,9 @@ def port_of_system(rng, number, images):
 
 
 def sources_of(rng, masters):
-    """Gives the masters wide sources: in blocks, by the low bits, or at random places up to the greatest source."""
+    """Gives the masters wide sources: in blocks, by the low bits, or at random places, now and then near the greatest source."""
     how = rng.choice(["blocks", "low bits", "places"])
-    end, stride = rng.choice([rng.randrange(50), 65_536 - 60 * len(masters)]), len(masters) + rng.randrange(4)
+    end, stride = rng.randrange(50) if rng.random() < 0.9 else 65_536 - 60 * len(masters), len(masters) + rng.randrange(4)
     for number, master in enumerate(masters):
         if how == "low bits":
             master.update(first=number, stride=stride)
