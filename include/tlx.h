@@ -1,12 +1,16 @@
 /* tlx as a library: a system read from a script with the model of its crossbar, and the judge of what crosses the links of a crossbar that
  * a system file describes.
  *
- * A handle is a struct that the caller owns and the library fills: `struct tlx_judge judge = {0};` holds nothing. What a `_make` or
- * `_read` call has put into a handle is given back by the `_free` call, once. The fields of a handle are the library's: never read,
+ * A handle is a struct that the caller owns and the library fills: `struct tlx_judge judge = {0};` holds nothing. What a `_make`, `_read`
+ * or `_describe` call has put into a handle is given back by the `_free` call, once. The fields of a handle are the library's: never read,
  * write or copy them. A handle is used by one thread at a time; several handles may be used by several threads at once. The library
- * starts no thread, takes no lock, writes nothing and keeps no pointer that it is given. Only the calls that make what a handle holds
- * (tlx_system_read, tlx_model_make, tlx_judge_read), and tlx_judge_step with TLX_EACH_LINK, take memory, by malloc, realloc and free; no
- * call may be made from a signal handler.
+ * starts no thread, takes no lock, writes nothing, opens no file and keeps no pointer that it is given. No call may be made from a signal
+ * handler.
+ *
+ * Memory is taken by malloc, realloc and free. The calls that fill a handle take it, and tlx_system_image. Of the others only tlx_judge_step
+ * does, if the beat is lawful: with one by which a request takes effect, for the bytes that are written, and with TLX_EACH_LINK also with
+ * the first beat of a source at a port's link. If that is refused the call answers TLX_MEMORY and has changed nothing. The same beat may
+ * be given again.
  *
  * Each call that reads, makes, serves or judges answers a fault, TLX_OK (0) where there is none; its faults are listed in the order in
  * which they are tried. A call that answers another fault has changed nothing of what a handle holds, unless it says so. A null pointer is
@@ -28,24 +32,24 @@ extern "C" {
 
 /* The version of this header. It rises when a struct, a number or a call changes; a call that reads a text answers TLX_OTHER_VERSION if the
  * library was built for another one. */
-#define TLX_VERSION 3
+#define TLX_VERSION 4
 
 /* The room of a message's bytes in the structs below. The largest size that a call takes is the library's own: tlx_largest_size. */
 #define TLX_ROOM 256
 
-/* The lanes of the bus, each of one byte. */
-#define TLX_LANES 8
+/* The lanes of the widest bus, each of one byte. */
+#define TLX_LANES 64
 
 enum tlx_fault {
   TLX_OK = 0,
   /* of any call */
   TLX_NULL = 1,           /* a pointer is null */
-  TLX_EMPTY = 2,          /* the handle holds nothing */
+  TLX_EMPTY = 2,          /* the handle holds nothing, or a system of the other kind */
   TLX_FULL = 3,           /* the handle holds something already: free it first */
   TLX_MEMORY = 4,         /* memory was refused */
   TLX_BAD_ARGUMENT = 5,   /* a number that has no meaning where it stands: links, order; of a beat side, channel, `denied`, `corrupt` */
   TLX_OTHER_VERSION = 6,  /* the library was built for a header of another version */
-  /* of a script or a system file (tlx_system_read, tlx_judge_read, which have their order) */
+  /* of a script or a system file (tlx_system_read, tlx_system_describe, tlx_judge_make, tlx_judge_read, which have their order) */
   TLX_NOT_TOML = 10,
   TLX_MISSING = 11,       /* a key is missing */
   TLX_WRONG_TYPE = 12,    /* a value has another type than its key wants */
@@ -55,7 +59,6 @@ enum tlx_fault {
   TLX_BAD_SOURCES = 16,   /* too many masters or sources, a master without one, or two masters that share one */
   TLX_TOO_LONG = 17,      /* longer than 1048576 bytes */
   TLX_TWO_CALLED = 18,    /* two masters or ports have the same name */
-  TLX_LONG_RANGE = 19,    /* a range of a port has more than 65536 bytes */
   /* of a request (tlx_model_serve, tlx_model_byte) */
   TLX_NO_OPERATION = 20,  /* opcode and param name no operation of TL-UL or TL-UH */
   TLX_SIZE = 21,          /* the size is above tlx_largest_size() */
@@ -83,7 +86,12 @@ enum tlx_fault {
   TLX_NOT_GIVEN = 46,
   TLX_WRONG_REPLY = 47,
   /* of the end (tlx_judge_end) */
-  TLX_INCOMPLETE = 48     /* requests are left without a whole reply */
+  TLX_INCOMPLETE = 48,    /* requests are left without a whole reply */
+  /* of an image (tlx_system_image; the last one of tlx_judge_make and tlx_judge_read) */
+  TLX_NO_PORT = 60,       /* the file names no such port */
+  TLX_NO_IMAGE = 61,      /* the file names no image for the port */
+  TLX_LONG_IMAGE = 62,    /* the image is longer than the port's first range */
+  TLX_IMAGE_UNREADABLE = 63 /* the file names an image that was not handed in */
 };
 
 enum tlx_side { TLX_MASTER = 0, TLX_PORT = 1 };
@@ -91,7 +99,7 @@ enum tlx_channel { TLX_A = 0, TLX_D = 1 };
 enum tlx_links { TLX_BOTH_LINKS = 0, TLX_MASTER_LINKS = 1, TLX_PORT_LINKS = 2, TLX_EACH_LINK = 3 };
 enum tlx_order { TLX_ACCEPT_ORDER = 0, TLX_REPLY_ORDER = 1 };
 
-/* The handles. */
+/* The handles. That of a system holds one for a model (tlx_system_read) or one for a judge (tlx_system_describe). */
 struct tlx_system { void *at; uint8_t live; };
 struct tlx_model { void *at; uint8_t live; };
 struct tlx_judge { void *at; uint8_t live; };
@@ -120,31 +128,38 @@ struct tlx_answer {
   uint8_t bytes[TLX_ROOM];
 };
 
-/* A beat that crossed a link, valid and ready. `param`, `address` and `mask` are read of channel A alone, `denied` and `corrupt` of D
- * alone, where another number than 0 and 1 is TLX_BAD_ARGUMENT.
- * Bit k of `known` says that lane k was seen; what is not known of a get or of a reply without bytes does not matter.
- * `line` and `time` are the caller's own and stand in the text of a fault. */
+/* A beat that crossed a link, valid and ready. The bus of its link says how many lanes are read: `lanes` and `known` have the first for lane 0,
+ * and what stands in them from the bus on is nothing to the judge. Bit k of `known` says that lane k was seen; what is not known of a get
+ * or of a reply without bytes does not matter. `param`, `address` and `mask` are read of channel A alone, where a bit of `mask` from the bus
+ * on is TLX_WRONG_MASK; `denied` and `corrupt` of D alone, where another number than 0 and 1 is TLX_BAD_ARGUMENT.
+ * `line` and `time` are the caller's own and stand in the text of a fault. The struct has 128 bytes; no padding stands before its last 7. */
 struct tlx_beat {
   uint64_t line;
   uint64_t time;
   uint64_t number;  /* of the master or port, from 0 */
   uint64_t address;
+  uint64_t mask;
+  uint64_t known;
   uint16_t source;  /* at a master's link the master's own, at a port's the wide one */
   uint8_t side;     /* enum tlx_side */
   uint8_t channel;  /* enum tlx_channel */
   uint8_t opcode;
   uint8_t param;
   uint8_t size;
-  uint8_t mask;
   uint8_t denied;   /* 0 or 1 */
   uint8_t corrupt;  /* 0 or 1 */
-  uint8_t known;
   uint8_t lanes[TLX_LANES];
 };
 
 /* The exports, which take no null pointer. Call the inline functions below, which do. */
 uint32_t tlx_system_read_at(struct tlx_system *system, const uint8_t *script, size_t length, uint32_t version, char *text, size_t room,
                             size_t *written);
+uint32_t tlx_system_describe_at(struct tlx_system *system, const uint8_t *file, size_t length, uint32_t version, char *text, size_t room,
+                                size_t *written);
+uint64_t tlx_system_ports_at(struct tlx_system *system);
+size_t tlx_system_image_name_at(struct tlx_system *system, uint64_t port, char *text, size_t room);
+uint32_t tlx_system_image_at(struct tlx_system *system, uint64_t port, const uint8_t *bytes, size_t length, char *text, size_t room,
+                             size_t *written);
 void tlx_system_free_at(struct tlx_system *system);
 uint32_t tlx_model_make_at(struct tlx_model *model, struct tlx_system *system);
 void tlx_model_free_at(struct tlx_model *model);
@@ -152,6 +167,8 @@ uint32_t tlx_model_serve_at(struct tlx_model *model, uint64_t master, const stru
 uint32_t tlx_model_byte_at(struct tlx_model *model, uint64_t address, uint8_t *byte);
 uint64_t tlx_model_masters_at(struct tlx_model *model);
 uint64_t tlx_model_ports_at(struct tlx_model *model);
+uint32_t tlx_judge_make_at(struct tlx_judge *judge, struct tlx_system *system, uint8_t links, uint8_t order, char *text, size_t room,
+                           size_t *written);
 uint32_t tlx_judge_read_at(struct tlx_judge *judge, const uint8_t *file, size_t length, uint8_t links, uint8_t order, uint32_t version,
                            char *text, size_t room, size_t *written);
 void tlx_judge_free_at(struct tlx_judge *judge);
@@ -169,7 +186,8 @@ uint8_t tlx_largest_size(void);
 uint32_t tlx_version(void);
 
 /* Texts. A text call writes as much of the text as fits with a zero byte after it, and answers the length of what it wrote without
- * that byte; with no room (or no buffer) it writes nothing and answers 0. The longest text has under 1,600 bytes. */
+ * that byte; with no room (or no buffer) it writes nothing and answers 0. The longest text has under 1,600 bytes, but for the name of an
+ * image's file, which may be as long as a system file. */
 
 /* The words of a fault's number, as `tlx` and `tlcheck` say them; `unknown fault` of a number that is none. */
 static inline size_t tlx_fault_text(uint32_t fault, char *text, size_t room) {
@@ -188,6 +206,41 @@ static inline uint32_t tlx_system_read(struct tlx_system *system, const void *sc
   if (!system || !script) return (uint32_t)TLX_NULL;
   if (!text || !room) { text = &none; room = 1; }
   return tlx_system_read_at(system, (const uint8_t *)script, length, TLX_VERSION, text, room, &written);
+}
+
+/* Reads what the bytes of a system file name into an empty handle, for a judge, and writes the text of a fault as tlx_system_read does. A script
+ * of tlx is a system file; its slots and operations are not looked at.
+ * Faults: TLX_NULL, TLX_OTHER_VERSION, TLX_FULL, TLX_TOO_LONG, TLX_NOT_TOML; then key by key, in the order that docs/FORMATS.md has,
+ * TLX_MISSING, TLX_WRONG_TYPE, TLX_OUT_OF_RANGE; then TLX_TWO_CALLED. After TLX_TOO_LONG, TLX_MEMORY may come at any point. */
+static inline uint32_t tlx_system_describe(struct tlx_system *system, const void *file, size_t length, char *text, size_t room) {
+  char none;
+  size_t written;
+  if (text && room) *text = 0;
+  if (!system || !file) return (uint32_t)TLX_NULL;
+  if (!text || !room) { text = &none; room = 1; }
+  return tlx_system_describe_at(system, (const uint8_t *)file, length, TLX_VERSION, text, room, &written);
+}
+
+/* How many ports a system file names, which tlx_system_describe has read; 0 of another handle. The error port is none of them. */
+static inline uint64_t tlx_system_ports(struct tlx_system *system) { return system ? tlx_system_ports_at(system) : 0; }
+
+/* The file of a port's image, as the system file names it (from its own folder); an empty text if it names none for that port. A name that fills the
+ * room may have been cut off. */
+static inline size_t tlx_system_image_name(struct tlx_system *system, uint64_t port, char *text, size_t room) {
+  return system && text && room ? tlx_system_image_name_at(system, port, text, room) : 0;
+}
+
+/* Hands in the bytes of a port's image, which are copied, in the place of those that were handed in before. There may be none: `bytes` may
+ * be null if `length` is 0. The text of a fault is written as tlx_system_read does. After a fault the images are as they were.
+ * Faults: TLX_NULL, TLX_EMPTY, TLX_NO_PORT, TLX_NO_IMAGE, TLX_LONG_IMAGE, TLX_MEMORY. */
+static inline uint32_t tlx_system_image(struct tlx_system *system, uint64_t port, const void *bytes, size_t length, char *text, size_t room) {
+  char none = 0;
+  size_t written;
+  if (text && room) *text = 0;
+  if (!bytes && !length) bytes = &none;
+  if (!system || !bytes) return (uint32_t)TLX_NULL;
+  if (!text || !room) { text = &none; room = 1; }
+  return tlx_system_image_at(system, port, (const uint8_t *)bytes, length, text, room, &written);
 }
 
 /* Gives back what a system's handle holds, if anything. */
@@ -219,13 +272,25 @@ static inline uint32_t tlx_model_byte(struct tlx_model *model, uint64_t address,
 static inline uint64_t tlx_model_masters(struct tlx_model *model) { return model ? tlx_model_masters_at(model) : 0; }
 static inline uint64_t tlx_model_ports(struct tlx_model *model) { return model ? tlx_model_ports_at(model) : 0; }
 
-/* Makes the judge of the crossbar that the bytes of a system file describe, before any beat, in an empty handle: `links` are the links
- * that are watched (enum tlx_links), `order` when a request takes effect at a port for which the file does not say it (enum tlx_order). The
- * text of a fault of the file is written into `text`, an empty one if there is none, or no memory for it. `text` may be null. A script of
- * tlx is a system file; its slots and operations are not looked at.
- * Faults: TLX_NULL, TLX_OTHER_VERSION, TLX_BAD_ARGUMENT, TLX_FULL, TLX_TOO_LONG, TLX_NOT_TOML; then key by key, in the order that
- * docs/FORMATS.md has, TLX_MISSING, TLX_WRONG_TYPE, TLX_OUT_OF_RANGE; then TLX_TWO_CALLED, TLX_BAD_PORTS, TLX_BAD_SOURCES, TLX_LONG_RANGE.
- * After TLX_TOO_LONG, TLX_MEMORY may come at any point. */
+/* Makes the judge of what a system's handle holds for one (tlx_system_describe), before any beat, in an empty handle: `links` are the links that are
+ * watched (enum tlx_links), `order` when a request takes effect at a port for which the file does not say it (enum tlx_order). It takes
+ * what the system's handle holds, which is empty from then on: after TLX_OK, TLX_BAD_PORTS, TLX_BAD_SOURCES and TLX_MEMORY. After another fault
+ * the system's handle is as it was. The text of a fault is written as tlx_system_read does.
+ * Faults: TLX_NULL, TLX_BAD_ARGUMENT, TLX_FULL (the judge's handle), TLX_EMPTY (the system's), TLX_IMAGE_UNREADABLE (of the first port whose
+ * image was not handed in), TLX_BAD_PORTS, TLX_BAD_SOURCES. After TLX_IMAGE_UNREADABLE, TLX_MEMORY may come at any point. */
+static inline uint32_t tlx_judge_make(struct tlx_judge *judge, struct tlx_system *system, uint8_t links, uint8_t order, char *text, size_t room) {
+  char none;
+  size_t written;
+  if (text && room) *text = 0;
+  if (!judge || !system) return (uint32_t)TLX_NULL;
+  if (!text || !room) { text = &none; room = 1; }
+  return tlx_judge_make_at(judge, system, links, order, text, room, &written);
+}
+
+/* Makes the judge of a file that names no image in one call, as tlx_system_describe and then tlx_judge_make.
+ * Faults: TLX_NULL, TLX_OTHER_VERSION, TLX_BAD_ARGUMENT, TLX_FULL, TLX_TOO_LONG, TLX_NOT_TOML; then key by key TLX_MISSING, TLX_WRONG_TYPE,
+ * TLX_OUT_OF_RANGE; then TLX_TWO_CALLED, TLX_IMAGE_UNREADABLE (of the first port that names an image), TLX_BAD_PORTS, TLX_BAD_SOURCES. After
+ * TLX_TOO_LONG, TLX_MEMORY may come at any point. */
 static inline uint32_t tlx_judge_read(struct tlx_judge *judge, const void *file, size_t length, uint8_t links, uint8_t order, char *text,
                                       size_t room) {
   char none;
@@ -240,7 +305,7 @@ static inline void tlx_judge_free(struct tlx_judge *judge) { if (judge) tlx_judg
 
 /* Judges one beat more: TLX_OK if what crossed so far is lawful with it, else the first fault that it has, which changes nothing but the
  * text. Of one clock cycle give channel A of the masters' links first, then A of the ports', D of the ports', and D of the masters'.
- * With TLX_EACH_LINK the call may take memory. If that is refused it answers TLX_MEMORY and changes nothing: the same beat may be given again.
+ * TLX_MEMORY says that the beat is lawful and nothing has changed (above): the same beat may be given again.
  * Faults: TLX_NULL, TLX_BAD_ARGUMENT, TLX_EMPTY, TLX_NO_LINK, TLX_MEMORY, and those of a beat. */
 static inline uint32_t tlx_judge_step(struct tlx_judge *judge, const struct tlx_beat *beat) {
   return judge && beat ? tlx_judge_step_at(judge, beat) : (uint32_t)TLX_NULL;

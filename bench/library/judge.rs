@@ -8,37 +8,39 @@ struct Beat {
     time: u64,
     number: u64,
     address: u64,
+    mask: u64,
+    known: u64,
     source: u16,
     side: u8,
     channel: u8,
     opcode: u8,
     param: u8,
     size: u8,
-    mask: u8,
     denied: u8,
     corrupt: u8,
-    known: u8,
-    lanes: [u8; LANES],
+    lanes: [u8; 64],
 }
 
 fn beat_of(row: &Row) -> Beat {
     let Fields { opcode, param, size, source, address, mask, denied, corrupt } = row.fields;
+    let mut lanes = [0; 64];
+    lanes[..LANES].copy_from_slice(&row.lanes);
     Beat {
         line: row.line,
         time: row.time,
         number: row.number as u64,
         address,
+        mask: u64::from(mask),
+        known: u64::from(row.known),
         source,
         side: u8::from(row.side == Side::Port),
         channel: u8::from(!row.is_ask),
         opcode,
         param,
         size,
-        mask,
         denied: u8::from(denied),
         corrupt: u8::from(corrupt),
-        known: row.known,
-        lanes: row.lanes,
+        lanes,
     }
 }
 

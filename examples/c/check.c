@@ -1,21 +1,16 @@
 /* Walks every call of the library with right and wrong arguments, refuses each request for memory in turn, and judges the captures beside
- * by calls. Its argument is the folder of the examples; it ends in 'N passed, M failed'. What it expects was worked out by hand, or is the
- * captures' own verdict. It is linked with --wrap for malloc, realloc and free. */
-#include "tlx.h"
+ * by calls (captures.c). Its argument is the folder of the examples; it ends in 'N passed, M failed'. What it expects was worked out by
+ * hand, or is the captures' own verdict. It is linked with --wrap for malloc, realloc and free. */
+#include "check.h"
 
-#include <dirent.h>
-#include <inttypes.h>
 #include <malloc.h>
 #include <stdio.h>
 #include <stdlib.h>
 #include <string.h>
 
-#define MAX_ROWS 256
-#define MAX_TEXT 65536
-
 static int passed, failed;
 
-static void tell(const char *name, int is_so) {
+void tell(const char *name, int is_so) {
   if (is_so) {
     passed++;
   } else {
@@ -33,10 +28,11 @@ void *__wrap_malloc(size_t size);
 void *__wrap_realloc(void *old, size_t size);
 void __wrap_free(void *old);
 
-static size_t requests;  /* for memory */
-static size_t refused;   /* the number of the request that is refused, from 1 on; 0 refuses none */
-static int asked_less;   /* the request that was refused was for no more than the block has */
-static long blocks;      /* that were taken and not given back */
+size_t requests;
+size_t refused;
+int asked_less;
+long blocks;
+static int wants; /* how often a beat was refused memory */
 
 static int is_refused(int asks_less) {
   if (++requests != refused) return 0;
@@ -61,9 +57,21 @@ void __wrap_free(void *old) {
   __real_free(old);
 }
 
+uint32_t step_refused(struct tlx_judge *judge, const struct tlx_beat *beat) {
+  uint32_t fault = TLX_MEMORY;
+  for (size_t number = 1; fault == TLX_MEMORY; number++) {
+    requests = 0;
+    refused = number;
+    fault = tlx_judge_step(judge, beat);
+    wants += fault == TLX_MEMORY;
+  }
+  refused = 0;
+  return fault;
+}
+
 /* ---- the words of faults, those of a beat as docs/CAPTURE.md has them; the compiler complains of a fault without a case */
 
-static const char *words_of(enum tlx_fault fault) {
+const char *words_of(enum tlx_fault fault) {
   switch (fault) {
     case TLX_OK: return "no fault";
     case TLX_NULL: return "null pointer";
@@ -81,7 +89,6 @@ static const char *words_of(enum tlx_fault fault) {
     case TLX_BAD_SOURCES: return "bad sources";
     case TLX_TOO_LONG: return "longer than 1048576 bytes";
     case TLX_TWO_CALLED: return "two of one name";
-    case TLX_LONG_RANGE: return "a range of more than 65536 bytes";
     case TLX_NO_OPERATION: return "no such operation";
     case TLX_SIZE: return "size over the limit";
     case TLX_NO_MASTER: return "no such master";
@@ -107,6 +114,10 @@ static const char *words_of(enum tlx_fault fault) {
     case TLX_NOT_GIVEN: return "the port gave no such reply";
     case TLX_WRONG_REPLY: return "wrong reply";
     case TLX_INCOMPLETE: return "requests without reply";
+    case TLX_NO_PORT: return "no such port";
+    case TLX_NO_IMAGE: return "the file names no image for the port";
+    case TLX_LONG_IMAGE: return "image is longer than its range";
+    case TLX_IMAGE_UNREADABLE: return "image can't be read";
   }
   return "unknown fault";
 }
@@ -126,8 +137,7 @@ static void check_words(void) {
   tell("words take no memory", requests == 0);
 }
 
-/* The bytes of a file, with a zero behind them. */
-static size_t read_file(const char *folder, const char *name, char *text) {
+size_t read_file(const char *folder, const char *name, char *text) {
   char path[1024];
   snprintf(path, sizeof path, "%s/%s", folder, name);
   FILE *file = fopen(path, "rb");
@@ -138,171 +148,9 @@ static size_t read_file(const char *folder, const char *name, char *text) {
   return length;
 }
 
-/* ---- the captures */
-
-struct row {
-  struct tlx_beat beat;
-  int place;
-};
-
-/* Where a row stands among those of its time: A of the masters' links, A of the ports', D of the ports', D of the masters'. */
-static int place_of(const struct tlx_beat *beat) {
-  int turn = beat->channel == TLX_A ? (beat->side == TLX_MASTER ? 0 : 1) : (beat->side == TLX_PORT ? 2 : 3);
-  return 16 * turn + (int)beat->number;
-}
-
-static int digit_of(char c) {
-  if (c >= '0' && c <= '9') return c - '0';
-  if (c >= 'a' && c <= 'f') return c - 'a' + 10;
-  if (c >= 'A' && c <= 'F') return c - 'A' + 10;
-  return -1;
-}
-
-/* The lanes of sixteen digits, lane 0 last; a lane with an x is not known. No digits are eight known zeros. */
-static void read_lanes(const char *word, struct tlx_beat *beat) {
-  beat->known = 0xff;
-  if (strlen(word) != 2 * TLX_LANES) return;
-  for (int lane = 0; lane < TLX_LANES; lane++) {
-    int high = digit_of(word[2 * (TLX_LANES - 1 - lane)]), low = digit_of(word[2 * (TLX_LANES - 1 - lane) + 1]);
-    if (high < 0 || low < 0)
-      beat->known &= (uint8_t) ~(1u << lane);
-    else
-      beat->lanes[lane] = (uint8_t)(16 * high + low);
-  }
-}
-
-/* The fields of a line, without their quotes; the line is cut up. */
-static int split(char *line, char *fields[12]) {
-  int count = 0;
-  char *to = line;
-  fields[count++] = to;
-  for (char *from = line; *from; from++) {
-    if (*from == '"') continue;
-    if (*from == ',' && count < 12) {
-      *to++ = 0;
-      fields[count++] = to;
-    } else {
-      *to++ = *from;
-    }
-  }
-  *to = 0;
-  return count;
-}
-
-static void read_row(char *fields[12], uint64_t line, struct row *row) {
-  struct tlx_beat *beat = &row->beat;
-  memset(row, 0, sizeof *row);
-  beat->line = line;
-  beat->time = strtoull(fields[0], 0, 10);
-  beat->side = fields[1][0] == 'm' ? TLX_MASTER : TLX_PORT;
-  beat->number = strtoull(fields[1] + 1, 0, 10);
-  beat->channel = fields[2][0] == 'A' ? TLX_A : TLX_D;
-  beat->opcode = (uint8_t)strtoul(fields[3], 0, 10);
-  beat->param = (uint8_t)strtoul(fields[4], 0, 10);
-  beat->size = (uint8_t)strtoul(fields[5], 0, 10);
-  beat->source = (uint16_t)strtoul(fields[6], 0, 10);
-  beat->address = strtoull(fields[7], 0, 16);
-  beat->mask = (uint8_t)strtoul(fields[8], 0, 16);
-  read_lanes(fields[9], beat);
-  beat->denied = (uint8_t)strtoul(fields[10], 0, 10);
-  beat->corrupt = (uint8_t)strtoul(fields[11], 0, 10);
-  row->place = place_of(beat);
-}
-
-static int compare(const void *one, const void *other) {
-  const struct row *a = one, *b = other;
-  if (a->beat.time != b->beat.time) return a->beat.time < b->beat.time ? -1 : 1;
-  return a->place - b->place;
-}
-
-static size_t read_rows(char *text, struct row *rows) {
-  size_t count = 0;
-  uint64_t line = 0;
-  for (char *at = text; at && *at;) {
-    char *next = strchr(at, '\n'), *fields[12];
-    if (next) *next++ = 0;
-    line++;
-    if (line > 1 && *at && split(at, fields) == 12) read_row(fields, line, &rows[count++]);
-    at = next;
-  }
-  qsort(rows, count, sizeof *rows, compare);
-  return count;
-}
-
-static uint64_t met; /* the faults of a beat that a capture had: a bit each, by its number */
-
-/* The line of a beat's fault has the words of that fault, behind the channel; unknown data is another fault on each channel. */
-static int has_words(const char *line, const struct tlx_beat *beat, uint32_t fault) {
-  char words[128];
-  int is_request = beat->channel == TLX_A;
-  snprintf(words, sizeof words, " %c: %s", is_request ? 'A' : 'D', words_of((enum tlx_fault)fault));
-  met |= UINT64_C(1) << fault;
-  return strstr(line, words) && fault != (is_request ? TLX_UNKNOWN_DATA : TLX_UNKNOWN_LANES);
-}
-
-/* The verdict over rows that cross in this order, as tlcheck prints it. */
-static void judge_rows(struct tlx_judge *judge, const struct row *rows, size_t count, uint8_t links, int complete, char *verdict, size_t room) {
-  for (size_t k = 0; k < count; k++) {
-    const struct tlx_beat *beat = &rows[k].beat;
-    int watched = links == TLX_BOTH_LINKS || links == TLX_EACH_LINK || (links == TLX_MASTER_LINKS) == (beat->side == TLX_MASTER);
-    uint32_t fault = watched ? tlx_judge_step(judge, beat) : TLX_OK;
-    if (fault != TLX_OK) {
-      tlx_judge_text(judge, verdict, room);
-      if (!has_words(verdict, beat, fault)) verdict[0] = 0;
-      return;
-    }
-  }
-  if (complete && tlx_judge_end(judge) == TLX_INCOMPLETE) {
-    tlx_judge_text(judge, verdict, room);
-    return;
-  }
-  snprintf(verdict, room, "lawful: %zu rows, %" PRIu64 " requests, %" PRIu64 " answered\n", count, tlx_judge_requests(judge),
-           tlx_judge_answered(judge));
-}
-
-static void check_capture(const char *folder, const char *script, size_t length, const char *name) {
-  static char text[MAX_TEXT], args[MAX_TEXT], expected[MAX_TEXT];
-  static struct row rows[MAX_ROWS];
-  char path[512], verdict[2048], *last = expected;
-  struct tlx_judge judge = {0};
-  snprintf(path, sizeof path, "%s.verdict", name);
-  read_file(folder, path, expected);
-  for (char *at = expected; (at = strchr(at, '\n')) && at[1];) last = ++at;
-  if (!strncmp(last, "capture:", 8)) return; /* of the text of a capture, which is no beat */
-  snprintf(path, sizeof path, "%s.args", name);
-  if (!read_file(folder, path, args)) args[0] = 0;
-  uint8_t links = strstr(args, "masters") ? TLX_MASTER_LINKS : strstr(args, "ports") ? TLX_PORT_LINKS :
-                  strstr(args, "each") ? TLX_EACH_LINK : TLX_BOTH_LINKS;
-  uint8_t order = strstr(args, "reply") ? TLX_REPLY_ORDER : TLX_ACCEPT_ORDER;
-  snprintf(path, sizeof path, "%s.csv", name);
-  read_file(folder, path, text);
-  size_t count = read_rows(text, rows);
-  int made = tlx_judge_read(&judge, script, length, links, order, 0, 0) == TLX_OK;
-  size_t before = requests;
-  judge_rows(&judge, rows, count, links, strstr(args, "--complete") != NULL, verdict, sizeof verdict);
-  tell(name, made && !strcmp(verdict, last) && (links == TLX_EACH_LINK || requests == before));
-  if (strcmp(verdict, last)) fprintf(stderr, "  %s  %s", verdict, last);
-  tlx_judge_free(&judge);
-}
-
-static void check_captures(const char *folder, const char *script, size_t length) {
-  struct dirent **names;
-  int count = scandir(folder, &names, 0, alphasort);
-  for (int k = 0; k < count; k++) {
-    char *end = strstr(names[k]->d_name, ".verdict");
-    if (end) {
-      *end = 0;
-      check_capture(folder, script, length, names[k]->d_name);
-    }
-    __real_free(names[k]);
-  }
-  if (count >= 0) __real_free(names);
-  tell("each fault of a beat", met == (UINT64_C(1) << (TLX_WRONG_REPLY + 1)) - (UINT64_C(1) << TLX_FIELD_CHANGED));
-}
-
 /* ---- the calls */
 
-static const char SYSTEM[] =
+const char SYSTEM[] =
     "slots = 1\n"
     "[[port]]\nkind = \"ram\"\nbase = 0x1000\nlength = 64\nreset = \"0011223344\"\n"
     "[[port]]\nkind = \"ram\"\nbase = 0x2000\nlength = 64\n"
@@ -436,131 +284,6 @@ static void check_models(void) {
   tlx_system_free(&system);
 }
 
-static void check_steps(struct tlx_judge *judge) {
-  struct tlx_beat beat = {0};
-  char text[2048];
-  size_t before = requests;
-  beat.opcode = 4;
-  beat.size = 2;
-  beat.source = 1;
-  beat.address = 0x1000;
-  beat.mask = 0x0f;
-  beat.number = 1;
-  tell("a link that there is not", tlx_judge_step(judge, &beat) == TLX_NO_LINK && tlx_judge_text(judge, text, sizeof text) == 0);
-  beat.number = 0;
-  beat.side = 2;
-  tell("a side that there is not", tlx_judge_step(judge, &beat) == TLX_BAD_ARGUMENT);
-  beat.side = TLX_PORT;
-  tell("a side that is not watched", tlx_judge_step(judge, &beat) == TLX_NO_LINK);
-  beat.side = TLX_MASTER;
-  beat.channel = 2;
-  tell("a channel that there is not", tlx_judge_step(judge, &beat) == TLX_BAD_ARGUMENT);
-  beat.channel = TLX_A;
-  tell("a request", tlx_judge_step(judge, &beat) == TLX_OK && tlx_judge_requests(judge) == 1 && tlx_judge_in_flight(judge) == 1);
-  beat.line = 3;
-  beat.time = 12;
-  tell("a source in flight", tlx_judge_step(judge, &beat) == TLX_SOURCE_IN_FLIGHT && tlx_judge_text(judge, text, sizeof text) == 50 &&
-       !strcmp(text, "unlawful: line 3, time 12, m0 A: source in flight\n") && tlx_judge_in_flight(judge) == 1);
-  tell("an end with a request left", tlx_judge_end(judge) == TLX_INCOMPLETE && tlx_judge_text(judge, text, sizeof text) > 0 &&
-       !strcmp(text, "incomplete: 1 requests without reply, the first: line 0, time 0, m0 s1 get 0x1000 2\n") &&
-       tlx_judge_in_flight(judge) == 1);
-  beat.channel = TLX_D;
-  beat.opcode = 1;
-  beat.known = 0xff;
-  beat.denied = 2;
-  tell("a flag that is none", tlx_judge_step(judge, &beat) == TLX_BAD_ARGUMENT);
-  beat.denied = 0;
-  tell("a wrong reply", tlx_judge_step(judge, &beat) == TLX_WRONG_REPLY && tlx_judge_text(judge, text, sizeof text) > 0 &&
-       !strcmp(text, "unlawful: line 3, time 12, m0 D: wrong reply: expected AccessAckData 00112233, captured AccessAckData 00000000\n"));
-  memcpy(beat.lanes, "\x00\x11\x22\x33", 4);
-  tell("the right reply after it", tlx_judge_step(judge, &beat) == TLX_OK && tlx_judge_answered(judge) == 1 && tlx_judge_in_flight(judge) == 0);
-  tell("an end with nothing left", tlx_judge_end(judge) == TLX_OK && tlx_judge_end(0) == TLX_NULL);
-  tell("a reply more", tlx_judge_step(judge, &beat) == TLX_NO_REQUEST);
-  tell("null beats", tlx_judge_step(judge, 0) == TLX_NULL && tlx_judge_step(0, &beat) == TLX_NULL && tlx_judge_text(judge, 0, 1) == 0);
-  tell("a judge in use takes no memory", requests == before);
-}
-
-/* A get of 256 bytes that is answered ff, where zeros must come: its fault has the longest line, for which there is room. */
-static void check_longest_line(void) {
-  static const char LONG[] = "slots = 1\n[[port]]\nkind = \"ram\"\nbase = 0\nlength = 256\n[[master]]\nsources = 1\nops = []\n";
-  struct tlx_judge judge = {0};
-  struct tlx_beat beat = {0};
-  char text[2048], expected[2048];
-  int is_well = tlx_judge_read(&judge, LONG, strlen(LONG), TLX_MASTER_LINKS, TLX_ACCEPT_ORDER, 0, 0) == TLX_OK;
-  size_t before = requests;
-  beat.line = beat.time = UINT64_MAX;
-  beat.opcode = 4;
-  beat.size = 8;
-  beat.mask = 0xff;
-  is_well &= tlx_judge_step(&judge, &beat) == TLX_OK;
-  beat.channel = TLX_D;
-  beat.opcode = 1;
-  beat.known = 0xff;
-  memset(beat.lanes, 0xff, sizeof beat.lanes);
-  for (int number = 0; number < 31; number++) is_well &= tlx_judge_step(&judge, &beat) == TLX_OK;
-  is_well &= tlx_judge_step(&judge, &beat) == TLX_WRONG_REPLY;
-  char zeros[513], ones[513];
-  memset(zeros, '0', 512);
-  memset(ones, 'f', 512);
-  zeros[512] = ones[512] = 0;
-  snprintf(expected, sizeof expected, "unlawful: line %" PRIu64 ", time %" PRIu64 ", m0 D: wrong reply: expected AccessAckData %s, captured AccessAckData %s\n",
-           UINT64_MAX, UINT64_MAX, zeros, ones);
-  tell("the longest line", is_well && tlx_judge_text(&judge, text, sizeof text) == strlen(expected) && !strcmp(text, expected) && strlen(text) < 1600 &&
-       requests == before);
-  tlx_judge_free(&judge);
-}
-
-/* System files with faults, most with a later one as well, which is not told. */
-#define HOST(sources) "[[master]]\nsources = " sources "\n"
-static const struct { const char *file; uint32_t fault; const char *text; } FILES[] = {
-    {"port = 1\n=", TLX_NOT_TOML, "system: not TOML"},
-    {"port = 1 # \xff", TLX_NOT_TOML, "system: not TOML"},
-    {"", TLX_MISSING, "system: missing master"},
-    {"port = 1", TLX_WRONG_TYPE, "system: wrong type of port"},
-    {PORT("0x1000", "0"), TLX_OUT_OF_RANGE, "system: length out of range"},
-    {"[[master]]\nname = \"a\"\nsources = 1\n[[master]]\nname = \"a\"\nsources = 300\n", TLX_TWO_CALLED, "system: two are called a"},
-    {PORT("0x1000", "64") PORT("0x103f", "1") HOST("257"), TLX_BAD_PORTS, "system: ports 0 and 1 overlap"},
-    {PORT("0x1000", "65537") HOST("257"), TLX_BAD_SOURCES, "system: too many masters or sources"},
-    {"[[master]]\nsources = 2\nfirst = 1\n[[master]]\nsources = 1\nfirst = 2\n", TLX_BAD_SOURCES, "system: masters 0 and 1 share source 2"},
-    {PORT("0", "1") PORT("0x1000", "65537") HOST("1"), TLX_LONG_RANGE, "system: port 1: a range of more than 65536 bytes"},
-};
-
-static uint32_t read_file_of(struct tlx_judge *judge, const char *file, char *text, size_t room) {
-  return tlx_judge_read(judge, file, strlen(file), TLX_MASTER_LINKS, TLX_ACCEPT_ORDER, text, room);
-}
-
-static void check_files(void) {
-  static char longest[(1 << 20) + 1];
-  struct tlx_judge judge = {0};
-  char text[128];
-  for (size_t k = 0; k < sizeof FILES / sizeof *FILES; k++)
-    tell(FILES[k].text, read_file_of(&judge, FILES[k].file, text, sizeof text) == FILES[k].fault && !strcmp(text, FILES[k].text));
-  memset(longest, '#', sizeof longest);
-  tell("a file too long", tlx_judge_read(&judge, longest, sizeof longest, 0, 0, text, sizeof text) == TLX_TOO_LONG &&
-       !strcmp(text, "system: longer than 1048576 bytes"));
-  tell("a file as long as it may be", tlx_judge_read(&judge, longest, sizeof longest - 1, 0, 0, text, sizeof text) == TLX_MISSING);
-  tell("a header of another version", tlx_version() == TLX_VERSION &&
-       tlx_judge_read_at(&judge, (const uint8_t *)"", 0, 9, 9, TLX_VERSION + 1, text, sizeof text, &(size_t){0}) == TLX_OTHER_VERSION);
-}
-
-static void check_judges(void) {
-  struct tlx_judge judge = {0};
-  struct tlx_beat beat = {0};
-  char text[128];
-  memset(text, 'a', sizeof text);
-  tell("a judge of no file", tlx_judge_read(&judge, 0, 0, 0, 0, text, sizeof text) == TLX_NULL && !text[0] && text[1] == 'a');
-  tell("no judge", tlx_judge_read(0, SYSTEM, strlen(SYSTEM), 0, 0, 0, 9) == TLX_NULL);
-  tell("an empty judge", tlx_judge_step(&judge, &beat) == TLX_EMPTY && tlx_judge_end(&judge) == TLX_EMPTY && tlx_judge_requests(&judge) == 0 && tlx_judge_answered(&judge) == 0);
-  tell("links that there are not", tlx_judge_read(&judge, SYSTEM, strlen(SYSTEM), 9, 0, 0, 0) == TLX_BAD_ARGUMENT);
-  tell("an order that there is not", tlx_judge_read(&judge, SYSTEM, strlen(SYSTEM), 0, 9, 0, 0) == TLX_BAD_ARGUMENT);
-  tell("a judge", read_file_of(&judge, SYSTEM, text, sizeof text) == TLX_OK && !text[0]);
-  tell("a second judge in one handle", read_file_of(&judge, SYSTEM, 0, 0) == TLX_FULL);
-  check_steps(&judge);
-  tlx_judge_free(&judge);
-  tlx_judge_free(&judge);
-  tlx_judge_free(0);
-}
-
 /* ---- calls that are refused memory */
 
 struct handles {
@@ -580,15 +303,29 @@ static uint32_t make_model(struct handles *handles, const char *script) {
   return tlx_model_make(&handles->model, &handles->system);
 }
 
-static uint32_t read_judge(struct handles *handles, const char *script) {
-  return tlx_judge_read(&handles->judge, script, strlen(script), TLX_BOTH_LINKS, TLX_ACCEPT_ORDER, 0, 0);
+static uint32_t read_judge(struct handles *handles, const char *file) {
+  return tlx_judge_read(&handles->judge, file, strlen(file), TLX_BOTH_LINKS, TLX_ACCEPT_ORDER, 0, 0);
+}
+
+static uint32_t describe(struct handles *handles, const char *file) {
+  return tlx_system_describe(&handles->system, file, strlen(file), 0, 0);
+}
+
+static uint32_t describe_with_image(struct handles *handles, const char *file) {
+  uint32_t fault = describe(handles, file);
+  return fault == TLX_OK ? tlx_system_image(&handles->system, 0, "1234", 4, 0, 0) : fault;
+}
+
+static uint32_t make_judge(struct handles *handles, const char *file) {
+  (void)file;
+  return tlx_judge_make(&handles->judge, &handles->system, TLX_EACH_LINK, TLX_ACCEPT_ORDER, 0, 0);
 }
 
 static int are_empty(struct handles *handles) {
   struct tlx_model none = {0};
   struct tlx_beat beat = {0};
-  return tlx_model_make(&none, &handles->system) == TLX_EMPTY && tlx_model_ports(&handles->model) == 0 &&
-         tlx_judge_step(&handles->judge, &beat) == TLX_EMPTY;
+  return tlx_model_make(&none, &handles->system) == TLX_EMPTY && tlx_system_ports(&handles->system) == 0 &&
+         tlx_model_ports(&handles->model) == 0 && tlx_judge_step(&handles->judge, &beat) == TLX_EMPTY;
 }
 
 /* Refuses each request of a call in turn: it must say so, hold nothing and have given back all, also what was prepared for it. A request
@@ -635,22 +372,52 @@ static void refuse_text(void) {
   tell("a fault without memory for its text", is_well && without_text > 0 && number > without_text + 1 && blocks == before);
 }
 
-/* Where each port's link is judged by itself, the first beat of a source there takes memory: if it is refused, the beat may be given again. */
-static void refuse_step(void) {
+/* The memory for an image is refused: the one before it stays, so that a judge is made of it. */
+static void refuse_image(const char *file) {
+  struct handles handles = {0};
+  long before = blocks;
+  int is_well = describe(&handles, file) == TLX_OK;
+  long without = blocks;
+  refused = 1;
+  requests = 0;
+  is_well &= tlx_system_image(&handles.system, 0, "12", 2, 0, 0) == TLX_MEMORY && blocks == without;
+  refused = 0;
+  is_well &= make_judge(&handles, file) == TLX_IMAGE_UNREADABLE && tlx_system_image(&handles.system, 0, "12", 2, 0, 0) == TLX_OK;
+  refused = 1;
+  requests = 0;
+  is_well &= tlx_system_image(&handles.system, 0, "34", 2, 0, 0) == TLX_MEMORY;
+  refused = 0;
+  is_well &= make_judge(&handles, file) == TLX_OK;
+  tlx_judge_free(&handles.judge);
+  tell("an image that is refused memory", is_well && blocks == before);
+}
+
+/* Each request for memory of these beats is refused once; `some` says whether there must be any. */
+static int steps_refused(struct tlx_judge *judge, const struct tlx_beat *beats, size_t count, int some) {
+  int before = wants, is_well = 1;
+  for (size_t k = 0; k < count; k++) is_well &= step_refused(judge, &beats[k]) == TLX_OK;
+  return is_well && (wants > before) == some;
+}
+
+/* A put takes memory for what it writes, and the first beat of a source at a port's link that is judged by itself does. A get of bytes that nobody
+ * has written takes none. */
+static void refuse_steps(void) {
+  const struct tlx_beat put[] = {{.size = 0, .address = 0x2000, .mask = 1, .known = 1, .lanes = {7}}, {.channel = TLX_D}};
+  const struct tlx_beat got[] = {{.opcode = 4, .size = 0, .address = 0x2000, .mask = 1}, {.channel = TLX_D, .opcode = 1, .known = 1, .lanes = {7}}};
+  const struct tlx_beat none[] = {{.opcode = 4, .size = 0, .address = 0x2001, .mask = 2}, {.channel = TLX_D, .opcode = 1, .known = 2}};
+  const struct tlx_beat first = {.side = TLX_PORT, .opcode = 4, .size = 2, .source = 4321, .address = 0x1000, .mask = 0x0f};
   struct tlx_judge judge = {0};
-  struct tlx_beat beat = {.side = TLX_PORT, .opcode = 4, .size = 2, .source = 4321, .address = 0x1000, .mask = 0x0f};
   long before = blocks;
   int is_well = tlx_judge_read(&judge, SYSTEM, strlen(SYSTEM), TLX_EACH_LINK, TLX_ACCEPT_ORDER, 0, 0) == TLX_OK;
-  requests = 0;
-  refused = 1;
-  is_well &= tlx_judge_step(&judge, &beat) == TLX_MEMORY && requests == 1;
-  refused = 0;
-  is_well &= tlx_judge_step(&judge, &beat) == TLX_OK && tlx_judge_step(&judge, &beat) == TLX_SOURCE_IN_FLIGHT;
+  is_well &= steps_refused(&judge, none, 2, 0) && steps_refused(&judge, put, 2, 1) && steps_refused(&judge, got, 2, 0) &&
+             steps_refused(&judge, &first, 1, 1) && tlx_judge_step(&judge, &first) == TLX_SOURCE_IN_FLIGHT;
+  is_well &= tlx_judge_requests(&judge) == 3 && tlx_judge_answered(&judge) == 3;
   tlx_judge_free(&judge);
-  tell("a beat that is refused memory", is_well && blocks == before);
+  tell("beats that are refused memory", is_well && blocks == before);
 }
 
 static void check_memory(const char *script) {
+  static const char IMAGE[] = "[[port]]\nname = \"rom\"\nkind = \"rom\"\nbase = 0\nlength = 64\nimage = \"a\"\nreset = \"00\"\n[[master]]\nsources = 3\n";
   static const char OPERATIONS[] =
       "slots = 1\n" PORT("0x1000", "64") MASTER("2", "0 putfull 0x1000 2 11223344\", \"wait\", \"1 putpart 0x1000 2 --556677")
       MASTER("1", "0 get 0x1000 2");
@@ -658,8 +425,11 @@ static void check_memory(const char *script) {
   refuse_each("one with operations", NULL, read_system, OPERATIONS);
   refuse_each("a model that is refused memory", read_system, make_model, script);
   refuse_each("a judge that is refused memory", NULL, read_judge, script);
+  refuse_each("a file that is refused memory", NULL, describe, IMAGE);
+  refuse_each("a judge with an image that is refused memory", describe_with_image, make_judge, IMAGE);
+  refuse_image(IMAGE);
   refuse_text();
-  refuse_step();
+  refuse_steps();
 }
 
 int main(int count, char **words) {
@@ -670,12 +440,16 @@ int main(int count, char **words) {
   check_systems();
   check_models();
   check_files();
+  check_images();
   check_judges();
   check_longest_line();
+  check_buses();
+  check_slaves();
   snprintf(folder, sizeof folder, "%s/captures", count > 1 ? words[1] : "..");
-  size_t length = read_file(folder, "system.toml", script);
-  check_captures(folder, script, length);
+  read_file(folder, "system.toml", script);
+  check_captures(folder);
   check_memory(script);
+  tell("beats that were refused memory", wants > 0);
   tell("all memory was given back", blocks == 0);
   printf("%d passed, %d failed\n", passed, failed);
   return failed != 0;

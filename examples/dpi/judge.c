@@ -18,6 +18,7 @@ extern "C" {
 #define MAX_BEATS 1024 /* of one cycle */
 #define MAX_TEXT 2048
 #define MAX_SCRIPT (1 << 20)
+#define BUS_LANES 8 /* of the module's links */
 
 struct watch {
   struct tlx_judge judge;
@@ -81,8 +82,14 @@ int tl_judge_open(const char *path, const char *links, const char *order) {
   return opened++;
 }
 
+/* The lanes of a bus, of which data has eight bits each, lane 0 the low ones. */
+static void put_lanes(struct tlx_beat *beat, int lanes, uint64_t data, uint64_t known) {
+  beat->known = known;
+  for (int lane = 0; lane < lanes; lane++) beat->lanes[lane] = (uint8_t)(data >> 8 * lane);
+}
+
 /* Room for the beat that crosses a link, with what beats of both channels have; null where something is wrong already. */
-static struct tlx_beat *next_beat(int judge, const char *link, uint64_t time, uint8_t channel, uint64_t data, uint8_t known) {
+static struct tlx_beat *next_beat(int judge, const char *link, uint64_t time, uint8_t channel, uint64_t data, uint64_t known) {
   struct watch *watch = watch_of(judge);
   char *end;
   if (!watch || watch->text[0]) return NULL;
@@ -97,8 +104,7 @@ static struct tlx_beat *next_beat(int judge, const char *link, uint64_t time, ui
   beat->number = strtoull(link + 1, &end, 10);
   if (*end || end == link + 1) beat->number = UINT64_MAX;
   beat->channel = channel;
-  beat->known = known;
-  for (int lane = 0; lane < TLX_LANES; lane++) beat->lanes[lane] = (uint8_t)(data >> 8 * lane);
+  put_lanes(beat, BUS_LANES, data, known);
   return beat;
 }
 

@@ -8,10 +8,12 @@ import array
 import copy
 import ctypes
 import gc
+import os
 import pickle
 import random
 import re
 import sys
+import tempfile
 
 import tlx
 from tally import Tally
@@ -22,9 +24,15 @@ slots = 1
 port = [{kind = "ram", base = 0x1000, length = 64, reset = "0011223344"}, {kind = "ram", base = 0x2000, length = 64}]
 master = [{sources = 2, ops = []}]
 """
+# One with images.
+IMAGES = """
+port = [{kind = "rom", base = 0x1000, length = 8, reset = "aa", image = "boot.bin"}, {kind = "ram", base = 0x2000, length = 4},
+        {kind = "device", base = 0x3000, length = 2, image = "none"}]
+master = [{sources = 1}]
+"""
 # A system file that is no script.
 FILE = 'master = [{sources = 2}]\nport = [{kind = "ram", base = 0x1000, length = 64}]'
-HUGE = 1 << 70
+HUGE = 1 << 600
 GET = tlx.Request.get(0x1000, 2, 1)
 
 
@@ -170,7 +178,7 @@ def check_refused_beats(tally, judge):
         found = tally.raises(name, tlx.Refused, judge.step, changed(get_beat(), **others))
         tally.tell(f"the fault of {name}", found.fault is tlx.Fault[fault])
     for field, bits in (("line", 64), ("time", 64), ("number", 64), ("address", 64), ("source", 16), ("side", 8), ("channel", 8), ("opcode", 8),
-                        ("param", 8), ("size", 8), ("mask", 8), ("denied", 8), ("corrupt", 8), ("known", 8), ("data", 64)):
+                        ("param", 8), ("size", 8), ("mask", 64), ("denied", 8), ("corrupt", 8), ("known", 64), ("data", 512)):
         for value, kind in ((1 << bits, OverflowError), (-1, OverflowError), (HUGE, OverflowError), ("1", TypeError), (None, TypeError), (1.0, TypeError)):
             beat = changed(get_beat(), **{field: value})
             found = tally.raises(f"a beat with {field} {value!r}", kind, judge.step, beat)
@@ -185,11 +193,71 @@ def check_refused_beats(tally, judge):
     tally.tell("nothing was judged", (judge.requests, judge.answered) == (0, 0))
 
 
+def check_images(tally):
+    """Images by a mapping, by a function and from a folder; a get then reads their bytes."""
+    raises = tally.raises
+    named = tlx.System(IMAGES, lambda name: {"boot.bin": b"\x11\x22", "none": b""}[name])
+    tally.tell("images by their names", named.images == {0: b"\x11\x22", 2: b""})
+    with tempfile.TemporaryDirectory() as folder:
+        path = os.path.join(folder, "system.toml")
+        for name, content in (("system.toml", IMAGES.encode()), ("boot.bin", b"\x11\x22")):
+            with open(os.path.join(folder, name), "wb") as file:
+                file.write(content)
+        raises("an image that is missing", FileNotFoundError, tlx.System.read, path)
+        with open(os.path.join(folder, "none"), "wb"):
+            pass
+        read = tlx.System.read(path)
+        tally.tell("images from the folder of a file", read.images == named.images and tlx.System.read(path, {0: b"", 2: b""}).images[0] == b"")
+    for name, system in (("a function", named), ("a folder", read), ("a mapping", tlx.System(IMAGES, {0: b"\x11\x22", 2: b""}))):
+        with tlx.Judge(system, "masters") as judge:
+            judge.step(tlx.Beat.ask("m0", tlx.Ask.GET, 2, 0, 0x1000, 0x0F))
+            found = raises(f"a wrong byte of an image by {name}", tlx.Unlawful, judge.step, tlx.Beat.reply("m0", 1, 2, 0, 0x11))
+            tally.tell("its text", found.text.endswith("expected AccessAckData aa220000, captured AccessAckData 11000000"))
+            judge.step(tlx.Beat.reply("m0", 1, 2, 0, 0x22AA))
+    for images, fault, line in ((None, "IMAGE_UNREADABLE", "system: port 0: image can't be read"),
+                                ({0: b""}, "IMAGE_UNREADABLE", "system: port 2: image can't be read"),
+                                ({0: bytes(9), 2: b""}, "LONG_IMAGE", "system: port 0: image is longer than its range"),
+                                ({1: b""}, "NO_IMAGE", "system: port 1: no image"), ({3: b""}, "NO_PORT", "system: no port 3")):
+        found = raises(f"images {images}", tlx.InvalidSystem, tlx.System, IMAGES, images)
+        tally.tell(f"its line {line}", str(found) == line and found.fault is tlx.Fault[fault])
+    for images in (7, "boot.bin", {0: "text", 2: b""}, {"0": b""}, {0: None}, lambda name: None):
+        raises(f"images that are {images!r}", TypeError, tlx.System, IMAGES, images)
+    raises("an image of a port below 0", OverflowError, tlx.System, IMAGES, {-1: b""})
+    long = "n" * 5000
+    tally.tell("a file with a long name", tlx.System(IMAGES.replace("boot.bin", long), {long: b"", "none": b""}.get).images == {0: b"", 2: b""})
+    model = tlx.Model(tlx.System(f"slots = 1\n{IMAGES}".replace("device", "ram").replace("sources = 1", "sources = 1, ops = []"), {0: b"", 2: b""}))
+    tally.tell("a model looks at no image", model.byte(0x1001) == 0)
+
+
+def check_buses(tally):
+    """A get of 8 bytes at 0x1008 and its reply, whose bytes are 08 to 0f, over buses of 4, 8 and 16 bytes."""
+    port = 'port = [{kind = "ram", base = 0x1000, length = 64, reset = "000102030405060708090a0b0c0d0e0f"}]\nmaster = [{sources = 1}]'
+    data = 0x0F0E0D0C0B0A0908
+    for bus, mask, beats in ((4, 0xF, (data & 0xFFFFFFFF, data >> 32)), (8, 0xFF, (data,)), (16, 0xFF00, (data << 64,))):
+        judge = tlx.Judge(tlx.System(f"bus = {bus}\n{port}"), "masters")
+        ask = tlx.Beat.ask("m0", tlx.Ask.GET, 3, 0, 0x1008, mask)
+        tally.raises(f"a lane past a bus of {bus} bytes", tlx.Unlawful, judge.step, changed(ask, mask=mask | 1 << bus))
+        judge.step(ask)
+        array = tlx.Beats(tlx.Beat.reply("m0", 1, 3, 0, part | 0xEE << 8 * bus, known=mask) for part in beats)
+        tally.tell("the beats of the array", [beat.data & (1 << 8 * bus) - 1 for beat in array] == list(beats) and array[0].known == mask)
+        judge.steps(array)
+        tally.tell(f"a bus of {bus} bytes", (judge.requests, judge.answered, judge.in_flight) == (1, 1, 0))
+    wide = tlx.Monitor(judge, {"m0": "m0_"})
+    ask = {"opcode": 4, "param": 0, "size": 3, "source": 0, "address": 0x1008, "mask": 0xFF00, "data": "x" * 128}
+    reply = {"opcode": 1, "size": 3, "source": 0, "denied": 0, "corrupt": 0, "data": format(data, "064b") + "x" * 64}
+    wide.sample(signals_of(m0_a=ask))
+    wide.sample(signals_of(m0_d=reply))
+    tally.tell("signals of 128 bits", judge.answered == 2)
+    wide.sample(signals_of(m0_a=ask))
+    found = tally.raises("a lane of 128 bits that is unknown", tlx.Unlawful, wide.sample, signals_of(m0_d=reply | {"data": "x" + reply["data"][1:]}))
+    tally.tell("its fault is unknown data", found.fault is tlx.Fault.UNKNOWN_DATA)
+
+
 def check_arrays(tally):
     reply = tlx.Beat.reply("m0", tlx.Reply.ACCESS_ACK_DATA, 2, 1, 0x33221100, line=2, time=5)
     pair, system = [get_beat(), reply], tlx.System(SYSTEM)
     beats = tlx.Beats(pair * 100000)
-    tally.tell("an array", len(beats) == 200000 and list(tlx.Beats(pair)) == pair and beats[-1] == reply and len(beats.memory) == 56 * len(beats))
+    tally.tell("an array", len(beats) == 200000 and list(tlx.Beats(pair)) == pair and beats[-1] == reply and len(beats.memory) == 128 * len(beats))
     tally.raises("no such place", IndexError, beats.__getitem__, 200000)
     tally.raises("a place by its name", TypeError, beats.__getitem__, "0")
     for name, given in (("Beats", beats), ("bytes", bytes(beats.memory)), ("a bytearray", beats.memory), ("a memoryview", memoryview(beats.memory)),
@@ -205,8 +273,8 @@ def check_arrays(tally):
     for empty in (tlx.Beats(), b"", bytearray(), memoryview(b"")):
         judge.steps(empty)
     tally.tell("arrays of nothing", judge.answered == 70001)
-    for name, kind, given in (("none", TypeError, None), ("a list", TypeError, pair), ("a text", TypeError, "a" * 56), ("a number", TypeError, 56),
-                              ("a byte too few", ValueError, bytes(55)), ("every other byte", ValueError, memoryview(bytes(112))[::2])):
+    for name, kind, given in (("none", TypeError, None), ("a list", TypeError, pair), ("a text", TypeError, "a" * 128), ("a number", TypeError, 128),
+                              ("a byte too few", ValueError, bytes(127)), ("every other byte", ValueError, memoryview(bytes(256))[::2])):
         tally.raises(f"an array of {name}", kind, judge.steps, given)
     grown = tlx.Beats([reply])
     try:
@@ -281,7 +349,7 @@ def check_wild(tally):
 
     calls = (lambda: model.serve(rng.choice([0] * 100 + values), request()), lambda: model.byte(rng.choice(values)),
              lambda: rng.choice(judges).step(beat()), lambda: rng.choice(judges).step(beat()),
-             lambda: rng.choice(judges).steps(rng.choice([rng.randbytes(56 * rng.randrange(4)), rng.randbytes(rng.randrange(200)), *values])))
+             lambda: rng.choice(judges).steps(rng.choice([rng.randbytes(128 * rng.randrange(4)), rng.randbytes(rng.randrange(400)), *values])))
     done = raised = 0
     for _ in range(20000):
         try:
@@ -346,7 +414,7 @@ def check_memory(tally):
 def main():
     tally = Tally("calls")
     check_faults(tally, sys.argv[-1])
-    for check in (check_systems, check_model, check_judge, check_arrays, check_monitor, check_wild):
+    for check in (check_systems, check_model, check_judge, check_images, check_buses, check_arrays, check_monitor, check_wild):
         check(tally)
     if "--no-memory" not in sys.argv:
         check_memory(tally)

@@ -1,7 +1,8 @@
 #!/usr/bin/env python3
 """Judges the captures of examples/captures and examples/systems by calls: captures.py FOLDER of the examples.
 
-Each must have its verdict, beat by beat and as one array. A capture whose verdict is about its text, which has no beats, is left out.
+Each must have its verdict, beat by beat and as one array. A capture NAME.csv has the system file NAME.toml beside it, or else system.toml. One
+whose verdict is about its text, which has no beats, is left out.
 """
 
 import csv
@@ -11,15 +12,16 @@ import sys
 import tlx
 from tally import Tally
 
+ALL_KNOWN = (1 << 64) - 1
 CROSSING = {("A", "m"): 0, ("A", "p"): 1, ("D", "p"): 2, ("D", "m"): 3}
 
 
 def lanes_of(word):
-    """The data and the known lanes that sixteen digits spell; no digits are eight known zeros."""
+    """The data and the known lanes that digits spell, two for a lane; no digits are known zeros."""
     pairs = [word[at:at + 2].lower() for at in range(0, len(word), 2)]
     is_known = [not set(pair) & set("xz") for pair in pairs]
     data = int("".join(pair if known else "00" for pair, known in zip(pairs, is_known)) or "0", 16)
-    return data, sum(known << lane for lane, known in enumerate(reversed(is_known))) if word else 0xFF
+    return data, sum(known << lane for lane, known in enumerate(reversed(is_known))) if word else ALL_KNOWN
 
 
 def rows_of(path):
@@ -75,7 +77,8 @@ def main():
         if wanted.startswith("capture:"):
             continue
         words = path.with_suffix(".args").read_text().split() if path.with_suffix(".args").exists() else []
-        system = tlx.System.read(path.with_name("system.toml"))
+        own = path.with_suffix(".toml")
+        system = tlx.System.read(own if own.exists() else path.with_name("system.toml"))
         beats = rows_of(path.with_suffix(".csv"))
         for is_array in (False, True):
             with tlx.Judge(system, option(words, "--links", "both"), option(words, "--order", "accept")) as judge:

@@ -18,8 +18,9 @@ meaning a ValueError. Unlawful and Incomplete are verdicts.
 from .faults import Fault, Incomplete, InvalidSystem, Refused, Unlawful
 from .judge import LINKS, ORDERS, Judge
 from .messages import Answer, Ask, Beat, Beats, Channel, Reply, Request, Side, link_of
-from .model import Model, System
+from .model import Model
 from .monitor import Monitor
+from .system import System
 
 __all__ = ["LINKS", "ORDERS", "Answer", "Ask", "Beat", "Beats", "Channel", "Fault", "Incomplete", "InvalidSystem", "Judge", "Model", "Monitor",
            "Refused", "Reply", "Request", "Side", "System", "Unlawful", "link_of"]

@@ -9,9 +9,10 @@ import os
 import struct
 
 # The version of the header that the structs below are those of.
-HEADER_VERSION = 3
-# The room for a message's bytes, and for the longest text.
+HEADER_VERSION = 4
+# The room for a message's bytes, the lanes of the widest bus, and the room for the longest text.
 ROOM = 256
+LANES = 64
 TEXT_ROOM = 2048
 
 
@@ -54,12 +55,12 @@ class AnswerStruct(ctypes.Structure):
                 ("opcode", ctypes.c_uint8), ("size", ctypes.c_uint8), ("denied", ctypes.c_uint8), ("bytes", ctypes.c_uint8 * ROOM)]
 
 
-# `struct tlx_beat`: line, time, number, address, source, side, channel, opcode, param, size, mask, denied, corrupt and known, and the lanes
-# as one little-endian number.
-BEAT = struct.Struct("<QQQQHBBBBBBBBBQ5x")
+# `struct tlx_beat`: line, time, number, address, mask, known, source, side, channel, opcode, param, size, denied and corrupt, and the lanes.
+_HEAD = "<QQQQQQHBBBBBBB"
+BEAT = struct.Struct(f"{_HEAD}{LANES}s7x")
 
 _LAYOUT = (HEADER_VERSION, ctypes.sizeof(_Handle), _Handle.live.offset, ctypes.sizeof(RequestStruct), RequestStruct.set.offset,
-           ctypes.sizeof(AnswerStruct), AnswerStruct.bytes.offset, BEAT.size, struct.calcsize("<QQQQHBBBBBBBBB"))
+           ctypes.sizeof(AnswerStruct), AnswerStruct.bytes.offset, BEAT.size, struct.calcsize(_HEAD))
 
 
 def _open() -> ctypes.PyDLL:
@@ -89,7 +90,11 @@ def _call(name: str, result, *arguments):
 _AT, _U8, _U32, _U64, _SIZE = ctypes.c_void_p, ctypes.c_uint8, ctypes.c_uint32, ctypes.c_uint64, ctypes.c_size_t
 _fault_text = _call("tlx_fault_text_at", _SIZE, _U32, _AT, _SIZE)
 _system_read = _call("tlx_system_read_at", _U32, _AT, _AT, _SIZE, _U32, _AT, _SIZE, _AT)
-_judge_read = _call("tlx_judge_read_at", _U32, _AT, _AT, _SIZE, _U8, _U8, _U32, _AT, _SIZE, _AT)
+_system_describe = _call("tlx_system_describe_at", _U32, _AT, _AT, _SIZE, _U32, _AT, _SIZE, _AT)
+_system_ports = _call("tlx_system_ports_at", _U64, _AT)
+_system_image = _call("tlx_system_image_at", _U32, _AT, _U64, _AT, _SIZE, _AT, _SIZE, _AT)
+_system_image_name = _call("tlx_system_image_name_at", _SIZE, _AT, _U64, _AT, _SIZE)
+_judge_make = _call("tlx_judge_make_at", _U32, _AT, _AT, _U8, _U8, _AT, _SIZE, _AT)
 _judge_text = _call("tlx_judge_text_at", _SIZE, _AT, _AT, _SIZE)
 model_make = _call("tlx_model_make_at", _U32, _AT, _AT)
 model_serve = _call("tlx_model_serve_at", _U32, _AT, _U64, _AT, _AT)
@@ -121,10 +126,41 @@ def read_system(text: bytes) -> tuple[SystemHandle, int, str]:
     return handle, fault, why.value.decode()
 
 
-def read_judge(text: bytes, links: int, order: int) -> tuple[JudgeHandle, int, str]:
-    """The judge of a system file; a fault, and its text."""
+def describe(text: bytes) -> tuple[SystemHandle, int, str]:
+    """What a system file names, for a judge; a fault, and its text."""
+    handle, why, written = SystemHandle(), ctypes.create_string_buffer(TEXT_ROOM), ctypes.c_size_t()
+    fault = _system_describe(ctypes.byref(handle), text, len(text), HEADER_VERSION, why, TEXT_ROOM, ctypes.byref(written))
+    return handle, fault, why.value.decode()
+
+
+def image_names(handle: SystemHandle) -> dict[int, str]:
+    """The files of the ports' images, by the numbers of the ports that name one."""
+    at = ctypes.byref(handle)
+    names = {port: _image_name(at, port) for port in range(_system_ports(at))}
+    return {port: name for port, name in names.items() if name}
+
+
+def _image_name(at, port: int) -> str:
+    room, count = TEXT_ROOM, TEXT_ROOM
+    # one that fills the room may have been cut off
+    while count >= room - 1:
+        room *= 2
+        text = ctypes.create_string_buffer(room)
+        count = _system_image_name(at, port, text, room)
+    return text.raw[:count].decode()
+
+
+def put_image(handle: SystemHandle, port: int, image: bytes) -> tuple[int, str]:
+    """Hands in the bytes of a port's image; a fault, and its text."""
+    why, written = ctypes.create_string_buffer(TEXT_ROOM), ctypes.c_size_t()
+    fault = _system_image(ctypes.byref(handle), port, image, len(image), why, TEXT_ROOM, ctypes.byref(written))
+    return fault, why.value.decode()
+
+
+def make_judge(system: SystemHandle, links: int, order: int) -> tuple[JudgeHandle, int, str]:
+    """The judge of what a system file names; a fault, and its text."""
     handle, why, written = JudgeHandle(), ctypes.create_string_buffer(TEXT_ROOM), ctypes.c_size_t()
-    fault = _judge_read(ctypes.byref(handle), text, len(text), links, order, HEADER_VERSION, why, TEXT_ROOM, ctypes.byref(written))
+    fault = _judge_make(ctypes.byref(handle), ctypes.byref(system), links, order, why, TEXT_ROOM, ctypes.byref(written))
     return handle, fault, why.value.decode()
 
 

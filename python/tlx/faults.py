@@ -24,7 +24,6 @@ class Fault(enum.IntEnum):
     BAD_SOURCES = 16
     TOO_LONG = 17
     TWO_CALLED = 18
-    LONG_RANGE = 19
     NO_OPERATION = 20
     SIZE = 21
     NO_MASTER = 22
@@ -50,6 +49,10 @@ class Fault(enum.IntEnum):
     NOT_GIVEN = 46
     WRONG_REPLY = 47
     INCOMPLETE = 48
+    NO_PORT = 60
+    NO_IMAGE = 61
+    LONG_IMAGE = 62
+    IMAGE_UNREADABLE = 63
 
     @property
     def words(self) -> str:
@@ -72,7 +75,8 @@ class Refused(ValueError):
 
 
 class InvalidSystem(Refused):
-    """A text that is no system file, or no script where a model is made of it: `system: missing master`."""
+    """A text that is no system file, or no script where a model is made of it: `system: missing master`. Or an image that is not given, is too
+    long, or is of a port that names none."""
 
 
 class Unlawful(Exception):

@@ -6,7 +6,7 @@ import struct
 from . import _library
 from .faults import Fault, Incomplete, Unlawful, fault_of
 from .messages import BEAT, Beat, Beats, beat_at, check_beat, values_of
-from .model import System, check_system, read
+from .system import System, check_system, make_judge
 
 LINKS = ("both", "masters", "ports", "each")
 ORDERS = ("accept", "reply")
@@ -34,8 +34,7 @@ class Judge:
     """
 
     def __init__(self, system: System, links: str = "both", order: str = "accept") -> None:
-        text = check_system(system).text
-        self._handle = read(_library.read_judge, text, _place("links", links, LINKS), _place("order", order, ORDERS))
+        self._handle = make_judge(check_system(system), _place("links", links, LINKS), _place("order", order, ORDERS))
         self.links = links
         self.order = order
         self._is_closed = False
@@ -49,8 +48,8 @@ class Judge:
         and D of the masters'.
 
         Unlawful if no lawful crossbar could have shown it; Refused, a ValueError, with NO_LINK if there is no such link or it is not
-        watched; TypeError, OverflowError and ValueError of a field's value; MemoryError, of a judge of "each" alone. After each of
-        them the judge is as it was.
+        watched; TypeError, OverflowError and ValueError of a field's value; MemoryError if there is no memory for the bytes that are
+        written with a lawful beat. After each of them the judge is as it was, and after a MemoryError the same beat may be given again.
         """
         try:
             _pack(self._beat, 0, *values_of(beat))

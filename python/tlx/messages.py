@@ -11,7 +11,7 @@ import struct
 from collections.abc import Iterable, Iterator
 from dataclasses import dataclass
 
-from ._library import BEAT
+from ._library import BEAT, LANES
 
 
 class Side(enum.IntEnum):
@@ -112,9 +112,10 @@ class Beat:
     """A beat that crossed a link, with valid and ready both 1.
 
     side, number: the link, of a master or a port. channel: A or D. opcode, size: as in Request and Answer. source: at a master's link
-    its own, at a port's the wide one. data: the 64 bits of the bus as a waveform shows them, lane 0 in the low eight. known: bit k is
-    1 if lane k has no x. param, address, mask (a bit a lane): of A alone. denied, corrupt: of D alone. line, time: any numbers
-    below 2^64, which stand in what is said of the beat; the time is of any unit.
+    its own, at a port's the wide one. data: the bits of the bus as a waveform shows them, lane 0 in the low eight. known: bit k is 1 if
+    lane k has no x; all are known if it is not given. What data and known have past the bus of the link is not looked at. param,
+    address, mask (a bit a lane): of A alone. denied, corrupt: of D alone. line, time: any numbers below 2^64, which stand in what is
+    said of the beat; the time is of any unit.
     """
 
     side: int
@@ -129,7 +130,7 @@ class Beat:
     param: int = 0
     denied: bool = False
     corrupt: bool = False
-    known: int = 0xFF
+    known: int = (1 << LANES) - 1
     line: int = 0
     time: int = 0
 
@@ -145,15 +146,15 @@ class Beat:
 
 
 # The fields of a beat in the order of the layout, with the bits of each.
-_BITS = {"line": 64, "time": 64, "number": 64, "address": 64, "source": 16, "side": 8, "channel": 8, "opcode": 8, "param": 8, "size": 8,
-         "mask": 8, "denied": 8, "corrupt": 8, "known": 8, "data": 64}
-_TYPES = {"side": Side, "channel": Channel, "denied": bool, "corrupt": bool}
+_BITS = {"line": 64, "time": 64, "number": 64, "address": 64, "mask": LANES, "known": LANES, "source": 16, "side": 8, "channel": 8, "opcode": 8,
+         "param": 8, "size": 8, "denied": 8, "corrupt": 8, "data": 8 * LANES}
+_TYPES = {"side": Side, "channel": Channel, "denied": bool, "corrupt": bool, "data": lambda lanes: int.from_bytes(lanes, "little")}
 
 
-def values_of(beat: Beat) -> tuple[int, ...]:
-    """The fields of a beat in the order of the layout."""
-    return (beat.line, beat.time, beat.number, beat.address, beat.source, beat.side, beat.channel, beat.opcode, beat.param, beat.size,
-            beat.mask, beat.denied, beat.corrupt, beat.known, beat.data)
+def values_of(beat: Beat) -> tuple:
+    """The fields of a beat in the order of the layout, its data as lanes."""
+    return (beat.line, beat.time, beat.number, beat.address, beat.mask, beat.known, beat.source, beat.side, beat.channel, beat.opcode,
+            beat.param, beat.size, beat.denied, beat.corrupt, operator.index(beat.data).to_bytes(LANES, "little"))
 
 
 def check_number(name: str, value: object, bits: int) -> int:
@@ -179,7 +180,7 @@ class Beats:
     """An array of beats, for `Judge.steps`: made once, it is judged without a Python object for each beat.
 
     Its memory is `struct tlx_beat` of `include/tlx.h` once for each beat, `Beats.ITEM` bytes; `Beats.LAYOUT` is its format for the
-    module struct, with the fields in the order of `Beats.FIELDS`.
+    module struct, with the fields in the order of `Beats.FIELDS`, the data as 64 bytes with lane 0 first.
     """
 
     ITEM = BEAT.size

@@ -1,51 +1,14 @@
-"""Systems, and the model of a crossbar."""
+"""The model of a crossbar."""
 
 import ctypes
-import os
 import struct
 
 from . import _library
-from .faults import Fault, InvalidSystem, fault_of
+from .faults import fault_of
 from .messages import Answer, Ask, Reply, Request, check_number
+from .system import System, check_system, read
 
 _FRONT = struct.Struct("<QHBBB")
-
-
-class System:
-    """The text of a system file, or of a script of tlx, which is one (docs/FORMATS.md). It holds nothing that must be given back.
-
-    text: str, or bytes of UTF-8. TypeError if it is neither; InvalidSystem, with the fault and its text, if it is no system file.
-    """
-
-    __slots__ = ("text",)
-
-    def __init__(self, text: str | bytes) -> None:
-        if isinstance(text, str):
-            text = text.encode()
-        if not isinstance(text, bytes):
-            raise TypeError(f"the text of a system is str or bytes, and not {type(text).__name__}")
-        self.text = text
-        read(_library.read_judge, text, 0, 0)
-
-    @classmethod
-    def read(cls, path: str | os.PathLike) -> "System":
-        """The system that a file has."""
-        with open(path, "rb") as file:
-            return cls(file.read())
-
-
-def read(call, text: bytes, *words: int):
-    """The handle that one of the two calls that read a text fills; what it raises for a fault."""
-    handle, fault, why = call(text, *words)
-    if fault:
-        raise InvalidSystem(Fault(fault), why) if fault >= Fault.NOT_TOML else fault_of(fault, why)
-    return handle
-
-
-def check_system(system: object) -> System:
-    if not isinstance(system, System):
-        raise TypeError(f"a system is a tlx.System, and not {type(system).__name__}")
-    return system
 
 
 class Model:

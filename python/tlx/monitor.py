@@ -3,6 +3,7 @@
 import operator
 from collections.abc import Iterable, Mapping
 
+from ._library import LANES
 from .judge import Judge
 from .messages import Beat, Channel, Side, link_of
 
@@ -75,13 +76,13 @@ class _Channel:
     def beat(self, signals: Mapping[str, object], line: int, time: int) -> Beat:
         """The beat that crosses."""
         values = {"param": 0, "denied": 0, "corrupt": 0}
-        known = 0xFF
+        known = (1 << LANES) - 1
         for field, name in self.signals.items():
             values[field], unknown = bits_of(signals[name])
             if unknown and field != "data":
                 raise ValueError(f"{name} is unknown in the beat at time {time}")
             if unknown:
-                known = sum(1 << lane for lane in range(8) if not unknown >> 8 * lane & 0xFF)
+                known = sum(1 << lane for lane in range(LANES) if not unknown >> 8 * lane & 0xFF)
         side, number, channel = self.link
         return Beat(side=side, number=number, channel=channel, known=known, line=line, time=time, **values)
 

@@ -1,19 +1,17 @@
 -- The numbers of faults: those of `enum tlx_fault` in include/tlx.h. This project's own.
 use Rattle.std.specs.Prelude.{ℕ}
-use Rattle.check_link.specs.declared.fault.FormFault.{FormFault}
-use Rattle.check_link.specs.declared.fault.FormFault.TheVariants as form
+use Rattle.check_beats.specs.declared.fault.FormFault.{FormFault}
+use Rattle.check_beats.specs.declared.fault.FormFault.TheVariants as form
 use Rattle.tl_model.specs.declared.fault.ServeFault.{ServeFault}
 use Rattle.tl_model.specs.declared.fault.ServeFault.TheVariants as serve
 use Rattle.tl_script.specs.declared.fault.ScriptFault.{ScriptFault}
 use Rattle.tl_script.specs.declared.fault.ScriptFault.TheVariants as script
-use Rattle.check_system.specs.declared.fault.SystemFault.{SystemFault}
-use Rattle.check_system.specs.declared.fault.SystemFault.TheVariants as file
-use Rattle.check_system.specs.declared.reset.ResetFault.{ResetFault}
-use Rattle.check_system.specs.declared.reset.ResetFault.TheVariants as reset
-use Rattle.tl_c.specs.declared.reading.JudgeFault.{JudgeFault}
-use Rattle.tl_c.specs.declared.reading.JudgeFault.TheVariants as judge
-use Rattle.check_crossbar.specs.declared.fault.Fault.{Fault}
-use Rattle.check_crossbar.specs.declared.fault.Fault.TheVariants as beat
+use Rattle.check_keys.specs.declared.fault.SystemFault.{SystemFault}
+use Rattle.check_keys.specs.declared.fault.SystemFault.TheVariants as file
+use Rattle.check_watch.specs.declared.fault.Fault.{Fault}
+use Rattle.check_watch.specs.declared.fault.Fault.TheVariants as beat
+use Rattle.tl_c.specs.declared.draft.ImageFault.{ImageFault}
+use Rattle.tl_c.specs.declared.draft.ImageFault.TheVariants as image
 
 abbrev pub script_number : ScriptFault → ℕ
 script_number script.Memory = 4
@@ -36,14 +34,13 @@ file_number (file.Map fault) = 15
 file_number (file.Sources fault) = 16
 file_number file.TooLong = 17
 file_number (file.TwoCalled name) = 18
+file_number (file.ImageTooLong port) = 62
+file_number (file.ImageUnreadable port) = 63
 
-abbrev pub reset_number : ResetFault → ℕ
-reset_number reset.Memory = 4
-reset_number (reset.TooLong port) = 19
-
-abbrev pub judge_number : JudgeFault → ℕ
-judge_number (judge.System fault) = file_number fault
-judge_number (judge.Reset fault) = reset_number fault
+abbrev pub image_number : ImageFault → ℕ
+image_number (image.NoPort port) = 60
+image_number (image.NoImage port) = 61
+image_number (image.System fault) = file_number fault
 
 abbrev pub serve_number : ServeFault → ℕ
 serve_number serve.NoSuchMaster = 22

@@ -1,11 +1,11 @@
 -- What the structs of the header stand for. This project's own.
 use Rattle.std.specs.Prelude.{◌≡◌, ◌<◌, ℕ, Bool, true, false, length, Option, Some, None, ◌==◌, ◌&&◌, if◌then◌else◌, map, get_or, take}
 use Rattle.std.specs.List.{range_with_len}
-use Rattle.check_link.specs.declared.beat.Beat.{Beat}
-use Rattle.check_link.specs.declared.beat.Beat.TheVariants.{A, D}
-use Rattle.check_link.specs.declared.beat.Link.{Link}
-use Rattle.check_link.specs.declared.beat.Link.TheVariants.{Master, Port}
-use Rattle.check_link.specs.declared.beat.Sighting.{Sighting}
+use Rattle.check_watch.specs.declared.beat.Beat.{Beat}
+use Rattle.check_watch.specs.declared.beat.Beat.TheVariants.{A, D}
+use Rattle.check_watch.specs.declared.beat.Link.{Link}
+use Rattle.check_watch.specs.declared.beat.Link.TheVariants.{Master, Port}
+use Rattle.check_watch.specs.Plan.{Sighting, seen_at}
 use Rattle.tl_types.specs.declared.limits.TheConstants.{MAX_SIZE}
 use Rattle.tl_types.specs.declared.operation.AskOp.{AskOp}
 use Rattle.tl_types.specs.Operation.{byte_count, may_leave_unset}
@@ -72,7 +72,6 @@ ask_beat w = A (record {
   source = w.source;
   address = w.address;
   mask = w.mask;
-  lanes = w.lanes;
 })
 
 abbrev pub reply_beat : WireBeat → Option Bool → Option Bool → Option Beat
@@ -82,7 +81,6 @@ reply_beat w (Some denied) (Some corrupt) = Some (D (record {
   source = w.source;
   denied = denied;
   corrupt = corrupt;
-  lanes = w.lanes;
 }))
 reply_beat w (Some denied) None = None
 reply_beat w None corrupt = None
@@ -92,11 +90,12 @@ abbrev pub beat_of : WireBeat → Option Beat
 beat_of w = if w.channel == 0 then Some (ask_beat w) else if w.channel == 1 then reply_beat w (flag_of w.denied)
     (flag_of w.corrupt) else None
 
-abbrev pub seen_at : Option Link → Option Beat → ℕ → Option Sighting
-seen_at (Some link) (Some beat) known = Some (record { link = link; beat = beat; known = known })
-seen_at (Some link) None known = None
-seen_at None beat known = None
+-- the struct's lanes, seen with a beat at a link; those from the link's bus on no rule looks at
+abbrev pub seen_with : WireBeat → Option Link → Option Beat → Option Sighting
+seen_with w (Some link) (Some beat) = Some (seen_at link beat w.known w.lanes)
+seen_with w (Some link) None = None
+seen_with w None beat = None
 
 -- what was seen by a struct, if its numbers have a meaning
 abbrev pub shown_by : WireBeat → Option Sighting
-shown_by w = seen_at (link_of w.side w.number) (beat_of w) w.known
+shown_by w = seen_with w (link_of w.side w.number) (beat_of w)

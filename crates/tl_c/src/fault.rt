@@ -1,10 +1,11 @@
 //! The numbers of faults, as the header has them, and their words.
 ghost use Rattle.std.specs.Prelude.{◌≡◌, ◌<◌};
-ghost use Rattle.tl_c.specs.Numbers.{beat_number, file_number, form_number, reset_number, script_number, serve_number};
+ghost use Rattle.tl_c.specs.Numbers.{beat_number, file_number, form_number, image_number, script_number, serve_number};
 
-use check_crossbar::Fault;
-use check_link::FormFault;
-use check_system::{ResetFault, SystemFault};
+use crate::draft::ImageFault;
+use check_beats::FormFault;
+use check_keys::SystemFault;
+use check_watch::Fault;
 use tl_model::ServeFault;
 use tl_script::ScriptFault;
 
@@ -31,6 +32,16 @@ pub(crate) const NO_LINK: u32 = 30;
 
 /// Requests are left without a whole reply.
 pub(crate) const INCOMPLETE: u32 = 48;
+
+pub(crate) const NO_PORT: u32 = 60;
+
+/// The system file names no image for the port.
+pub(crate) const NO_IMAGE: u32 = 61;
+
+pub(crate) const LONG_IMAGE: u32 = 62;
+
+/// The bytes of an image were not handed in.
+pub(crate) const IMAGE_UNREADABLE: u32 = 63;
 
 /// The number of a fault of a script.
 pub(crate) fn script_number(fault: ScriptFault) -> u32
@@ -63,16 +74,19 @@ pub(crate) fn file_number(fault: &SystemFault) -> u32
         SystemFault::Sources(_) => 16,
         SystemFault::TooLong => 17,
         SystemFault::TwoCalled(_) => 18,
+        SystemFault::ImageTooLong(_) => 62,
+        SystemFault::ImageUnreadable(_) => 63,
     }
 }
 
-/// The number of a fault of a system's memories.
-pub(crate) fn reset_number(fault: ResetFault) -> u32
-    ensures { result ≡ reset_number fault }
+/// The number of the fault of an image.
+pub(crate) fn image_number(fault: &ImageFault) -> u32
+    ensures { result ≡ image_number fault.now }
 {
     match fault {
-        ResetFault::Memory => 4,
-        ResetFault::TooLong(_) => 19,
+        ImageFault::NoPort(_) => 60,
+        ImageFault::NoImage(_) => 61,
+        ImageFault::System(fault) => file_number(fault),
     }
 }
 
@@ -142,13 +156,16 @@ fn call_words(number: u32) -> &'static str {
         16 => "bad sources",
         17 => "longer than 1048576 bytes",
         18 => "two of one name",
-        19 => "a range of more than 65536 bytes",
         20 => "no such operation",
         21 => "size over the limit",
         22 => "no such master",
         23 => "no such source",
         24 => "the port has served as many requests as can be counted",
         25 => "no byte at this address",
+        60 => "no such port",
+        61 => "the file names no image for the port",
+        62 => "image is longer than its range",
+        63 => "image can't be read",
         _ => "unknown fault",
     }
 }

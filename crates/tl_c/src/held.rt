@@ -1,7 +1,8 @@
 //! What handles hold.
-use check_groups::Watch;
-use check_judge::Names;
-use check_pending::Pending;
+use crate::draft::Draft;
+use check_lines::Names;
+use check_sides::Watch;
+use check_unanswered::Pending;
 use std::marker::Model;
 use tl_model::Crossbar;
 use tl_script::System;
@@ -39,7 +40,10 @@ pub struct Judge {
 /// What a handle holds.
 #[derive(Drop)]
 pub enum Held {
+    /// The system of a script, for a model.
     System(System),
+    /// What a system file names, for a judge.
+    Draft(Draft),
     Model(Server),
     Judge(Judge),
 }

@@ -1,7 +1,8 @@
 //! The numbers of the header, on functions that do nothing but carry the law.
 ghost use Rattle.std.specs.Prelude.{◌≡◌};
-ghost use Rattle.tl_c.specs.declared.fault.TheConstants.{OK, EMPTY, FULL, MEMORY, BAD_ARGUMENT, OTHER_VERSION, NO_OPERATION, SIZE, NO_BYTE, NO_LINK, INCOMPLETE};
-ghost use Rattle.tl_c.specs.declared.reading.TheConstants.{LINE_ROOM};
+ghost use Rattle.check_beats.specs.declared.bus.TheConstants.{MAX_LANES};
+ghost use Rattle.tl_c.specs.declared.fault.TheConstants.{OK, EMPTY, FULL, MEMORY, BAD_ARGUMENT, OTHER_VERSION, NO_OPERATION, SIZE, NO_BYTE, NO_LINK, INCOMPLETE, NO_PORT, NO_IMAGE, LONG_IMAGE, IMAGE_UNREADABLE};
+ghost use Rattle.tl_c.specs.declared.making.TheConstants.{LINE_ROOM};
 ghost use Rattle.tl_c.specs.declared.version.TheConstants.{VERSION};
 ghost use Rattle.tl_c.specs.declared.wire.TheConstants.{ROOM};
 
@@ -19,16 +20,21 @@ pub fn faults_in_numbers()
     ensures no_byte { NO_BYTE ≡ 25 }
     ensures no_link { NO_LINK ≡ 30 }
     ensures incomplete { INCOMPLETE ≡ 48 }
+    ensures no_port { NO_PORT ≡ 60 }
+    ensures no_image { NO_IMAGE ≡ 61 }
+    ensures long_image { LONG_IMAGE ≡ 62 }
+    ensures image_unreadable { IMAGE_UNREADABLE ≡ 63 }
 {}
 
-/// The room of a message's bytes in the structs, `TLX_ROOM`, and the room for the line of a fault that a judge begins
-/// with.
+/// The room of a message's bytes in the structs, `TLX_ROOM`, that of a beat's lanes, `TLX_LANES`, and the room for the
+/// line of a fault that a judge begins with.
 pub fn room_in_numbers()
     ensures bytes { ROOM ≡ 256 }
+    ensures lanes { MAX_LANES ≡ 64 }
     ensures line { LINE_ROOM ≡ 2048 }
 {}
 
 /// The version of the header, `TLX_VERSION`.
 pub fn version_in_numbers()
-    ensures { VERSION ≡ 3 }
+    ensures { VERSION ≡ 4 }
 {}

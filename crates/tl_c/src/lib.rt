@@ -1,4 +1,4 @@
-//! tlx as a library of C: systems of scripts, models and judges behind handles that the caller owns.
+//! tlx as a library of C: systems, models and judges behind handles that the caller owns.
 //!
 //! `include/tlx.h` is the interface, call by call; `docs/EMBEDDING.md` has a first use. Each export takes what a handle
 //! holds, has the public calls of the crates below do the work (most take one; a request that is served and a beat that
@@ -10,14 +10,16 @@ ghost use Rattle.std.specs.Prelude.{◌≡◌};
 
 use tl_types::MAX_SIZE;
 
+mod describe;
+mod draft;
 mod fault;
 mod handle;
 mod held;
 mod judge;
 pub mod laws;
 mod loose;
+mod making;
 mod model;
-mod reading;
 mod system;
 mod text;
 mod version;
@@ -30,3 +32,6 @@ pub extern "C" fn tlx_largest_size() -> u8
 {
     MAX_SIZE
 }
+
+#[cfg(test)]
+mod tests;

@@ -97,7 +97,7 @@ pub extern "C" fn tlx_model_serve_at(
     };
     let number = match &mut *held {
         Held::Model(server) => serve(server, master, ask, answer),
-        Held::System(_) | Held::Judge(_) => EMPTY,
+        Held::System(_) | Held::Draft(_) | Held::Judge(_) => EMPTY,
     };
     *model = Handle::of(held);
     number
@@ -139,7 +139,7 @@ pub extern "C" fn tlx_model_byte_at(
             }
             None => NO_BYTE,
         },
-        Held::System(_) | Held::Judge(_) => EMPTY,
+        Held::System(_) | Held::Draft(_) | Held::Judge(_) => EMPTY,
     };
     *model = Handle::of(held);
     number
@@ -157,7 +157,7 @@ pub extern "C" fn tlx_model_masters_at(alloc: Global, model: &mut Handle) -> usi
     };
     let count = match &*held {
         Held::Model(server) => server.crossbar.masters(),
-        Held::System(_) | Held::Judge(_) => 0,
+        Held::System(_) | Held::Draft(_) | Held::Judge(_) => 0,
     };
     *model = Handle::of(held);
     count
@@ -175,7 +175,7 @@ pub extern "C" fn tlx_model_ports_at(alloc: Global, model: &mut Handle) -> usize
     };
     let count = match &*held {
         Held::Model(server) => server.crossbar.ports(),
-        Held::System(_) | Held::Judge(_) => 0,
+        Held::System(_) | Held::Draft(_) | Held::Judge(_) => 0,
     };
     *model = Handle::of(held);
     count

@@ -1,12 +1,13 @@
 //! The structs of the header, and what they stand for.
-ghost use Rattle.std.specs.Prelude.{◌≡◌, ◌≢◌, ◌≤◌, ◌↔◌, drop};
+ghost use Rattle.std.specs.Prelude.{◌≡◌, ◌≢◌, ◌≤◌, ◌↔◌, drop, option_map};
+ghost use Rattle.check_watch.specs.Plan.{seen_at};
 ghost use Rattle.tl_types.specs.Wire.{IsCodeOf};
 ghost use Rattle.tl_c.specs.Wire.{IsAnswerOf, IsAskOf, IsTooLarge, NamesNone, beat_of, flag_of, link_of, reply_beat, shown_by};
 
 use crate::fault::{NO_OPERATION, OK, SIZE};
-use check_link::{Beat, Link, Sighting};
-use tl_beats::{ABeat, DBeat};
-use tl_types::{Ask, AskOp, BUS_BYTES, MAX_SIZE, Reply, read_op, reply_opcode, write_over};
+use check_beats::{AskHead, MAX_LANES, ReplyHead};
+use check_watch::{Beat, Link};
+use tl_types::{Ask, AskOp, MAX_SIZE, Reply, read_op, reply_opcode, write_over};
 
 /// The room of a message's bytes in the header's structs.
 pub const ROOM: usize = 256;
@@ -38,7 +39,7 @@ pub struct WireAnswer {
     pub bytes: [u8; ROOM],
 }
 
-/// A beat: `struct tlx_beat`.
+/// A beat: `struct tlx_beat`. Its lanes are those of the widest bus, and are borrowed where a beat is judged.
 #[repr(C)]
 #[derive(Clone, Copy)]
 pub struct WireBeat {
@@ -46,17 +47,17 @@ pub struct WireBeat {
     pub time: u64,
     pub number: usize,
     pub address: u64,
+    pub mask: u64,
+    pub known: u64,
     pub source: u16,
     pub side: u8,
     pub channel: u8,
     pub opcode: u8,
     pub param: u8,
     pub size: u8,
-    pub mask: u8,
     pub denied: u8,
     pub corrupt: u8,
-    pub known: u8,
-    pub lanes: [u8; BUS_BYTES],
+    pub lanes: [u8; MAX_LANES],
 }
 
 /// Reads the request of a struct into the place of another, and answers `OK` or the number of its fault.
@@ -141,13 +142,12 @@ fn reply_beat(wire: &WireBeat) -> Option<Beat>
 {
     let denied = flag_of(wire.denied)?;
     let corrupt = flag_of(wire.corrupt)?;
-    Some(Beat::D(DBeat {
+    Some(Beat::D(ReplyHead {
         opcode: wire.opcode,
         size: wire.size,
         source: wire.source,
         denied,
         corrupt,
-        lanes: wire.lanes,
     }))
 }
 
@@ -156,14 +156,13 @@ fn beat_of(wire: &WireBeat) -> Option<Beat>
     ensures { result ≡ beat_of wire.now }
 {
     if wire.channel == 0 {
-        Some(Beat::A(ABeat {
+        Some(Beat::A(AskHead {
             opcode: wire.opcode,
             param: wire.param,
             size: wire.size,
             source: wire.source,
             address: wire.address,
             mask: wire.mask,
-            lanes: wire.lanes,
         }))
     } else if wire.channel == 1 {
         reply_beat(wire)
@@ -172,15 +171,11 @@ fn beat_of(wire: &WireBeat) -> Option<Beat>
     }
 }
 
-/// What was seen by a struct, if its numbers have a meaning.
-pub(crate) fn sighting_of(wire: &WireBeat) -> Option<Sighting>
-    ensures { result ≡ shown_by wire.now }
+/// The link and the beat of a struct, if its numbers have a meaning.
+pub(crate) fn seen_in(wire: &WireBeat) -> Option<(Link, Beat)>
+    ensures { option_map (λ seen. seen_at seen.0 seen.1 wire.now.known wire.now.lanes) result ≡ shown_by wire.now }
 {
     let link = link_of(wire.side, wire.number)?;
     let beat = beat_of(wire)?;
-    Some(Sighting {
-        link,
-        beat,
-        known: wire.known,
-    })
+    Some((link, beat))
 }

@@ -1,0 +1,137 @@
+-- What each call makes of a judge. Lists of what crossed have the latest first. This project's own.
+use Rattle.std.specs.Prelude.{◌≡◌, ◌↔◌, ◌&&◌, ◌<◌, ◌≤◌, ◌==◌, ◌≢◌, ◌⊎◌, if◌then◌else◌, ℕ, List, [], ◌∷◌, length, Option, Some, None, IsSome, IsSomeAnd, vec_capacity}
+use Rattle.check_flight.specs.declared.order.Order.{Order}
+use Rattle.check_flight.specs.declared.order.Order.TheVariants.{Accept, Reply}
+use Rattle.check_watch.specs.Plan.{Sighting}
+use Rattle.check_watch.specs.declared.fault.Fault.{Fault}
+use Rattle.check_sides.specs.Lawful.{IsFirstFault, IsLawful, MayNeedMemory, what_is_seen}
+use Rattle.check_sides.specs.Plan.{Plan}
+use Rattle.check_sides.specs.View.{Keeps}
+use Rattle.check_sides.specs.declared.links.Links.{Links}
+use Rattle.check_sides.specs.declared.links.Links.TheVariants.{Both, Masters, Ports, Each}
+use Rattle.check_rows.specs.Row.{SeenRow}
+use Rattle.check_rows.specs.declared.row.Row.{Row}
+use Rattle.check_unanswered.specs.Began.{IsLeft, row_with}
+use Rattle.check_unanswered.specs.View.{Holds}
+use Rattle.check_unanswered.specs.declared.request.Left.{Left}
+use Rattle.check_lines.specs.Names.{NamesView}
+use Rattle.check_lines.specs.Verdict.{incomplete_line, unlawful_line}
+use Rattle.check_review.specs.Count.{is_counted, is_whole_ask, is_whole_reply, one_more}
+use Rattle.check_description.specs.Description.{Description, Makes}
+use Rattle.check_start.specs.Start.{ByThePlan, layout_of, names_of}
+use Rattle.check_start.specs.declared.start.Terms.{Terms}
+use Rattle.tl_c.specs.Draft.{DraftView, IsDraftOf, LacksNone, bytes_in}
+use Rattle.tl_c.specs.Numbers.{beat_number}
+use Rattle.tl_c.specs.declared.fault.TheConstants.{MEMORY, OK}
+use Rattle.tl_c.specs.declared.held.Judge.{Judge}
+use Rattle.tl_c.specs.declared.making.TheConstants.{LINE_ROOM}
+
+-- ---- beats
+
+-- the judge was shown this, after these beats by this plan, and has answered this number
+pub record IsStep (plan : Plan) (past : List Sighting) (shown : Sighting) (old : Judge) (number : ℕ)
+    (new : Judge) : Type 0 where
+  pub lawful : number ≢ MEMORY → number ≡ OK ↔ IsLawful plan (shown ∷ past)
+  pub memory : number ≡ MEMORY → IsLawful plan (shown ∷ past)
+  pub needed : number ≡ MEMORY → MayNeedMemory plan past shown
+  pub keeps : number ≡ OK → Keeps plan (shown ∷ past) new.watch
+  pub requests : number ≡ OK → new.requests ≡ one_more
+      (is_counted plan.layout.links shown.link && is_whole_ask (what_is_seen plan past shown)) old.requests
+  pub answered : number ≡ OK → new.answered ≡ one_more
+      (is_counted plan.layout.links shown.link && is_whole_reply (what_is_seen plan past shown)) old.answered
+  pub text : number ≡ OK → new.text ≡ old.text
+  pub names : number ≡ OK → new.names ≡ old.names
+
+-- the text is the line of this fault, with these names of links; or it is empty, if there was no room for the line
+abbrev pub IsLineOf : NamesView → Row → Fault → ℕ → List ℕ → Type 0
+IsLineOf names row fault room text =
+    (text ≡ unlawful_line names row fault) ⊎ ((text ≡ []) × (room < length (unlawful_line names row fault)))
+
+-- what was shown with this line and this time
+abbrev pub row_at : ℕ → ℕ → Sighting → SeenRow
+row_at line time shown = record { line = line; time = time; sighting = shown }
+
+-- the number is that of the first fault of the beat that is shown, and the text is the line of this fault, with the
+-- line and the time that the beat was shown with
+pub record IsFaultOfBeat (plan : Plan) (past : List Sighting) (shown : Sighting) (line time : ℕ) (old : Judge)
+    (number : ℕ) (new : Judge) : Type 0 where
+  pub row : Row
+  pub shows : row_with row shown.lanes ≡ row_at line time shown
+  pub fault : Fault
+  pub number_is : number ≡ beat_number fault
+  pub first : IsFirstFault plan past shown fault
+  pub text : IsLineOf old.names row fault (vec_capacity old.text) new.text.items
+
+-- after a fault the judge is as it was, but for its text, whose room is no less
+pub record KeepsAllButText (old new : Judge) : Type 0 where
+  pub watch : new.watch ≡ old.watch
+  pub names : new.names ≡ old.names
+  pub requests : new.requests ≡ old.requests
+  pub answered : new.answered ≡ old.answered
+  pub pending : new.pending ≡ old.pending
+  pub room : vec_capacity old.text ≤ vec_capacity new.text
+
+-- the text is the line of the requests that are left; or it is empty, if there was no memory for the line
+abbrev pub IsLineOfLeft : Left → List ℕ → Type 0
+IsLineOfLeft left text = (text ≡ incomplete_line left) ⊎ (text ≡ [])
+
+-- requests are left after these rows, and the text is their line
+abbrev pub IsEndOf : Plan → List SeenRow → Judge → Type 0
+IsEndOf plan rows judge = (left : Left) × IsLeft plan rows left × IsLineOfLeft left judge.text.items
+
+-- the judge is as it was, but for its text
+pub record KeepsAllButLine (old new : Judge) : Type 0 where
+  pub watch : new.watch ≡ old.watch
+  pub names : new.names ≡ old.names
+  pub requests : new.requests ≡ old.requests
+  pub answered : new.answered ≡ old.answered
+  pub pending : new.pending ≡ old.pending
+
+-- ---- judges before any beat
+
+-- a judge of this system with these bytes of its images, before any beat: it keeps no beat by each plan of the system, of
+-- which there is one, has counted none, and no request is in flight; its text is empty, with room for a line
+pub record BeginsBy (terms : Terms) (system : Description) (images : List (List ℕ)) (judge : Judge) : Type 0 where
+  pub layout : judge.watch.layout ≡ layout_of terms system
+  pub keeps : ByThePlan terms system images (λ plan. Keeps plan [] judge.watch)
+  pub pending : ByThePlan terms system images (λ plan. Holds plan [] judge.pending)
+  pub names : judge.names ≡ names_of system
+  pub requests : judge.requests ≡ 0
+  pub answered : judge.answered ≡ 0
+  pub text : judge.text.items ≡ []
+  pub room : LINE_ROOM ≤ vec_capacity judge.text
+
+-- the same, of the system that the parts of a draft make, with the images that were handed in, of which none lacks
+pub record IsJudgeOf (terms : Terms) (draft : DraftView) (judge : Judge) : Type 0 where
+  pub whole : LacksNone draft
+  pub system : Description
+  pub made : Makes draft.parts system
+  pub begins : BeginsBy terms system (bytes_in draft.images) judge
+
+-- and of what a file names, which has no images
+pub record IsJudgeOfFile (terms : Terms) (file : List ℕ) (judge : Judge) : Type 0 where
+  pub draft : DraftView
+  pub named : IsDraftOf file draft
+  pub is : IsJudgeOf terms draft judge
+
+-- ---- the numbers of links and order
+
+abbrev pub links_of : ℕ → Option Links
+links_of n =
+    if n == 0 then Some Both
+    else if n == 1 then Some Masters
+    else if n == 2 then Some Ports
+    else if n == 3 then Some Each
+    else None
+
+abbrev pub order_of : ℕ → Option Order
+order_of n = if n == 0 then Some Accept else if n == 1 then Some Reply else None
+
+-- both have a meaning
+abbrev pub AreTerms : ℕ → ℕ → Type 0
+AreTerms links order = IsSome (links_of links) × IsSome (order_of order)
+
+-- something holds by the terms that they mean
+abbrev pub ByTerms : ℕ → ℕ → (Terms → Type 0) → Type 0
+ByTerms links order Is =
+    IsSomeAnd (links_of links) (λ l. IsSomeAnd (order_of order) (λ o. Is (record { links = l; order = o })))

@@ -1,0 +1,193 @@
+//! What system files name, and the images of their ports.
+ghost use Rattle.std.specs.Prelude.{◌≡◌, ◌≢◌, ◌≤◌, ◌↔◌, [], IfNone, IfSome, None, Some, length, unwrap_or};
+ghost use Rattle.tl_c.specs.Calls.{HasDraft, HoldsDraft, IsImageAnswer, IsPartsAnswer};
+ghost use Rattle.tl_c.specs.Draft.{DraftView, IsDraftOf, IsFirstLacking, LacksNone, LacksSome, image_fault, image_file, with_image};
+ghost use Rattle.tl_c.specs.Handle.{unboxed};
+ghost use Rattle.tl_c.specs.Text.{IsTextOf, IsWritten};
+ghost use Rattle.tl_c.specs.declared.held.Held.TheVariants as held;
+
+use crate::draft::Draft;
+use crate::fault::{EMPTY, FULL, OK, OTHER_VERSION, file_number, image_number};
+use crate::handle::Handle;
+use crate::held::Held;
+use crate::system::{hold, is_full, put_fault, take};
+use crate::text::put_text;
+use crate::version::VERSION;
+use std::alloc::Global;
+
+/// What a handle holds for a judge, which is empty from then on. What is none stays there.
+pub(crate) fn take_draft(alloc: Global, handle: &mut Handle) -> Option<Draft>
+    ensures some { IfSome result (λ draft. handle.old.value ≡ Some (held.Draft draft)) }
+    ensures taken { IfSome result (λ _. handle.new.value ≡ None) }
+    ensures none { IfNone result (HasDraft handle.old.value → ⊥) }
+    ensures kept { IfNone result (handle.new.value ≡ handle.old.value) }
+{
+    let held = take(alloc, handle)?;
+    if !matches!(&*held, Held::Draft(_)) {
+        *handle = Handle::of(held);
+        return None;
+    }
+    match Box::into_inner(held) {
+        Held::Draft(draft) => Some(draft),
+        Held::System(_) | Held::Model(_) | Held::Judge(_) => None,
+    }
+}
+
+/// The first port that names an image which was not handed in, of what a handle holds for a judge. It stays there.
+pub(crate) fn lacking_in(alloc: Global, handle: &mut Handle) -> Option<usize>
+    ensures some { IfSome result (λ port. HoldsDraft (λ draft. IsFirstLacking draft port) handle.old.value) }
+    ensures none { (draft : DraftView) → handle.old.value ≡ Some (held.Draft draft) → IfNone result (LacksNone draft) }
+    ensures same { handle.new.value ≡ handle.old.value }
+{
+    let held = take(alloc, handle)?;
+    let lacking = match &*held {
+        Held::Draft(draft) => draft.lacking(),
+        Held::System(_) | Held::Model(_) | Held::Judge(_) => None,
+    };
+    *handle = Handle::of(held);
+    lacking
+}
+
+/// `tlx_system_describe_at` of the header: what a system file names.
+#[unsafe(no_mangle)]
+pub extern "C" fn tlx_system_describe_at(
+    alloc: Global,
+    system: &mut Handle,
+    file: &[u8],
+    version: u32,
+    room: &mut [u8],
+    written: &mut usize,
+) -> u32
+    ensures version { result ≡ OTHER_VERSION ↔ (version ≢ VERSION) }
+    ensures named { result ≡ OK → HoldsDraft (IsDraftOf file.now) system.new.value }
+    ensures fault { IsPartsAnswer file.now result }
+    ensures full { result ≡ FULL ↔ ((version ≡ VERSION) × (system.old.value ≢ None)) }
+    ensures err { result ≢ OK → system.new.value ≡ system.old.value }
+    ensures first { result ≢ OK → FULL ≤ result }
+    ensures written { IsWritten room.old room.new written.new }
+    ensures none { result ≤ FULL → written.new ≡ 0 }
+{
+    *written = put_text(room, b"");
+    if version != VERSION {
+        return OTHER_VERSION;
+    }
+    if is_full(alloc, system) {
+        return FULL;
+    }
+    match Draft::read(alloc, file) {
+        Ok(draft) => hold(alloc, system, Held::Draft(draft)),
+        Err(fault) => {
+            *written = put_fault(alloc, room, &fault);
+            file_number(&fault)
+        }
+    }
+}
+
+/// Takes the bytes of a port's image.
+fn put_image(
+    alloc: Global,
+    draft: &mut Draft,
+    port: usize,
+    bytes: &[u8],
+    room: &mut [u8],
+    written: &mut usize,
+) -> u32
+    requires { IsWritten room.old room.old written.old }
+    ensures answer { IsImageAnswer (image_fault draft.old port bytes.now) result }
+    ensures ok { result ≡ OK → draft.new ≡ with_image draft.old port bytes.now }
+    ensures err { result ≢ OK → draft.new ≡ draft.old }
+    ensures written { IsWritten room.old room.new written.new }
+{
+    match draft.put_image(alloc, port, bytes) {
+        Ok(()) => OK,
+        Err(fault) => {
+            *written = put_fault(alloc, room, &fault);
+            image_number(&fault)
+        }
+    }
+}
+
+/// `tlx_system_image_at` of the header: takes the bytes of a port's image.
+#[unsafe(no_mangle)]
+pub extern "C" fn tlx_system_image_at(
+    alloc: Global,
+    system: &mut Handle,
+    port: usize,
+    bytes: &[u8],
+    room: &mut [u8],
+    written: &mut usize,
+) -> u32
+    ensures empty { result ≡ EMPTY ↔ (HasDraft system.old.value → ⊥) }
+    ensures answer { (draft : DraftView) → system.old.value ≡ Some (held.Draft draft)
+        → IsImageAnswer (image_fault draft port bytes.now) result }
+    ensures ok { (draft : DraftView) → system.old.value ≡ Some (held.Draft draft) → result ≡ OK
+        → system.new.value ≡ Some (held.Draft (with_image draft port bytes.now)) }
+    ensures err { result ≢ OK → system.new.value ≡ system.old.value }
+    ensures written { IsWritten room.old room.new written.new }
+{
+    *written = put_text(room, b"");
+    let Some(mut held) = take(alloc, system) else {
+        return EMPTY;
+    };
+    let number = match &mut *held {
+        Held::Draft(draft) => put_image(alloc, draft, port, bytes, room, written),
+        Held::System(_) | Held::Model(_) | Held::Judge(_) => EMPTY,
+    };
+    *system = Handle::of(held);
+    number
+}
+
+/// The name of the file of a port's image; nothing if it names none.
+fn put_file(draft: &Draft, port: usize, room: &mut [u8]) -> usize
+    ensures text { IsTextOf (unwrap_or (image_file draft.now port) []) room.old room.new result }
+    ensures written { IsWritten room.old room.new result }
+{
+    match draft.image_file(port) {
+        Some(file) => put_text(room, file.as_bytes()),
+        None => put_text(room, b""),
+    }
+}
+
+/// `tlx_system_image_name_at` of the header: the file of a port's image.
+#[unsafe(no_mangle)]
+pub extern "C" fn tlx_system_image_name_at(
+    alloc: Global,
+    system: &mut Handle,
+    port: usize,
+    room: &mut [u8],
+) -> usize
+    ensures text { (draft : DraftView) → system.old.value ≡ Some (held.Draft draft)
+        → IsTextOf (unwrap_or (image_file draft port) []) room.old room.new result }
+    ensures written { IsWritten room.old room.new result }
+    ensures empty { (HasDraft system.old.value → ⊥) → result ≡ 0 }
+    ensures same { system.new.value ≡ system.old.value }
+{
+    let Some(held) = take(alloc, system) else {
+        return put_text(room, b"");
+    };
+    let count = match &*held {
+        Held::Draft(draft) => put_file(draft, port, room),
+        Held::System(_) | Held::Model(_) | Held::Judge(_) => put_text(room, b""),
+    };
+    *system = Handle::of(held);
+    count
+}
+
+/// `tlx_system_ports_at` of the header: how many ports the file names.
+#[unsafe(no_mangle)]
+pub extern "C" fn tlx_system_ports_at(alloc: Global, system: &mut Handle) -> usize
+    ensures count { (draft : DraftView) → system.old.value ≡ Some (held.Draft draft)
+        → result ≡ length draft.parts.ports }
+    ensures empty { (HasDraft system.old.value → ⊥) → result ≡ 0 }
+    ensures same { system.new.value ≡ system.old.value }
+{
+    let Some(held) = take(alloc, system) else {
+        return 0;
+    };
+    let count = match &*held {
+        Held::Draft(draft) => draft.ports(),
+        Held::System(_) | Held::Model(_) | Held::Judge(_) => 0,
+    };
+    *system = Handle::of(held);
+    count
+}

@@ -1,0 +1,194 @@
+//! Judges of the systems that files describe, before any beat.
+ghost use Rattle.std.specs.Prelude.{◌≡◌, ◌≢◌, ◌<◌, ◌≤◌, ◌↔◌, ◌⊎◌, IfErr, IfNone, IfOk, IfSome, IsSome, None, Some};
+ghost use Rattle.check_description.specs.Description.{IsFirstFaultOf, Makes};
+ghost use Rattle.check_keys.specs.declared.fault.SystemFault.TheVariants.{Memory};
+ghost use Rattle.tl_c.specs.Calls.{HasDraft, HoldsDraft, HoldsJudge, IsFaultOfDraft, IsFileAnswer};
+ghost use Rattle.tl_c.specs.Draft.{IsFirstFileFault, LacksNone, LacksSome};
+ghost use Rattle.tl_c.specs.Judging.{AreTerms, ByTerms, IsJudgeOf, IsJudgeOfFile, links_of, order_of};
+ghost use Rattle.tl_c.specs.Text.{IsWritten};
+
+use crate::describe::{lacking_in, take_draft};
+use crate::draft::Draft;
+use crate::fault::{
+    BAD_ARGUMENT, EMPTY, FULL, IMAGE_UNREADABLE, MEMORY, OK, OTHER_VERSION, file_number,
+};
+use crate::handle::Handle;
+use crate::held::{Held, Judge};
+use crate::system::{hold, is_full, put_fault};
+use crate::text::put_text;
+use crate::version::VERSION;
+use check_description::describe;
+use check_flight::Order;
+use check_keys::SystemFault;
+use check_sides::Links;
+use check_start::{Terms, begin, pending_of};
+use std::alloc::Global;
+
+/// The room that a judge reserves for the line of a fault.
+pub(crate) const LINE_ROOM: usize = 2048;
+
+/// The links of a number.
+fn links_of(number: u8) -> Option<Links>
+    ensures { result ≡ links_of number }
+{
+    if number == 0 {
+        Some(Links::Both)
+    } else if number == 1 {
+        Some(Links::Masters)
+    } else if number == 2 {
+        Some(Links::Ports)
+    } else if number == 3 {
+        Some(Links::Each)
+    } else {
+        None
+    }
+}
+
+/// The order of a number.
+fn order_of(number: u8) -> Option<Order>
+    ensures { result ≡ order_of number }
+{
+    if number == 0 {
+        Some(Order::Accept)
+    } else if number == 1 {
+        Some(Order::Reply)
+    } else {
+        None
+    }
+}
+
+/// The terms of two numbers.
+fn terms_of(links: u8, order: u8) -> Option<Terms>
+    ensures some { IfSome result (λ terms. (links_of links ≡ Some terms.links) × (order_of order ≡ Some terms.order)) }
+    ensures none { IfNone result (AreTerms links order → ⊥) }
+{
+    let links = links_of(links)?;
+    let order = order_of(order)?;
+    Some(Terms { links, order })
+}
+
+/// The judge of a draft of which no image lacks, before any beat; or the first fault of its parts.
+pub(crate) fn make_judge(alloc: Global, draft: Draft, terms: Terms) -> Result<Judge, SystemFault>
+    requires { LacksNone draft }
+    ensures ok { IfOk result (IsJudgeOf terms draft) }
+    ensures fault { IfErr result (λ fault. fault ≢ Memory → IsFirstFaultOf draft.parts fault) }
+{
+    let (parts, images) = draft.into_parts(alloc)?;
+    let system = describe(alloc, parts)?;
+    let begun = begin(alloc, system, &images, terms)?;
+    let pending = pending_of(alloc, &begun.watch)?;
+    let text = Vec::with_capacity(alloc, LINE_ROOM)?;
+    Ok(Judge {
+        watch: begun.watch,
+        names: begun.names,
+        pending,
+        requests: 0,
+        answered: 0,
+        text,
+    })
+}
+
+/// The judge of the system that a file describes which names no image; or the first fault of the file.
+pub(crate) fn read_judge(alloc: Global, file: &[u8], terms: Terms) -> Result<Judge, SystemFault>
+    ensures ok { IfOk result (IsJudgeOfFile terms file.now) }
+    ensures fault { IfErr result (λ fault. fault ≢ Memory → IsFirstFileFault file.now fault) }
+{
+    let draft = Draft::read(alloc, file)?;
+    if let Some(port) = draft.lacking() {
+        return Err(SystemFault::ImageUnreadable(port));
+    }
+    make_judge(alloc, draft, terms)
+}
+
+/// `tlx_judge_make_at` of the header: the judge of what a system's handle holds, before any beat.
+#[unsafe(no_mangle)]
+pub extern "C" fn tlx_judge_make_at(
+    alloc: Global,
+    judge: &mut Handle,
+    system: &mut Handle,
+    links: u8,
+    order: u8,
+    room: &mut [u8],
+    written: &mut usize,
+) -> u32
+    ensures bad_argument { result ≡ BAD_ARGUMENT ↔ (AreTerms links order → ⊥) }
+    ensures full { result ≡ FULL ↔ (AreTerms links order × (judge.old.value ≢ None)) }
+    ensures empty { result ≡ EMPTY
+        ↔ (AreTerms links order × (judge.old.value ≡ None) × (HasDraft system.old.value → ⊥)) }
+    ensures unreadable { result ≡ IMAGE_UNREADABLE
+        ↔ (AreTerms links order × (judge.old.value ≡ None) × HoldsDraft LacksSome system.old.value) }
+    ensures ok { result ≡ OK → ByTerms links order (λ terms.
+        HoldsDraft (λ draft. HoldsJudge (IsJudgeOf terms draft) judge.new.value) system.old.value) }
+    ensures fault { OTHER_VERSION < result → HoldsDraft (λ draft. IsFaultOfDraft draft result) system.old.value }
+    ensures err { result ≢ OK → judge.new.value ≡ judge.old.value }
+    ensures kept { (result ≡ BAD_ARGUMENT) ⊎ (result ≡ FULL) ⊎ (result ≡ EMPTY) ⊎ (result ≡ IMAGE_UNREADABLE)
+        → system.new.value ≡ system.old.value }
+    ensures taken { result ≢ BAD_ARGUMENT → result ≢ FULL → result ≢ EMPTY → result ≢ IMAGE_UNREADABLE
+        → system.new.value ≡ None }
+    ensures first { result ≢ OK → EMPTY ≤ result }
+    ensures written { IsWritten room.old room.new written.new }
+{
+    *written = put_text(room, b"");
+    let Some(terms) = terms_of(links, order) else {
+        return BAD_ARGUMENT;
+    };
+    if is_full(alloc, judge) {
+        return FULL;
+    }
+    if let Some(port) = lacking_in(alloc, system) {
+        *written = put_fault(alloc, room, &SystemFault::ImageUnreadable(port));
+        return IMAGE_UNREADABLE;
+    }
+    let Some(draft) = take_draft(alloc, system) else {
+        return EMPTY;
+    };
+    match make_judge(alloc, draft, terms) {
+        Ok(made) => hold(alloc, judge, Held::Judge(made)),
+        Err(fault) => {
+            *written = put_fault(alloc, room, &fault);
+            file_number(&fault)
+        }
+    }
+}
+
+/// `tlx_judge_read_at` of the header: the judge of the system that a file describes, before any beat.
+#[unsafe(no_mangle)]
+pub extern "C" fn tlx_judge_read_at(
+    alloc: Global,
+    judge: &mut Handle,
+    file: &[u8],
+    links: u8,
+    order: u8,
+    version: u32,
+    room: &mut [u8],
+    written: &mut usize,
+) -> u32
+    ensures version { result ≡ OTHER_VERSION ↔ (version ≢ VERSION) }
+    ensures bad_argument { result ≡ BAD_ARGUMENT ↔ ((version ≡ VERSION) × (AreTerms links order → ⊥)) }
+    ensures full { result ≡ FULL
+        ↔ ((version ≡ VERSION) × AreTerms links order × (judge.old.value ≢ None)) }
+    ensures ok { result ≡ OK
+        → ByTerms links order (λ terms. HoldsJudge (IsJudgeOfFile terms file.now) judge.new.value) }
+    ensures fault { IsFileAnswer file.now result }
+    ensures err { result ≢ OK → judge.new.value ≡ judge.old.value }
+    ensures first { result ≢ OK → FULL ≤ result }
+    ensures written { IsWritten room.old room.new written.new }
+{
+    *written = put_text(room, b"");
+    if version != VERSION {
+        return OTHER_VERSION;
+    }
+    let Some(terms) = terms_of(links, order) else {
+        return BAD_ARGUMENT;
+    };
+    if is_full(alloc, judge) {
+        return FULL;
+    }
+    match read_judge(alloc, file, terms) {
+        Ok(made) => hold(alloc, judge, Held::Judge(made)),
+        Err(fault) => {
+            *written = put_fault(alloc, room, &fault);
+            file_number(&fault)
+        }
+    }
+}

@@ -1,0 +1,3 @@
+//! A try.
+#[test]
+fn works() {}
