@@ -1,3 +1,4 @@
 pub mod Handles
 pub mod Values
 pub mod Requests
+pub mod Drafts

@@ -1,6 +1,5 @@
 //! What a system file names, before a judge is made of it.
-ghost use Rattle.std.specs.Prelude.{◌≡◌, ◌≢◌, ◌⊎◌, IfErr, IfNone, IfOk, IfSome, None, OnErr, OnOk, Some, length, map, option_map, slice_get};
-ghost use Rattle.std.specs.List.{range_with_len};
+ghost use Rattle.std.specs.Prelude.{◌≡◌, ◌≢◌, ◌⊎◌, IfErr, IfNone, IfOk, IfSome, None, OnErr, OnOk, Some, length, map, option_map, replicate, slice_get};
 ghost use Rattle.check_keys.specs.declared.fault.SystemFault.TheVariants.{Memory};
 ghost use Rattle.check_description.specs.File.{parts_view};
 ghost use Rattle.check_description.specs.Name.{IsFirstPartFault};
@@ -46,14 +45,25 @@ pub enum ImageFault {
 
 /// A place for the bytes of each image, of so many ports.
 fn no_images(alloc: Global, ports: usize) -> Result<Vec<Option<Vec<u8>>>, AllocError>
-    ensures counted { IfOk result (λ images. length images.items ≡ ports) }
-    ensures none { IfOk result (λ images. slots_of images.items ≡ map (λ _. None) (range_with_len 0 ports)) }
+    ensures { IfOk result (λ images. slots_of images.items ≡ replicate ports None) }
 {
     let mut images = Vec::with_capacity(alloc, ports)?;
     for _port in 0..ports {
         images.push(None)?;
     }
     Ok(images)
+}
+
+/// The bytes of each port's image, none of one that has none.
+fn bytes_in(alloc: Global, images: Vec<Option<Vec<u8>>>) -> Result<Vec<Vec<u8>>, AllocError>
+    ensures { IfOk result (λ made. map (λ image. image.items) made.items
+        ≡ bytes_in (slots_of images.items)) }
+{
+    let mut made = Vec::with_capacity(alloc, images.len())?;
+    for image in images {
+        made.push(image.unwrap_or(Vec::new(alloc)))?;
+    }
+    Ok(made)
 }
 
 impl Draft {
@@ -159,10 +169,7 @@ impl Draft {
         ensures images { IfOk result (λ made. map (λ image. image.items) made.1.items ≡ bytes_in self.images) }
         ensures lawful { IsDraft self }
     {
-        let mut images = Vec::with_capacity(alloc, self.images.len())?;
-        for image in self.images {
-            images.push(image.unwrap_or(Vec::new(alloc)))?;
-        }
+        let images = bytes_in(alloc, self.images)?;
         Ok((self.parts, images))
     }
 }

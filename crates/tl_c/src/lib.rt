@@ -32,6 +32,3 @@ pub extern "C" fn tlx_largest_size() -> u8
 {
     MAX_SIZE
 }
-
-#[cfg(test)]
-mod tests;

@@ -9,9 +9,7 @@ ghost use Rattle.tl_c.specs.Text.{IsWritten};
 
 use crate::describe::{lacking_in, take_draft};
 use crate::draft::Draft;
-use crate::fault::{
-    BAD_ARGUMENT, EMPTY, FULL, IMAGE_UNREADABLE, MEMORY, OK, OTHER_VERSION, file_number,
-};
+use crate::fault::{BAD_ARGUMENT, EMPTY, FULL, IMAGE_UNREADABLE, OK, OTHER_VERSION, file_number};
 use crate::handle::Handle;
 use crate::held::{Held, Judge};
 use crate::system::{hold, is_full, put_fault};

@@ -1,0 +1,123 @@
+-- The images of a draft, and the slaves that are made with them.
+use Rattle.std.proofs.Common.{◌≡◌, ◌∙◌, ℕ, zero, suc, ◌+◌, ◌<◌, ◌≤◌, ◌⊎◌, inl, inr, ⊎_elim, Bool, true, false, List, [], ◌∷◌, ◌++◌, length, map, replicate, set, slice_get, slice_set, Option, Some, None, is_some, option_map, unwrap_or, Result, Ok, Err, Vec, nat_lt, refl, sym, ap, subst, arith}
+use Rattle.std.specs.declared.alloc.Global.{Global}
+use Rattle.std.proofs.lemmas.Bool.Decides.{nat_tests}
+use Rattle.std.proofs.lemmas.List.{length-map, length-replicate, length-set, map-append, map-set, replicate-append-replicate}
+use Rattle.std.proofs.lemmas.Option.{slice_get_past, slice_get_within}
+use Rattle.tl_types.proofs.Lists.{slice_get-set_other, slice_get-set_same}
+use Rattle.check_flight.specs.PortSlave.{PortSlave}
+use Rattle.check_flight.specs.declared.order.Order.{Order}
+use Rattle.check_keys.specs.Reading.{◌>>=◌, unless}
+use Rattle.check_keys.specs.declared.fault.SystemFault.{SystemFault}
+use Rattle.check_ports.specs.Port.{Port}
+use Rattle.check_ports.specs.Ranges.{first_length}
+use Rattle.check_ports.specs.Slave.{error_slave, slave_at_reset}
+use Rattle.check_start.specs.Slaves.{image_at, slaves_at_reset, slaves_from}
+use Rattle.check_description.specs.File.{Parts}
+use Rattle.tl_c.specs.Calls.{HoldsDraft}
+use Rattle.tl_c.specs.Draft.{DraftView, IsDraft, bytes_in, fault_at, image_fault, slots_of, with_image}
+use Rattle.tl_c.specs.declared.held.Held.{Held}
+use Rattle.tl_c.specs.declared.held.Held.TheVariants as held
+
+-- ---- before any image is handed in
+
+pub replicate_more : {A : Type 0} (n : ℕ) (x : A) → replicate n x ++ x ∷ [] ≡ replicate (n + 1) x
+replicate_more n x = replicate-append-replicate n 1 x
+
+-- no bytes are given of any port
+pub none_at : (n port : ℕ) → image_at (bytes_in (replicate n None)) port ≡ []
+none_at zero port = refl
+none_at (suc n) zero = refl
+none_at (suc n) (suc port) = none_at n port
+
+pub fresh_is_draft : (parts : Parts) → IsDraft (record { parts = parts; images = replicate (length parts.ports) None })
+fresh_is_draft parts = record {
+  sized = length-replicate (length parts.ports) None;
+  fits = λ port said here.
+      let none = ap length (none_at (length parts.ports) port) in omega (arith, none);
+}
+
+-- ---- with one image more
+
+-- an image that is taken is no longer than the range
+pub taken_fits : (port count : ℕ) (said : Port) → fault_at port count (Some said) ≡ None → count ≤ first_length said.ranges
+taken_fits port count said none = grind (arith, nat_tests)
+
+-- one image set, as contracts see it
+pub slots_set : (images : List (Option (Vec ℕ Global))) (port : ℕ) (bytes : Vec ℕ Global)
+    → slots_of (slice_set images port (Some bytes)) ≡ slice_set (slots_of images) port (Some bytes.items)
+slots_set images port bytes =
+    map-set (λ (image : Option (Vec ℕ Global)). option_map (λ bytes. bytes.items) image) images port (Some bytes)
+
+-- the bytes of images, one of them set
+pub bytes_set : (images : List (Option (List ℕ))) (port : ℕ) (bytes : List ℕ)
+    → bytes_in (slice_set images port (Some bytes)) ≡ slice_set (bytes_in images) port bytes
+bytes_set images port bytes = map-set (λ (image : Option (List ℕ)). unwrap_or image []) images port (Some bytes)
+
+pub set_fits : (images : List (List ℕ)) (ports : List Port) (port : ℕ) (bytes : List ℕ)
+    → ((other : ℕ) (said : Port) → slice_get ports other ≡ Some said → length (image_at images other) ≤ first_length said.ranges)
+    → ((said : Port) → slice_get ports port ≡ Some said → length bytes ≤ first_length said.ranges)
+    → (other : ℕ) (said : Port) → slice_get ports other ≡ Some said
+    → length (image_at (slice_set images port bytes) other) ≤ first_length said.ranges
+set_fits [] ports port bytes fit new other said here = fit other said here
+set_fits (image ∷ images) [] port bytes fit new other said here = absurd (cc)
+set_fits (image ∷ images) (first ∷ ports) zero bytes fit new zero said here = new said here
+set_fits (image ∷ images) (first ∷ ports) zero bytes fit new (suc other) said here = fit (suc other) said here
+set_fits (image ∷ images) (first ∷ ports) (suc port) bytes fit new zero said here = fit zero said here
+set_fits (image ∷ images) (first ∷ ports) (suc port) bytes fit new (suc other) said here =
+    set_fits images ports port bytes (λ k at is. fit (suc k) at is) new other said here
+
+pub put_is_draft : (draft : DraftView) (port : ℕ) (bytes : List ℕ) → IsDraft draft → image_fault draft port bytes ≡ None
+    → IsDraft (with_image draft port bytes)
+put_is_draft draft port bytes is none = record {
+  sized = length-set draft.images port (Some bytes) ∙ is.sized;
+  fits = λ other said here.
+      let P : List (List ℕ) → Type 0 = λ l. length (image_at l other) ≤ first_length said.ranges in
+      subst P (sym (bytes_set draft.images port bytes))
+      (set_fits (bytes_in draft.images) draft.parts.ports port bytes is.fits
+      (λ at there. taken_fits port (length bytes) at (subst (λ p. fault_at port (length bytes) p ≡ None) there none)) other said
+      here);
+}
+
+-- ---- the slaves of a draft
+
+bind_err : {A B F : Type 0} (r : Result A F) (f : A → B) (fault : F) → (r >>= (λ x. Ok (f x))) ≡ Err fault → r ≡ Err fault
+bind_err (Ok x) f fault is = absurd (cc)
+bind_err (Err e) f fault is = cc
+
+-- no image is too long, so each port has its slave
+pub slaves_fit : (order : Order) (images : List (List ℕ)) (number : ℕ) (ports : List Port)
+    → ((k : ℕ) (said : Port) → slice_get ports k ≡ Some said → length (image_at images (number + k)) ≤ first_length said.ranges)
+    → (fault : SystemFault) → slaves_from order images number ports ≡ Err fault → ⊥
+slaves_fit order images number [] fit fault is = cc
+slaves_fit order images number (said ∷ ports) fit fault is =
+    let least : length (image_at images (number + 0)) ≤ first_length said.ranges = fit 0 said refl in
+    let zeroth : number + 0 ≡ number = omega arith in
+    let fits : nat_lt (first_length said.ranges) (length (image_at images number)) ≡ false =
+    (let few : length (image_at images number) ≤ first_length said.ranges =
+    subst (λ k. length (image_at images k) ≤ first_length said.ranges) zeroth least in grind (arith, nat_tests)) in
+    let rest : ((slaves_from order images (number + 1) ports) >>= (λ slaves. Ok (_ ∷ slaves))) ≡ Err fault = rw fits at is in
+    slaves_fit order images (number + 1) ports
+    (λ k at there. let next : number + suc k ≡ number + 1 + k = omega arith in
+    subst (λ n. length (image_at images n) ≤ first_length at.ranges) next (fit (suc k) at there)) fault
+    (bind_err (slaves_from order images (number + 1) ports) (λ slaves. _ ∷ slaves) fault rest)
+
+pub slaves_are : (order : Order) (images : List (List ℕ)) (ports : List Port)
+    → ((k : ℕ) (said : Port) → slice_get ports k ≡ Some said → length (image_at images k) ≤ first_length said.ranges)
+    → (fault : SystemFault) → slaves_at_reset order images ports ≡ Err fault → ⊥
+slaves_are order images ports fit fault is =
+    slaves_fit order images 0 ports
+    (λ k said there. let same : k ≡ 0 + k = omega arith in
+    subst (λ n. length (image_at images n) ≤ first_length said.ranges) same (fit k said there)) fault
+    (bind_err (slaves_from order images 0 ports) (λ slaves. slaves ++ error_slave order ∷ []) fault is)
+
+-- ---- what a handle holds
+
+-- what is so of a draft, by what else is so of it
+pub holds_draft : (P Q : DraftView → Type 0) (value : Option Held) → ((draft : DraftView) → P draft → Q draft)
+    → HoldsDraft P value → HoldsDraft Q value
+holds_draft P Q (Some (held.System s)) more is = is
+holds_draft P Q (Some (held.Draft d)) more is = more d is
+holds_draft P Q (Some (held.Model c)) more is = is
+holds_draft P Q (Some (held.Judge j)) more is = is
+holds_draft P Q None more is = is

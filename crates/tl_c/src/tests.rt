@@ -1,3 +1,0 @@
-//! A try.
-#[test]
-fn works() {}
