@@ -1,17 +1,14 @@
 -- The images of a draft, and the slaves that are made with them.
-use Rattle.std.proofs.Common.{◌≡◌, ◌∙◌, ℕ, zero, suc, ◌+◌, ◌<◌, ◌≤◌, ◌⊎◌, inl, inr, ⊎_elim, Bool, true, false, List, [], ◌∷◌, ◌++◌, length, map, replicate, set, slice_get, slice_set, Option, Some, None, is_some, option_map, unwrap_or, Result, Ok, Err, Vec, nat_lt, refl, sym, ap, subst, arith}
+use Rattle.std.proofs.Common.{◌≡◌, ◌∙◌, ℕ, zero, suc, ◌+◌, ◌≤◌, false, List, [], ◌∷◌, ◌++◌, length, replicate, slice_get, slice_set, Option, Some, None, option_map, unwrap_or, Result, Ok, Err, Vec, nat_lt, refl, sym, ap, subst, arith}
 use Rattle.std.specs.declared.alloc.Global.{Global}
 use Rattle.std.proofs.lemmas.Bool.Decides.{nat_tests}
-use Rattle.std.proofs.lemmas.List.{length-map, length-replicate, length-set, map-append, map-set, replicate-append-replicate}
-use Rattle.std.proofs.lemmas.Option.{slice_get_past, slice_get_within}
-use Rattle.tl_types.proofs.Lists.{slice_get-set_other, slice_get-set_same}
-use Rattle.check_flight.specs.PortSlave.{PortSlave}
+use Rattle.std.proofs.lemmas.List.{length-replicate, length-set, map-set, replicate-append-replicate}
 use Rattle.check_flight.specs.declared.order.Order.{Order}
-use Rattle.check_keys.specs.Reading.{◌>>=◌, unless}
+use Rattle.check_keys.specs.Reading.{◌>>=◌}
 use Rattle.check_keys.specs.declared.fault.SystemFault.{SystemFault}
 use Rattle.check_ports.specs.Port.{Port}
 use Rattle.check_ports.specs.Ranges.{first_length}
-use Rattle.check_ports.specs.Slave.{error_slave, slave_at_reset}
+use Rattle.check_ports.specs.Slave.{error_slave}
 use Rattle.check_start.specs.Slaves.{image_at, slaves_at_reset, slaves_from}
 use Rattle.check_description.specs.File.{Parts}
 use Rattle.tl_c.specs.Calls.{HoldsDraft}

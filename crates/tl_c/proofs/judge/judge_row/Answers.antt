@@ -1,5 +1,5 @@
 -- The requests in flight after a lawful beat.
-use Rattle.std.proofs.Common.{◌≡◌, ◌∷◌, sym, subst}
+use Rattle.std.proofs.Common.{◌∷◌, sym, subst}
 use Rattle.check_sides.specs.Lawful.{IsLawful}
 use Rattle.check_unanswered.specs.Began.{beats_of, row_with}
 use Rattle.check_unanswered.specs.View.{Holds}

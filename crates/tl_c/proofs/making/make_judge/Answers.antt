@@ -25,7 +25,7 @@ returns-in_err-begun-clause-fault c =
     let ports : system.ports ≡ draft.parts.ports =
     c.in_ok-system.ensures.made.ports ∙ ap (λ (p : Parts). p.ports) c.in_ok-parts.ensures.parts in
     let fits : (k : ℕ) (said : Port) → slice_get system.ports k ≡ Some said
-        → length (image_at given k) ≤ first_length said.ranges =
+    → length (image_at given k) ≤ first_length said.ranges =
     λ k said there. (let P : List (List ℕ) → Type 0 = λ l. length (image_at l k) ≤ first_length said.ranges in
     subst P (sym images) (c.into_parts.ensures.lawful.fits k said
     (subst (λ l. slice_get l k ≡ Some said) ports there))) in

@@ -1,5 +1,5 @@
 -- The draft with one image more.
-use Rattle.std.proofs.Common.{◌≡◌, ◌∙◌, ℕ, List, None, Option, Some, ap, slice_set, subst, sym}
+use Rattle.std.proofs.Common.{◌≡◌, ◌∙◌, ℕ, List, None, Option, ap, subst, sym}
 use Rattle.check_description.specs.File.{parts_view}
 use Rattle.tl_c.specs.Draft.{DraftView, IsDraft, image_fault, slots_of, with_image}
 use Rattle.tl_c.proofs.Drafts.{put_is_draft, slots_set}
