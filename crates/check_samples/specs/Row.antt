@@ -2,8 +2,8 @@
 use Rattle.std.specs.Prelude.{ℕ, ◌==◌, ◌%◌, false, List, [], ◌∷◌, ◌++◌, length, take, drop, Option, None, Some, Result, Ok, Err, if◌then◌else◌, ok_or}
 use Rattle.std.specs.Fmt.{decimal, digit_glyph, digits}
 use Rattle.tl_text.specs.Number.{number_of}
-use Rattle.check_link.specs.declared.beat.Link.{Link}
-use Rattle.check_link.specs.declared.beat.Link.TheVariants.{Master, Port}
+use Rattle.check_watch.specs.declared.beat.Link.{Link}
+use Rattle.check_watch.specs.declared.beat.Link.TheVariants.{Master, Port}
 use Rattle.check_samples.specs.Digits.{bits_of}
 use Rattle.check_samples.specs.declared.channel.AskTaps.{AskTaps}
 use Rattle.check_samples.specs.declared.channel.ReplyTaps.{ReplyTaps}

@@ -1,7 +1,7 @@
 //! A channel of a link, and where its signals are.
 use crate::signal::Signal;
 use crate::tap::Tap;
-use check_link::Link;
+use check_watch::Link;
 
 /// Where the signals of a beat of channel A are.
 #[derive(Debug, Clone, Copy, PartialEq, Eq)]

@@ -8,7 +8,7 @@ ghost use Rattle.check_samples.specs.Row.{ask_lanes, ask_numbers, ask_text, cell
 use crate::channel::{AskTaps, ReplyTaps};
 use crate::signal::Signal;
 use crate::values::Values;
-use check_link::Link;
+use check_watch::Link;
 use std::alloc::AllocError;
 use tl_text::{hex_digit, push_decimal, push_hex, read_number};
 

@@ -1,11 +1,13 @@
 -- Which signals of a dump are looked at, and what is kept of it. This project's own; the order of the channels within one
 -- time is that of captures.
-use Rattle.std.specs.Prelude.{◌≡◌, ℕ, ◌+◌, ◌==◌, ◌&&◌, Bool, true, false, List, [], ◌∷◌, ◌++◌, map, Option, None, Some, option_map, Result, Ok, Err, if◌then◌else◌, Vec}
+use Rattle.std.specs.Prelude.{◌≡◌, ℕ, ◌+◌, ◌==◌, ◌&&◌, Bool, true, false, List, [], ◌∷◌, ◌++◌, map, Option, None, Some, option_map, Result, Ok, Err, if◌then◌else◌, slice_get, Vec}
 use Rattle.std.specs.Global.{Global}
 use Rattle.std.specs.List.{filter_map, flat_map, list_any, zip}
 use Rattle.std.specs.Str.{bytes_eq}
-use Rattle.check_link.specs.declared.beat.Link.{Link}
-use Rattle.check_link.specs.declared.beat.Link.TheVariants as link
+use Rattle.check_beats.specs.Bus.{bus_bytes}
+use Rattle.check_beats.specs.declared.bus.Bus.{Bus}
+use Rattle.check_watch.specs.declared.beat.Link.{Link}
+use Rattle.check_watch.specs.declared.beat.Link.TheVariants as link
 use Rattle.check_vcd.specs.Body.{Find}
 use Rattle.check_vcd.specs.Codes.{coded_in}
 use Rattle.check_vcd.specs.Dump.{with_slot}
@@ -24,7 +26,6 @@ use Rattle.check_signals.specs.Source.{Asked, Fault, Kept, Changing, Constant, S
 use Rattle.check_signals.specs.Wanted.{wanted_of}
 use Rattle.check_signals.specs.declared.keys.TheConstants.{SIGNALS}
 use Rattle.check_signals.specs.declared.links.LinkSources as code_links
-use Rattle.check_signals.specs.declared.links.TheConstants.{BUS}
 use Rattle.check_signals.specs.declared.resolve.Resolved as code_resolved
 use Rattle.check_signals.specs.declared.resolve.Sources as code_sources
 use Rattle.check_signals.specs.declared.signal_fault.Owner.{Owner}
@@ -57,15 +58,15 @@ with_front front rest = rest >>= (λ more. Ok (front ++ more))
 abbrev pub system_source : List Var → List ℕ → Result Source Fault
 system_source vars name = source_in vars (record { owner = owner.System; name = name; wanted = AtMost 1 })
 
--- the signals of a link, in the order of their names
-abbrev pub asked_by : Owner → Signal × List ℕ → Asked
-asked_by whose named = record { owner = whose; name = named.1; wanted = wanted_of named.0 BUS }
+-- the signals of a link whose bus has so many bytes, in the order of their names
+abbrev pub asked_by : Owner → ℕ → Signal × List ℕ → Asked
+asked_by whose bus named = record { owner = whose; name = named.1; wanted = wanted_of named.0 bus }
 
-abbrev pub asked_of : Owner → List Signal → List (List ℕ) → List Asked
-asked_of whose signals names = map (asked_by whose) (zip signals names)
+abbrev pub asked_of : Owner → ℕ → List Signal → List (List ℕ) → List Asked
+asked_of whose bus signals names = map (asked_by whose bus) (zip signals names)
 
-abbrev pub sources_of : List Var → Owner → List (List ℕ) → Result (List Source) Fault
-sources_of vars whose names = each (source_in vars) (asked_of whose SIGNALS names)
+abbrev pub sources_of : List Var → Owner → ℕ → List (List ℕ) → Result (List Source) Fault
+sources_of vars whose bus names = each (source_in vars) (asked_of whose bus SIGNALS names)
 
 -- a link, and what the names of its signals find
 pub record LinkSources : Type 0 where
@@ -80,18 +81,36 @@ abbrev pub owner_of : Link → Owner
 owner_of (link.Port number) = owner.Port number
 owner_of (link.Master number) = owner.Master number
 
--- the links of a kind that have names, the first of them with this number
-abbrev pub numbered : Bool → ℕ → List (Option (List (List ℕ))) → List (Link × List (List ℕ))
-numbered is_port number [] = []
-numbered is_port number (None ∷ links) = numbered is_port (number + 1) links
-numbered is_port number (Some names ∷ links) = (link_at is_port number, names) ∷ numbered is_port (number + 1) links
+-- a link that has names, and its bus
+pub record NamedLink : Type 0 where
+  pub link : Link
+  pub bus : Bus
+  pub names : List (List ℕ)
 
-abbrev pub link_sources : List Var → Link × List (List ℕ) → Result LinkSources Fault
+-- the names of each port or of each master, where it has any
+abbrev pub NamesOf : Type 0
+NamesOf = List (Option (List (List ℕ)))
+
+-- the link of this number and others, if it has names
+abbrev pub named_before : Bool → ℕ → Bus → Option (Option (List (List ℕ))) → List NamedLink → List NamedLink
+named_before is_port number bus None links = links
+named_before is_port number bus (Some None) links = links
+named_before is_port number bus (Some (Some names)) links =
+    record { link = link_at is_port number; bus = bus; names = names } ∷ links
+
+-- the links of a kind that have names, of those that have these buses; the first of them has this number
+abbrev pub numbered : Bool → NamesOf → ℕ → List Bus → List NamedLink
+numbered is_port names number [] = []
+numbered is_port names number (bus ∷ buses) =
+    named_before is_port number bus (slice_get names number) (numbered is_port names (number + 1) buses)
+
+abbrev pub link_sources : List Var → NamedLink → Result LinkSources Fault
 link_sources vars named =
-    sources_of vars (owner_of named.0) named.1 >>= (λ sources. Ok (record { link = named.0; sources = sources }))
+    sources_of vars (owner_of named.link) (bus_bytes named.bus) named.names
+    >>= (λ sources. Ok (record { link = named.link; sources = sources }))
 
-unfoldable pub links_from : List Var → Bool → ℕ → List (Option (List (List ℕ))) → Result (List LinkSources) Fault
-links_from vars is_port number links = each (link_sources vars) (numbered is_port number links)
+unfoldable pub links_from : List Var → Bool → NamesOf → ℕ → List Bus → Result (List LinkSources) Fault
+links_from vars is_port names number buses = each (link_sources vars) (numbered is_port names number buses)
 
 -- what all names find: those of the clock, of the reset, and of the signals of each link
 pub record Sources : Type 0 where
@@ -100,13 +119,14 @@ pub record Sources : Type 0 where
   pub ports : List LinkSources
   pub masters : List LinkSources
 
--- or the first fault: System's signals first, then port by port and master by master those of its link
-unfoldable pub sources_in : List Var → Names → Result Sources Fault
-sources_in vars names = do
+-- or the first fault: System's signals first, then port by port and master by master those of its link. The masters'
+-- links and the ports' have these buses
+unfoldable pub sources_in : List Var → List Bus → List Bus → Names → Result Sources Fault
+sources_in vars of_masters of_ports names = do
   clock ← system_source vars names.clock
   reset ← if_any (system_source vars) names.reset
-  ports ← links_from vars true 0 names.ports
-  masters ← links_from vars false 0 names.masters
+  ports ← links_from vars true names.ports 0 of_ports
+  masters ← links_from vars false names.masters 0 of_masters
   Ok (record { clock = clock; reset = reset; ports = ports; masters = masters })
 
 -- ---- what is kept
@@ -219,9 +239,11 @@ found_by kept is_low sources = record {
 abbrev pub found_of : Bool → Sources → Found
 found_of is_low sources = found_by (kept_of (all_of sources)) is_low sources
 
--- what the names of a system file find among the signals of a header, or the first fault
-unfoldable pub found_in : List Var → Names → Result Found Fault
-found_in vars names = sources_in vars names >>= (λ sources. Ok (found_of names.is_low sources))
+-- what the names of a system file find among the signals of a header, or the first fault, where the masters' links and
+-- the ports' have these buses
+unfoldable pub found_in : List Var → List Bus → List Bus → Names → Result Found Fault
+found_in vars masters ports names =
+    sources_in vars masters ports names >>= (λ sources. Ok (found_of names.is_low sources))
 
 -- ---- how a dump is read so
 

@@ -2,8 +2,8 @@
 //!
 //! [`read_names`] reads the names that a system file gives (`specs/Names.antt`): those of the clock and of the reset, and
 //! of the signals of each link. [`find_signals`] finds them among the signals that a dump declares. What one name finds is in
-//! `specs/Source.antt`, with the wires that it means (`specs/Wires.antt`) and how many bits each signal has
-//! (`specs/Wanted.antt`). What is then looked at and kept, or the first fault, is in `specs/Found.antt`.
+//! `specs/Source.antt`, with the wires that it means (`specs/Wires.antt`) and how many bits each signal has by the bus of
+//! its link (`specs/Wanted.antt`). What is then looked at and kept, or the first fault, is in `specs/Found.antt`.
 //!
 //! Read on in `docs/CAPTURE.md`, "Your own design".
 #![tactic(auto)]
@@ -21,7 +21,6 @@ mod wires;
 
 pub use fault::{Key, KeyFault};
 pub use keys::{LinkNames, Names, SIGNALS, read_names};
-pub use links::BUS;
 pub use resolve::{Resolved, find_signals};
 pub use signal_fault::{Owner, SignalFault};
 pub use wanted::{Wanted, wanted_of};

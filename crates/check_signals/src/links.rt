@@ -1,5 +1,6 @@
 //! The signals of links, and the channels that are looked at.
 ghost use Rattle.std.specs.Prelude.{◌≡◌, ◌++◌, IfOk, OnOk, map};
+ghost use Rattle.check_beats.specs.Bus.{bus_bytes};
 ghost use Rattle.check_vcd.specs.Header.{var_view};
 ghost use Rattle.check_signals.specs.Found.{asked_of, each, in_order, link_at, link_sources_view, links_from, links_view, owner_of, pair_of, pairs_of, sources_of};
 ghost use Rattle.check_signals.specs.Names.{link_view};
@@ -10,13 +11,11 @@ use crate::keys::{LinkNames, SIGNALS};
 use crate::signal_fault::{Owner, SignalFault};
 use crate::source::{Asked, Kept, Source, source_in};
 use crate::wanted::wanted_of;
-use check_link::Link;
+use check_beats::Bus;
 use check_samples::{AskTaps, BeatTaps, Channel, ReplyTaps, Signal, Tap};
 use check_vcd::Var;
+use check_watch::Link;
 use std::alloc::{AllocError, Global};
-
-/// The bytes of the bus of each link.
-pub const BUS: u8 = 8;
 
 /// A link, and what the names of its signals find.
 #[derive(Debug, Drop)]
@@ -49,16 +48,17 @@ fn owner_of(link: Link) -> Owner
     }
 }
 
-/// What these names find, each the name of the signal at its place, or the first fault.
+/// What these names find at a link with this bus, each the name of the signal at its place, or the first fault.
 fn sources_for<'a>(
     alloc: Global,
     vars: &'a [Var],
     owner: Owner,
+    bus: Bus,
     signals: &[Signal],
     names: &[Vec<u8>],
 ) -> Result<Vec<Source<'a>>, SignalFault>
     ensures { Finds (λ sources. map source_view sources.items) result (each (source_in (map var_view vars.now))
-        (asked_of owner signals.now (map (λ name. name.items) names.now))) }
+        (asked_of owner (bus_bytes bus) signals.now (map (λ name. name.items) names.now))) }
 {
     let mut sources = Vec::with_capacity(alloc, signals.len())?;
     let mut rest = names;
@@ -69,7 +69,7 @@ fn sources_for<'a>(
         let asked = Asked {
             owner,
             name,
-            wanted: wanted_of(*signal, BUS),
+            wanted: wanted_of(*signal, bus),
         };
         sources.push(source_in(alloc, vars, asked)?)?;
         rest = more;
@@ -82,29 +82,32 @@ fn sources_of<'a>(
     alloc: Global,
     vars: &'a [Var],
     owner: Owner,
+    bus: Bus,
     names: &[Vec<u8>],
 ) -> Result<Vec<Source<'a>>, SignalFault>
     ensures { Finds (λ sources. map source_view sources.items) result
-        (sources_of (map var_view vars.now) owner (map (λ name. name.items) names.now)) }
+        (sources_of (map var_view vars.now) owner (bus_bytes bus) (map (λ name. name.items) names.now)) }
 {
-    sources_for(alloc, vars, owner, SIGNALS.as_slice(), names)
+    sources_for(alloc, vars, owner, bus, SIGNALS.as_slice(), names)
 }
 
-/// What the names of the links of a kind find, or the first fault.
+/// What the names of the links of a kind find, or the first fault. The links are those that have these buses.
 #[tactic(auto, unfolding(crate::specs::Found::links_from))]
 pub(crate) fn links_of<'a>(
     alloc: Global,
     vars: &'a [Var],
     is_port: bool,
+    buses: &[Bus],
     links: &[Option<LinkNames>],
 ) -> Result<Vec<LinkSources<'a>>, SignalFault>
-    ensures { Finds links_view result (links_from (map var_view vars.now) is_port 0 (map link_view links.now)) }
+    ensures { Finds links_view result
+        (links_from (map var_view vars.now) is_port (map link_view links.now) 0 buses.now) }
 {
     let mut found = Vec::new(alloc);
-    for (number, link) in links.iter().enumerate() {
-        if let Some(names) = link {
+    for (number, bus) in buses.iter().enumerate() {
+        if let Some(Some(names)) = links.get(number) {
             let link = link_at(is_port, number);
-            let sources = sources_of(alloc, vars, owner_of(link), names)?;
+            let sources = sources_of(alloc, vars, owner_of(link), *bus, names)?;
             found.push(LinkSources { link, sources })?;
         }
     }

@@ -14,6 +14,7 @@ use crate::links::{LinkSources, in_order, links_of, pairs_of};
 use crate::signal_fault::{Owner, SignalFault};
 use crate::source::{Asked, Kept, Source, source_in};
 use crate::wanted::Wanted;
+use check_rows::Buses;
 use check_samples::{Probes, Reset, Values};
 use check_vcd::Var;
 use std::alloc::{AllocError, Global};
@@ -57,13 +58,19 @@ fn reset_source<'a>(
 /// What the names of a system file find, or the first fault: the clock, the reset, and then port by port and master by
 /// master the signals of its link.
 #[tactic(auto, unfolding(crate::specs::Found::sources_in))]
-fn sources_in<'a>(alloc: Global, vars: &'a [Var], names: &Names) -> Result<Sources<'a>, SignalFault>
-    ensures { Finds sources_view result (sources_in (map var_view vars.now) (names_view names.now)) }
+fn sources_in<'a>(
+    alloc: Global,
+    vars: &'a [Var],
+    buses: &Buses<'_>,
+    names: &Names,
+) -> Result<Sources<'a>, SignalFault>
+    ensures { Finds sources_view result (sources_in (map var_view vars.now)
+        buses.now.masters.now buses.now.ports.now (names_view names.now)) }
 {
     let clock = system_source(alloc, vars, &names.clock)?;
     let reset = reset_source(alloc, vars, &names.reset)?;
-    let ports = links_of(alloc, vars, true, &names.ports)?;
-    let masters = links_of(alloc, vars, false, &names.masters)?;
+    let ports = links_of(alloc, vars, true, buses.ports, &names.ports)?;
+    let masters = links_of(alloc, vars, false, buses.masters, &names.masters)?;
     Ok(Sources {
         clock,
         reset,
@@ -176,13 +183,21 @@ fn resolved_of(alloc: Global, is_low: bool, sources: &Sources<'_>) -> Result<Res
 }
 
 /// Finds the signals that a system file names among those that a dump declares: the clock, the reset, and then port by
-/// port and master by master those of its link.
+/// port and master by master those of its link. The links are those that have a bus, which says how many bits of mask
+/// and data they have.
 #[tactic(auto, unfolding(crate::specs::Found::found_in))]
-pub fn find_signals(alloc: Global, names: &Names, vars: &[Var]) -> Result<Resolved, SignalFault>
-    ensures { MatchResult result (IsFound (found_in (map var_view vars.now) (names_view names.now)))
+pub fn find_signals(
+    alloc: Global,
+    buses: &Buses<'_>,
+    names: &Names,
+    vars: &[Var],
+) -> Result<Resolved, SignalFault>
+    ensures { MatchResult result
+        (IsFound (found_in (map var_view vars.now) buses.now.masters.now buses.now.ports.now (names_view names.now)))
         (λ fault. fault ≢ Memory
-        → found_in (map var_view vars.now) (names_view names.now) ≡ Err (fault_view fault)) }
+        → found_in (map var_view vars.now) buses.now.masters.now buses.now.ports.now (names_view names.now)
+        ≡ Err (fault_view fault)) }
 {
-    let sources = sources_in(alloc, vars, names)?;
+    let sources = sources_in(alloc, vars, buses, names)?;
     Ok(resolved_of(alloc, names.is_low, &sources)?)
 }

@@ -1,7 +1,9 @@
 //! How many bits the signals of a link have.
 ghost use Rattle.std.specs.Prelude.{◌≡◌};
+ghost use Rattle.check_beats.specs.Bus.{bus_bytes};
 ghost use Rattle.check_signals.specs.Wanted.{bits_fit, wanted_of, count_of};
 
+use check_beats::Bus;
 use check_samples::Signal;
 
 /// How many bits a signal has.
@@ -32,13 +34,13 @@ impl Wanted {
     }
 }
 
-/// How many bits a signal has at a link whose bus has so many bytes.
-pub fn wanted_of(signal: Signal, bus: u8) -> Wanted
-    ensures { result ≡ wanted_of signal bus }
+/// How many bits a signal has at a link with this bus.
+pub fn wanted_of(signal: Signal, bus: Bus) -> Wanted
+    ensures { result ≡ wanted_of signal (bus_bytes bus) }
 {
     match signal {
-        Signal::AMask => Wanted::Exactly(u64::from(bus)),
-        Signal::AData | Signal::DData => Wanted::Exactly(8 * u64::from(bus)),
+        Signal::AMask => Wanted::Exactly(bus.bytes() as u64),
+        Signal::AData | Signal::DData => Wanted::Exactly(8 * bus.bytes() as u64),
         Signal::AOpcode | Signal::AParam | Signal::ASize | Signal::DOpcode | Signal::DSize => {
             Wanted::AtMost(8)
         }

@@ -1,16 +1,16 @@
 -- The text of a beat is a row.
-use Rattle.std.proofs.Common.{◌≡◌, ◌∙◌, ℕ, ◌+◌, ◌-◌, ◌^◌, ◌<◌, ◌≤◌, ◌==◌, false, List, [], ◌∷◌, length, map, Option, None, Some, Result, Ok, Err, arith, refl, ap, subst, ok_or}
+use Rattle.std.proofs.Common.{◌≡◌, ◌∙◌, ℕ, ◌+◌, ◌-◌, ◌^◌, ◌<◌, ◌≤◌, ◌==◌, false, List, [], ◌∷◌, length, Option, None, Some, Result, Ok, Err, arith, refl, ap, subst, ok_or}
 use Rattle.std.specs.Fmt.{decimal, digits}
 use Rattle.std.specs.Str.Parse.{digits_value}
 use Rattle.tl_text.specs.Number.{number_of}
-use Rattle.check_link.specs.declared.beat.Beat.{Beat}
-use Rattle.check_link.specs.declared.beat.Link.{Link}
-use Rattle.check_capture.specs.Columns.{IsLinkOf, flag_of}
-use Rattle.check_capture.specs.Lanes.{lane_numbers}
-use Rattle.check_capture.specs.Number.{decimal_of}
-use Rattle.check_capture.specs.Row.{ask_of, reply_of, row_of}
-use Rattle.check_capture.specs.declared.columns.Channel.TheVariants as channel
-use Rattle.check_capture.specs.declared.row.Row.{Row}
+use Rattle.check_beats.specs.Bus.{bus_bytes}
+use Rattle.check_beats.specs.declared.bus.Bus.{Bus}
+use Rattle.check_watch.specs.declared.beat.Link.{Link}
+use Rattle.check_rows.specs.Buses.{IsLinkOf, bus_of}
+use Rattle.check_rows.specs.Columns.{flag_of}
+use Rattle.check_rows.specs.Number.{decimal_of}
+use Rattle.check_rows.specs.Row.{ask_of, reply_of, row_of}
+use Rattle.check_rows.specs.declared.columns.Channel.TheVariants as channel
 use Rattle.check_samples.specs.Digits.{bits_of}
 use Rattle.check_samples.specs.Row.{ask_text, cells_of_ask, cells_of_reply, hex_text, known, link_text, reply_text}
 use Rattle.check_samples.specs.Row.{◌>>=◌}
@@ -26,7 +26,9 @@ use Rattle.check_samples.specs.declared.row.TheConstants.{MAX_BITS}
 use Rattle.check_samples.specs.declared.signal.Signal.{Signal}
 use Rattle.check_samples.specs.declared.signal.Signal.TheVariants as signal
 use Rattle.check_wave_laws.specs.Rows.{IsRow}
-use Rattle.check_wave_laws.specs.Seen.{AskFits, BeatFits, ReplyFits, ask_in, beat_in, lane_in, number_in, reply_in, row_in}
+use Rattle.check_wave_laws.specs.Seen.{AskFits, BeatFits, ReplyFits, ask_in, beat_in, lanes_in, number_in, reply_in, row_in}
+use Rattle.check_wave_laws.specs.Seen.{row_at as row_shown}
+use Rattle.check_wave_laws.proofs.Buses.{IsBus, bus-of}
 use Rattle.check_wave_laws.proofs.Columns.{ask-line, ask-spelled, ask_words, channel-a, channel-d, link-read, reply-line, reply-spelled, reply_words, row-spelled, word-link}
 use Rattle.check_wave_laws.proofs.Lanes.{lanes-read, mask-read}
 use Rattle.check_wave_laws.proofs.Numbers.{HasNumber, address-read, decimal-read, flag-read, has-number, number-below}
@@ -145,50 +147,49 @@ flag-of : (bits : List ℕ) (n : ℕ) → HasNumber bits n → length bits ≤ 1
 flag-of bits n has fits =
     flag-read n (number-below bits n 1 has fits) ∙ ap (λ (m : ℕ). Ok (m == 1)) has.value
 
-ask-columns : (time : ℕ) (link : Link) (values : List (List ℕ)) (taps : AskTaps) (cells : AskCells)
-    → AskNumbers values taps cells → AskFits values taps
-    → ask_of (decimal time ∷ ask_words link cells (bits_of values taps.mask) (bits_of values taps.data))
-    ≡ Ok (ask_in values taps)
-ask-columns time link values taps cells has fits =
-    ask-spelled (decimal time) (link_text link) (65 ∷ []) (decimal cells.opcode) (decimal cells.param) (decimal cells.size)
-    (decimal cells.source) (digits 16 false cells.address) (hex_text (bits_of values taps.mask))
+ask-columns : (bus time : ℕ) (link : Link) (values : List (List ℕ)) (taps : AskTaps) (cells : AskCells)
+    → IsBus bus → AskNumbers values taps cells → AskFits bus values taps
+    → ask_of bus (decimal time ∷ ask_words link cells (bits_of values taps.mask) (bits_of values taps.data))
+    ≡ Ok (ask_in bus values taps)
+ask-columns bus time link values taps cells of has fits =
+    ask-spelled bus (decimal time) (link_text link) (65 ∷ []) (decimal cells.opcode) (decimal cells.param)
+    (decimal cells.size) (decimal cells.source) (digits 16 false cells.address) (hex_text (bits_of values taps.mask))
     (hex_text (bits_of values taps.data)) (number_in values taps.opcode) (number_in values taps.param)
     (number_in values taps.size) (number_in values taps.source) (number_in values taps.address)
-    (number_in values taps.mask) (map (lane_in (bits_of values taps.data)) lane_numbers)
+    (number_in values taps.mask) (lanes_in bus values taps.data)
     (small-read (bits_of values taps.opcode) cells.opcode 8 255 has.opcode fits.opcode refl)
     (small-read (bits_of values taps.param) cells.param 8 255 has.param fits.param refl)
     (small-read (bits_of values taps.size) cells.size 8 255 has.size fits.size refl)
     (small-read (bits_of values taps.source) cells.source 16 65535 has.source fits.source refl)
     (address-read cells.address has.address.small ∙ ap (λ (n : ℕ). Ok n) has.address.value)
-    (mask-read (bits_of values taps.mask) (number_in values taps.mask) fits.mask has.mask)
-    (lanes-read (bits_of values taps.data) fits.data_bits)
+    (mask-read of.width bus (number_in values taps.mask) (bits_of values taps.mask) of.is fits.mask has.mask)
+    (lanes-read bus (bits_of values taps.data) of.some fits.data_bits)
 
-reply-columns : (time : ℕ) (link : Link) (values : List (List ℕ)) (taps : ReplyTaps) (cells : ReplyCells)
-    → ReplyNumbers values taps cells → ReplyFits values taps
-    → reply_of (decimal time ∷ reply_words link cells (bits_of values taps.data)) ≡ Ok (reply_in values taps)
-reply-columns time link values taps cells has fits =
-    reply-spelled (decimal time) (link_text link) (68 ∷ []) (decimal cells.opcode) (decimal cells.size)
+reply-columns : (bus time : ℕ) (link : Link) (values : List (List ℕ)) (taps : ReplyTaps) (cells : ReplyCells)
+    → IsBus bus → ReplyNumbers values taps cells → ReplyFits bus values taps
+    → reply_of bus (decimal time ∷ reply_words link cells (bits_of values taps.data)) ≡ Ok (reply_in bus values taps)
+reply-columns bus time link values taps cells of has fits =
+    reply-spelled bus (decimal time) (link_text link) (68 ∷ []) (decimal cells.opcode) (decimal cells.size)
     (decimal cells.source) (hex_text (bits_of values taps.data)) (decimal cells.denied) (decimal cells.corrupt)
     (number_in values taps.opcode) (number_in values taps.size) (number_in values taps.source)
-    (number_in values taps.denied == 1) (number_in values taps.corrupt == 1)
-    (map (lane_in (bits_of values taps.data)) lane_numbers)
+    (number_in values taps.denied == 1) (number_in values taps.corrupt == 1) (lanes_in bus values taps.data)
     (small-read (bits_of values taps.opcode) cells.opcode 8 255 has.opcode fits.opcode refl)
     (small-read (bits_of values taps.size) cells.size 8 255 has.size fits.size refl)
     (small-read (bits_of values taps.source) cells.source 16 65535 has.source fits.source refl)
-    (lanes-read (bits_of values taps.data) fits.data_bits)
+    (lanes-read bus (bits_of values taps.data) of.some fits.data_bits)
     (flag-of (bits_of values taps.denied) cells.denied has.denied fits.denied)
     (flag-of (bits_of values taps.corrupt) cells.corrupt has.corrupt fits.corrupt)
 
 -- ---- the row of a beat
 
 -- a link of such a system, and a time that there is
-record Stands (masters ports time : ℕ) (link : Link) : Type 0 where
-  few_masters : masters < 2 ^ 64
-  few_ports : ports < 2 ^ 64
+record Stands (masters ports : List Bus) (time : ℕ) (link : Link) : Type 0 where
+  few_masters : length masters < 2 ^ 64
+  few_ports : length ports < 2 ^ 64
   in_time : time < 2 ^ 64
   has_link : IsLinkOf masters ports link
 
-ask-words : (masters ports time : ℕ) (link : Link) (values : List (List ℕ)) (taps : AskTaps) (cells : AskCells)
+ask-words : (masters ports : List Bus) (time : ℕ) (link : Link) (values : List (List ℕ)) (taps : AskTaps) (cells : AskCells)
     → Stands masters ports time link → AskNumbers values taps cells
     → AreWords (decimal time ∷ ask_words link cells (bits_of values taps.mask) (bits_of values taps.data))
 ask-words masters ports time link values taps cells at has = (
@@ -220,7 +221,7 @@ ask-words masters ports time link values taps cells at has = (
   ),
 )
 
-reply-words : (masters ports time : ℕ) (link : Link) (values : List (List ℕ)) (taps : ReplyTaps) (cells : ReplyCells)
+reply-words : (masters ports : List Bus) (time : ℕ) (link : Link) (values : List (List ℕ)) (taps : ReplyTaps) (cells : ReplyCells)
     → Stands masters ports time link → ReplyNumbers values taps cells
     → AreWords (decimal time ∷ reply_words link cells (bits_of values taps.data))
 reply-words masters ports time link values taps cells at has = (
@@ -255,18 +256,13 @@ reply-words masters ports time link values taps cells at has = (
   ),
 )
 
-abbrev row-shown : ℕ → ℕ → Link → Beat × ℕ → Row
-row-shown line time link seen = record {
-  line = line;
-  time = time;
-  sighting = record { link = link; beat = seen.0; known = seen.1 };
-}
-
-ask-row : (masters ports line time : ℕ) (link : Link) (values : List (List ℕ)) (taps : AskTaps) (cells : AskCells)
-    → Stands masters ports time link → AskNumbers values taps cells → AskFits values taps
-    → IsRow masters ports (row-shown line time link (ask_in values taps))
+ask-row : (masters ports : List Bus) (line time : ℕ) (link : Link) (values : List (List ℕ)) (taps : AskTaps)
+    (cells : AskCells) → Stands masters ports time link → AskNumbers values taps cells
+    → AskFits (bus_of masters ports link) values taps
+    → IsRow masters ports (row_shown line time link (ask_in (bus_of masters ports link) values taps))
     (ask_text time link cells (bits_of values taps.mask) (bits_of values taps.data))
 ask-row masters ports line time link values taps cells at has fits =
+    let bus = bus_of masters ports link in
     let mask = bits_of values taps.mask in
     let lanes = bits_of values taps.data in
     let words = ask_words link cells mask lanes in
@@ -277,19 +273,21 @@ ask-row masters ports line time link values taps cells at has fits =
       plain = plain-joined (decimal time) words are;
       reads =
           ap (row_of masters ports line) (parts-joined (decimal time) words are)
-          ∙ row-spelled masters ports line time link channel.A (ask_in values taps) (decimal time) (link_text link)
+          ∙ row-spelled masters ports line time link channel.A (ask_in bus values taps) (decimal time) (link_text link)
           (65 ∷ []) (decimal cells.opcode) (decimal cells.param) (decimal cells.size) (decimal cells.source)
           (digits 16 false cells.address) (hex_text mask) (hex_text lanes) [] []
           (decimal-read (2 ^ 64 - 1) time at.in_time (omega (arith, at.in_time)))
           (link-read masters ports link at.few_masters at.few_ports at.has_link) channel-a
-          (ask-columns time link values taps cells has fits);
+          (ask-columns bus time link values taps cells (bus-of masters ports link at.has_link) has fits);
     }
 
-reply-row : (masters ports line time : ℕ) (link : Link) (values : List (List ℕ)) (taps : ReplyTaps) (cells : ReplyCells)
-    → Stands masters ports time link → ReplyNumbers values taps cells → ReplyFits values taps
-    → IsRow masters ports (row-shown line time link (reply_in values taps))
+reply-row : (masters ports : List Bus) (line time : ℕ) (link : Link) (values : List (List ℕ)) (taps : ReplyTaps)
+    (cells : ReplyCells) → Stands masters ports time link → ReplyNumbers values taps cells
+    → ReplyFits (bus_of masters ports link) values taps
+    → IsRow masters ports (row_shown line time link (reply_in (bus_of masters ports link) values taps))
     (reply_text time link cells (bits_of values taps.data))
 reply-row masters ports line time link values taps cells at has fits =
+    let bus = bus_of masters ports link in
     let lanes = bits_of values taps.data in
     let words = reply_words link cells lanes in
     let are = reply-words masters ports time link values taps cells at has in
@@ -299,45 +297,52 @@ reply-row masters ports line time link values taps cells at has fits =
       plain = plain-joined (decimal time) words are;
       reads =
           ap (row_of masters ports line) (parts-joined (decimal time) words are)
-          ∙ row-spelled masters ports line time link channel.D (reply_in values taps) (decimal time) (link_text link)
-          (68 ∷ []) (decimal cells.opcode) [] (decimal cells.size) (decimal cells.source) [] [] (hex_text lanes)
-          (decimal cells.denied) (decimal cells.corrupt)
+          ∙ row-spelled masters ports line time link channel.D (reply_in bus values taps) (decimal time)
+          (link_text link) (68 ∷ []) (decimal cells.opcode) [] (decimal cells.size) (decimal cells.source) [] []
+          (hex_text lanes) (decimal cells.denied) (decimal cells.corrupt)
           (decimal-read (2 ^ 64 - 1) time at.in_time (omega (arith, at.in_time)))
           (link-read masters ports link at.few_masters at.few_ports at.has_link) channel-d
-          (reply-columns time link values taps cells has fits);
+          (reply-columns bus time link values taps cells (bus-of masters ports link at.has_link) has fits);
     }
 
 -- ---- the row of a channel
 
-row-by : (masters ports line time : ℕ) (values : List (List ℕ)) (which : Channel) (text : List ℕ) (beat : BeatTaps)
-    → Stands masters ports time which.link → BeatFits beat values → row_by beat time values which ≡ Ok text
-    → IsRow masters ports (row-shown line time which.link (beat_in beat values)) text
+row-by : (masters ports : List Bus) (line time : ℕ) (values : List (List ℕ)) (which : Channel) (text : List ℕ)
+    (beat : BeatTaps) → Stands masters ports time which.link → BeatFits (bus_of masters ports which.link) beat values
+    → row_by beat time values which ≡ Ok text
+    → IsRow masters ports (row_shown line time which.link (beat_in (bus_of masters ports which.link) beat values)) text
 row-by masters ports line time values which text (A taps) at fits is = go (cells_of_ask values taps) refl is
   where
+    bus : ℕ
+    bus = bus_of masters ports which.link
+
     go : (r : Result AskCells Signal) → cells_of_ask values taps ≡ r
         → (r >>= (λ cells. Ok (ask_text time which.link cells (bits_of values taps.mask) (bits_of values taps.data))))
         ≡ Ok text
-        → IsRow masters ports (row-shown line time which.link (ask_in values taps)) text
+        → IsRow masters ports (row_shown line time which.link (ask_in bus values taps)) text
     go (Ok cells) e made =
         let same : ask_text time which.link cells (bits_of values taps.mask) (bits_of values taps.data) ≡ text = cc in
-        subst (IsRow masters ports (row-shown line time which.link (ask_in values taps))) same
+        subst (IsRow masters ports (row_shown line time which.link (ask_in bus values taps))) same
         (ask-row masters ports line time which.link values taps cells at (ask-numbers values taps cells e) fits)
     go (Err signal) e made = absurd (cc)
 row-by masters ports line time values which text (D taps) at fits is = go (cells_of_reply values taps) refl is
   where
+    bus : ℕ
+    bus = bus_of masters ports which.link
+
     go : (r : Result ReplyCells Signal) → cells_of_reply values taps ≡ r
         → (r >>= (λ cells. Ok (reply_text time which.link cells (bits_of values taps.data)))) ≡ Ok text
-        → IsRow masters ports (row-shown line time which.link (reply_in values taps)) text
+        → IsRow masters ports (row_shown line time which.link (reply_in bus values taps)) text
     go (Ok cells) e made =
         let same : reply_text time which.link cells (bits_of values taps.data) ≡ text = cc in
-        subst (IsRow masters ports (row-shown line time which.link (reply_in values taps))) same
+        subst (IsRow masters ports (row_shown line time which.link (reply_in bus values taps))) same
         (reply-row masters ports line time which.link values taps cells at (reply-numbers values taps cells e) fits)
     go (Err signal) e made = absurd (cc)
 
-pub beat-row : (masters ports line time : ℕ) (values : List (List ℕ)) (which : Channel) (text : List ℕ)
-    → masters < 2 ^ 64 → ports < 2 ^ 64 → time < 2 ^ 64 → IsLinkOf masters ports which.link
-    → BeatFits which.beat values → row_at time values which ≡ Ok text
-    → IsRow masters ports (row_in line time values which) text
+pub beat-row : (masters ports : List Bus) (line time : ℕ) (values : List (List ℕ)) (which : Channel) (text : List ℕ)
+    → length masters < 2 ^ 64 → length ports < 2 ^ 64 → time < 2 ^ 64 → IsLinkOf masters ports which.link
+    → BeatFits (bus_of masters ports which.link) which.beat values → row_at time values which ≡ Ok text
+    → IsRow masters ports (row_in masters ports line time values which) text
 beat-row masters ports line time values which text m p t inside fits is =
     row-by masters ports line time values which text which.beat
     (record { few_masters = m; few_ports = p; in_time = t; has_link = inside }) fits is

@@ -1,22 +1,24 @@
 -- The columns of a row, and the row that they spell.
-use Rattle.std.proofs.Common.{◌≡◌, ◌∙◌, ℕ, ◌-◌, ◌^◌, ◌<◌, Bool, false, List, [], ◌∷◌, ◌++◌, Option, Result, Ok, arith, refl, sym, ap, append_assoc}
+use Rattle.std.proofs.Common.{◌≡◌, ◌∙◌, ℕ, ◌-◌, ◌^◌, ◌<◌, Bool, false, List, [], ◌∷◌, ◌++◌, length, Result, Ok, arith, refl, sym, ap, append_assoc}
 use Rattle.std.specs.Fmt.{decimal, digits}
 use Rattle.csv.specs.Records.{field_at}
-use Rattle.check_link.specs.declared.beat.Beat.{Beat}
-use Rattle.check_link.specs.declared.beat.Beat.TheVariants as beat
-use Rattle.check_link.specs.declared.beat.Link.{Link}
-use Rattle.check_link.specs.declared.beat.Link.TheVariants.{Master, Port}
-use Rattle.check_capture.specs.Columns.{IsLinkOf, channel_of, flag_of, link_of, nothing_of}
-use Rattle.check_capture.specs.Lanes.{bytes_of, known_of, lanes_of}
-use Rattle.check_capture.specs.Number.{address_of, decimal_of, mask_of}
-use Rattle.check_capture.specs.Reading.{◌>>=◌}
-use Rattle.check_capture.specs.Row.{ask_of, beat_of, reply_of, row_of}
-use Rattle.check_capture.specs.declared.columns.Channel.{Channel}
-use Rattle.check_capture.specs.declared.columns.Channel.TheVariants as channel
-use Rattle.check_capture.specs.declared.fault.RowFault.{RowFault}
+use Rattle.check_beats.specs.declared.bus.Bus.{Bus}
+use Rattle.check_watch.specs.declared.beat.Beat.TheVariants as beat
+use Rattle.check_watch.specs.declared.beat.Link.{Link}
+use Rattle.check_watch.specs.declared.beat.Link.TheVariants.{Master, Port}
+use Rattle.check_rows.specs.Buses.{IsLinkOf, bus_of}
+use Rattle.check_rows.specs.Columns.{channel_of, flag_of, link_of, nothing_of}
+use Rattle.check_rows.specs.Lanes.{Lanes, lanes_of}
+use Rattle.check_rows.specs.Number.{address_of, decimal_of, mask_of}
+use Rattle.check_rows.specs.Reading.{◌>>=◌}
+use Rattle.check_rows.specs.Row.{SeenBeat, ask_of, beat_of, reply_of, row_of}
+use Rattle.check_rows.specs.declared.columns.Channel.{Channel}
+use Rattle.check_rows.specs.declared.columns.Channel.TheVariants as channel
+use Rattle.check_rows.specs.declared.fault.RowFault.{RowFault}
 use Rattle.check_samples.specs.Row.{ask_text, hex_text, link_text, reply_text}
 use Rattle.check_samples.specs.declared.row.AskCells.{AskCells}
 use Rattle.check_samples.specs.declared.row.ReplyCells.{ReplyCells}
+use Rattle.check_wave_laws.specs.Seen.{row_at}
 use Rattle.check_wave_laws.proofs.Numbers.{index-read}
 use Rattle.check_wave_laws.proofs.Words.{IsWord, joined, word-decimal}
 
@@ -85,16 +87,18 @@ reply-line time link cells lanes =
 
 -- ---- links and channels
 
-pub link-read : (masters ports : ℕ) (link : Link) → masters < 2 ^ 64 → ports < 2 ^ 64 → IsLinkOf masters ports link
-    → link_of masters ports (link_text link) ≡ Ok link
+pub link-read : (masters ports : List Bus) (link : Link) → length masters < 2 ^ 64 → length ports < 2 ^ 64
+    → IsLinkOf masters ports link → link_of masters ports (link_text link) ≡ Ok link
 unfolding link_of
 link-read masters ports (Master number) m p inside =
-    ap (λ (r : Result ℕ RowFault). r >>= (λ n. Ok (Master n))) (index-read masters number inside (omega (arith, inside, m)))
+    ap (λ (r : Result ℕ RowFault). r >>= (λ n. Ok (Master n)))
+    (index-read (length masters) number inside (omega (arith, inside, m)))
 link-read masters ports (Port number) m p inside =
-    ap (λ (r : Result ℕ RowFault). r >>= (λ n. Ok (Port n))) (index-read ports number inside (omega (arith, inside, p)))
+    ap (λ (r : Result ℕ RowFault). r >>= (λ n. Ok (Port n)))
+    (index-read (length ports) number inside (omega (arith, inside, p)))
 
-pub word-link : (masters ports : ℕ) (link : Link) → masters < 2 ^ 64 → ports < 2 ^ 64 → IsLinkOf masters ports link
-    → IsWord (link_text link)
+pub word-link : (masters ports : List Bus) (link : Link) → length masters < 2 ^ 64 → length ports < 2 ^ 64
+    → IsLinkOf masters ports link → IsWord (link_text link)
 word-link masters ports (Master number) m p inside = (omega arith, word-decimal number (omega (arith, inside, m)))
 word-link masters ports (Port number) m p inside = (omega arith, word-decimal number (omega (arith, inside, p)))
 
@@ -108,38 +112,35 @@ channel-d = refl
 
 -- ---- the row that words spell
 
-pub ask-spelled : (t l c wo wp wz ws wa wm wd : List ℕ) (o p z s a m : ℕ) (lanes : List (Option ℕ))
+pub ask-spelled : (bus : ℕ) (t l c wo wp wz ws wa wm wd : List ℕ) (o p z s a m : ℕ) (lanes : Lanes)
     → decimal_of 255 wo ≡ Ok o → decimal_of 255 wp ≡ Ok p → decimal_of 255 wz ≡ Ok z → decimal_of 65535 ws ≡ Ok s
-    → address_of wa ≡ Ok a → mask_of wm ≡ Ok m → lanes_of wd ≡ Ok lanes
-    → ask_of (t ∷ l ∷ c ∷ wo ∷ wp ∷ wz ∷ ws ∷ wa ∷ wm ∷ wd ∷ [] ∷ [] ∷ [])
-    ≡ Ok (
-      beat.A (record { opcode = o; param = p; size = z; source = s; address = a; mask = m; lanes = bytes_of lanes }),
-      known_of lanes,
-    )
+    → address_of wa ≡ Ok a → mask_of bus wm ≡ Ok m → lanes_of bus wd ≡ Ok lanes
+    → ask_of bus (t ∷ l ∷ c ∷ wo ∷ wp ∷ wz ∷ ws ∷ wa ∷ wm ∷ wd ∷ [] ∷ [] ∷ [])
+    ≡ Ok (record {
+      beat = beat.A (record { opcode = o; param = p; size = z; source = s; address = a; mask = m });
+      lanes = lanes;
+    })
 unfolding ask_of field_at nothing_of
-ask-spelled t l c wo wp wz ws wa wm wd o p z s a m lanes eo ep ez es ea em ed = rw (eo, ep, ez, es, ea, em, ed) refl
+ask-spelled bus t l c wo wp wz ws wa wm wd o p z s a m lanes eo ep ez es ea em ed = rw (eo, ep, ez, es, ea, em, ed) refl
 
-pub reply-spelled : (t l c wo wz ws wd wn wc : List ℕ) (o z s : ℕ) (n k : Bool) (lanes : List (Option ℕ))
-    → decimal_of 255 wo ≡ Ok o → decimal_of 255 wz ≡ Ok z → decimal_of 65535 ws ≡ Ok s → lanes_of wd ≡ Ok lanes
+pub reply-spelled : (bus : ℕ) (t l c wo wz ws wd wn wc : List ℕ) (o z s : ℕ) (n k : Bool) (lanes : Lanes)
+    → decimal_of 255 wo ≡ Ok o → decimal_of 255 wz ≡ Ok z → decimal_of 65535 ws ≡ Ok s → lanes_of bus wd ≡ Ok lanes
     → flag_of wn ≡ Ok n → flag_of wc ≡ Ok k
-    → reply_of (t ∷ l ∷ c ∷ wo ∷ [] ∷ wz ∷ ws ∷ [] ∷ [] ∷ wd ∷ wn ∷ wc ∷ [])
-    ≡ Ok (
-      beat.D (record { opcode = o; size = z; source = s; denied = n; corrupt = k; lanes = bytes_of lanes }),
-      known_of lanes,
-    )
+    → reply_of bus (t ∷ l ∷ c ∷ wo ∷ [] ∷ wz ∷ ws ∷ [] ∷ [] ∷ wd ∷ wn ∷ wc ∷ [])
+    ≡ Ok (record {
+      beat = beat.D (record { opcode = o; size = z; source = s; denied = n; corrupt = k });
+      lanes = lanes;
+    })
 unfolding reply_of field_at nothing_of
-reply-spelled t l c wo wz ws wd wn wc o z s n k lanes eo ez es ed en ec = rw (eo, ez, es, ed, en, ec) refl
+reply-spelled bus t l c wo wz ws wd wn wc o z s n k lanes eo ez es ed en ec = rw (eo, ez, es, ed, en, ec) refl
 
-pub row-spelled : (masters ports line time : ℕ) (link : Link) (which : Channel) (seen : Beat × ℕ)
+pub row-spelled : (masters ports : List Bus) (line time : ℕ) (link : Link) (which : Channel) (seen : SeenBeat)
     (t l c w3 w4 w5 w6 w7 w8 w9 w10 w11 : List ℕ)
     → decimal_of (2 ^ 64 - 1) t ≡ Ok time → link_of masters ports l ≡ Ok link → channel_of c ≡ Ok which
-    → beat_of which (t ∷ l ∷ c ∷ w3 ∷ w4 ∷ w5 ∷ w6 ∷ w7 ∷ w8 ∷ w9 ∷ w10 ∷ w11 ∷ []) ≡ Ok seen
+    → beat_of (bus_of masters ports link) which (t ∷ l ∷ c ∷ w3 ∷ w4 ∷ w5 ∷ w6 ∷ w7 ∷ w8 ∷ w9 ∷ w10 ∷ w11 ∷ [])
+    ≡ Ok seen
     → row_of masters ports line (t ∷ l ∷ c ∷ w3 ∷ w4 ∷ w5 ∷ w6 ∷ w7 ∷ w8 ∷ w9 ∷ w10 ∷ w11 ∷ [])
-    ≡ Ok (record {
-      line = line;
-      time = time;
-      sighting = record { link = link; beat = seen.0; known = seen.1 };
-    })
+    ≡ Ok (row_at line time link seen)
 unfolding row_of field_at
 row-spelled masters ports line time link which seen t l c w3 w4 w5 w6 w7 w8 w9 w10 w11 et el ec eb =
     rw (et, el, ec, eb) refl

@@ -13,18 +13,21 @@ use Rattle.check_signals.specs.declared.fault.Key.{Key}
 use Rattle.check_signals.specs.declared.fault.Key.TheVariants as key
 use Rattle.check_signals.specs.declared.fault.KeyFault.{KeyFault}
 use Rattle.check_signals.specs.declared.fault.KeyFault.TheVariants as key_fault
-use Rattle.check_system.specs.File.{Parts, Spells, document_of, parts_in, parts_of}
-use Rattle.check_system.specs.Key as system_key
-use Rattle.check_system.specs.Master.{Master, has_first, master_of, master_tables, masters_of}
-use Rattle.check_system.specs.Port.{Port, port_of, port_tables, ports_of}
-use Rattle.check_system.specs.Reading.{◌>>=◌, each}
-use Rattle.check_system.specs.System.{System}
-use Rattle.check_system.specs.Value.{list_at, one_up_to, table_of, tables_of, up_to, value_at}
-use Rattle.check_system.specs.declared.fault.Key as part_key
-use Rattle.check_system.specs.declared.fault.Key.TheVariants as part
-use Rattle.check_system.specs.declared.fault.SystemFault.{SystemFault}
-use Rattle.check_system.specs.declared.fault.SystemFault.TheVariants as fault
-use Rattle.check_system.specs.declared.read.TheConstants.{MAX_SYSTEM}
+use Rattle.check_beats.specs.declared.bus.Bus.{Bus}
+use Rattle.check_beats.specs.declared.bus.Bus.TheVariants.{Eight}
+use Rattle.check_keys.specs.Bus.{bus_at}
+use Rattle.check_keys.specs.Key as system_key
+use Rattle.check_keys.specs.Reading.{◌>>=◌, each}
+use Rattle.check_keys.specs.Value.{array_of, one_up_to, table_of, tables_of, up_to, value_at}
+use Rattle.check_keys.specs.declared.fault.Key as part_key
+use Rattle.check_keys.specs.declared.fault.Key.TheVariants as part
+use Rattle.check_keys.specs.declared.fault.SystemFault.{SystemFault}
+use Rattle.check_keys.specs.declared.fault.SystemFault.TheVariants as fault
+use Rattle.check_ports.specs.Port.{Port, port_of, port_tables, ports_of, tables_by}
+use Rattle.check_description.specs.Description.{Description, Makes}
+use Rattle.check_description.specs.File.{Parts, document_of, parts_in, parts_of}
+use Rattle.check_description.specs.Master.{Master, has_first, master_of, master_tables, masters_of}
+use Rattle.check_description.specs.declared.read.TheConstants.{MAX_SYSTEM}
 
 -- ---- each of a list
 
@@ -118,26 +121,35 @@ links-are members names is =
 
 -- the parts of each kind
 record Divided (members : Members) (parts : Parts) : Type 0 where
-  ports : ports_of members ≡ Ok parts.ports
-  masters : masters_of members ≡ Ok parts.masters
+  bus : Bus
+  ports : ports_of bus members ≡ Ok parts.ports
+  masters : masters_of bus members ≡ Ok parts.masters
 
 parts-are : (members : Members) (parts : Parts) → parts_in members ≡ Ok parts → Divided members parts
 unfolding parts_in
-parts-are members parts is = go (ports_of members) (masters_of members) refl refl is
+parts-are members parts is = go (bus_at Eight members) is
   where
-    go : (p : Result (List Port) SystemFault) (m : Result (List Master) SystemFault)
-        → ports_of members ≡ p → masters_of members ≡ m
+    by : (bus : Bus) (p : Result (List Port) SystemFault) (m : Result (List Master) SystemFault)
+        → ports_of bus members ≡ p → masters_of bus members ≡ m
         → (p >>= (λ of_ports. m >>= (λ of_masters. Ok (record { ports = of_ports; masters = of_masters })))) ≡ Ok parts
         → Divided members parts
-    go (Err e) m x y w = absurd (cc)
-    go (Ok p) (Err e) x y w = absurd (cc)
-    go (Ok p) (Ok m) x y w =
+    by bus (Err e) m x y w = absurd (cc)
+    by bus (Ok p) (Err e) x y w = absurd (cc)
+    by bus (Ok p) (Ok m) x y w =
         let made : Parts = record { ports = p; masters = m } in
         let same : made ≡ parts = cc in
         record {
+          bus = bus;
           ports = x ∙ ap (λ (n : Parts). Ok n.ports) same;
           masters = y ∙ ap (λ (n : Parts). Ok n.masters) same;
         }
+
+    go : (b : Result Bus SystemFault)
+        → (b >>= (λ bus. ports_of bus members >>= (λ of_ports. masters_of bus members
+        >>= (λ of_masters. Ok (record { ports = of_ports; masters = of_masters }))))) ≡ Ok parts
+        → Divided members parts
+    go (Err e) w = absurd (cc)
+    go (Ok bus) w = by bus (ports_of bus members) (masters_of bus members) refl refl w
 
 -- ---- the values at a key
 
@@ -156,7 +168,7 @@ link-values which value links is = go (as_array value) refl is
 -- as many tables, if they are tables
 table-values : (value : Data) (which : part_key.Key) (tables : List Members) (items : Items)
     → as_array value ≡ Some items → tables_of which value ≡ Ok tables → length (list_of items) ≡ length tables
-unfolding list_at
+unfolding array_of
 table-values value which tables items is named =
     each-counts (table_of which) (list_of items) tables (go (as_array value) is named)
   where
@@ -181,29 +193,29 @@ few which most xs ys is = go (nat_lt most (length xs)) refl is
 
 -- ---- the counts
 
-ports-same : (members : Members) (links : List (Option (List (List ℕ)))) (of_ports : List Port)
-    → links_in key.Port members ≡ Ok links → ports_of members ≡ Ok of_ports
+ports-same : (bus : Bus) (members : Members) (links : List (Option (List (List ℕ)))) (of_ports : List Port)
+    → links_in key.Port members ≡ Ok links → ports_of bus members ≡ Ok of_ports
     → (length links ≡ length of_ports) × (length of_ports ≤ MAX_PORTS)
-unfolding links_in ports_of
-ports-same members links of_ports named divided = go (get_member (system_key.key_name part.Port) members) named divided
+unfolding links_in ports_of port_tables
+ports-same bus members links of_ports named divided = go (get_member (system_key.key_name part.Port) members) named divided
   where
     by : (value : Data) → links_by key.Port (Some value) ≡ Ok links → (r : Result (List Members) SystemFault)
-        → tables_of part.Port value ≡ r → ((r >>= up_to part.Port MAX_PORTS) >>= each port_of) ≡ Ok of_ports
+        → tables_of part.Port value ≡ r → ((r >>= up_to part.Port MAX_PORTS) >>= each (port_of bus)) ≡ Ok of_ports
         → (length links ≡ length of_ports) × (length of_ports ≤ MAX_PORTS)
     by value x (Err e) at y = absurd (cc)
     by value x (Ok tables) at y = then (up_to part.Port MAX_PORTS tables) refl y
       where
         then : (r : Result (List Members) SystemFault) → up_to part.Port MAX_PORTS tables ≡ r
-            → (r >>= each port_of) ≡ Ok of_ports → (length links ≡ length of_ports) × (length of_ports ≤ MAX_PORTS)
+            → (r >>= each (port_of bus)) ≡ Ok of_ports → (length links ≡ length of_ports) × (length of_ports ≤ MAX_PORTS)
         then (Err e) z w = absurd (cc)
         then (Ok some) z w =
             let found = link-values key.Port value links x in
             let are = few part.Port MAX_PORTS tables some z in
             let count = table-values value part.Port tables found.0 found.1 at in
-            let parts = each-counts port_of some of_ports w in
+            let parts = each-counts (port_of bus) some of_ports w in
             (omega (arith, found.2, count, ap length are.0, parts), omega (arith, are.1, parts))
 
-    go : (o : Option Data) → links_by key.Port o ≡ Ok links → (port_tables o >>= each port_of) ≡ Ok of_ports
+    go : (o : Option Data) → links_by key.Port o ≡ Ok links → (tables_by o >>= each (port_of bus)) ≡ Ok of_ports
         → (length links ≡ length of_ports) × (length of_ports ≤ MAX_PORTS)
     go None x y =
         let one : [] ≡ links = cc in
@@ -215,66 +227,66 @@ ports-same members links of_ports named divided = go (get_member (system_key.key
 abbrev counted : Data → Result (List Members) SystemFault
 counted value = tables_of part.Master value >>= one_up_to part.Master MAX_MASTERS
 
-masters-same : (members : Members) (links : List (Option (List (List ℕ)))) (of_masters : List Master)
-    → links_in key.Master members ≡ Ok links → masters_of members ≡ Ok of_masters
+masters-same : (bus : Bus) (members : Members) (links : List (Option (List (List ℕ)))) (of_masters : List Master)
+    → links_in key.Master members ≡ Ok links → masters_of bus members ≡ Ok of_masters
     → (length links ≡ length of_masters) × (length of_masters ≤ MAX_MASTERS)
 unfolding links_in masters_of master_tables value_at
-masters-same members links of_masters named divided =
+masters-same bus members links of_masters named divided =
     go (get_member (system_key.key_name part.Master) members) named divided
   where
     by : (value : Data) → links_by key.Master (Some value) ≡ Ok links → (r : Result (List Members) SystemFault)
         → tables_of part.Master value ≡ r
         → ((r >>= one_up_to part.Master MAX_MASTERS)
-        >>= (λ tables. each (master_of (list_any has_first tables)) tables)) ≡ Ok of_masters
+        >>= (λ tables. each (master_of bus (list_any has_first tables)) tables)) ≡ Ok of_masters
         → (length links ≡ length of_masters) × (length of_masters ≤ MAX_MASTERS)
     by value x (Err e) at y = absurd (cc)
     by value x (Ok tables) at y = then (nat_lt (length tables) 1) (up_to part.Master MAX_MASTERS tables) refl y
       where
         then : (t : Bool) (r : Result (List Members) SystemFault) → up_to part.Master MAX_MASTERS tables ≡ r
             → ((cond t (Err (fault.OutOfRange part.Master)) (Ok tables) >>= up_to part.Master MAX_MASTERS)
-            >>= (λ some. each (master_of (list_any has_first some)) some)) ≡ Ok of_masters
+            >>= (λ some. each (master_of bus (list_any has_first some)) some)) ≡ Ok of_masters
             → (length links ≡ length of_masters) × (length of_masters ≤ MAX_MASTERS)
         then true r z w = absurd (cc)
         then false r z w =
             last r z
-            (ap (λ (q : Result (List Members) SystemFault). q >>= (λ some. each (master_of (list_any has_first some)) some))
+            (ap (λ (q : Result (List Members) SystemFault). q >>= (λ some. each (master_of bus (list_any has_first some)) some))
             (sym z) ∙ w)
           where
             last : (r : Result (List Members) SystemFault) → up_to part.Master MAX_MASTERS tables ≡ r
-                → (r >>= (λ some. each (master_of (list_any has_first some)) some)) ≡ Ok of_masters
+                → (r >>= (λ some. each (master_of bus (list_any has_first some)) some)) ≡ Ok of_masters
                 → (length links ≡ length of_masters) × (length of_masters ≤ MAX_MASTERS)
             last (Err e) z w = absurd (cc)
             last (Ok some) z w =
                 let found = link-values key.Master value links x in
                 let are = few part.Master MAX_MASTERS tables some z in
                 let count = table-values value part.Master tables found.0 found.1 at in
-                let parts = each-counts (master_of (list_any has_first some)) some of_masters w in
+                let parts = each-counts (master_of bus (list_any has_first some)) some of_masters w in
                 (omega (arith, found.2, count, ap length are.0, parts), omega (arith, are.1, parts))
 
     go : (o : Option Data) → links_by key.Master o ≡ Ok links
         → ((ok_or o (fault.Missing part.Master) >>= counted)
-        >>= (λ tables. each (master_of (list_any has_first tables)) tables)) ≡ Ok of_masters
+        >>= (λ tables. each (master_of bus (list_any has_first tables)) tables)) ≡ Ok of_masters
         → (length links ≡ length of_masters) × (length of_masters ≤ MAX_MASTERS)
     go None x y = absurd (cc)
     go (Some value) x y = by value x (tables_of part.Master value) refl y
 
 -- as many names as links, of which there are few
-pub record SameCounts (names : Names) (system : System) : Type 0 where
+pub record SameCounts (names : Names) (system : Description) : Type 0 where
   pub ports : length names.ports ≡ length system.ports
   pub masters : length names.masters ≡ length system.masters
   pub few_ports : length system.ports < 2 ^ 64
   pub few_masters : length system.masters < 2 ^ 64
 
-pub same-counts : (file : List ℕ) (names : Names) (system : System) → Spells file system
-    → names_of_file file ≡ Ok names → SameCounts names system
-same-counts file names system spelled named =
-    let table = one-table file names spelled.parts named spelled.named in
+pub same-counts : (file : List ℕ) (names : Names) (parts : Parts) (system : Description) → parts_of file ≡ Ok parts
+    → Makes parts system → names_of_file file ≡ Ok names → SameCounts names system
+same-counts file names parts system is makes named =
+    let table = one-table file names parts named is in
     let links = links-are table.members names table.named in
-    let divided = parts-are table.members spelled.parts table.divided in
-    let of_ports = ports-same table.members names.ports spelled.parts.ports links.ports divided.ports in
-    let of_masters = masters-same table.members names.masters spelled.parts.masters links.masters divided.masters in
-    let ports_are = ap (λ (xs : List Port). length xs) spelled.makes.ports in
-    let masters_are = ap (λ (xs : List Master). length xs) spelled.makes.masters in
+    let divided = parts-are table.members parts table.divided in
+    let of_ports = ports-same divided.bus table.members names.ports parts.ports links.ports divided.ports in
+    let of_masters = masters-same divided.bus table.members names.masters parts.masters links.masters divided.masters in
+    let ports_are = ap (λ (xs : List Port). length xs) makes.ports in
+    let masters_are = ap (λ (xs : List Master). length xs) makes.masters in
     record {
       ports = of_ports.0 ∙ sym ports_are;
       masters = of_masters.0 ∙ sym masters_are;

@@ -4,6 +4,7 @@ use Rattle.std.specs.Prelude.{⊤}
 use Rattle.std.proofs.lemmas.Bool.{ltb-false, ltb-true}
 use Rattle.std.specs.Str.Parse.{digits_value}
 use Rattle.tl_text.specs.Number.{are_digits, number_of}
+use Rattle.check_beats.specs.declared.bus.Bus.{Bus}
 use Rattle.check_vcd.specs.Body.{At, Body, Fails, Find, Gives, Goes, Happens, Sets, Step, Wrong, begun_by, changed, changed_to, falls, followed, happenings, passed, passed_to, set, start, step_at, step_of, timed, timed_at, with_bit, with_digits}
 use Rattle.check_vcd.specs.Header as header
 use Rattle.check_vcd.specs.Header.{Header, Opened, Var, behind, blank, opening}
@@ -204,8 +205,8 @@ opened-fit (word ∷ words) h vars rest whole is =
         let same : words ≡ rest = cc in subst WordsFit same whole.1
     by (header.Fails mistake) others e = absurd (cc)
 
-pub dump-rows : (masters ports line : ℕ) (text : List ℕ) (vars : List Var) (words : List Word) (find : Find) (s : Sampling)
-    → masters < 2 ^ 64 → ports < 2 ^ 64 → opening (words_of text) blank ≡ Opened vars words → FindFits s.widths find
+pub dump-rows : (masters ports : List Bus) (line : ℕ) (text : List ℕ) (vars : List Var) (words : List Word) (find : Find)
+    (s : Sampling) → length masters < 2 ^ 64 → length ports < 2 ^ 64 → opening (words_of text) blank ≡ Opened vars words → FindFits s.widths find
     → SamplingFits masters ports s
     → HasRows masters ports s.probes.channels line (rows_from (happenings find words start) s).text
 dump-rows masters ports line text vars words find s few_masters few_ports opened fit fits =

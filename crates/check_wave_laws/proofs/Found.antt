@@ -1,27 +1,29 @@
 -- What the names of a system find has no more bits than its columns have room for.
-use Rattle.std.proofs.Common.{◌≡◌, ℕ, zero, suc, ◌+◌, ◌-◌, ◌<◌, ◌≤◌, nat_le, nat_lt, Bool, true, false, ◌&&◌, not, cond, List, [], ◌∷◌, ◌++◌, length, map, Option, Some, None, Result, Ok, Err, Contains, arith, refl, subst}
+use Rattle.std.proofs.Common.{◌≡◌, ℕ, zero, suc, ◌+◌, ◌-◌, ◌<◌, ◌≤◌, nat_le, nat_lt, Bool, true, false, ◌&&◌, not, cond, List, [], ◌∷◌, ◌++◌, length, map, Option, Some, None, Result, Ok, Err, Contains, ◌∙◌, ap, arith, refl, slice_get, subst}
 use Rattle.std.specs.Prelude.{⊤}
 use Rattle.std.specs.List.{cons_option, list_any}
 use Rattle.std.specs.Option.{option_and_then}
 use Rattle.std.specs.Str.{bytes_eq}
 use Rattle.std.proofs.lemmas.Bool.{ltb-false}
 use Rattle.std.proofs.lemmas.Bool.Decides.{nat_tests}
+use Rattle.check_beats.specs.Bus.{bus_bytes}
+use Rattle.check_beats.specs.declared.bus.Bus.{Bus}
+use Rattle.check_rows.specs.Buses.{HasBus, IsLinkOf, bus_of}
 use Rattle.check_vcd.specs.Header.{Var}
 use Rattle.check_vcd.specs.declared.range.Span.{Span}
-use Rattle.check_capture.specs.Columns.{IsLinkOf}
 use Rattle.check_samples.specs.declared.signal.Signal.{Signal}
 use Rattle.check_samples.specs.declared.signal.Signal.TheVariants as signal
-use Rattle.check_signals.specs.Found.{LinkSources, asked_by, asked_of, each, link_at, link_sources, links_from, numbered, owner_of, sources_of, width_in, ◌>>=◌}
+use Rattle.check_signals.specs.Found.{LinkSources, NamedLink, NamesOf, asked_by, asked_of, each, link_at, link_sources, links_from, named_before, numbered, owner_of, sources_of, width_in, ◌>>=◌}
 use Rattle.check_signals.specs.Source.{Asked, Changing, Constant, Fault, Kept, Source, Twice, alone, constant_of, digit_in, measured, missing, source_by, source_in, too_wide, width_of, within}
 use Rattle.check_signals.specs.Wanted.{bits_fit, count_of, wanted_of}
 use Rattle.check_signals.specs.Wires.{Wire, first_of, places_in, sought, wire_at, wire_by, wire_of, wires, wires_called}
 use Rattle.check_signals.specs.declared.keys.TheConstants.{SIGNALS}
-use Rattle.check_signals.specs.declared.links.TheConstants.{BUS}
 use Rattle.check_signals.specs.declared.signal_fault.Owner.{Owner}
 use Rattle.check_signals.specs.declared.source.TheConstants.{MAX_WIDTH}
 use Rattle.check_signals.specs.declared.wanted.Wanted.{Wanted}
 use Rattle.check_signals.specs.declared.wanted.Wanted.TheVariants.{Exactly, AtMost}
 use Rattle.check_signals.specs.declared.wires.Places.{Places}
+use Rattle.check_wave_laws.proofs.Buses.{link-there}
 
 -- ---- lists
 
@@ -196,93 +198,136 @@ source-fits vars asked s some is = go (digit_in asked.name) is
 
 -- ---- the names of a link
 
--- the sources of signals, each with as many bits as its signal has
-abbrev pub FitsAll : List Var → List Signal → List Source → Type 0
-FitsAll vars signals [] = ⊤
-FitsAll vars [] (s ∷ sources) = ⊥
-FitsAll vars (which ∷ signals) (s ∷ sources) = SourceFits vars (wanted_of which BUS) s × FitsAll vars signals sources
+-- the sources of signals at a link whose bus has so many bytes, each with as many bits as its signal has
+abbrev pub FitsAll : List Var → ℕ → List Signal → List Source → Type 0
+FitsAll vars bus signals [] = ⊤
+FitsAll vars bus [] (s ∷ sources) = ⊥
+FitsAll vars bus (which ∷ signals) (s ∷ sources) =
+    SourceFits vars (wanted_of which bus) s × FitsAll vars bus signals sources
 
-wanted-some : (which : Signal) → 0 < count_of (wanted_of which BUS)
-wanted-some signal.AValid = omega arith
-wanted-some signal.AReady = omega arith
-wanted-some signal.AOpcode = omega arith
-wanted-some signal.AParam = omega arith
-wanted-some signal.ASize = omega arith
-wanted-some signal.ASource = omega arith
-wanted-some signal.AAddress = omega arith
-wanted-some signal.AMask = omega arith
-wanted-some signal.AData = omega arith
-wanted-some signal.DValid = omega arith
-wanted-some signal.DReady = omega arith
-wanted-some signal.DOpcode = omega arith
-wanted-some signal.DSize = omega arith
-wanted-some signal.DSource = omega arith
-wanted-some signal.DData = omega arith
-wanted-some signal.DDenied = omega arith
-wanted-some signal.DCorrupt = omega arith
+wanted-some : (which : Signal) (bus : ℕ) → 0 < bus → 0 < count_of (wanted_of which bus)
+wanted-some signal.AValid bus some = omega arith
+wanted-some signal.AReady bus some = omega arith
+wanted-some signal.AOpcode bus some = omega arith
+wanted-some signal.AParam bus some = omega arith
+wanted-some signal.ASize bus some = omega arith
+wanted-some signal.ASource bus some = omega arith
+wanted-some signal.AAddress bus some = omega arith
+wanted-some signal.AMask bus some = some
+wanted-some signal.AData bus some = omega (arith, some)
+wanted-some signal.DValid bus some = omega arith
+wanted-some signal.DReady bus some = omega arith
+wanted-some signal.DOpcode bus some = omega arith
+wanted-some signal.DSize bus some = omega arith
+wanted-some signal.DSource bus some = omega arith
+wanted-some signal.DData bus some = omega (arith, some)
+wanted-some signal.DDenied bus some = omega arith
+wanted-some signal.DCorrupt bus some = omega arith
 
-all-fit : (vars : List Var) (owner : Owner) (signals : List Signal) (names : List (List ℕ)) (sources : List Source)
-    → each (source_in vars) (asked_of owner signals names) ≡ Ok sources → FitsAll vars signals sources
-all-fit vars owner [] names sources is =
-    let same : [] ≡ sources = cc in subst (FitsAll vars []) same tt
-all-fit vars owner (which ∷ signals) [] sources is =
-    let same : [] ≡ sources = cc in subst (FitsAll vars (which ∷ signals)) same tt
-all-fit vars owner (which ∷ signals) (name ∷ names) sources is =
-    go (source_in vars (asked_by owner (which, name))) (each (source_in vars) (asked_of owner signals names)) refl
-    (λ more fits. all-fit vars owner signals names more fits) is
+all-fit : (vars : List Var) (owner : Owner) (bus : ℕ) (signals : List Signal) (names : List (List ℕ))
+    (sources : List Source) → 0 < bus → each (source_in vars) (asked_of owner bus signals names) ≡ Ok sources
+    → FitsAll vars bus signals sources
+all-fit vars owner bus [] names sources some is =
+    let same : [] ≡ sources = cc in subst (FitsAll vars bus []) same tt
+all-fit vars owner bus (which ∷ signals) [] sources some is =
+    let same : [] ≡ sources = cc in subst (FitsAll vars bus (which ∷ signals)) same tt
+all-fit vars owner bus (which ∷ signals) (name ∷ names) sources some is =
+    go (source_in vars (asked_by owner bus (which, name))) (each (source_in vars) (asked_of owner bus signals names)) refl
+    (λ more fits. all-fit vars owner bus signals names more some fits) is
   where
     go : (r : Result Source Fault) (rest : Result (List Source) Fault)
-        → source_in vars (asked_by owner (which, name)) ≡ r
-        → ((more : List Source) → rest ≡ Ok more → FitsAll vars signals more)
-        → (r >>= (λ y. rest >>= (λ ys. Ok (y ∷ ys)))) ≡ Ok sources → FitsAll vars (which ∷ signals) sources
+        → source_in vars (asked_by owner bus (which, name)) ≡ r
+        → ((more : List Source) → rest ≡ Ok more → FitsAll vars bus signals more)
+        → (r >>= (λ y. rest >>= (λ ys. Ok (y ∷ ys)))) ≡ Ok sources → FitsAll vars bus (which ∷ signals) sources
     go (Err fault) rest x y e = absurd (cc)
     go (Ok s) (Err fault) x y e = absurd (cc)
     go (Ok s) (Ok more) x y e =
         let same : s ∷ more ≡ sources = cc in
-        subst (FitsAll vars (which ∷ signals)) same (
-          source-fits vars (asked_by owner (which, name)) s (wanted-some which) x,
+        subst (FitsAll vars bus (which ∷ signals)) same (
+          source-fits vars (asked_by owner bus (which, name)) s (wanted-some which bus some) x,
           y more refl,
         )
 
 -- a link that the system has, whose signals' sources fit
-pub record LinkFits (vars : List Var) (masters ports : ℕ) (found : LinkSources) : Type 0 where
+pub record LinkFits (vars : List Var) (masters ports : List Bus) (found : LinkSources) : Type 0 where
   pub link : IsLinkOf masters ports found.link
-  pub sources : FitsAll vars SIGNALS found.sources
+  pub sources : FitsAll vars (bus_of masters ports found.link) SIGNALS found.sources
 
-named-fit : (vars : List Var) (masters ports : ℕ) (is_port : Bool) (n : ℕ) (links : List (Option (List (List ℕ))))
-    (found : List LinkSources) → ((k : ℕ) → k < n + length links → IsLinkOf masters ports (link_at is_port k))
-    → each (link_sources vars) (numbered is_port n links) ≡ Ok found → Each (LinkFits vars masters ports) found
-named-fit vars masters ports is_port n [] found inside is =
-    let same : [] ≡ found = cc in subst (Each (LinkFits vars masters ports)) same tt
-named-fit vars masters ports is_port n (None ∷ links) found inside is =
-    named-fit vars masters ports is_port (n + 1) links found (λ k h. inside k (omega (arith, h))) is
-named-fit vars masters ports is_port n (Some names ∷ links) found inside is =
-    go (sources_of vars (owner_of (link_at is_port n)) names)
-    (each (link_sources vars) (numbered is_port (n + 1) links)) refl
-    (λ more fits. named-fit vars masters ports is_port (n + 1) links more (λ k h. inside k (omega (arith, h))) fits) is
+-- ---- the links of a kind
+
+-- the link has the bus that stands beside it
+abbrev IsNamed : List Bus → List Bus → NamedLink → Type 0
+IsNamed masters ports named = HasBus masters ports named.link named.bus
+
+one-named : (masters ports : List Bus) (is_port : Bool) (n : ℕ) (bus : Bus) (names : Option (Option (List (List ℕ))))
+    (links : List NamedLink) → HasBus masters ports (link_at is_port n) bus → Each (IsNamed masters ports) links
+    → Each (IsNamed masters ports) (named_before is_port n bus names links)
+one-named masters ports is_port n bus None links has rest = rest
+one-named masters ports is_port n bus (Some None) links has rest = rest
+one-named masters ports is_port n bus (Some (Some names)) links has rest = (has, rest)
+
+all-named : (masters ports : List Bus) (is_port : Bool) (names : NamesOf) (n : ℕ) (buses : List Bus)
+    → ((k m : ℕ) (bus : Bus) → slice_get buses k ≡ Some bus → m ≡ n + k → HasBus masters ports (link_at is_port m) bus)
+    → Each (IsNamed masters ports) (numbered is_port names n buses)
+all-named masters ports is_port names n [] has = tt
+all-named masters ports is_port names n (bus ∷ buses) has =
+    one-named masters ports is_port n bus (slice_get names n) (numbered is_port names (n + 1) buses)
+    (has 0 n bus refl (omega arith))
+    (all-named masters ports is_port names (n + 1) buses
+    (λ k m other is at. has (suc k) m other is (omega (arith, at))))
+
+link-fits : (vars : List Var) (masters ports : List Bus) (named : NamedLink) (found : LinkSources)
+    → IsNamed masters ports named → link_sources vars named ≡ Ok found → LinkFits vars masters ports found
+link-fits vars masters ports named found has is =
+    go (sources_of vars (owner_of named.link) (bus_bytes named.bus) named.names) refl is
   where
-    go : (r : Result (List Source) Fault) (rest : Result (List LinkSources) Fault)
-        → sources_of vars (owner_of (link_at is_port n)) names ≡ r
-        → ((more : List LinkSources) → rest ≡ Ok more → Each (LinkFits vars masters ports) more)
-        → ((r >>= (λ sources. Ok (record { link = link_at is_port n; sources = sources })))
-        >>= (λ y. rest >>= (λ ys. Ok (y ∷ ys)))) ≡ Ok found
-        → Each (LinkFits vars masters ports) found
-    go (Err fault) rest x y e = absurd (cc)
-    go (Ok sources) (Err fault) x y e = absurd (cc)
-    go (Ok sources) (Ok more) x y e =
-        let one : LinkSources = record { link = link_at is_port n; sources = sources } in
-        let same : one ∷ more ≡ found = cc in
-        subst (Each (LinkFits vars masters ports)) same (
-          record {
-            link = inside n (omega arith);
-            sources = all-fit vars (owner_of (link_at is_port n)) SIGNALS names sources x;
-          },
-          y more refl,
-        )
+    go : (r : Result (List Source) Fault)
+        → sources_of vars (owner_of named.link) (bus_bytes named.bus) named.names ≡ r
+        → (r >>= (λ sources. Ok (record { link = named.link; sources = sources }))) ≡ Ok found
+        → LinkFits vars masters ports found
+    go (Err fault) x e = absurd (cc)
+    go (Ok sources) x e =
+        let one : LinkSources = record { link = named.link; sources = sources } in
+        let same : one ≡ found = cc in
+        let there = link-there masters ports named.link named.bus has in
+        subst (LinkFits vars masters ports) same (record {
+          link = there.inside;
+          sources = all-fit vars (owner_of named.link) (bus_of masters ports named.link) SIGNALS named.names sources
+              there.some
+              (ap (λ (bytes : ℕ). sources_of vars (owner_of named.link) bytes named.names) there.bytes ∙ x);
+        })
 
-pub links-fit : (vars : List Var) (masters ports : ℕ) (is_port : Bool) (links : List (Option (List (List ℕ))))
-    (found : List LinkSources) → ((k : ℕ) → k < length links → IsLinkOf masters ports (link_at is_port k))
-    → links_from vars is_port 0 links ≡ Ok found → Each (LinkFits vars masters ports) found
+each-fit : (vars : List Var) (masters ports : List Bus) (links : List NamedLink) (found : List LinkSources)
+    → Each (IsNamed masters ports) links → each (link_sources vars) links ≡ Ok found
+    → Each (LinkFits vars masters ports) found
+each-fit vars masters ports [] found named is =
+    let same : [] ≡ found = cc in subst (Each (LinkFits vars masters ports)) same tt
+each-fit vars masters ports (link ∷ links) found named is =
+    go (link_sources vars link) (each (link_sources vars) links) refl
+    (λ more fits. each-fit vars masters ports links more named.1 fits) is
+  where
+    go : (r : Result LinkSources Fault) (rest : Result (List LinkSources) Fault) → link_sources vars link ≡ r
+        → ((more : List LinkSources) → rest ≡ Ok more → Each (LinkFits vars masters ports) more)
+        → (r >>= (λ y. rest >>= (λ ys. Ok (y ∷ ys)))) ≡ Ok found → Each (LinkFits vars masters ports) found
+    go (Err fault) rest x y e = absurd (cc)
+    go (Ok one) (Err fault) x y e = absurd (cc)
+    go (Ok one) (Ok more) x y e =
+        let same : one ∷ more ≡ found = cc in
+        subst (Each (LinkFits vars masters ports)) same
+        (link-fits vars masters ports link one named.0 x, y more refl)
+
+pub ports-fit : (vars : List Var) (masters ports : List Bus) (names : NamesOf) (found : List LinkSources)
+    → links_from vars true names 0 ports ≡ Ok found → Each (LinkFits vars masters ports) found
 unfolding links_from
-links-fit vars masters ports is_port links found inside is =
-    named-fit vars masters ports is_port 0 links found (λ k h. inside k (omega (arith, h))) is
+ports-fit vars masters ports names found is =
+    each-fit vars masters ports (numbered true names 0 ports) found
+    (all-named masters ports true names 0 ports
+    (λ k m bus has at. subst (λ (i : ℕ). slice_get ports i ≡ Some bus) (omega (arith, at)) has)) is
+
+pub masters-fit : (vars : List Var) (masters ports : List Bus) (names : NamesOf) (found : List LinkSources)
+    → links_from vars false names 0 masters ≡ Ok found → Each (LinkFits vars masters ports) found
+unfolding links_from
+masters-fit vars masters ports names found is =
+    each-fit vars masters ports (numbered false names 0 masters) found
+    (all-named masters ports false names 0 masters
+    (λ k m bus has at. subst (λ (i : ℕ). slice_get masters i ≡ Some bus) (omega (arith, at)) has)) is

@@ -1,17 +1,18 @@
 -- What is kept has the bits of all that is looked at.
-use Rattle.std.proofs.Common.{◌≡◌, ◌∙◌, ℕ, suc, ◌+◌, ◌-◌, ◌<◌, ◌≤◌, ◌==◌, Bool, true, false, ◌||◌, cond, List, [], ◌∷◌, ◌++◌, length, get_or, map, replicate, Option, Some, None, Result, Ok, Err, arith, refl, sym, ap, subst, append_assoc, length-append}
+use Rattle.std.proofs.Common.{◌≡◌, ◌∙◌, ℕ, suc, ◌+◌, ◌-◌, ◌*◌, ◌<◌, ◌≤◌, ◌==◌, Bool, true, false, ◌||◌, cond, List, [], ◌∷◌, ◌++◌, length, get_or, map, replicate, Option, Some, None, Result, Ok, Err, arith, refl, sym, ap, subst, append_assoc, length-append}
 use Rattle.std.specs.List.{cons_option}
 use Rattle.std.specs.Str.{bytes_eq}
 use Rattle.std.proofs.lemmas.Bool.Decides.{nat_tests}
 use Rattle.std.proofs.lemmas.List.{length-replicate}
 use Rattle.std.proofs.lemmas.Slice.Eq.{bytes_eq-Decides}
-use Rattle.check_link.specs.declared.beat.Link.{Link}
+use Rattle.check_beats.specs.declared.bus.Bus.{Bus}
+use Rattle.check_watch.specs.declared.beat.Link.{Link}
+use Rattle.check_rows.specs.Buses.{IsLinkOf, bus_of}
 use Rattle.check_vcd.specs.Body.{Find}
 use Rattle.check_vcd.specs.Codes.{coded_in}
 use Rattle.check_vcd.specs.Dump.{with_slot}
 use Rattle.check_vcd.specs.Header.{Var}
 use Rattle.check_vcd.specs.declared.codes.Coded.{Coded}
-use Rattle.check_capture.specs.Columns.{IsLinkOf}
 use Rattle.check_samples.specs.Digits.{unknown}
 use Rattle.check_samples.specs.declared.channel.BeatTaps.TheVariants.{A, D}
 use Rattle.check_samples.specs.declared.channel.Channel.{Channel}
@@ -23,7 +24,7 @@ use Rattle.check_samples.specs.declared.signal.Signal.{Signal}
 use Rattle.check_signals.specs.declared.signal_fault.Owner.TheVariants as owner
 use Rattle.check_signals.specs.declared.wanted.Wanted.TheVariants.{AtMost}
 use Rattle.check_wave_laws.specs.Text.{ChannelFits, FindFits, SamplingFits, Takes}
-use Rattle.check_wave_laws.proofs.Found.{Each, FitsAll, KeptFits, LinkFits, SourceFits, each-append, each-first, each-has, each-map, each-second, links-fit, source-fits}
+use Rattle.check_wave_laws.proofs.Found.{Each, FitsAll, KeptFits, LinkFits, SourceFits, each-append, each-first, each-has, each-map, each-second, masters-fit, ports-fit, source-fits}
 
 -- ---- one value and another
 
@@ -120,17 +121,18 @@ SlotFits kept s = get_or (map width_in kept) (place_of kept s.kept) 0 ≡ width_
 abbrev ValueFits : List Var → Source → Type 0
 ValueFits vars s = KeptFits vars s.kept
 
-values-fit : (vars : List Var) (signals : List Signal) (sources : List Source) → FitsAll vars signals sources
+values-fit : (vars : List Var) (bus : ℕ) (signals : List Signal) (sources : List Source) → FitsAll vars bus signals sources
     → Each (ValueFits vars) sources
-values-fit vars signals [] fits = tt
-values-fit vars [] (s ∷ sources) fits = absurd fits
-values-fit vars (which ∷ signals) (s ∷ sources) fits = (fits.0.kept, values-fit vars signals sources fits.1)
+values-fit vars bus signals [] fits = tt
+values-fit vars bus [] (s ∷ sources) fits = absurd fits
+values-fit vars bus (which ∷ signals) (s ∷ sources) fits = (fits.0.kept, values-fit vars bus signals sources fits.1)
 
-flat-fits : (vars : List Var) (masters ports : ℕ) (links : List LinkSources)
+flat-fits : (vars : List Var) (masters ports : List Bus) (links : List LinkSources)
     → Each (LinkFits vars masters ports) links → Each (ValueFits vars) (flat links)
 flat-fits vars masters ports [] fits = tt
 flat-fits vars masters ports (found ∷ links) fits =
-    each-append (ValueFits vars) found.sources (flat links) (values-fit vars SIGNALS found.sources fits.0.sources)
+    each-append (ValueFits vars) found.sources (flat links)
+    (values-fit vars (bus_of masters ports found.link) SIGNALS found.sources fits.0.sources)
     (flat-fits vars masters ports links fits.1)
 
 slots-fit : (vars : List Var) (kept : List Kept) (sources : List Source) → Each (KeptFits vars) kept
@@ -157,7 +159,7 @@ kept-all vars sources fits =
 
 -- ---- the channels of a link
 
-abbrev PairFits : ℕ → ℕ → List ℕ → Channel × Channel → Type 0
+abbrev PairFits : List Bus → List Bus → List ℕ → Channel × Channel → Type 0
 PairFits masters ports widths pair =
     ChannelFits masters ports widths pair.0 × ChannelFits masters ports widths pair.1
 
@@ -169,8 +171,8 @@ takes kept s n from inside bits slot = record {
   bits = bits;
 }
 
-pair-fits : (vars : List Var) (masters ports : ℕ) (kept : List Kept) (link : Link) (sources : List Source)
-    (pair : Channel × Channel) → IsLinkOf masters ports link → FitsAll vars SIGNALS sources
+pair-fits : (vars : List Var) (masters ports : List Bus) (kept : List Kept) (link : Link) (sources : List Source)
+    (pair : Channel × Channel) → IsLinkOf masters ports link → FitsAll vars (bus_of masters ports link) SIGNALS sources
     → Each (SlotFits kept) sources → pair_of link (map (tap_by kept) sources) ≡ Some pair
     → PairFits masters ports (map width_in kept) pair
 pair-fits vars masters ports kept link
@@ -181,6 +183,7 @@ pair-fits vars masters ports kept link
     let g = f.1.1.1.1.1 in
     let h = g.1.1.1.1 in
     let r = slots.1.1.1.1.1.1.1 in
+    let bus = bus_of masters ports link in
     let ask : Channel = record {
       link = link;
       valid = tap_by kept a_valid;
@@ -217,8 +220,8 @@ pair-fits vars masters ports kept link
           param = f.1.0.bits;
           size = f.1.1.0.bits;
           source = f.1.1.1.0.bits;
-          mask = takes kept a_mask 8 g.0.from g.0.inside g.0.bits r.0;
-          lanes = takes kept a_data 64 g.1.0.from g.1.0.inside g.1.0.bits r.1.0;
+          mask = takes kept a_mask bus g.0.from g.0.inside g.0.bits r.0;
+          lanes = takes kept a_data (8 * bus) g.1.0.from g.1.0.inside g.1.0.bits r.1.0;
         };
       },
       record {
@@ -227,7 +230,7 @@ pair-fits vars masters ports kept link
           opcode = h.0.bits;
           size = h.1.0.bits;
           source = h.1.1.0.bits;
-          lanes = takes kept d_data 64 h.1.1.1.0.from h.1.1.1.0.inside h.1.1.1.0.bits r.1.1.1.1.1.1.1.0;
+          lanes = takes kept d_data (8 * bus) h.1.1.1.0.from h.1.1.1.0.inside h.1.1.1.0.bits r.1.1.1.1.1.1.1.0;
           denied = h.1.1.1.1.0.bits;
           corrupt = h.1.1.1.1.1.0.bits;
         };
@@ -235,7 +238,7 @@ pair-fits vars masters ports kept link
     )
 pair-fits vars masters ports kept link sources pair one fits slots is = absurd (cc)
 
-pairs-fit : (vars : List Var) (masters ports : ℕ) (kept : List Kept) (links : List LinkSources)
+pairs-fit : (vars : List Var) (masters ports : List Bus) (kept : List Kept) (links : List LinkSources)
     → Each (LinkFits vars masters ports) links → Each (SlotFits kept) (flat links)
     → Each (PairFits masters ports (map width_in kept)) (pairs_of kept links)
 pairs-fit vars masters ports kept [] fits slots = tt
@@ -252,7 +255,7 @@ pairs-fit vars masters ports kept (found ∷ links) fits slots =
     go None fit others = others
     go (Some pair) fit others = (fit pair refl, others)
 
-order-fits : (masters ports : ℕ) (widths : List ℕ) (of_ports of_masters : List (Channel × Channel))
+order-fits : (masters ports : List Bus) (widths : List ℕ) (of_ports of_masters : List (Channel × Channel))
     → Each (PairFits masters ports widths) of_ports → Each (PairFits masters ports widths) of_masters
     → Each (ChannelFits masters ports widths) (in_order of_ports of_masters)
 order-fits masters ports widths of_ports of_masters one two =
@@ -377,7 +380,7 @@ find-fits vars kept fits code coded slot e s =
 -- ---- all of a system
 
 -- what the names of a system find
-pub record AllFit (vars : List Var) (masters ports : ℕ) (sources : Sources) : Type 0 where
+pub record AllFit (vars : List Var) (masters ports : List Bus) (sources : Sources) : Type 0 where
   pub clock : SourceFits vars (AtMost 1) sources.clock
   pub reset : (reset : Source) → sources.reset ≡ Some reset → SourceFits vars (AtMost 1) reset
   pub of_ports : Each (LinkFits vars masters ports) sources.ports
@@ -394,7 +397,7 @@ slots-of-others : (kept : List Kept) (clock : Source) (reset : Option Source) (o
 slots-of-others kept clock None others all = all.1
 slots-of-others kept clock (Some reset) others all = all.1.1
 
-pub found-fits : (vars : List Var) (masters ports : ℕ) (is_low : Bool) (sources : Sources)
+pub found-fits : (vars : List Var) (masters ports : List Bus) (is_low : Bool) (sources : Sources)
     → AllFit vars masters ports sources
     → SamplingFits masters ports (sampling_of (found_of is_low sources))
     × FindFits (sampling_of (found_of is_low sources)).widths (find_of vars (found_of is_low sources))
@@ -440,17 +443,16 @@ reset-fits vars (Some name) reset is s e = go (system_source vars name) refl is
         subst (SourceFits vars (AtMost 1)) is
         (source-fits vars (record { owner = owner.System; name = name; wanted = AtMost 1 }) found (omega arith) x)
 
-pub sources-fit : (vars : List Var) (names : Names) (masters ports : ℕ) (sources : Sources)
-    → length names.ports ≡ ports → length names.masters ≡ masters → sources_in vars names ≡ Ok sources
-    → AllFit vars masters ports sources
+pub sources-fit : (vars : List Var) (masters ports : List Bus) (names : Names) (sources : Sources)
+    → sources_in vars masters ports names ≡ Ok sources → AllFit vars masters ports sources
 unfolding sources_in
-sources-fit vars names masters ports sources some_ports some_masters is =
-    go (system_source vars names.clock) (if_any (system_source vars) names.reset) (links_from vars true 0 names.ports)
-    (links_from vars false 0 names.masters) refl refl refl refl is
+sources-fit vars masters ports names sources is =
+    go (system_source vars names.clock) (if_any (system_source vars) names.reset)
+    (links_from vars true names.ports 0 ports) (links_from vars false names.masters 0 masters) refl refl refl refl is
   where
     go : (c : Result Source Fault) (r : Result (Option Source) Fault) (p m : Result (List LinkSources) Fault)
         → system_source vars names.clock ≡ c → if_any (system_source vars) names.reset ≡ r
-        → links_from vars true 0 names.ports ≡ p → links_from vars false 0 names.masters ≡ m
+        → links_from vars true names.ports 0 ports ≡ p → links_from vars false names.masters 0 masters ≡ m
         → (c >>= (λ clock. r >>= (λ reset. p >>= (λ of_ports. m >>= (λ of_masters.
         Ok (record { clock = clock; reset = reset; ports = of_ports; masters = of_masters })))))) ≡ Ok sources
         → AllFit vars masters ports sources
@@ -466,17 +468,16 @@ sources-fit vars names masters ports sources some_ports some_masters is =
           clock = source-fits vars (record { owner = owner.System; name = names.clock; wanted = AtMost 1 }) clock
               (omega arith) x;
           reset = λ s is. reset-fits vars names.reset reset y s is;
-          of_ports = links-fit vars masters ports true names.ports of_ports (λ k h. omega (arith, h, some_ports)) z;
-          of_masters = links-fit vars masters ports false names.masters of_masters
-              (λ k h. omega (arith, h, some_masters)) w;
+          of_ports = ports-fit vars masters ports names.ports of_ports z;
+          of_masters = masters-fit vars masters ports names.masters of_masters w;
         })
 
-pub all-found : (vars : List Var) (names : Names) (masters ports : ℕ) (found : Found)
-    → length names.ports ≡ ports → length names.masters ≡ masters → found_in vars names ≡ Ok found
+pub all-found : (vars : List Var) (masters ports : List Bus) (names : Names) (found : Found)
+    → found_in vars masters ports names ≡ Ok found
     → SamplingFits masters ports (sampling_of found) × FindFits (sampling_of found).widths (find_of vars found)
 unfolding found_in
-all-found vars names masters ports found some_ports some_masters is =
-    go (sources_in vars names) (λ sources x. sources-fit vars names masters ports sources some_ports some_masters x) is
+all-found vars masters ports names found is =
+    go (sources_in vars masters ports names) (λ sources x. sources-fit vars masters ports names sources x) is
   where
     go : (r : Result Sources Fault) → ((sources : Sources) → r ≡ Ok sources → AllFit vars masters ports sources)
         → (r >>= (λ sources. Ok (found_of names.is_low sources))) ≡ Ok found

@@ -1,17 +1,22 @@
 -- Bits that were written as hexadecimal digits are read as lanes and as a mask.
-use Rattle.std.proofs.Common.{◌≡◌, ◌∙◌, ℕ, ◌+◌, ◌*◌, ◌%◌, ◌^◌, ◌<◌, ◌≤◌, ◌==◌, nat_le, nat_lt, Bool, true, false, ◌&&◌, ◌||◌, cond, List, [], ◌∷◌, ◌++◌, length, take, drop, map, Option, Some, None, Ok, arith, refl, sym, ap, subst, ⊎_elim, ok_or, option_and_then, option_map, length-append, length-take-le, length-drop, take_all, take-append-drop, drop-drop, mod-eq_of_lt, ◌⊎◌, inl, inr}
-use Rattle.std.proofs.lemmas.Bool.{and_from, cases_Bool, le-leb, lt-ltb}
+use Rattle.std.proofs.Common.{◌≡◌, ◌∙◌, ℕ, zero, suc, ◌+◌, ◌-◌, ◌*◌, ◌%◌, ◌^◌, ◌<◌, ◌≤◌, ◌==◌, get_or, pow_mono, nat_le, nat_lt, Bool, true, false, ◌&&◌, ◌||◌, cond, List, [], ◌∷◌, ◌++◌, length, take, drop, map, Option, Some, None, Result, Ok, Err, arith, refl, sym, ap, subst, ⊎_elim, ok_or, option_and_then, option_map, length-append, length-take-le, length-drop, take_all, take-append-drop, drop-drop, mod-eq_of_lt, ◌⊎◌, inl, inr}
+use Rattle.std.proofs.lemmas.Bool.{and_from, and_parts, cases_Bool, eq-eqb, le-leb, lt-ltb, ne_eqb}
 use Rattle.std.proofs.lemmas.Bool.Decides.{nat_tests}
 use Rattle.std.proofs.lemmas.Int.Digits.{digits_value-lt}
 use Rattle.std.proofs.lemmas.List.{drop_all}
 use Rattle.std.specs.Char.{digit_value, is_digit}
 use Rattle.std.specs.Fmt.{digit_glyph}
-use Rattle.std.specs.List.{list_all}
+use Rattle.std.specs.List.{list_all, range_with_len}
 use Rattle.std.specs.Str.Parse.{digits_value, digits_value_after}
 use Rattle.tl_text.specs.Number.{below_64_bits, number_of, pair_of}
-use Rattle.check_capture.specs.Lanes.{all_of, is_shown, lane_numbers, lane_of, lanes_of}
-use Rattle.check_capture.specs.Number.{mask_of}
-use Rattle.check_capture.specs.declared.fault.RowFault.TheVariants.{Number}
+use Rattle.check_beats.specs.Bus.{bus_bytes}
+use Rattle.check_beats.specs.declared.bus.Bus.{Bus}
+use Rattle.check_beats.specs.declared.bus.Bus.TheVariants.{One, Two, Four, Eight, Sixteen, ThirtyTwo, SixtyFour}
+use Rattle.check_rows.specs.Lanes.{Lanes, all_of, is_shown, lane_at, lane_of, lanes_of, seen_of, shown_by, zeros}
+use Rattle.check_rows.specs.Number.{hex_of, mask_digits, mask_of}
+use Rattle.check_rows.specs.Reading.{◌>>=◌}
+use Rattle.check_rows.specs.declared.fault.RowFault.{RowFault}
+use Rattle.check_rows.specs.declared.fault.RowFault.TheVariants.{Number}
 use Rattle.check_samples.specs.Row.{digit_by, digit_of, hex_text, hexes}
 use Rattle.check_wave_laws.specs.Seen.{lane_in}
 use Rattle.check_wave_laws.proofs.Numbers.{HasNumber, digits-all, number-below}
@@ -218,71 +223,166 @@ byte-at bits n inside =
       lane = byte.lane;
     }
 
+-- ---- all digits of bits, of which there are four for each
+
+length-hexes : (k : ℕ) (bits : List ℕ) → length bits ≡ 4 * k → length (hexes bits) ≡ k
+length-hexes zero [] size = refl
+length-hexes zero (a ∷ bits) size = absurd (omega (arith, size))
+length-hexes (suc k) [] size = absurd (omega (arith, size))
+length-hexes (suc k) (a ∷ []) size = absurd (omega (arith, size))
+length-hexes (suc k) (a ∷ b ∷ []) size = absurd (omega (arith, size))
+length-hexes (suc k) (a ∷ b ∷ c ∷ []) size = absurd (omega (arith, size))
+length-hexes (suc k) (a ∷ b ∷ c ∷ d ∷ bits) size = ap suc (length-hexes k bits (omega (arith, size)))
+
+-- a digit of bits that are known
+record IsDigit (bits : List ℕ) : Type 0 where
+  digit : is_digit (digit_of bits) 16 ≡ true
+  value : digit_value (digit_of bits) ≡ digits_value 2 bits
+
+-- the digits of bits are digits, and spell the same number
+record Spells (v : ℕ) (bits word : List ℕ) : Type 0 where
+  digits : list_all (λ c. is_digit c 16) word ≡ true
+  value : digits_value_after 16 v word ≡ digits_value_after 2 v bits
+
+known-digit : (bits : List ℕ) → are_known bits ≡ true → 0 < length bits → length bits ≤ 4 → IsDigit bits
+known-digit bits known some few =
+    let below : digits_value 2 bits < 2 ^ length bits = digits_value-lt 2 bits (digits-all 2 bits known) in
+    let more : 2 ^ length bits ≤ 2 ^ 4 = pow_mono few in
+    let small : digits_value 2 bits < 16 = omega (arith, below, more) in
+    let is : digit_of bits ≡ digit_glyph false (digits_value 2 bits) =
+    ap digit_by (number-known 4 bits known some few (omega (arith, small)))
+    ∙ ap (λ (n : ℕ). digit_glyph false n) (mod-eq_of_lt small) in
+    record {
+      digit = ap (λ (c : ℕ). is_digit c 16) is ∙ glyph-digit (digits_value 2 bits) small;
+      value = ap digit_value is ∙ glyph-value (digits_value 2 bits) small;
+    }
+
+hexes-spell : (k v : ℕ) (bits : List ℕ) → length bits ≡ 4 * k → are_known bits ≡ true → Spells v bits (hexes bits)
+hexes-spell zero v [] size known = record { digits = refl; value = refl }
+hexes-spell zero v (a ∷ bits) size known = absurd (omega (arith, size))
+hexes-spell (suc k) v [] size known = absurd (omega (arith, size))
+hexes-spell (suc k) v (a ∷ []) size known = absurd (omega (arith, size))
+hexes-spell (suc k) v (a ∷ b ∷ []) size known = absurd (omega (arith, size))
+hexes-spell (suc k) v (a ∷ b ∷ c ∷ []) size known = absurd (omega (arith, size))
+hexes-spell (suc k) v (a ∷ b ∷ c ∷ d ∷ bits) size known =
+    let four : List ℕ = a ∷ b ∷ c ∷ d ∷ [] in
+    let parts = and_parts (are_known four) (are_known bits) (sym (known-append four bits) ∙ known) in
+    let first = known-digit four parts.0 (omega arith) (omega arith) in
+    let next = v * 16 + digit_value (digit_of four) in
+    let rest = hexes-spell k next bits (omega (arith, size)) parts.1 in
+    let same : next ≡ digits_value_after 2 v four =
+    omega (arith, first.value, value-four v four refl) in
+    record {
+      digits = and_from (is_digit (digit_of four) 16) (list_all (λ c. is_digit c 16) (hexes bits)) first.digit rest.digits;
+      value = rest.value ∙ ap (λ (n : ℕ). digits_value_after 2 n bits) same;
+    }
+
+hex-whole : (bits : List ℕ) (k : ℕ) → length bits ≡ 4 * k → hex_text bits ≡ hexes bits
+hex-whole bits k size =
+    let whole : length bits % 4 ≡ 0 = omega (arith, size) in
+    ap (λ (n : ℕ). cond (n == 0) (hexes bits) (digit_of (take n bits) ∷ hexes (drop n bits))) whole
+
+-- fewer bits than four have one digit
+hex-few : (bits : List ℕ) → 0 < length bits → length bits < 4 → hex_text bits ≡ digit_of bits ∷ []
+hex-few [] some few = absurd (omega (arith, some))
+hex-few (a ∷ []) some few = refl
+hex-few (a ∷ b ∷ []) some few = refl
+hex-few (a ∷ b ∷ c ∷ []) some few = refl
+hex-few (a ∷ b ∷ c ∷ d ∷ bits) some few = absurd (omega (arith, few))
+
 -- ---- masks
 
-pair-from-lane : (high low m : ℕ) → lane_of high low ≡ Some (Some m) → pair_of high low ≡ Some m
-pair-from-lane high low m is = go (is_digit high 16 && is_digit low 16) (is_shown high && is_shown low) is
-  where
-    go : (t s : Bool) → cond t (option_map Some (cond t (Some (16 * digit_value high + digit_value low)) None))
-        (cond s (Some None) None) ≡ Some (Some m)
-        → cond t (Some (16 * digit_value high + digit_value low)) None ≡ Some m
-    go true s e = cc
-    go false true e = cc
-    go false false e = cc
+mask-by : (bus n : ℕ) (bits word : List ℕ) → length bits ≡ bus → HasNumber bits n → Spells 0 bits word
+    → 0 < length word → length word ≡ mask_digits bus → mask_of bus word ≡ Ok n
+unfolding mask_of hex_of
+mask-by bus n bits word size has spells some digits =
+    let small : n < 2 ^ bus = number-below bits n bus has (omega (arith, size)) in
+    let below = λ (m : ℕ). cond (nat_lt m (2 ^ bus)) (Ok m) (Err Number) in
+    ap (λ (t : Bool). cond t (hex_of word >>= below) (Err Number)) (eq-eqb (length word) (mask_digits bus) digits)
+    ∙ ap (λ (t : Bool). cond t (Ok (digits_value 16 word)) (Err Number) >>= below)
+    (and_from (nat_lt 0 (length word)) (list_all (λ c. is_digit c 16) word) (lt-ltb 0 (length word) some) spells.digits)
+    ∙ ap below (spells.value ∙ sym has.value)
+    ∙ ap (λ (t : Bool). cond t (Ok n) (Err Number)) (lt-ltb n (2 ^ bus) small)
 
-hex-whole : (bits : List ℕ) (size : ℕ) → length bits ≡ size → (size % 4 == 0) ≡ true → hex_text bits ≡ hexes bits
-hex-whole bits size is whole =
-    ap (λ (n : ℕ). cond (n % 4 == 0) (hexes bits) (digit_of (take (n % 4) bits) ∷ hexes (drop (n % 4) bits))) is
-    ∙ ap (λ (t : Bool). cond t (hexes bits) (digit_of (take (size % 4) bits) ∷ hexes (drop (size % 4) bits))) whole
+mask-few : (bus n : ℕ) (bits : List ℕ) → length bits ≡ bus → 0 < bus → bus < 4 → HasNumber bits n
+    → mask_digits bus ≡ 1 → mask_of bus (hex_text bits) ≡ Ok n
+mask-few bus n bits size some few has one =
+    let first = known-digit bits has.known has.some (omega (arith, size, few)) in
+    ap (mask_of bus) (hex-few bits has.some (omega (arith, size, few)))
+    ∙ mask-by bus n bits (digit_of bits ∷ []) size has (record {
+      digits = and_from (is_digit (digit_of bits) 16) true first.digit refl;
+      value = first.value;
+    }) (omega arith) (sym one)
 
-pub mask-read : (bits : List ℕ) (n : ℕ) → length bits ≡ 8 → HasNumber bits n → mask_of (hex_text bits) ≡ Ok n
-mask-read bits n eight has =
-    let byte = byte-at bits 0 (omega (arith, eight)) in
-    let small : n < 2 ^ 8 = number-below bits n 8 has (omega (arith, eight)) in
-    let all : take 8 bits ≡ bits = take_all 8 bits (omega (arith, eight)) in
-    let none : drop 8 bits ≡ [] = drop_all 8 bits (omega (arith, eight)) in
-    let number : number_of 2 8 (take 8 bits) ≡ Some n =
-    ap (number_of 2 8) all
-    ∙ number-known 8 bits has.known has.some (omega (arith, eight)) (omega (arith, has.value, small))
-    ∙ ap (λ (m : ℕ). Some m) (sym has.value) in
-    let lane : lane_of byte.high byte.low ≡ Some (Some n) = byte.lane ∙ ap (λ (m : Option ℕ). Some m) number in
-    ap mask_of (hex-whole bits 8 eight refl ∙ byte.is ∙ ap (λ (rest : List ℕ). byte.high ∷ byte.low ∷ hexes rest) none)
-    ∙ ap (λ (pair : Option ℕ). ok_or pair Number) (pair-from-lane byte.high byte.low n lane)
+mask-whole : (k bus n : ℕ) (bits : List ℕ) → length bits ≡ bus → bus ≡ 4 * k → 0 < k → HasNumber bits n
+    → mask_digits bus ≡ k → mask_of bus (hex_text bits) ≡ Ok n
+mask-whole k bus n bits size whole some has count =
+    let long = length-hexes k bits (size ∙ whole) in
+    ap (mask_of bus) (hex-whole bits k (size ∙ whole))
+    ∙ mask-by bus n bits (hexes bits) size has (hexes-spell k 0 bits (size ∙ whole) has.known)
+    (omega (arith, long, some)) (long ∙ sym count)
+
+mask-at : (bus : Bus) (n : ℕ) (bits : List ℕ) → length bits ≡ bus_bytes bus → HasNumber bits n
+    → mask_of (bus_bytes bus) (hex_text bits) ≡ Ok n
+mask-at One n bits size has = mask-few 1 n bits size (omega arith) (omega arith) has refl
+mask-at Two n bits size has = mask-few 2 n bits size (omega arith) (omega arith) has refl
+mask-at Four n bits size has = mask-whole 1 4 n bits size refl (omega arith) has refl
+mask-at Eight n bits size has = mask-whole 2 8 n bits size refl (omega arith) has refl
+mask-at Sixteen n bits size has = mask-whole 4 16 n bits size refl (omega arith) has refl
+mask-at ThirtyTwo n bits size has = mask-whole 8 32 n bits size refl (omega arith) has refl
+mask-at SixtyFour n bits size has = mask-whole 16 64 n bits size refl (omega arith) has refl
+
+pub mask-read : (width : Bus) (bus n : ℕ) (bits : List ℕ) → bus ≡ bus_bytes width → length bits ≡ bus → HasNumber bits n
+    → mask_of bus (hex_text bits) ≡ Ok n
+mask-read width bus n bits is size has =
+    ap (λ (b : ℕ). mask_of b (hex_text bits)) is ∙ mask-at width n bits (size ∙ is) has
 
 -- ---- data
 
-lanes-digits : (h0 l0 h1 l1 h2 l2 h3 l3 h4 l4 h5 l5 h6 l6 h7 l7 : ℕ) (x0 x1 x2 x3 x4 x5 x6 x7 : Option ℕ)
-    → lane_of h0 l0 ≡ Some x0 → lane_of h1 l1 ≡ Some x1 → lane_of h2 l2 ≡ Some x2 → lane_of h3 l3 ≡ Some x3
-    → lane_of h4 l4 ≡ Some x4 → lane_of h5 l5 ≡ Some x5 → lane_of h6 l6 ≡ Some x6 → lane_of h7 l7 ≡ Some x7
-    → lanes_of (h7 ∷ l7 ∷ h6 ∷ l6 ∷ h5 ∷ l5 ∷ h4 ∷ l4 ∷ h3 ∷ l3 ∷ h2 ∷ l2 ∷ h1 ∷ l1 ∷ h0 ∷ l0 ∷ [])
-    ≡ Ok (x0 ∷ x1 ∷ x2 ∷ x3 ∷ x4 ∷ x5 ∷ x6 ∷ x7 ∷ [])
-unfolding lanes_of
-lanes-digits h0 l0 h1 l1 h2 l2 h3 l3 h4 l4 h5 l5 h6 l6 h7 l7 x0 x1 x2 x3 x4 x5 x6 x7 e0 e1 e2 e3 e4 e5 e6 e7 =
-    ap (λ (lanes : List (Option (Option ℕ))). ok_or (all_of lanes) Number)
-    (λ i. e0 i ∷ e1 i ∷ e2 i ∷ e3 i ∷ e4 i ∷ e5 i ∷ e6 i ∷ e7 i ∷ [])
+-- the digits of a lane of bits, counted from the last lane
+lane-shown : (k : ℕ) (bits : List ℕ) → 8 * k + 8 ≤ length bits
+    → lane_of (get_or (hexes bits) (2 * k) 0) (get_or (hexes bits) (2 * k + 1) 0)
+    ≡ Some (number_of 2 8 (take 8 (drop (8 * k) bits)))
+lane-shown zero bits inside =
+    let byte = byte-at bits 0 (omega (arith, inside)) in
+    ap (λ (word : List ℕ). lane_of (get_or word 0 0) (get_or word 1 0)) byte.is ∙ byte.lane
+lane-shown (suc k) bits inside =
+    let byte = byte-at bits 0 (omega (arith, inside)) in
+    let more = drop 8 bits in
+    let word = byte.high ∷ byte.low ∷ hexes more in
+    let even : 2 * suc k ≡ suc (suc (2 * k)) = omega arith in
+    let odd : 2 * suc k + 1 ≡ suc (suc (2 * k + 1)) = omega arith in
+    let next : 8 + 8 * k ≡ 8 * suc k = omega arith in
+    ap (λ (w : List ℕ). lane_of (get_or w (2 * suc k) 0) (get_or w (2 * suc k + 1) 0)) byte.is
+    ∙ ap (λ (i : ℕ). lane_of (get_or word i 0) (get_or word (2 * suc k + 1) 0)) even
+    ∙ ap (λ (i : ℕ). lane_of (get_or (hexes more) (2 * k) 0) (get_or word i 0)) odd
+    ∙ lane-shown k more (omega (arith, inside, length-drop 8 bits))
+    ∙ ap (λ (rest : List ℕ). Some (number_of 2 8 (take 8 rest)))
+    (drop-drop (8 * k) 8 bits ∙ ap (λ (i : ℕ). drop i bits) next)
 
-pub lanes-read : (bits : List ℕ) → length bits ≡ 64 → lanes_of (hex_text bits) ≡ Ok (map (lane_in bits) lane_numbers)
-lanes-read bits size =
-    let b7 = byte-at bits 0 (omega (arith, size)) in
-    let b6 = byte-at bits 8 (omega (arith, size)) in
-    let b5 = byte-at bits 16 (omega (arith, size)) in
-    let b4 = byte-at bits 24 (omega (arith, size)) in
-    let b3 = byte-at bits 32 (omega (arith, size)) in
-    let b2 = byte-at bits 40 (omega (arith, size)) in
-    let b1 = byte-at bits 48 (omega (arith, size)) in
-    let b0 = byte-at bits 56 (omega (arith, size)) in
-    let end : hexes (drop 64 bits) ≡ [] = ap hexes (drop_all 64 bits (omega (arith, size))) in
-    ap lanes_of (hex-whole bits 64 size refl
-    ∙ b7.is ∙ ap (λ (r : List ℕ). b7.high ∷ b7.low ∷ r) (
-    b6.is ∙ ap (λ (r : List ℕ). b6.high ∷ b6.low ∷ r) (
-    b5.is ∙ ap (λ (r : List ℕ). b5.high ∷ b5.low ∷ r) (
-    b4.is ∙ ap (λ (r : List ℕ). b4.high ∷ b4.low ∷ r) (
-    b3.is ∙ ap (λ (r : List ℕ). b3.high ∷ b3.low ∷ r) (
-    b2.is ∙ ap (λ (r : List ℕ). b2.high ∷ b2.low ∷ r) (
-    b1.is ∙ ap (λ (r : List ℕ). b1.high ∷ b1.low ∷ r) (
-    b0.is ∙ ap (λ (r : List ℕ). b0.high ∷ b0.low ∷ r) end))))))))
-    ∙ lanes-digits b0.high b0.low b1.high b1.low b2.high b2.low b3.high b3.low b4.high b4.low b5.high b5.low
-    b6.high b6.low b7.high b7.low
-    (lane_in bits 0) (lane_in bits 1) (lane_in bits 2) (lane_in bits 3)
-    (lane_in bits 4) (lane_in bits 5) (lane_in bits 6) (lane_in bits 7)
-    b0.lane b1.lane b2.lane b3.lane b4.lane b5.lane b6.lane b7.lane
+all-shown : (bus : ℕ) (word bits : List ℕ)
+    → ((lane : ℕ) → lane < bus → lane_at bus word lane ≡ Some (lane_in bus bits lane))
+    → (first count : ℕ) → first + count ≤ bus
+    → all_of (map (lane_at bus word) (range_with_len first count))
+    ≡ Some (map (lane_in bus bits) (range_with_len first count))
+all-shown bus word bits shown first zero inside = refl
+all-shown bus word bits shown first (suc count) inside =
+    ap (λ (lane : Option (Option ℕ)). option_and_then (λ x. option_map (λ xs. x ∷ xs)
+    (all_of (map (lane_at bus word) (range_with_len (first + 1) count)))) lane) (shown first (omega (arith, inside)))
+    ∙ ap (λ (lanes : Option (List (Option ℕ))). option_map (λ xs. lane_in bus bits first ∷ xs) lanes)
+    (all-shown bus word bits shown (first + 1) count (omega (arith, inside)))
+
+pub lanes-read : (bus : ℕ) (bits : List ℕ) → 0 < bus → length bits ≡ 8 * bus
+    → lanes_of bus (hex_text bits) ≡ Ok (seen_of (map (lane_in bus bits) (range_with_len 0 bus)))
+unfolding lanes_of shown_by
+lanes-read bus bits some size =
+    let word = hexes bits in
+    let whole : length bits ≡ 4 * (2 * bus) = omega (arith, size) in
+    let long : length word ≡ 2 * bus = length-hexes (2 * bus) bits whole in
+    let shown = all-shown bus word bits (λ lane below.
+    lane-shown (bus - 1 - lane) bits (omega (arith, size, below))) 0 bus (omega arith) in
+    ap (lanes_of bus) (hex-whole bits (2 * bus) whole)
+    ∙ ap (λ (t : Bool). cond t (Ok (zeros bus)) (cond (length word == 2 * bus) (ok_or (shown_by bus word) Number) (Err Number)))
+    (ne_eqb (length word) 0 (λ (none : length word ≡ 0). omega (arith, none, long, some)))
+    ∙ ap (λ (t : Bool). cond t (ok_or (shown_by bus word) Number) (Err Number)) (eq-eqb (length word) (2 * bus) long)
+    ∙ ap (λ (lanes : Option (List (Option ℕ))). ok_or (option_map seen_of lanes) Number) shown

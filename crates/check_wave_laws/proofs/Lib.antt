@@ -1,4 +1,5 @@
 pub mod Numbers
+pub mod Buses
 pub mod Words
 pub mod Lanes
 pub mod Columns

@@ -12,11 +12,11 @@ use Rattle.std.specs.Str.Parse.{AllDigits, IsNumeral, digits_value}
 use Rattle.tl_text.proofs.NumberLemmas.{digits_of-digits, hex_last, hex_more, hex_none}
 use Rattle.tl_text.specs.Number.{are_digits, below_64_bits}
 use Rattle.tl_text.specs.Number.{number_of as number_in_base}
-use Rattle.check_capture.specs.Columns.{flag_of, index_of}
-use Rattle.check_capture.specs.Number.{address_of, decimal_of, number_of}
-use Rattle.check_capture.specs.Reading.{◌>>=◌}
-use Rattle.check_capture.specs.declared.fault.RowFault.{RowFault}
-use Rattle.check_capture.specs.declared.fault.RowFault.TheVariants.{Number, Range, Link}
+use Rattle.check_rows.specs.Columns.{flag_of, index_of}
+use Rattle.check_rows.specs.Number.{address_of, decimal_of, hex_of}
+use Rattle.check_rows.specs.Reading.{◌>>=◌}
+use Rattle.check_rows.specs.declared.fault.RowFault.{RowFault}
+use Rattle.check_rows.specs.declared.fault.RowFault.TheVariants.{Number, Range, Link}
 
 -- ---- digits
 
@@ -30,37 +30,35 @@ digits-all radix (c ∷ cs) all =
     let parts = and_parts (is_digit c radix) (list_all (λ c. is_digit c radix) cs) all in
     (ltb-true (digit_value c) radix parts.0, digits-all radix cs parts.1)
 
--- the number that a numeral spells is read
-number-read : (radix n : ℕ) (word : List ℕ) → IsNumeral radix word → digits_value radix word ≡ n → n < 2 ^ 64
-    → number_of radix word ≡ Ok n
-unfolding number_of
-number-read radix n word is value small =
-    ap (λ (d : Option (Option ℕ)). ok_or d Number >>= (λ number. ok_or number Range))
-    (digits_of-digits radix word is.1 is.0)
-    ∙ ap (λ (v : ℕ). ok_or (below_64_bits v) Range) value
-    ∙ ap (λ (t : Bool). ok_or (cond t (Some n) None) Range) (lt-ltb n (2 ^ 64) small)
+are-digits : (radix : ℕ) (word : List ℕ) → IsNumeral radix word → are_digits radix word ≡ true
+are-digits radix word is =
+    and_from (nat_lt 0 (length word)) (list_all (λ c. is_digit c radix) word) (lt-ltb 0 (length word) is.0)
+    (all-digits radix word is.1)
 
 -- ---- decimal numbers
+
+-- what is done with a number that was spelled
+abbrev at-most : ℕ → Option ℕ → Result ℕ RowFault
+at-most most spelled = ok_or spelled Range >>= (λ m. cond (nat_le m most) (Ok m) (Err Range))
 
 pub decimal-read : (most n : ℕ) → n < 2 ^ 64 → n ≤ most → decimal_of most (decimal n) ≡ Ok n
 unfolding decimal_of
 decimal-read most n small fits =
     let is = decimal_is_IsNumeral n small in
-    ap (λ (r : Result ℕ RowFault). r >>= (λ m. cond (nat_le m most) (Ok m) (Err Range)))
-    (number-read 10 n (decimal n) is.0 is.1 small)
+    ap (λ (d : Option (Option ℕ)). ok_or d Number >>= at-most most) (digits_of-digits 10 (decimal n) is.0.1 is.0.0)
+    ∙ ap (λ (v : ℕ). at-most most (below_64_bits v)) is.1
+    ∙ ap (λ (t : Bool). at-most most (cond t (Some n) None)) (lt-ltb n (2 ^ 64) small)
     ∙ ap (λ (t : Bool). cond t (Ok n) (Err Range)) (le-leb n most fits)
 
 pub index-read : (count n : ℕ) → n < count → n < 2 ^ 64 → index_of count (decimal n) ≡ Ok n
 unfolding index_of
 index-read count n below small =
     let is = decimal_is_IsNumeral n small in
-    let digits_there : are_digits 10 (decimal n) ≡ true =
-    and_from (nat_lt 0 (length (decimal n))) (list_all (λ c. is_digit c 10) (decimal n))
-    (lt-ltb 0 (length (decimal n)) is.0.0) (all-digits 10 (decimal n) is.0.1) in
     let among : nat_lt (digits_value 10 (decimal n)) count ≡ true =
     lt-ltb (digits_value 10 (decimal n)) count (omega (arith, is.1, below)) in
     ap (λ (t : Bool). cond t (Ok (digits_value 10 (decimal n))) (Err Link))
-    (and_from (are_digits 10 (decimal n)) (nat_lt (digits_value 10 (decimal n)) count) digits_there among)
+    (and_from (are_digits 10 (decimal n)) (nat_lt (digits_value 10 (decimal n)) count)
+    (are-digits 10 (decimal n) is.0) among)
     ∙ ap (λ (m : ℕ). Ok m) is.1
 
 pub flag-read : (n : ℕ) → n < 2 → flag_of (decimal n) ≡ Ok (n == 1)
@@ -92,12 +90,14 @@ hex-length : (n : ℕ) → n < 2 ^ 64 → length (digits 16 false n) ≤ 16
 hex-length n small = subst (λ (ds : List ℕ). length ds ≤ 16) (hex_none n) (length-onto 64 15 n [] small)
 
 pub address-read : (n : ℕ) → n < 2 ^ 64 → address_of (digits 16 false n) ≡ Ok n
-unfolding address_of
+unfolding address_of hex_of
 address-read n small =
     let is = digits_is_IsNumeral 16 false (omega arith) (omega arith) n (omega (arith, small)) in
-    ap (λ (t : Bool). cond t (number_of 16 (digits 16 false n)) (Err Number))
+    ap (λ (t : Bool). cond t (hex_of (digits 16 false n)) (Err Number))
     (le-leb (length (digits 16 false n)) 16 (hex-length n small))
-    ∙ number-read 16 n (digits 16 false n) is.0 is.1 small
+    ∙ ap (λ (t : Bool). cond t (Ok (digits_value 16 (digits 16 false n))) (Err Number))
+    (are-digits 16 (digits 16 false n) is.0)
+    ∙ ap (λ (m : ℕ). Ok m) is.1
 
 -- ---- the numbers that bits spell
 

@@ -1,10 +1,12 @@
 -- The rows of what happens in a dump are rows.
-use Rattle.std.proofs.Common.{◌≡◌, ◌∙◌, ℕ, zero, suc, ◌+◌, ◌-◌, ◌^◌, ◌<◌, ◌≤◌, nat_le, nat_lt, Bool, true, false, ◌&&◌, cond, List, [], ◌∷◌, ◌++◌, length, get_or, set, take, drop, map, replicate, slice_get, Option, Some, None, Result, Ok, Err, Contains, arith, refl, sym, ap, subst, append_assoc, append-nil, length-append, length-drop, length-take, length-take-le}
+use Rattle.std.proofs.Common.{◌≡◌, ◌∙◌, ℕ, zero, suc, ◌+◌, ◌-◌, ◌*◌, ◌^◌, ◌<◌, ◌≤◌, nat_le, nat_lt, Bool, true, false, ◌&&◌, cond, List, [], ◌∷◌, ◌++◌, length, get_or, set, take, drop, map, replicate, slice_get, Option, Some, None, Result, Ok, Err, Contains, arith, refl, sym, ap, subst, append_assoc, append-nil, length-append, length-drop, length-take, length-take-le}
 use Rattle.std.specs.Option.{IfSome}
 use Rattle.std.proofs.lemmas.Bool.{and_from, le-leb}
 use Rattle.std.proofs.lemmas.List.{length-replicate, map-set, set-get_or}
 use Rattle.check_vcd.specs.Body.{At, Happens, Sets, Wrong}
-use Rattle.check_capture.specs.declared.row.Row.{Row}
+use Rattle.check_beats.specs.declared.bus.Bus.{Bus}
+use Rattle.check_rows.specs.Buses.{bus_of}
+use Rattle.check_rows.specs.Row.{SeenRow}
 use Rattle.check_samples.specs.Digits.{bits_of, extended, fill_of, part_if_any, part_of, set_extended}
 use Rattle.check_samples.specs.Rows.{Probes, Rows, and_then, crosses, followed_by, has_edge, no_rows, row_alone, row_at, rows_at, rows_of}
 use Rattle.check_samples.specs.Sampling.{Sampling, at_time, is_at, rows_from, rows_now, rows_when, with_value}
@@ -17,6 +19,7 @@ use Rattle.check_samples.specs.declared.tap.Tap.{Tap}
 use Rattle.check_wave_laws.specs.Seen.{BeatFits, row_in}
 use Rattle.check_wave_laws.specs.Text.{AreRows, BeatTakes, ChannelFits, HappensFit, HasRows, SamplingFits, Takes}
 use Rattle.check_wave_laws.proofs.Beats.{beat-row}
+use Rattle.check_wave_laws.proofs.Buses.{bus-of}
 
 -- ---- the bits of a tap
 
@@ -59,29 +62,29 @@ bits-all values widths tap n has some takes =
     ap (λ (value : Option (List ℕ)). length (part_if_any value tap)) found.1
     ∙ part-length found.0 tap takes.from found.2 ∙ takes.bits
 
-beat-fits : (values : List (List ℕ)) (widths : List ℕ) (beat : BeatTaps) → map length values ≡ widths
-    → BeatTakes widths beat → BeatFits beat values
-beat-fits values widths (A taps) has takes = record {
+beat-fits : (bus : ℕ) (values : List (List ℕ)) (widths : List ℕ) (beat : BeatTaps) → 0 < bus
+    → map length values ≡ widths → BeatTakes bus widths beat → BeatFits bus beat values
+beat-fits bus values widths (A taps) some has takes = record {
   opcode = bits-few values taps.opcode 8 takes.opcode;
   param = bits-few values taps.param 8 takes.param;
   size = bits-few values taps.size 8 takes.size;
   source = bits-few values taps.source 16 takes.source;
-  mask = bits-all values widths taps.mask 8 has (omega arith) takes.mask;
-  data_bits = bits-all values widths taps.data 64 has (omega arith) takes.lanes;
+  mask = bits-all values widths taps.mask bus has some takes.mask;
+  data_bits = bits-all values widths taps.data (8 * bus) has (omega (arith, some)) takes.lanes;
 }
-beat-fits values widths (D taps) has takes = record {
+beat-fits bus values widths (D taps) some has takes = record {
   opcode = bits-few values taps.opcode 8 takes.opcode;
   size = bits-few values taps.size 8 takes.size;
   source = bits-few values taps.source 16 takes.source;
-  data_bits = bits-all values widths taps.data 64 has (omega arith) takes.lanes;
+  data_bits = bits-all values widths taps.data (8 * bus) has (omega (arith, some)) takes.lanes;
   denied = bits-few values taps.denied 1 takes.denied;
   corrupt = bits-few values taps.corrupt 1 takes.corrupt;
 }
 
 -- ---- texts of rows
 
-module _ (masters ports : ℕ) (channels : List Channel) where
-  are-appended : (line : ℕ) (rows more : List Row) (text rest : List ℕ)
+module _ (masters ports : List Bus) (channels : List Channel) where
+  are-appended : (line : ℕ) (rows more : List SeenRow) (text rest : List ℕ)
       → AreRows masters ports channels line rows text
       → AreRows masters ports channels (line + length rows) more rest
       → AreRows masters ports channels line (rows ++ more) (text ++ rest)
@@ -126,8 +129,8 @@ module _ (masters ports : ℕ) (channels : List Channel) where
 
 -- ---- the rows of a time
 
-module _ (masters ports : ℕ) (channels : List Channel) (widths : List ℕ) (few_masters : masters < 2 ^ 64)
-    (few_ports : ports < 2 ^ 64)
+module _ (masters ports : List Bus) (channels : List Channel) (widths : List ℕ) (few_masters : length masters < 2 ^ 64)
+    (few_ports : length ports < 2 ^ 64)
     (fit : (which : Channel) → Contains channels which → ChannelFits masters ports widths which) (time : ℕ)
     (in_time : time < 2 ^ 64) (values : List (List ℕ)) (has : map length values ≡ widths) where
   readable-row : (which : Channel) (text : List ℕ) → Contains channels which → crosses values which ≡ true
@@ -135,7 +138,7 @@ module _ (masters ports : ℕ) (channels : List Channel) (widths : List ℕ) (fe
   readable-row which text one crossed is = λ line.
       let fits = fit which one in
       record {
-        rows = row_in line time values which ∷ [];
+        rows = row_in masters ports line time values which ∷ [];
         are = (
           record {
             place = refl;
@@ -146,7 +149,8 @@ module _ (masters ports : ℕ) (channels : List Channel) (widths : List ℕ) (fe
             [],
             sym (append-nil text),
             beat-row masters ports line time values which text few_masters few_ports in_time fits.link
-                (beat-fits values widths which.beat has fits.taps) is,
+                (beat-fits (bus_of masters ports which.link) values widths which.beat
+                (bus-of masters ports which.link fits.link).some has fits.taps) is,
             refl,
           ),
         );
@@ -189,7 +193,7 @@ same-widths values widths slot digits has short =
     ∙ ap (λ (ws : List ℕ). set ws slot width) has
     ∙ set-get_or widths slot 0
 
-pub value-fits : (masters ports : ℕ) (s : Sampling) (slot : ℕ) (digits : List ℕ) → SamplingFits masters ports s
+pub value-fits : (masters ports : List Bus) (s : Sampling) (slot : ℕ) (digits : List ℕ) → SamplingFits masters ports s
     → length digits ≤ get_or s.widths slot 0 → SamplingFits masters ports (with_value s slot digits)
 value-fits masters ports s slot digits fits short = go (nat_lt slot (length s.now))
   where
@@ -203,7 +207,7 @@ value-fits masters ports s slot digits fits short = go (nat_lt slot (length s.no
     }
     go false = fits
 
-pub time-fits : (masters ports : ℕ) (s : Sampling) (time : ℕ) → SamplingFits masters ports s → time < 2 ^ 64
+pub time-fits : (masters ports : List Bus) (s : Sampling) (time : ℕ) → SamplingFits masters ports s → time < 2 ^ 64
     → SamplingFits masters ports (at_time s time)
 time-fits masters ports s time fits below = go (is_at s time)
   where
@@ -230,7 +234,7 @@ time-same s time = go (is_at s time)
     go true = record { probes = refl; widths = refl }
     go false = record { probes = refl; widths = refl }
 
-module _ (masters ports : ℕ) (few_masters : masters < 2 ^ 64) (few_ports : ports < 2 ^ 64) where
+module _ (masters ports : List Bus) (few_masters : length masters < 2 ^ 64) (few_ports : length ports < 2 ^ 64) where
   readable-now : (s : Sampling) → SamplingFits masters ports s
       → Readable masters ports s.probes.channels (rows_now s).text
   readable-now s fits = go s.time fits.time

@@ -8,7 +8,7 @@ use Rattle.std.specs.Char.{digit_value}
 use Rattle.std.specs.Fmt.{decimal, digit_glyph, digits}
 use Rattle.std.specs.Str.Parse.{AllDigits}
 use Rattle.tl_text.specs.Number.{number_of}
-use Rattle.check_capture.specs.Column.{parts_of}
+use Rattle.check_rows.specs.Column.{parts_of}
 use Rattle.check_samples.specs.Row.{digit_by, digit_of, hex_text, hexes}
 use Rattle.check_wave_laws.specs.Rows.{IsPlain}
 

@@ -1,12 +1,16 @@
 -- What the signals of a beat show, in the terms of captures. It is this project's own; the order of bits and lanes is that
 -- of the TileLink specification ("Signal descriptions").
-use Rattle.std.specs.Prelude.{ℕ, ◌+◌, ◌-◌, ◌*◌, ◌≡◌, ◌≤◌, ◌==◌, List, length, map, slice_range, Option}
+use Rattle.std.specs.Prelude.{ℕ, ◌-◌, ◌*◌, ◌≡◌, ◌≤◌, ◌==◌, List, drop, length, map, take, Option}
+use Rattle.std.specs.List.{range_with_len}
 use Rattle.std.specs.Str.Parse.{digits_value}
 use Rattle.tl_text.specs.Number.{number_of}
-use Rattle.check_link.specs.declared.beat.Beat.{Beat}
-use Rattle.check_link.specs.declared.beat.Beat.TheVariants as beat
-use Rattle.check_capture.specs.Lanes.{bytes_of, known_of, lane_numbers}
-use Rattle.check_capture.specs.declared.row.Row.{Row}
+use Rattle.check_beats.specs.declared.bus.Bus.{Bus}
+use Rattle.check_watch.specs.Plan.{seen_at}
+use Rattle.check_watch.specs.declared.beat.Beat.TheVariants as beat
+use Rattle.check_watch.specs.declared.beat.Link.{Link}
+use Rattle.check_rows.specs.Buses.{bus_of}
+use Rattle.check_rows.specs.Lanes.{Lanes, seen_of}
+use Rattle.check_rows.specs.Row.{SeenBeat, SeenRow}
 use Rattle.check_samples.specs.Digits.{bits_of}
 use Rattle.check_samples.specs.declared.channel.AskTaps.{AskTaps}
 use Rattle.check_samples.specs.declared.channel.BeatTaps.{BeatTaps}
@@ -19,77 +23,76 @@ use Rattle.check_samples.specs.declared.tap.Tap.{Tap}
 abbrev pub number_in : List (List ℕ) → Tap → ℕ
 number_in values tap = digits_value 2 (bits_of values tap)
 
--- the byte of a lane of 64 bits, if each of its bits is known; the bits of lane 0 stand last
-abbrev pub lane_in : List ℕ → ℕ → Option ℕ
-lane_in bits lane = number_of 2 8 (slice_range bits (8 * (7 - lane)) (8 * (7 - lane) + 8))
+-- the byte of a lane of a bus of so many bytes, if each of its bits is known; the bits of lane 0 stand last
+abbrev pub lane_in : ℕ → List ℕ → ℕ → Option ℕ
+lane_in bus bits lane = number_of 2 8 (take 8 (drop (8 * (bus - 1 - lane)) bits))
 
-abbrev pub lanes_in : List (List ℕ) → Tap → List (Option ℕ)
-lanes_in values tap = map (lane_in (bits_of values tap)) lane_numbers
+abbrev pub lanes_in : ℕ → List (List ℕ) → Tap → Lanes
+lanes_in bus values tap = seen_of (map (lane_in bus (bits_of values tap)) (range_with_len 0 bus))
 
--- the beat of channel A that signals show, and which of its lanes are known
-abbrev pub ask_in : List (List ℕ) → AskTaps → Beat × ℕ
-ask_in values taps = (
-  beat.A (record {
+-- the beat of channel A that signals show, with its lanes
+abbrev pub ask_in : ℕ → List (List ℕ) → AskTaps → SeenBeat
+ask_in bus values taps = record {
+  beat = beat.A (record {
     opcode = number_in values taps.opcode;
     param = number_in values taps.param;
     size = number_in values taps.size;
     source = number_in values taps.source;
     address = number_in values taps.address;
     mask = number_in values taps.mask;
-    lanes = bytes_of (lanes_in values taps.data);
-  }),
-  known_of (lanes_in values taps.data),
-)
+  });
+  lanes = lanes_in bus values taps.data;
+}
 
 -- and of channel D
-abbrev pub reply_in : List (List ℕ) → ReplyTaps → Beat × ℕ
-reply_in values taps = (
-  beat.D (record {
+abbrev pub reply_in : ℕ → List (List ℕ) → ReplyTaps → SeenBeat
+reply_in bus values taps = record {
+  beat = beat.D (record {
     opcode = number_in values taps.opcode;
     size = number_in values taps.size;
     source = number_in values taps.source;
     denied = number_in values taps.denied == 1;
     corrupt = number_in values taps.corrupt == 1;
-    lanes = bytes_of (lanes_in values taps.data);
-  }),
-  known_of (lanes_in values taps.data),
-)
+  });
+  lanes = lanes_in bus values taps.data;
+}
 
-abbrev pub beat_in : BeatTaps → List (List ℕ) → Beat × ℕ
-beat_in (A taps) values = ask_in values taps
-beat_in (D taps) values = reply_in values taps
+abbrev pub beat_in : ℕ → BeatTaps → List (List ℕ) → SeenBeat
+beat_in bus (A taps) values = ask_in bus values taps
+beat_in bus (D taps) values = reply_in bus values taps
 
--- the row of a channel's beat, on this line
-abbrev pub row_in : ℕ → ℕ → List (List ℕ) → Channel → Row
-row_in line time values channel = record {
+-- the row of a beat at a link, on this line
+abbrev pub row_at : ℕ → ℕ → Link → SeenBeat → SeenRow
+row_at line time link seen = record {
   line = line;
   time = time;
-  sighting = record {
-    link = channel.link;
-    beat = (beat_in channel.beat values).0;
-    known = (beat_in channel.beat values).1;
-  };
+  sighting = seen_at link seen.beat seen.lanes.known seen.lanes.bytes;
 }
+
+-- the row of a channel's beat, where the masters' links and the ports' have these buses
+abbrev pub row_in : List Bus → List Bus → ℕ → ℕ → List (List ℕ) → Channel → SeenRow
+row_in masters ports line time values channel =
+    row_at line time channel.link (beat_in (bus_of masters ports channel.link) channel.beat values)
 
 -- ---- what columns have room for
 
--- no signal has more bits than its column has room for; a mask has eight, and data has 64
-pub record AskFits (values : List (List ℕ)) (taps : AskTaps) : Type 0 where
+-- no signal has more bits than its column has room for; a mask has a bit for each byte of the bus, and data has eight
+pub record AskFits (bus : ℕ) (values : List (List ℕ)) (taps : AskTaps) : Type 0 where
   pub opcode : length (bits_of values taps.opcode) ≤ 8
   pub param : length (bits_of values taps.param) ≤ 8
   pub size : length (bits_of values taps.size) ≤ 8
   pub source : length (bits_of values taps.source) ≤ 16
-  pub mask : length (bits_of values taps.mask) ≡ 8
-  pub data_bits : length (bits_of values taps.data) ≡ 64
+  pub mask : length (bits_of values taps.mask) ≡ bus
+  pub data_bits : length (bits_of values taps.data) ≡ 8 * bus
 
-pub record ReplyFits (values : List (List ℕ)) (taps : ReplyTaps) : Type 0 where
+pub record ReplyFits (bus : ℕ) (values : List (List ℕ)) (taps : ReplyTaps) : Type 0 where
   pub opcode : length (bits_of values taps.opcode) ≤ 8
   pub size : length (bits_of values taps.size) ≤ 8
   pub source : length (bits_of values taps.source) ≤ 16
-  pub data_bits : length (bits_of values taps.data) ≡ 64
+  pub data_bits : length (bits_of values taps.data) ≡ 8 * bus
   pub denied : length (bits_of values taps.denied) ≤ 1
   pub corrupt : length (bits_of values taps.corrupt) ≤ 1
 
-abbrev pub BeatFits : BeatTaps → List (List ℕ) → Type 0
-BeatFits (A taps) values = AskFits values taps
-BeatFits (D taps) values = ReplyFits values taps
+abbrev pub BeatFits : ℕ → BeatTaps → List (List ℕ) → Type 0
+BeatFits bus (A taps) values = AskFits bus values taps
+BeatFits bus (D taps) values = ReplyFits bus values taps

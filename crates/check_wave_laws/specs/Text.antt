@@ -1,9 +1,10 @@
 -- Whole texts of rows, and the dumps whose rows they are. It is this project's own.
-use Rattle.std.specs.Prelude.{◌≡◌, ℕ, ◌+◌, ◌-◌, ◌^◌, ◌≤◌, ◌<◌, true, ⊤, List, [], ◌∷◌, ◌++◌, get_or, length, map, Some, Contains, IfSome}
+use Rattle.std.specs.Prelude.{◌≡◌, ℕ, ◌+◌, ◌-◌, ◌*◌, ◌^◌, ◌≤◌, ◌<◌, true, ⊤, List, [], ◌∷◌, ◌++◌, get_or, length, map, Some, Contains, IfSome}
 use Rattle.check_vcd.specs.Body.{Find, Happens, At, Sets, Wrong}
 use Rattle.check_vcd.specs.declared.codes.Coded.{Coded}
-use Rattle.check_capture.specs.Columns.{IsLinkOf}
-use Rattle.check_capture.specs.declared.row.Row.{Row}
+use Rattle.check_beats.specs.declared.bus.Bus.{Bus}
+use Rattle.check_rows.specs.Buses.{IsLinkOf, bus_of}
+use Rattle.check_rows.specs.Row.{SeenRow}
 use Rattle.check_samples.specs.Rows.{crosses}
 use Rattle.check_samples.specs.Sampling.{Sampling}
 use Rattle.check_samples.specs.declared.channel.AskTaps.{AskTaps}
@@ -17,29 +18,30 @@ use Rattle.check_wave_laws.specs.Seen.{row_in}
 
 -- ---- rows of beats
 
--- the row is that of a beat which crosses at one of the channels, in some values of the signals
-pub record IsBeat (channels : List Channel) (row : Row) : Type 0 where
+-- the row is that of a beat which crosses at one of the channels, in some values of the signals; the masters' links and
+-- the ports' have these buses
+pub record IsBeat (masters ports : List Bus) (channels : List Channel) (row : SeenRow) : Type 0 where
   pub values : List (List ℕ)
   pub which : Channel
   pub one : Contains channels which
   pub crossed : crosses values which ≡ true
-  pub is : row ≡ row_in row.line row.time values which
+  pub is : row ≡ row_in masters ports row.line row.time values which
 
 -- the row is that of a beat and stands on this line
-pub record Stands (channels : List Channel) (line : ℕ) (row : Row) : Type 0 where
+pub record Stands (masters ports : List Bus) (channels : List Channel) (line : ℕ) (row : SeenRow) : Type 0 where
   pub place : row.line ≡ line
-  pub beat : IsBeat channels row
+  pub beat : IsBeat masters ports channels row
 
 -- a text is rows of beats, one to a line, of which the first stands on this line
-abbrev pub AreRows : ℕ → ℕ → List Channel → ℕ → List Row → List ℕ → Type 0
+abbrev pub AreRows : List Bus → List Bus → List Channel → ℕ → List SeenRow → List ℕ → Type 0
 AreRows masters ports channels line [] text = text ≡ []
 AreRows masters ports channels line (row ∷ rows) text =
-    Stands channels line row
+    Stands masters ports channels line row
     × ((front : List ℕ) × (rest : List ℕ) × (text ≡ front ++ rest) × IsRow masters ports row front
     × AreRows masters ports channels (line + 1) rows rest)
 
-pub record HasRows (masters ports : ℕ) (channels : List Channel) (line : ℕ) (text : List ℕ) : Type 0 where
-  pub rows : List Row
+pub record HasRows (masters ports : List Bus) (channels : List Channel) (line : ℕ) (text : List ℕ) : Type 0 where
+  pub rows : List SeenRow
   pub are : AreRows masters ports channels line rows text
 
 -- ---- the bits of signals, by how many bits the kept values have
@@ -50,33 +52,33 @@ pub record Takes (widths : List ℕ) (tap : Tap) (count : ℕ) : Type 0 where
   pub inside : tap.to ≤ get_or widths tap.slot 0
   pub bits : tap.to - tap.from ≡ count
 
-pub record AskTakes (widths : List ℕ) (taps : AskTaps) : Type 0 where
+pub record AskTakes (bus : ℕ) (widths : List ℕ) (taps : AskTaps) : Type 0 where
   pub opcode : taps.opcode.to - taps.opcode.from ≤ 8
   pub param : taps.param.to - taps.param.from ≤ 8
   pub size : taps.size.to - taps.size.from ≤ 8
   pub source : taps.source.to - taps.source.from ≤ 16
-  pub mask : Takes widths taps.mask 8
-  pub lanes : Takes widths taps.data 64
+  pub mask : Takes widths taps.mask bus
+  pub lanes : Takes widths taps.data (8 * bus)
 
-pub record ReplyTakes (widths : List ℕ) (taps : ReplyTaps) : Type 0 where
+pub record ReplyTakes (bus : ℕ) (widths : List ℕ) (taps : ReplyTaps) : Type 0 where
   pub opcode : taps.opcode.to - taps.opcode.from ≤ 8
   pub size : taps.size.to - taps.size.from ≤ 8
   pub source : taps.source.to - taps.source.from ≤ 16
-  pub lanes : Takes widths taps.data 64
+  pub lanes : Takes widths taps.data (8 * bus)
   pub denied : taps.denied.to - taps.denied.from ≤ 1
   pub corrupt : taps.corrupt.to - taps.corrupt.from ≤ 1
 
-abbrev pub BeatTakes : List ℕ → BeatTaps → Type 0
-BeatTakes widths (A taps) = AskTakes widths taps
-BeatTakes widths (D taps) = ReplyTakes widths taps
+abbrev pub BeatTakes : ℕ → List ℕ → BeatTaps → Type 0
+BeatTakes bus widths (A taps) = AskTakes bus widths taps
+BeatTakes bus widths (D taps) = ReplyTakes bus widths taps
 
 -- a channel of a link that the system has, whose signals have no more bits than their columns have room for
-pub record ChannelFits (masters ports : ℕ) (widths : List ℕ) (which : Channel) : Type 0 where
+pub record ChannelFits (masters ports : List Bus) (widths : List ℕ) (which : Channel) : Type 0 where
   pub link : IsLinkOf masters ports which.link
-  pub taps : BeatTakes widths which.beat
+  pub taps : BeatTakes (bus_of masters ports which.link) widths which.beat
 
 -- the values of a sampler have their widths, its time is one that a number can be, and its channels fit
-pub record SamplingFits (masters ports : ℕ) (s : Sampling) : Type 0 where
+pub record SamplingFits (masters ports : List Bus) (s : Sampling) : Type 0 where
   pub before : map length s.before ≡ s.widths
   pub now : map length s.now ≡ s.widths
   pub time : IfSome s.time (λ time. time < 2 ^ 64)

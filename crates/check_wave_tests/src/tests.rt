@@ -1,6 +1,9 @@
 //! Dumps, and the rows that they hold.
 mod memory;
+mod widths;
 
+use check_beats::Bus;
+use check_rows::Buses;
 use check_samples::{Progress, Rows, RowsFault, Sampler, Signal, UnknownBit};
 use check_signals::{SignalFault, find_signals, read_names};
 use check_vcd::{Dump, DumpFault, Mistake};
@@ -73,14 +76,31 @@ fn outcome_of_rows(mut rows: Rows<Trickle<'_>>, alloc: Global) -> Outcome {
     Outcome::Dump(DumpFault::Read)
 }
 
-/// What becomes of the dump that a reader gives, for a system.
+/// What becomes of the dump that a reader gives, for a system of at most two masters and two ports, whose links have
+/// eight bytes.
 fn outcome_of(rt: &impl Abort, alloc: Global, system: &[u8], reader: Trickle<'_>) -> Outcome {
+    let eights = [Bus::Eight, Bus::Eight];
+    let buses = Buses {
+        masters: eights.as_slice(),
+        ports: eights.as_slice(),
+    };
+    outcome_by(rt, alloc, &buses, system, reader)
+}
+
+/// The same for a system whose links have these buses.
+fn outcome_by(
+    rt: &impl Abort,
+    alloc: Global,
+    buses: &Buses<'_>,
+    system: &[u8],
+    reader: Trickle<'_>,
+) -> Outcome {
     let names = read_names(alloc, system).expect(rt, "names");
     let (vars, mut dump) = match Dump::open(alloc, reader) {
         Ok(pair) => pair,
         Err(fault) => return Outcome::Dump(fault),
     };
-    let resolved = match find_signals(alloc, &names, &vars) {
+    let resolved = match find_signals(alloc, buses, &names, &vars) {
         Ok(resolved) => resolved,
         Err(fault) => return Outcome::Signal(fault),
     };

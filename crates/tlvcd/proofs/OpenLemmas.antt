@@ -13,27 +13,27 @@ use Rattle.check_vcd.specs.declared.codes.Coded.{Coded}
 use Rattle.check_vcd.specs.declared.fault.DumpFault.{DumpFault}
 use Rattle.check_vcd.specs.declared.fault.DumpFault.TheVariants as dump
 use Rattle.check_vcd.specs.declared.fault.Mistake.{Mistake}
+use Rattle.check_keys.specs.declared.fault.SystemFault.{SystemFault}
+use Rattle.check_keys.specs.declared.fault.SystemFault.TheVariants as system
+use Rattle.check_description.specs.Description.{Description}
+use Rattle.check_description.specs.declared.read.TheConstants.{MAX_SYSTEM}
 use Rattle.check_samples.specs.Digits.{unknown}
 use Rattle.check_samples.specs.Left.{Left, left_in, left_of}
 use Rattle.check_samples.specs.Rows.{Probes}
 use Rattle.check_samples.specs.Sampling.{Sampling}
-use Rattle.check_signals.specs.Found.{Found, IsFound, IsResolved, code_in, digits_in, find_of, found_in, sampling_of, slot_one, slots_from, width_in}
-use Rattle.check_signals.specs.Names.{Names, names_of_file}
+use Rattle.check_signals.specs.Found.{Found, IsFound, IsResolved, code_in, digits_in, find_of, sampling_of, slot_one, slots_from, width_in}
+use Rattle.check_signals.specs.Names.{names_of_file}
 use Rattle.check_signals.specs.Source.{Fault, fault_view}
 use Rattle.check_signals.specs.declared.fault.KeyFault.{KeyFault}
 use Rattle.check_signals.specs.declared.fault.KeyFault.TheVariants as key
 use Rattle.check_signals.specs.declared.resolve.Resolved.{Resolved}
 use Rattle.check_signals.specs.declared.signal_fault.SignalFault.{SignalFault}
 use Rattle.check_signals.specs.declared.signal_fault.SignalFault.TheVariants as signal
-use Rattle.check_system.specs.File.{IsFirstSystemFault, Spells}
-use Rattle.check_system.specs.System.{System}
-use Rattle.check_system.specs.declared.fault.SystemFault.{SystemFault}
-use Rattle.check_system.specs.declared.fault.SystemFault.TheVariants as system
-use Rattle.check_system.specs.declared.read.TheConstants.{MAX_SYSTEM}
 use Rattle.tl_streams.specs.Streams.{ReadsUpTo}
 use Rattle.tl_streams.specs.declared.streams.ReadFault.{ReadFault}
 use Rattle.tl_streams.specs.declared.streams.ReadFault.TheVariants as read
-use Rattle.tlvcd.specs.Capture.{GivesNames, IsCapture, IsNoHeader, IsOfSystem, IsOpened, IsUnopened, NotFound, rows_after, rows_found, rows_in}
+use Rattle.tlvcd.specs.Capture.{Describes, GivesLinks, IsCapture, IsFirstSystemFault, IsNoHeader, IsOfSystem, IsOpened, IsUnopened, NotFound, found_among, rows_after, rows_found, rows_in}
+use Rattle.tlvcd.specs.Links.{Links}
 use Rattle.tlvcd.specs.Out.{IsOut, capture_of}
 use Rattle.tlvcd.specs.Fault.{of_dump, of_keys, of_read, of_signal, of_system}
 use Rattle.tlvcd.specs.declared.fault.WaveFault.{WaveFault}
@@ -76,15 +76,15 @@ fresh-is s found fresh =
     (map digits_in found.kept) s.widths (map width_in found.kept) s.time None fresh.probes fresh.before fresh.now
     fresh.widths fresh.time
 
-opened : (names : Names) (text : List ℕ) (vars : List Var) (words : Option (List Word)) (find : Find) (body : Body)
+opened : (links : Links) (text : List ℕ) (vars : List Var) (words : Option (List Word)) (find : Find) (body : Body)
     (found : Found) (s : Sampling)
     → Both (Some (words_of text)) words (λ from to. opening from blank ≡ Opened vars to)
-    → body ≡ start → find ≡ find_of vars found → s ≡ sampling_of found → found_in vars names ≡ Ok found
-    → IsOpened names (option_map (λ h. left_of h s false) (option_map (λ w. happenings find w body) words)) text
+    → body ≡ start → find ≡ find_of vars found → s ≡ sampling_of found → found_among vars links ≡ Ok found
+    → IsOpened links (option_map (λ h. left_of h s false) (option_map (λ w. happenings find w body) words)) text
 unfolding rows_in
-opened names text vars None find body found s both is finds fresh has = absurd both
-opened names text vars (Some w) find body found s both is finds fresh has =
-    ap (rows_after names) both
+opened links text vars None find body found s both is finds fresh has = absurd both
+opened links text vars (Some w) find body found s both is finds fresh has =
+    ap (rows_after links) both
     ∙ ap (rows_found vars w) has
     ∙ ap (λ (l : Left). Ok l) (sym (ap (λ (b : Body). left_of (happenings find w b) s false) is
     ∙ ap (λ (f : Find). left_of (happenings f w start) s false) finds
@@ -99,15 +99,15 @@ find-is vars first now codes found opens finds are =
     ∙ ap (λ (all : List (Option (List ℕ))). slots_from all 0 (coded_in vars) code) are)
 
 -- the rows of a dump after its header, if these identifiers are kept
-pub opened-rows : (names : Names) (text : Option (List ℕ)) (vars : List Var) (first dump : Dumping)
+pub opened-rows : (links : Links) (text : Option (List ℕ)) (vars : List Var) (first dump : Dumping)
     (codes : List (Option (List ℕ))) (found : Found) (s : Sampling)
     → Opens text vars first → dump.words ≡ first.words → dump.body ≡ first.body
     → ((code : List ℕ) → find_in dump.codes code ≡ slots_from codes 0 (find_in first.codes) code)
-    → codes ≡ map code_in found.kept → IsFresh s found → found_in vars names ≡ Ok found
-    → IfSome text (IsOpened names (left_in dump s false))
-opened-rows names None vars first dump codes found s opens words body finds are fresh has = tt
-opened-rows names (Some text) vars first dump codes found s opens words body finds are fresh has =
-    opened names text vars dump.words (find_in dump.codes) dump.body found s (rw words opens.words) (body ∙ opens.body)
+    → codes ≡ map code_in found.kept → IsFresh s found → found_among vars links ≡ Ok found
+    → IfSome text (IsOpened links (left_in dump s false))
+opened-rows links None vars first dump codes found s opens words body finds are fresh has = tt
+opened-rows links (Some text) vars first dump codes found s opens words body finds are fresh has =
+    opened links text vars dump.words (find_in dump.codes) dump.body found s (rw words opens.words) (body ∙ opens.body)
     (find-is vars (find_in first.codes) (find_in dump.codes) codes found opens.find finds are)
     (fresh-is s found fresh) has
 
@@ -127,20 +127,20 @@ keeps-on first now next all here rest slot code is so_far one o =
     ∙ subst (λ (h : List (Option (List ℕ))). slots_from h slot now o ≡ slots_from all 0 first o) is (so_far o)
 
 -- no dump was opened
-wrong-header : (names : Names) (text : List ℕ) (line : ℕ) (mistake : Mistake)
-    → IsNoDump (Some text) line mistake → IsNoHeader names text line mistake
+wrong-header : (links : Links) (text : List ℕ) (line : ℕ) (mistake : Mistake)
+    → IsNoDump (Some text) line mistake → IsNoHeader links text line mistake
 unfolding rows_in
-wrong-header names text line mistake (inl refused) = inl (ap (rows_after names) refused)
-wrong-header names text line mistake (inr cut) = inr (ap (rows_after names) cut.0, cut.1)
+wrong-header links text line mistake (inl refused) = inl (ap (rows_after links) refused)
+wrong-header links text line mistake (inr cut) = inr (ap (rows_after links) cut.0, cut.1)
 
-pub unopened-dump : (names : Names) (text : Option (List ℕ)) (fault : DumpFault)
+pub unopened-dump : (links : Links) (text : Option (List ℕ)) (fault : DumpFault)
     → ((line : ℕ) (mistake : Mistake) → fault ≡ dump.At line mistake → IsNoDump text line mistake)
-    → IfSome text (IsUnopened names (of_dump fault))
-unopened-dump names None fault wrong = tt
-unopened-dump names (Some text) (dump.At line mistake) wrong =
-    wrong-header names text line mistake (wrong line mistake refl)
-unopened-dump names (Some text) dump.Read wrong = tt
-unopened-dump names (Some text) dump.Memory wrong = tt
+    → IfSome text (IsUnopened links (of_dump fault))
+unopened-dump links None fault wrong = tt
+unopened-dump links (Some text) (dump.At line mistake) wrong =
+    wrong-header links text line mistake (wrong line mistake refl)
+unopened-dump links (Some text) dump.Read wrong = tt
+unopened-dump links (Some text) dump.Memory wrong = tt
 
 pub fails-by : {T : Type 0} (result : Result T WaveFault) (fault : WaveFault) (P : WaveFault → Type 0)
     → IsErrAnd result (λ e. e ≡ fault) → P fault → IfErr result P
@@ -155,20 +155,20 @@ rest-of xs i x lt is =
     rw add-one all
 
 -- the first signal that is not found after a header
-pub unopened-signal : (names : Names) (text : Option (List ℕ)) (vars : List Var) (first : Dumping) (fault : SignalFault)
-    → Opens text vars first → (fault ≢ signal.Memory → found_in vars names ≡ Err (fault_view fault))
-    → IfSome text (IsUnopened names (of_signal fault))
+pub unopened-signal : (links : Links) (text : Option (List ℕ)) (vars : List Var) (first : Dumping) (fault : SignalFault)
+    → Opens text vars first → (fault ≢ signal.Memory → found_among vars links ≡ Err (fault_view fault))
+    → IfSome text (IsUnopened links (of_signal fault))
 unfolding rows_in
-unopened-signal names None vars first fault opens finds = tt
-unopened-signal names (Some text) vars first fault opens finds = by fault finds
+unopened-signal links None vars first fault opens finds = tt
+unopened-signal links (Some text) vars first fault opens finds = by fault finds
   where
     behind : (words : Option (List Word)) (f : Fault) → Both (Some (words_of text)) words (λ from to. opening from blank ≡ Opened vars to)
-        → found_in vars names ≡ Err f → rows_in names text ≡ Err (NotFound f)
+        → found_among vars links ≡ Err f → rows_in links text ≡ Err (NotFound f)
     behind None f both is = absurd both
-    behind (Some words) f both is = ap (rows_after names) both ∙ ap (rows_found vars words) is
+    behind (Some words) f both is = ap (rows_after links) both ∙ ap (rows_found vars words) is
 
-    by : (f : SignalFault) → (f ≢ signal.Memory → found_in vars names ≡ Err (fault_view f))
-        → IsUnopened names (of_signal f) text
+    by : (f : SignalFault) → (f ≢ signal.Memory → found_among vars links ≡ Err (fault_view f))
+        → IsUnopened links (of_signal f) text
     by signal.Memory is = tt
     by f is = behind first.words (fault_view f) opens.words (is (λ (same : f ≡ signal.Memory). cc))
 
@@ -188,21 +188,21 @@ system-first old new file fault reads first = record {
   first = first (λ (is : fault ≡ system.Memory). cc);
 }
 
-pub keys-first : (old new : Option (List ℕ)) (file : List ℕ) (about : System) (fault : KeyFault)
-    → ReadsUpTo (MAX_SYSTEM + 1) old new file → Spells file about
+pub keys-first : (old new : Option (List ℕ)) (file : List ℕ) (about : Description) (fault : KeyFault)
+    → ReadsUpTo (MAX_SYSTEM + 1) old new file → Describes file about
     → (fault ≢ key.Memory → names_of_file file ≡ Err fault) → IsOfSystem old new (of_keys fault)
-keys-first old new file about key.Memory reads spelled first = tt
-keys-first old new file about fault reads spelled first = record {
+keys-first old new file about key.Memory reads described first = tt
+keys-first old new file about fault reads described first = record {
   file = file;
   read = reads;
   system = about;
-  spelled = spelled;
+  described = described;
   first = first (λ (is : fault ≡ key.Memory). cc);
 }
 
 -- ---- what is written
 
--- no names are known
+-- no links are known
 pub refused-system : (text : Option (List ℕ)) (result : Result Unit WaveFault) (fault : WaveFault)
     (read_old read_new at : Option (List ℕ)) → IsErrAnd result (λ e. e ≡ fault) → IsOfSystem read_old read_new fault
     → IfSome text (λ t. IsCapture read_old read_new result t at at)
@@ -215,29 +215,29 @@ refused-system (Some text) (Err e) fault read_old read_new at is why =
     })
 
 -- no dump was opened
-pub refused-dump : (text : Option (List ℕ)) (result : Result Unit WaveFault) (fault : WaveFault) (names : Names)
-    (read_old read_new at : Option (List ℕ)) → IsErrAnd result (λ e. e ≡ fault) → GivesNames read_old read_new names
-    → IfSome text (IsUnopened names fault) → IfSome text (λ t. IsCapture read_old read_new result t at at)
-refused-dump None result fault names read_old read_new at is given why = tt
-refused-dump (Some text) (Ok done) fault names read_old read_new at is given why = absurd is
-refused-dump (Some text) (Err e) fault names read_old read_new at is given why =
+pub refused-dump : (text : Option (List ℕ)) (result : Result Unit WaveFault) (fault : WaveFault) (links : Links)
+    (read_old read_new at : Option (List ℕ)) → IsErrAnd result (λ e. e ≡ fault) → GivesLinks read_old read_new links
+    → IfSome text (IsUnopened links fault) → IfSome text (λ t. IsCapture read_old read_new result t at at)
+refused-dump None result fault links read_old read_new at is given why = tt
+refused-dump (Some text) (Ok done) fault links read_old read_new at is given why = absurd is
+refused-dump (Some text) (Err e) fault links read_old read_new at is given why =
     inl (record {
       why = inr (record {
-        names = names;
+        links = links;
         given = given;
-        why = subst (λ (f : WaveFault). IsUnopened names f text) (sym is) why;
+        why = subst (λ (f : WaveFault). IsUnopened links f text) (sym is) why;
       });
       written = Appends-nil at;
     })
 
 -- the rows were written
-pub captured : (text : Option (List ℕ)) (rows : Option Left) (result : Result Unit WaveFault) (names : Names)
-    (read_old read_new old new : Option (List ℕ)) → GivesNames read_old read_new names
-    → IfSome text (IsOpened names rows) → IfSome rows (λ left. IsOut result (capture_of left) old new)
+pub captured : (text : Option (List ℕ)) (rows : Option Left) (result : Result Unit WaveFault) (links : Links)
+    (read_old read_new old new : Option (List ℕ)) → GivesLinks read_old read_new links
+    → IfSome text (IsOpened links rows) → IfSome rows (λ left. IsOut result (capture_of left) old new)
     → IfSome text (λ t. IsCapture read_old read_new result t old new)
-captured None rows result names read_old read_new old new given has out = tt
-captured (Some text) None result names read_old read_new old new given has out = absurd has
-captured (Some text) (Some left) (Ok done) names read_old read_new old new given has out =
-    record { names = names; given = given; left = left; has = has; out = out }
-captured (Some text) (Some left) (Err e) names read_old read_new old new given has out =
-    inr (record { names = names; given = given; left = left; has = has; out = out })
+captured None rows result links read_old read_new old new given has out = tt
+captured (Some text) None result links read_old read_new old new given has out = absurd has
+captured (Some text) (Some left) (Ok done) links read_old read_new old new given has out =
+    record { links = links; given = given; left = left; has = has; out = out }
+captured (Some text) (Some left) (Err e) links read_old read_new old new given has out =
+    inr (record { links = links; given = given; left = left; has = has; out = out })

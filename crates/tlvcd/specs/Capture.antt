@@ -6,16 +6,18 @@ use Rattle.check_vcd.specs.Header.{Cut, Opened, Opening, Refused, Var, blank, op
 use Rattle.check_vcd.specs.Words.{Word, words_of}
 use Rattle.check_vcd.specs.declared.fault.Mistake.{Mistake}
 use Rattle.check_vcd.specs.declared.fault.Mistake.TheVariants.{CutInHeader}
+use Rattle.check_keys.specs.declared.fault.SystemFault.{SystemFault}
+use Rattle.check_description.specs.Description.{Description, IsFirstFaultOf, Makes}
+use Rattle.check_description.specs.File.{Parts, parts_of}
+use Rattle.check_description.specs.Name.{AreDistinct, IsFirstPartFault, names_of}
+use Rattle.check_description.specs.declared.read.TheConstants.{MAX_SYSTEM}
+use Rattle.check_samples.specs.Left.{Left, left_of}
 use Rattle.check_signals.specs.Found.{Found, find_of, found_in, sampling_of}
 use Rattle.check_signals.specs.Names.{Names, names_of_file}
 use Rattle.check_signals.specs.Source.{Fault, fault_view}
 use Rattle.check_signals.specs.declared.fault.KeyFault.{KeyFault}
-use Rattle.check_system.specs.File.{IsFirstSystemFault, Spells}
-use Rattle.check_system.specs.System.{System}
-use Rattle.check_system.specs.declared.fault.SystemFault.{SystemFault}
-use Rattle.check_system.specs.declared.read.TheConstants.{MAX_SYSTEM}
 use Rattle.tl_streams.specs.Streams.{ReadsUpTo}
-use Rattle.check_samples.specs.Left.{Left, left_of}
+use Rattle.tlvcd.specs.Links.{Links, links_of}
 use Rattle.tlvcd.specs.Out.{IsOut, capture_of}
 use Rattle.tlvcd.specs.declared.fault.WaveFault.{WaveFault}
 use Rattle.tlvcd.specs.declared.fault.WaveFault.TheVariants as wave
@@ -34,25 +36,47 @@ abbrev pub rows_found : List Var → List Word → Result Found Fault → Result
 rows_found vars words (Ok found) = Ok (rows_of vars words found)
 rows_found vars words (Err fault) = Err (NotFound fault)
 
-abbrev pub rows_after : Names → Opening → Result Left NoRows
-rows_after names (Opened vars words) = rows_found vars words (found_in vars names)
-rows_after names (Refused line mistake) = Err (WrongHeader line mistake)
-rows_after names Cut = Err CutHeader
+-- what the names of all signals find
+abbrev pub found_among : List Var → Links → Result Found Fault
+found_among vars links = found_in vars links.masters links.ports links.names
 
--- the rows of a text and what they end with, if a system gives these names of signals; or why there are none
-unfoldable pub rows_in : Names → List ℕ → Result Left NoRows
-rows_in names text = rows_after names (opening (words_of text) blank)
+abbrev pub rows_after : Links → Opening → Result Left NoRows
+rows_after links (Opened vars words) = rows_found vars words (found_among vars links)
+rows_after links (Refused line mistake) = Err (WrongHeader line mistake)
+rows_after links Cut = Err CutHeader
+
+-- the rows of a text and what they end with, if a system has these links; or why there are none
+unfoldable pub rows_in : Links → List ℕ → Result Left NoRows
+rows_in links text = rows_after links (opening (words_of text) blank)
 
 -- ---- the system
 
+-- the file names these parts, no two of which have the same name
+pub record NamesParts (file : List ℕ) (parts : Parts) : Type 0 where
+  pub are : parts_of file ≡ Ok parts
+  pub distinct : AreDistinct (names_of parts)
+
+-- the file describes this system
+pub record Describes (file : List ℕ) (system : Description) : Type 0 where
+  pub parts : Parts
+  pub named : NamesParts file parts
+  pub made : Makes parts system
+
+-- the first fault of a file that describes no system: that on the way to its parts, or else that of its parts
+abbrev pub IsFirstSystemFault : List ℕ → SystemFault → Type 0
+IsFirstSystemFault file fault =
+    IsFirstPartFault file fault ⊎ ((parts : Parts) × NamesParts file parts × IsFirstFaultOf parts fault)
+
 -- the reader gave a file that describes a system and says where its signals are: all that it had, or a byte more than a
--- file may have
-pub record GivesNames (old new : Option (List ℕ)) (names : Names) : Type 0 where
+-- file may have. These are its links
+pub record GivesLinks (old new : Option (List ℕ)) (links : Links) : Type 0 where
   pub file : List ℕ
   pub read : ReadsUpTo (MAX_SYSTEM + 1) old new file
-  pub system : System
-  pub spelled : Spells file system
+  pub system : Description
+  pub described : Describes file system
+  pub names : Names
   pub named : names_of_file file ≡ Ok names
+  pub are : links ≡ links_of system names
 
 -- the fault is the first of what was read
 pub record HasSystemFault (old new : Option (List ℕ)) (fault : SystemFault) : Type 0 where
@@ -64,31 +88,31 @@ pub record HasSystemFault (old new : Option (List ℕ)) (fault : SystemFault) : 
 pub record HasKeyFault (old new : Option (List ℕ)) (fault : KeyFault) : Type 0 where
   pub file : List ℕ
   pub read : ReadsUpTo (MAX_SYSTEM + 1) old new file
-  pub system : System
-  pub spelled : Spells file system
+  pub system : Description
+  pub described : Describes file system
   pub first : names_of_file file ≡ Err fault
 
 -- ---- the dump
 
 -- the header is wrong so, or it is cut
-abbrev pub IsNoHeader : Names → List ℕ → ℕ → Mistake → Type 0
-IsNoHeader names text line mistake =
-    (rows_in names text ≡ Err (WrongHeader line mistake))
-    ⊎ ((rows_in names text ≡ Err CutHeader) × (mistake ≡ CutInHeader))
+abbrev pub IsNoHeader : Links → List ℕ → ℕ → Mistake → Type 0
+IsNoHeader links text line mistake =
+    (rows_in links text ≡ Err (WrongHeader line mistake))
+    ⊎ ((rows_in links text ≡ Err CutHeader) × (mistake ≡ CutInHeader))
 
 -- why there are no rows: the header is wrong; the first signal that is not found; or it is nothing of the dump's text
-abbrev pub IsUnopened : Names → WaveFault → List ℕ → Type 0
-IsUnopened names (wave.System fault) text = ⊥
-IsUnopened names (wave.Keys fault) text = ⊥
-IsUnopened names (wave.Signal fault) text = rows_in names text ≡ Err (NotFound (fault_view fault))
-IsUnopened names (wave.Dump line mistake) text = IsNoHeader names text line mistake
-IsUnopened names (wave.Unknown unknown) text = ⊥
-IsUnopened names wave.NoEdge text = ⊥
-IsUnopened names wave.Read text = ⊤
-IsUnopened names wave.Write text = ⊥
-IsUnopened names wave.Memory text = ⊤
+abbrev pub IsUnopened : Links → WaveFault → List ℕ → Type 0
+IsUnopened links (wave.System fault) text = ⊥
+IsUnopened links (wave.Keys fault) text = ⊥
+IsUnopened links (wave.Signal fault) text = rows_in links text ≡ Err (NotFound (fault_view fault))
+IsUnopened links (wave.Dump line mistake) text = IsNoHeader links text line mistake
+IsUnopened links (wave.Unknown unknown) text = ⊥
+IsUnopened links wave.NoEdge text = ⊥
+IsUnopened links wave.Read text = ⊤
+IsUnopened links wave.Write text = ⊥
+IsUnopened links wave.Memory text = ⊤
 
--- why no names are known: the first fault of the system, or nothing of its text
+-- why no links are known: the first fault of the system, or nothing of its text
 abbrev pub IsOfSystem : Option (List ℕ) → Option (List ℕ) → WaveFault → Type 0
 IsOfSystem old new (wave.System fault) = HasSystemFault old new fault
 IsOfSystem old new (wave.Keys fault) = HasKeyFault old new fault
@@ -100,11 +124,11 @@ IsOfSystem old new wave.Read = ⊤
 IsOfSystem old new wave.Write = ⊥
 IsOfSystem old new wave.Memory = ⊤
 
--- the system gives names, and there are no rows of the dump by these
+-- the system has these links, and there are no rows of the dump by them
 pub record IsOfDump (old new : Option (List ℕ)) (fault : WaveFault) (text : List ℕ) : Type 0 where
-  pub names : Names
-  pub given : GivesNames old new names
-  pub why : IsUnopened names fault text
+  pub links : Links
+  pub given : GivesLinks old new links
+  pub why : IsUnopened links fault text
 
 -- ---- what is promised, of a system as it is read and of the text of a dump
 
@@ -114,13 +138,13 @@ pub record IsRefused (read_old read_new : Option (List ℕ)) (fault : WaveFault)
   pub why : IsOfSystem read_old read_new fault ⊎ IsOfDump read_old read_new fault text
   pub written : Appends old new []
 
--- the system gives names, and the capture of the text was written, as far as is answered
+-- the system has these links, and the capture of the text was written, as far as is answered
 pub record IsWritten (read_old read_new : Option (List ℕ)) (result : Result Unit WaveFault) (text : List ℕ)
     (old new : Option (List ℕ)) : Type 0 where
-  pub names : Names
-  pub given : GivesNames read_old read_new names
+  pub links : Links
+  pub given : GivesLinks read_old read_new links
   pub left : Left
-  pub has : rows_in names text ≡ Ok left
+  pub has : rows_in links text ≡ Ok left
   pub out : IsOut result (capture_of left) old new
 
 abbrev pub IsCapture : Option (List ℕ) → Option (List ℕ) → Result Unit WaveFault → List ℕ → Option (List ℕ)
@@ -132,6 +156,6 @@ IsCapture read_old read_new (Err fault) text old new =
 -- ---- for the proofs
 
 -- a dump was opened, and these rows are to come
-abbrev pub IsOpened : Names → Option Left → List ℕ → Type 0
-IsOpened names None text = ⊥
-IsOpened names (Some left) text = rows_in names text ≡ Ok left
+abbrev pub IsOpened : Links → Option Left → List ℕ → Type 0
+IsOpened links None text = ⊥
+IsOpened links (Some left) text = rows_in links text ≡ Ok left

@@ -1,13 +1,13 @@
 -- What becomes of the fault of a step. This project's own.
 use Rattle.std.specs.Prelude.{ℕ}
+use Rattle.check_keys.specs.declared.fault.SystemFault.{SystemFault}
+use Rattle.check_keys.specs.declared.fault.SystemFault.TheVariants as system
 use Rattle.check_samples.specs.declared.rows.RowsFault.{RowsFault}
 use Rattle.check_samples.specs.declared.rows.RowsFault.TheVariants as rows
 use Rattle.check_signals.specs.declared.fault.KeyFault.{KeyFault}
 use Rattle.check_signals.specs.declared.fault.KeyFault.TheVariants as key
 use Rattle.check_signals.specs.declared.signal_fault.SignalFault.{SignalFault}
 use Rattle.check_signals.specs.declared.signal_fault.SignalFault.TheVariants as signal
-use Rattle.check_system.specs.declared.fault.SystemFault.{SystemFault}
-use Rattle.check_system.specs.declared.fault.SystemFault.TheVariants as system
 use Rattle.check_vcd.specs.declared.fault.DumpFault.{DumpFault}
 use Rattle.check_vcd.specs.declared.fault.DumpFault.TheVariants as dump
 use Rattle.tl_streams.specs.declared.streams.ReadFault.{ReadFault}

@@ -1,3 +1,4 @@
 pub mod Fault
 pub mod Out
+pub mod Links
 pub mod Capture

@@ -2,18 +2,19 @@
 ghost use Rattle.std.specs.Prelude.{◌≡◌, ℕ, List, map, option_map, IfOk, IfErr, IfSome, OnOk, OnErr};
 ghost use Rattle.check_vcd.specs.Codes.{find_in};
 ghost use Rattle.check_signals.specs.Found.{slot_one, slots_from};
-ghost use Rattle.check_signals.specs.Names.{names_view};
-ghost use Rattle.tlvcd.specs.Capture.{GivesNames, IsCapture, IsOfSystem, IsOpened, IsUnopened};
+ghost use Rattle.tlvcd.specs.Capture.{IsCapture, IsOpened, IsUnopened};
+ghost use Rattle.tlvcd.specs.Links.{links_view};
 ghost use Rattle.tlvcd.specs.Out.{AppendsFront, Finishes, IsEnded, IsOut, IsPushed, Moves, capture_of, is_cut};
 
 use crate::fault::WaveFault;
+use crate::system::{Links, read_links};
+use check_rows::Buses;
 use check_samples::{Progress, Rows, Sampler};
-use check_signals::{Names, find_signals, read_names};
-use check_system::{MAX_SYSTEM, read_system};
+use check_signals::find_signals;
 use check_vcd::Dump;
 use std::alloc::{AllocError, Global};
 use std::io::{Read, Write};
-use tl_streams::{LimitedReader, LimitedWriter, read_up_to, write_all};
+use tl_streams::{LimitedReader, LimitedWriter, write_all};
 
 /// The first row of a capture.
 const HEADER: &[u8] =
@@ -21,20 +22,6 @@ const HEADER: &[u8] =
 
 /// How many bytes of rows are kept before they are written.
 const ROOM: usize = 32_768;
-
-/// The names of signals that a system file gives. The file has to describe a system.
-fn names_of<S: Read>(alloc: Global, reader: &mut LimitedReader<'_, S>) -> Result<Names, WaveFault>
-    ensures same { reader.new.reader.ghost_name ≡ reader.old.reader.ghost_name }
-    ensures ok { IfOk result (λ names. GivesNames (S.remaining reader.old.reader.now)
-        (S.remaining reader.new.reader.now) (names_view names)) }
-    ensures fault { IfErr result (IsOfSystem (S.remaining reader.old.reader.now)
-        (S.remaining reader.new.reader.now)) }
-{
-    let bytes = read_up_to(alloc, reader, MAX_SYSTEM + 1)?;
-    let _system = read_system(alloc, &bytes)?;
-    let names = read_names(alloc, &bytes)?;
-    Ok(names)
-}
 
 /// Keeps the values of an identifier in a slot; a constant has no identifier.
 fn keep_if_any<D: Read + Drop>(
@@ -72,13 +59,17 @@ fn keep_all<D: Read + Drop>(
 }
 
 /// Opens a dump; answers the rows that are to come of it.
-fn open<D: Read + Drop>(alloc: Global, reader: D, names: &Names) -> Result<Rows<D>, WaveFault>
-    ensures ok { IfOk result (λ rows. IfSome (D.remaining reader) (IsOpened (names_view names.now) rows)) }
+fn open<D: Read + Drop>(alloc: Global, reader: D, links: &Links) -> Result<Rows<D>, WaveFault>
+    ensures ok { IfOk result (λ rows. IfSome (D.remaining reader) (IsOpened (links_view links.now) rows)) }
     ensures fault { IfErr result (λ fault. IfSome (D.remaining reader)
-        (IsUnopened (names_view names.now) fault)) }
+        (IsUnopened (links_view links.now) fault)) }
 {
     let (vars, mut dump) = Dump::open(alloc, reader)?;
-    let resolved = find_signals(alloc, names, &vars)?;
+    let buses = Buses {
+        masters: &links.master_buses,
+        ports: &links.port_buses,
+    };
+    let resolved = find_signals(alloc, &buses, &links.names, &vars)?;
     keep_all(alloc, &mut dump, &resolved.codes)?;
     let sampler = Sampler::new(resolved.probes, resolved.values);
     Ok(Rows::new(dump, sampler))
@@ -214,7 +205,7 @@ fn write_within<S: Read, D: Read + Drop, W: Write>(
         (S.remaining reader.old.reader.now) (S.remaining reader.new.reader.now) result text
         (W.contents writer.old.writer.now) (W.contents writer.new.writer.now)) }
 {
-    let names = names_of(alloc, reader)?;
-    let rows = open(alloc, dump, &names)?;
+    let links = read_links(alloc, reader)?;
+    let rows = open(alloc, dump, &links)?;
     write_rows(alloc, rows, writer)
 }

@@ -3,11 +3,11 @@ ghost use Rattle.std.specs.Prelude.{◌≡◌};
 ghost use Rattle.tlvcd.specs.Fault.{of_dump, of_keys, of_read, of_rows, of_signal, of_system, status_of};
 ghost use Rattle.tlvcd.specs.declared.fault.WaveFault.TheVariants.{Write, Memory};
 
-use check_link::Link;
+use check_keys::SystemFault;
 use check_samples::{RowsFault, UnknownBit};
 use check_signals::{KeyFault, SignalFault};
-use check_system::SystemFault;
 use check_vcd::{DumpFault, Mistake};
+use check_watch::Link;
 use std::alloc::{AllocError, AllocFailed};
 use std::fmt;
 use tl_streams::{ReadFault, WriteFault};

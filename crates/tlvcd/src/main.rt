@@ -11,6 +11,7 @@
 pub mod engine;
 pub mod fault;
 pub mod options;
+pub mod system;
 #[cfg(test)]
 mod tests;
 

@@ -3,11 +3,11 @@ ghost use Rattle.std.specs.Prelude.{Some, ◌<◌};
 
 use crate::engine::write_capture;
 use crate::fault::WaveFault;
-use check_link::Link;
+use check_keys::SystemFault;
 use check_samples::{Signal, UnknownBit};
 use check_signals::{Key, KeyFault};
-use check_system::SystemFault;
 use check_vcd::Mistake;
+use check_watch::Link;
 use std::alloc::Global;
 use std::io;
 use std::io::{ErrorKind, Read, Write};
@@ -17,9 +17,32 @@ use std::process::Abort;
 const SYSTEM: &[u8] =
     b"slots = 1\nclock = 'c'\nport = [{ kind = 'ram', base = 0, length = 16 }]\nmaster = [{ sources = 1, ops = [], wires = { a_valid = 'v', a_ready = '1', a_opcode = '1', a_param = '0', a_size = '0', a_source = '0', a_address = '0', a_mask = '1', a_data = '0', d_valid = '0', d_ready = '0', d_opcode = '0', d_size = '0', d_source = '0', d_data = '0', d_denied = '0', d_corrupt = '0' } }]\n";
 
-/// The same system with no clock.
+/// A master at 16 bytes and a port at 4, the file of whose image is not there.
+const MIXED: &[u8] =
+    b"bus = 4\nclock = 'c'\nport = [{ kind = 'rom', base = 0, length = 16, image = 'nowhere.bin', wires = { a_valid = 'v', a_ready = '1', a_opcode = '1', a_param = '0', a_size = '0', a_source = '0', a_address = '0', a_mask = 'm4', a_data = 'd4', d_valid = '0', d_ready = '0', d_opcode = '0', d_size = '0', d_source = '0', d_data = '0', d_denied = '0', d_corrupt = '0' } }]\nmaster = [{ sources = 1, bus = 16, wires = { a_valid = 'v', a_ready = '1', a_opcode = '1', a_param = '0', a_size = '0', a_source = '0', a_address = '0', a_mask = 'm16', a_data = 'd16', d_valid = '0', d_ready = '0', d_opcode = '0', d_size = '0', d_source = '0', d_data = '0', d_denied = '0', d_corrupt = '0' } }]\n";
+
+/// A dump of that system, in which a beat crosses at each link at 5.
+const MIXED_DUMP: &[u8] =
+    b"$var wire 1 ! c $end $var wire 1 \" v $end $var wire 16 # m16 $end $var wire 128 $ d16 $end $var wire 4 % m4 $end $var wire 32 & d4 $end $enddefinitions $end\n0! 1\" b10000 # b1010 $ b1 % bx & #5 1!\n";
+
+const MIXED_CAPTURE: &[u8] =
+    b"time,link,channel,opcode,param,size,source,address,mask,data,denied,corrupt\n5,m0,A,1,0,0,0,0,0010,0000000000000000000000000000000a,,\n5,p0,A,1,0,0,0,0,1,xxxxxxxx,,\n";
+
+/// The first system with no clock.
 const NO_CLOCK: &[u8] =
     b"slots = 1\nport = [{ kind = 'ram', base = 0, length = 16 }]\nmaster = [{ sources = 1, ops = [] }]\n";
+
+/// Two masters of one name.
+const TWO_CALLED: &[u8] =
+    b"master = [{ name = 'core', sources = 1 }, { name = 'core', sources = 1 }]\n";
+
+/// Two ports with a byte in common.
+const OVERLAP: &[u8] =
+    b"port = [{ kind = 'ram', base = 0, length = 16 }, { kind = 'ram', base = 15, length = 16 }]\nmaster = [{ sources = 1 }]\n";
+
+/// A header in which the mask of the port at 4 bytes has the bits of one at 8.
+const NARROW: &[u8] =
+    b"$var wire 1 ! c $end $var wire 1 \" v $end $var wire 8 % m4 $end $enddefinitions $end\n";
 
 /// The header of a dump.
 const HEAD: &[u8] = b"$var wire 1 ! c $end $var wire 1 \" v $end $enddefinitions $end\n";
@@ -151,6 +174,14 @@ fn slow_streams_change_nothing(rt: HostRuntime) {
     }
 }
 
+#[test]
+fn rows_have_the_widths_of_their_links(rt: HostRuntime) {
+    let never = (Trouble::Never, Trouble::Never, Trouble::Never);
+    let (outcome, written) = outcome_of(rt.alloc(), MIXED, MIXED_DUMP, never);
+    assert!(&rt; outcome.is_ok());
+    assert_eq!(&rt; written.as_slice(), MIXED_CAPTURE);
+}
+
 /// Two texts have this fault: its line and its status, and so many bytes of the capture are written.
 fn expect_fault(
     rt: &impl Abort,
@@ -178,10 +209,14 @@ fn the_system_comes_before_the_header_and_that_before_its_signals(rt: HostRuntim
     let rows = [
         (b"slots".as_slice(), b"".as_slice(), "system: not TOML"),
         (b"slots = 1", b"", "system: missing master"),
+        (b"bus = 3", b"", "system: bus out of range"),
+        (TWO_CALLED, b"", "system: two are called core"),
+        (OVERLAP, b"", "system: ports 0 and 1 overlap"),
         (NO_CLOCK, b"", "system: missing clock"),
         (SYSTEM, b"", "tlvcd: line 1: cut in its header"),
         (SYSTEM, b"\n$upscope $end ", "tlvcd: line 2: not a dump"),
         (SYSTEM, b"$enddefinitions $end ", "tlvcd: no signal c"),
+        (MIXED, NARROW, "tlvcd: port 0: m4 has 8 bits, 4 wanted"),
     ];
     let never = (Trouble::Never, Trouble::Never);
     for (system, dump, line) in rows {

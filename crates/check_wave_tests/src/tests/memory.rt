@@ -2,6 +2,8 @@
 //! each request may be refused in turn (`rt try --test --fail-alloc N`): the rows are the right ones, or want of memory is
 //! told.
 use super::{ROW_AT_5, SYSTEM, reader_of};
+use check_beats::Bus;
+use check_rows::Buses;
 use check_samples::{Progress, Rows, RowsFault, Sampler};
 use check_signals::{KeyFault, SignalFault, find_signals, read_names};
 use check_vcd::{Dump, DumpFault};
@@ -47,7 +49,12 @@ fn rows_of(rt: &impl Abort, alloc: Global) -> Option<Vec<u8>> {
             return None;
         }
     };
-    let resolved = match find_signals(alloc, &names, &vars) {
+    let masters = [Bus::Eight];
+    let buses = Buses {
+        masters: masters.as_slice(),
+        ports: &[],
+    };
+    let resolved = match find_signals(alloc, &buses, &names, &vars) {
         Ok(resolved) => resolved,
         Err(fault) => {
             assert!(rt; matches!(fault, SignalFault::Memory));

@@ -7,7 +7,5 @@ use Rattle.check_signals.proofs.links.links_of.Given as goal
 
 abbrev pub invariant-loop-number : goal.invariant-loop-number
 invariant-loop-number l =
-    let vars = map var_view l.vars in
-    with_front (map link_sources_view l.found.items)
-    (links_from vars l.is_port l.number (map link_view (drop l.number l.links)))
-    ≡ links_from vars l.is_port 0 (map link_view l.links)
+    let find = links_from (map var_view l.vars) l.is_port (map link_view l.links) in
+    with_front (map link_sources_view l.found.items) (find l.number (drop l.number l.buses)) ≡ find 0 l.buses

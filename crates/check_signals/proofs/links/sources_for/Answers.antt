@@ -1,6 +1,7 @@
 -- There are fewer names than signals.
 use Rattle.std.proofs.Common.{◌<◌, arith, drop, length, map}
 use Rattle.std.proofs.lemmas.List.{length-map}
+use Rattle.check_beats.specs.Bus.{bus_bytes}
 use Rattle.check_vcd.specs.Header.{var_view}
 use Rattle.check_signals.specs.Source.{source_in, source_view}
 use Rattle.check_signals.proofs.LinkLemmas.{names-end}
@@ -11,6 +12,6 @@ returns-in_default c =
     let rest = c.loop-signal.rest.now in
     let few : length (map (λ name. name.items) rest) < 1 =
     omega (arith, c.in_default.len_below, length-map rest (λ name. name.items)) in
-    names-end (source_in (map var_view c.args.vars.now)) c.args.owner
+    names-end (source_in (map var_view c.args.vars.now)) c.args.owner (bus_bytes c.args.bus)
     (drop c.loop-signal.signal-index c.args.signals.now) (map (λ name. name.items) rest)
     (map source_view c.loop-signal.sources.items) _ few c.loop-signal.invariant
