@@ -1,6 +1,6 @@
 -- Which signals of a dump are looked at, and what is kept of it. This project's own; the order of the channels within one
 -- time is that of captures.
-use Rattle.std.specs.Prelude.{◌≡◌, ℕ, ◌+◌, ◌==◌, ◌&&◌, Bool, true, false, List, [], ◌∷◌, ◌++◌, map, Option, None, Some, option_map, Result, Ok, Err, if◌then◌else◌, slice_get, Vec}
+use Rattle.std.specs.Prelude.{◌≡◌, ℕ, ◌+◌, ◌==◌, ◌&&◌, Bool, true, false, List, [], ◌∷◌, ◌++◌, map, Option, None, Some, option_and_then, option_map, Result, Ok, Err, if◌then◌else◌, slice_get, Vec}
 use Rattle.std.specs.Global.{Global}
 use Rattle.std.specs.List.{filter_map, flat_map, list_any, zip}
 use Rattle.std.specs.Str.{bytes_eq}
@@ -91,18 +91,21 @@ pub record NamedLink : Type 0 where
 abbrev pub NamesOf : Type 0
 NamesOf = List (Option (List (List ℕ)))
 
+-- those of this number
+abbrev pub names_at : NamesOf → ℕ → Option (List (List ℕ))
+names_at names number = option_and_then (λ own. own) (slice_get names number)
+
 -- the link of this number and others, if it has names
-abbrev pub named_before : Bool → ℕ → Bus → Option (Option (List (List ℕ))) → List NamedLink → List NamedLink
+abbrev pub named_before : Bool → ℕ → Bus → Option (List (List ℕ)) → List NamedLink → List NamedLink
 named_before is_port number bus None links = links
-named_before is_port number bus (Some None) links = links
-named_before is_port number bus (Some (Some names)) links =
+named_before is_port number bus (Some names) links =
     record { link = link_at is_port number; bus = bus; names = names } ∷ links
 
 -- the links of a kind that have names, of those that have these buses; the first of them has this number
 abbrev pub numbered : Bool → NamesOf → ℕ → List Bus → List NamedLink
 numbered is_port names number [] = []
 numbered is_port names number (bus ∷ buses) =
-    named_before is_port number bus (slice_get names number) (numbered is_port names (number + 1) buses)
+    named_before is_port number bus (names_at names number) (numbered is_port names (number + 1) buses)
 
 abbrev pub link_sources : List Var → NamedLink → Result LinkSources Fault
 link_sources vars named =

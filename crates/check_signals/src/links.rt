@@ -1,8 +1,8 @@
 //! The signals of links, and the channels that are looked at.
-ghost use Rattle.std.specs.Prelude.{◌≡◌, ◌++◌, IfOk, OnOk, map};
+ghost use Rattle.std.specs.Prelude.{◌≡◌, ◌++◌, IfOk, OnOk, map, option_map};
 ghost use Rattle.check_beats.specs.Bus.{bus_bytes};
 ghost use Rattle.check_vcd.specs.Header.{var_view};
-ghost use Rattle.check_signals.specs.Found.{asked_of, each, in_order, link_at, link_sources_view, links_from, links_view, owner_of, pair_of, pairs_of, sources_of};
+ghost use Rattle.check_signals.specs.Found.{asked_of, each, in_order, link_at, link_sources_view, links_from, links_view, names_at, owner_of, pair_of, pairs_of, sources_of};
 ghost use Rattle.check_signals.specs.Names.{link_view};
 ghost use Rattle.check_signals.specs.Source.{Finds, kept_view, source_in, source_view};
 
@@ -91,6 +91,14 @@ fn sources_of<'a>(
     sources_for(alloc, vars, owner, bus, SIGNALS.as_slice(), names)
 }
 
+/// The names of the signals of the link of this number, if it has any.
+fn names_at(links: &[Option<LinkNames>], number: usize) -> Option<&LinkNames>
+    ensures { option_map (λ names. map (λ name. name.items) names.now.items) result
+        ≡ names_at (map link_view links.now) number }
+{
+    links.get(number)?.as_ref()
+}
+
 /// What the names of the links of a kind find, or the first fault. The links are those that have these buses.
 #[tactic(auto, unfolding(crate::specs::Found::links_from))]
 pub(crate) fn links_of<'a>(
@@ -105,7 +113,7 @@ pub(crate) fn links_of<'a>(
 {
     let mut found = Vec::new(alloc);
     for (number, bus) in buses.iter().enumerate() {
-        if let Some(Some(names)) = links.get(number) {
+        if let Some(names) = names_at(links, number) {
             let link = link_at(is_port, number);
             let sources = sources_of(alloc, vars, owner_of(link), *bus, names)?;
             found.push(LinkSources { link, sources })?;

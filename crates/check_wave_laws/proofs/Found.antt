@@ -13,7 +13,7 @@ use Rattle.check_vcd.specs.Header.{Var}
 use Rattle.check_vcd.specs.declared.range.Span.{Span}
 use Rattle.check_samples.specs.declared.signal.Signal.{Signal}
 use Rattle.check_samples.specs.declared.signal.Signal.TheVariants as signal
-use Rattle.check_signals.specs.Found.{LinkSources, NamedLink, NamesOf, asked_by, asked_of, each, link_at, link_sources, links_from, named_before, numbered, owner_of, sources_of, width_in, ◌>>=◌}
+use Rattle.check_signals.specs.Found.{LinkSources, NamedLink, NamesOf, asked_by, asked_of, each, link_at, link_sources, links_from, named_before, names_at, numbered, owner_of, sources_of, width_in, ◌>>=◌}
 use Rattle.check_signals.specs.Source.{Asked, Changing, Constant, Fault, Kept, Source, Twice, alone, constant_of, digit_in, measured, missing, source_by, source_in, too_wide, width_of, within}
 use Rattle.check_signals.specs.Wanted.{bits_fit, count_of, wanted_of}
 use Rattle.check_signals.specs.Wires.{Wire, first_of, places_in, sought, wire_at, wire_by, wire_of, wires, wires_called}
@@ -259,19 +259,18 @@ pub record LinkFits (vars : List Var) (masters ports : List Bus) (found : LinkSo
 abbrev IsNamed : List Bus → List Bus → NamedLink → Type 0
 IsNamed masters ports named = HasBus masters ports named.link named.bus
 
-one-named : (masters ports : List Bus) (is_port : Bool) (n : ℕ) (bus : Bus) (names : Option (Option (List (List ℕ))))
+one-named : (masters ports : List Bus) (is_port : Bool) (n : ℕ) (bus : Bus) (names : Option (List (List ℕ)))
     (links : List NamedLink) → HasBus masters ports (link_at is_port n) bus → Each (IsNamed masters ports) links
     → Each (IsNamed masters ports) (named_before is_port n bus names links)
 one-named masters ports is_port n bus None links has rest = rest
-one-named masters ports is_port n bus (Some None) links has rest = rest
-one-named masters ports is_port n bus (Some (Some names)) links has rest = (has, rest)
+one-named masters ports is_port n bus (Some names) links has rest = (has, rest)
 
 all-named : (masters ports : List Bus) (is_port : Bool) (names : NamesOf) (n : ℕ) (buses : List Bus)
     → ((k m : ℕ) (bus : Bus) → slice_get buses k ≡ Some bus → m ≡ n + k → HasBus masters ports (link_at is_port m) bus)
     → Each (IsNamed masters ports) (numbered is_port names n buses)
 all-named masters ports is_port names n [] has = tt
 all-named masters ports is_port names n (bus ∷ buses) has =
-    one-named masters ports is_port n bus (slice_get names n) (numbered is_port names (n + 1) buses)
+    one-named masters ports is_port n bus (names_at names n) (numbered is_port names (n + 1) buses)
     (has 0 n bus refl (omega arith))
     (all-named masters ports is_port names (n + 1) buses
     (λ k m other is at. has (suc k) m other is (omega (arith, at))))
