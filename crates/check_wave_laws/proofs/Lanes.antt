@@ -82,15 +82,18 @@ glyph-digit d below = rw (glyph-value d below) (lt-ltb d 16 below)
 -- what two characters say of a lane, by whether they are digits
 lane-digits : (high low : ℕ) → is_digit high 16 ≡ true → is_digit low 16 ≡ true
     → lane_of high low ≡ Some (Some (16 * digit_value high + digit_value low))
+unfolding lane_of
 lane-digits high low h l =
     ap (λ (t : Bool). cond t (option_map Some (cond t (Some (16 * digit_value high + digit_value low)) None))
     (cond (is_shown high && is_shown low) (Some None) None))
     (and_from (is_digit high 16) (is_digit low 16) h l)
 
 lane-no-high : (low : ℕ) → is_shown low ≡ true → lane_of 120 low ≡ Some None
+unfolding lane_of
 lane-no-high low shown = ap (λ (t : Bool). cond t (Some None) None) shown
 
 lane-no-low : (high : ℕ) → is_digit high 16 ≡ true → lane_of high 120 ≡ Some None
+unfolding lane_of
 lane-no-low high digit =
     ap (λ (t : Bool). cond (t && false) (option_map Some (pair_of high 120))
     (cond ((t || ((high == 120) || (high == 88) || (high == 122) || (high == 90))) && true) (Some None) None)) digit
@@ -257,6 +260,9 @@ known-digit bits known some few =
       value = ap digit_value is ∙ glyph-value (digits_value 2 bits) small;
     }
 
+turned : (v x : ℕ) → v * 16 + x ≡ 16 * v + x
+turned v x = omega arith
+
 hexes-spell : (k v : ℕ) (bits : List ℕ) → length bits ≡ 4 * k → are_known bits ≡ true → Spells v bits (hexes bits)
 hexes-spell zero v [] size known = record { digits = refl; value = refl }
 hexes-spell zero v (a ∷ bits) size known = absurd (omega (arith, size))
@@ -271,7 +277,7 @@ hexes-spell (suc k) v (a ∷ b ∷ c ∷ d ∷ bits) size known =
     let next = v * 16 + digit_value (digit_of four) in
     let rest = hexes-spell k next bits (omega (arith, size)) parts.1 in
     let same : next ≡ digits_value_after 2 v four =
-    omega (arith, first.value, value-four v four refl) in
+    ap (λ (d : ℕ). v * 16 + d) first.value ∙ turned v (digits_value 2 four) ∙ sym (value-four v four refl) in
     record {
       digits = and_from (is_digit (digit_of four) 16) (list_all (λ c. is_digit c 16) (hexes bits)) first.digit rest.digits;
       value = rest.value ∙ ap (λ (n : ℕ). digits_value_after 2 n bits) same;
@@ -297,7 +303,7 @@ mask-by : (bus n : ℕ) (bits word : List ℕ) → length bits ≡ bus → HasNu
 unfolding mask_of hex_of
 mask-by bus n bits word size has spells some digits =
     let small : n < 2 ^ bus = number-below bits n bus has (omega (arith, size)) in
-    let below = λ (m : ℕ). cond (nat_lt m (2 ^ bus)) (Ok m) (Err Number) in
+    let below : ℕ → Result ℕ RowFault = λ m. cond (nat_lt m (2 ^ bus)) (Ok m) (Err Number) in
     ap (λ (t : Bool). cond t (hex_of word >>= below) (Err Number)) (eq-eqb (length word) (mask_digits bus) digits)
     ∙ ap (λ (t : Bool). cond t (Ok (digits_value 16 word)) (Err Number) >>= below)
     (and_from (nat_lt 0 (length word)) (list_all (λ c. is_digit c 16) word) (lt-ltb 0 (length word) some) spells.digits)
@@ -311,7 +317,7 @@ mask-few bus n bits size some few has one =
     ap (mask_of bus) (hex-few bits has.some (omega (arith, size, few)))
     ∙ mask-by bus n bits (digit_of bits ∷ []) size has (record {
       digits = and_from (is_digit (digit_of bits) 16) true first.digit refl;
-      value = first.value;
+      value = omega (arith, first.value);
     }) (omega arith) (sym one)
 
 mask-whole : (k bus n : ℕ) (bits : List ℕ) → length bits ≡ bus → bus ≡ 4 * k → 0 < k → HasNumber bits n

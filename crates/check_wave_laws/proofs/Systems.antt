@@ -8,10 +8,10 @@ use Rattle.check_ports.specs.Port.{Port}
 use Rattle.check_description.specs.Description.{Description, Makes}
 use Rattle.check_description.specs.File.{Parts, parts_of}
 use Rattle.check_description.specs.Master.{Master}
+use Rattle.check_start.specs.Start.{master_buses, port_buses}
 use Rattle.check_samples.specs.Sampling.{rows_from}
 use Rattle.check_signals.specs.Found.{Found, find_of, found_in, sampling_of}
 use Rattle.check_signals.specs.Names.{Names, names_of_file}
-use Rattle.check_wave_laws.specs.Buses.{master_buses, port_buses}
 use Rattle.check_wave_laws.specs.Text.{HasRows}
 use Rattle.check_wave_laws.proofs.Counts.{same-counts}
 use Rattle.check_wave_laws.proofs.Dumps.{dump-rows}
@@ -20,13 +20,13 @@ use Rattle.check_wave_laws.proofs.Kept.{all-found}
 pub system-rows : (line : ℕ) (file text : List ℕ) (parts : Parts) (system : Description) (names : Names)
     (vars : List Var) (words : List Word) (found : Found) → parts_of file ≡ Ok parts → Makes parts system
     → names_of_file file ≡ Ok names → opening (words_of text) blank ≡ Opened vars words
-    → found_in vars (master_buses system) (port_buses system) names ≡ Ok found
-    → HasRows (master_buses system) (port_buses system) found.probes.channels line
+    → found_in vars (master_buses system.masters) (port_buses system.ports) names ≡ Ok found
+    → HasRows (master_buses system.masters) (port_buses system.ports) found.probes.channels line
     (rows_from (happenings (find_of vars found) words start) (sampling_of found)).text
 system-rows line file text parts system names vars words found has makes named opened is =
     let counts = same-counts file names parts system has makes named in
-    let masters = master_buses system in
-    let ports = port_buses system in
+    let masters = master_buses system.masters in
+    let ports = port_buses system.ports in
     let fits = all-found vars masters ports names found is in
     dump-rows masters ports line text vars words (find_of vars found) (sampling_of found)
     (omega (arith, counts.few_masters, length-map system.masters (λ (master : Master). master.bus)))

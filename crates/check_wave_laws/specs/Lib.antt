@@ -1,4 +1,3 @@
-pub mod Buses
 pub mod Seen
 pub mod Rows
 pub mod Text

@@ -7,12 +7,12 @@ ghost use Rattle.check_beats.specs.declared.bus.Bus.{Bus};
 ghost use Rattle.check_rows.specs.Buses.{IsLinkOf, bus_of};
 ghost use Rattle.check_description.specs.Description.{Description, Makes};
 ghost use Rattle.check_description.specs.File.{Parts, parts_of};
+ghost use Rattle.check_start.specs.Start.{master_buses, port_buses};
 ghost use Rattle.check_samples.specs.Rows.{row_at};
 ghost use Rattle.check_samples.specs.Sampling.{Sampling, rows_from};
 ghost use Rattle.check_samples.specs.declared.channel.Channel.{Channel};
 ghost use Rattle.check_signals.specs.Found.{Found, find_of, found_in, sampling_of};
 ghost use Rattle.check_signals.specs.Names.{Names, names_of_file};
-ghost use Rattle.check_wave_laws.specs.Buses.{master_buses, port_buses};
 ghost use Rattle.check_wave_laws.specs.Rows.{IsRow};
 ghost use Rattle.check_wave_laws.specs.Seen.{BeatFits, row_in};
 ghost use Rattle.check_wave_laws.specs.Text.{FindFits, HasRows, SamplingFits};
@@ -35,15 +35,15 @@ pub fn rows_of_dumps_are_rows()
         → HasRows masters ports s.probes.channels line (rows_from (happenings find words start) s).text }
 {}
 
-/// What `tlvcd` writes after the header of a capture is rows of captures of its system, by the buses of its links, whatever
-/// the two files are: the rows of what happens after the header of a dump, if the names of a system file find their
-/// signals there.
+/// What `tlvcd` writes after the header of a capture is rows of captures of its system, by the buses with which its judge
+/// begins, whatever the two files are: the rows of what happens after the header of a dump, if the names of a system file
+/// find their signals there.
 pub fn rows_of_systems_are_rows()
     ensures { (line : ℕ) (file text : List ℕ) (parts : Parts) (system : Description) (names : Names) (vars : List Var)
         (words : List Word) (found : Found) → parts_of file ≡ Ok parts → Makes parts system
         → names_of_file file ≡ Ok names → opening (words_of text) blank ≡ Opened vars words
-        → found_in vars (master_buses system) (port_buses system) names ≡ Ok found
-        → HasRows (master_buses system) (port_buses system) found.probes.channels line
+        → found_in vars (master_buses system.masters) (port_buses system.ports) names ≡ Ok found
+        → HasRows (master_buses system.masters) (port_buses system.ports) found.probes.channels line
         (rows_from (happenings (find_of vars found) words start) (sampling_of found)).text }
 {}
 

@@ -71,7 +71,8 @@ fn links_of_a_system_have_buses_of_their_own(rt: HostRuntime) {
     };
     // a value that is shorter than its signal is extended; one unknown bit makes a digit unknown, and one unknown digit x
     // that stands first makes all before it unknown
-    let body: &[u8] = b"0! b11110000 m16 b1x m4 bx1111 d16 b10x1 d4 #5 1! #6 0! b1 m4 b0 d16 bz d4 #7 1!\n";
+    let body: &[u8] =
+        b"0! b11110000 m16 b1x m4 bx1111 d16 b10x1 d4 #5 1! #6 0! b1 m4 b0 d16 bz d4 #7 1!\n";
     let text = joined(&rt, alloc, HEAD, body);
     match outcome_by(&rt, alloc, &buses, MIXED, reader_of(&text, 100)) {
         Outcome::Unknown(found, fault) => {
@@ -81,10 +82,14 @@ fn links_of_a_system_have_buses_of_their_own(rt: HostRuntime) {
         }
         _ => panic!(&rt; "another outcome"),
     }
-    let body: &[u8] = b"0! b11110000 m16 b1 m4 bx1111 d16 b10x1 d4 #5 1! #6 0! b101 m4 b0 d16 bz d4 #7 1!\n";
+    let body: &[u8] =
+        b"0! b11110000 m16 b1 m4 bx1111 d16 b10x1 d4 #5 1! #6 0! b101 m4 b0 d16 bz d4 #7 1!\n";
     let rows: &[u8] =
         b"5,m0,A,0,0,0,0,0,00f0,xxxxxxxxxxxxxxxxxxxxxxxxxxxxxxxf,,\n5,p0,A,0,0,0,0,0,1,0000000x,,\n5,p0,D,1,,0,0,,,0000000x,0,0\n5,m0,D,1,,0,0,,,xxxxxxxxxxxxxxxxxxxxxxxxxxxxxxxf,0,0\n7,m0,A,0,0,0,0,0,00f0,00000000000000000000000000000000,,\n7,p0,A,0,0,0,0,0,5,xxxxxxxx,,\n7,p0,D,1,,0,0,,,xxxxxxxx,0,0\n7,m0,D,1,,0,0,,,00000000000000000000000000000000,0,0\n";
-    assert_eq!(&rt; rows_of(&rt, alloc, &buses, MIXED, (HEAD, body)).as_slice(), rows);
+    assert_eq!(&rt;
+        rows_of(&rt, alloc, &buses, MIXED, (HEAD, body)).as_slice(),
+        rows
+    );
 }
 
 /// Signals have other widths than a system with these buses asks for.
@@ -101,10 +106,22 @@ fn expect_width(rt: &impl Abort, alloc: Global, buses: &Buses<'_>, line: &str) {
 #[test]
 fn widths_are_those_of_the_links_bus(rt: HostRuntime) {
     let rows = [
-        (Bus::Four, Bus::Sixteen, "port 0: mask4 has 4 bits, 16 wanted"),
+        (
+            Bus::Four,
+            Bus::Sixteen,
+            "port 0: mask4 has 4 bits, 16 wanted",
+        ),
         (Bus::Sixteen, Bus::One, "port 0: mask4 has 4 bits, 1 wanted"),
-        (Bus::Four, Bus::Four, "master 0: mask16 has 16 bits, 4 wanted"),
-        (Bus::SixtyFour, Bus::Four, "master 0: mask16 has 16 bits, 64 wanted"),
+        (
+            Bus::Four,
+            Bus::Four,
+            "master 0: mask16 has 16 bits, 4 wanted",
+        ),
+        (
+            Bus::SixtyFour,
+            Bus::Four,
+            "master 0: mask16 has 16 bits, 64 wanted",
+        ),
     ];
     for (master, port, line) in rows {
         let masters = [master];

@@ -25,21 +25,21 @@ returns-in_err-resolved-clause-fault g c =
     fails-by c.from_residual-in_err-resolved.result (of_signal fault) (λ f. IfSome text (IsUnopened links f))
     c.from_residual-in_err-resolved.ensures.1
     (unopened-signal links text (map var_view c.in_ok-vars.vars.items) c.in_ok-vars.dump fault c.in_ok-vars.ensures.ok
-    (rw c.deref.ensures.value at c.in_err-resolved.ensures))
+    (rw (c.deref.ensures.value, c.deref-2.ensures.value, c.deref-3.ensures.value) at c.in_err-resolved.ensures))
 
 pub returns-clause-ok : goal.returns-clause-ok
 returns-clause-ok g c =
     let links = links_view c.args.links.now in
     let vars = map var_view c.in_ok-vars.vars.items in
     let f = found-is (found_among vars links) c.in_ok-resolved.resolved
-    (rw c.deref.ensures.value at c.in_ok-resolved.ensures) in
+    (rw (c.deref.ensures.value, c.deref-2.ensures.value, c.deref-3.ensures.value) at c.in_ok-resolved.ensures) in
     let is = f.2 in
     let s = c.new-sampler.ensures in
     rw c.new.ensures (opened-rows links (g.D.Read.remaining c.args.reader) vars
-    c.in_ok-vars.dump c.keep_all.new.dump (map (λ code. option_map (λ code. code.items) code) c.deref-2.result.now)
+    c.in_ok-vars.dump c.keep_all.new.dump (map (λ code. option_map (λ code. code.items) code) c.deref-4.result.now)
     f.0 c.new-sampler.result
     c.in_ok-vars.ensures.ok c.in_ok-keep_all.ensures.words c.in_ok-keep_all.ensures.body c.in_ok-keep_all.ensures.kept
-    (rw c.deref-2.ensures.value is.codes)
+    (rw c.deref-4.ensures.value is.codes)
     (record {
       probes = s.probes ∙ is.probes;
       before = s.before ∙ is.before;
