@@ -1,9 +1,8 @@
 -- Bits that were written as hexadecimal digits are read as lanes and as a mask.
-use Rattle.std.proofs.Common.{◌≡◌, ◌∙◌, ℕ, zero, suc, ◌+◌, ◌-◌, ◌*◌, ◌%◌, ◌^◌, ◌<◌, ◌≤◌, ◌==◌, get_or, pow_mono, nat_le, nat_lt, Bool, true, false, ◌&&◌, ◌||◌, cond, List, [], ◌∷◌, ◌++◌, length, take, drop, map, Option, Some, None, Result, Ok, Err, arith, refl, sym, ap, subst, ⊎_elim, ok_or, option_and_then, option_map, length-append, length-take-le, length-drop, take_all, take-append-drop, drop-drop, mod-eq_of_lt, ◌⊎◌, inl, inr}
+use Rattle.std.proofs.Common.{◌≡◌, ◌∙◌, ℕ, zero, suc, ◌+◌, ◌-◌, ◌*◌, ◌%◌, ◌^◌, ◌<◌, ◌≤◌, ◌==◌, get_or, pow_mono, nat_le, nat_lt, Bool, true, false, ◌&&◌, ◌||◌, cond, List, [], ◌∷◌, ◌++◌, length, take, drop, map, Option, Some, None, Result, Ok, Err, arith, refl, sym, ap, subst, ⊎_elim, ok_or, option_and_then, option_map, length-append, length-take-le, length-drop, take-append-drop, drop-drop, mod-eq_of_lt, ◌⊎◌, inl, inr}
 use Rattle.std.proofs.lemmas.Bool.{and_from, and_parts, cases_Bool, eq-eqb, le-leb, lt-ltb, ne_eqb}
 use Rattle.std.proofs.lemmas.Bool.Decides.{nat_tests}
 use Rattle.std.proofs.lemmas.Int.Digits.{digits_value-lt}
-use Rattle.std.proofs.lemmas.List.{drop_all}
 use Rattle.std.specs.Char.{digit_value, is_digit}
 use Rattle.std.specs.Fmt.{digit_glyph}
 use Rattle.std.specs.List.{list_all, range_with_len}
@@ -12,7 +11,7 @@ use Rattle.tl_text.specs.Number.{below_64_bits, number_of, pair_of}
 use Rattle.check_beats.specs.Bus.{bus_bytes}
 use Rattle.check_beats.specs.declared.bus.Bus.{Bus}
 use Rattle.check_beats.specs.declared.bus.Bus.TheVariants.{One, Two, Four, Eight, Sixteen, ThirtyTwo, SixtyFour}
-use Rattle.check_rows.specs.Lanes.{Lanes, all_of, is_shown, lane_at, lane_of, lanes_of, seen_of, shown_by, zeros}
+use Rattle.check_rows.specs.Lanes.{all_of, is_shown, lane_at, lane_of, lanes_of, seen_of, shown_by, zeros}
 use Rattle.check_rows.specs.Number.{hex_of, mask_digits, mask_of}
 use Rattle.check_rows.specs.Reading.{◌>>=◌}
 use Rattle.check_rows.specs.declared.fault.RowFault.{RowFault}

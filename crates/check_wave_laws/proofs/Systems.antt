@@ -1,5 +1,5 @@
 -- What is written of a dump by the names of a system is rows of a capture of it.
-use Rattle.std.proofs.Common.{◌≡◌, ℕ, List, length, Ok, arith}
+use Rattle.std.proofs.Common.{◌≡◌, ℕ, List, Ok, arith}
 use Rattle.std.proofs.lemmas.List.{length-map}
 use Rattle.check_vcd.specs.Body.{happenings, start}
 use Rattle.check_vcd.specs.Header.{Opened, Var, blank, opening}
