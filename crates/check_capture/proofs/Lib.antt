@@ -1,2 +1,0 @@
-pub mod MomentLemmas
-pub mod ColumnLemmas

@@ -1,5 +1,0 @@
-use Rattle.check_crossbar_laws.proofs.Turned.{messages}
-use Rattle.check_crossbar_laws.proofs.laws.beats_are_messages.Goals as goal
-
-pub returns : goal.returns
-returns c = messages

@@ -1,5 +1,0 @@
-use Rattle.check_crossbar_laws.proofs.Crossing.{crossing}
-use Rattle.check_crossbar_laws.proofs.laws.messages_cross.Goals as goal
-
-pub returns : goal.returns
-returns c = crossing

@@ -1,4 +1,0 @@
-pub mod Stores
-pub mod Standing
-pub mod Slaves
-pub mod Sides

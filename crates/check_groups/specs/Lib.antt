@@ -1,6 +1,0 @@
-pub mod Plan
-pub mod Groups
-pub mod Lawful
-pub mod Flights
-pub mod View
-pub mod Pending

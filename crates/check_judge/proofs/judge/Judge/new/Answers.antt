@@ -1,6 +1,0 @@
-use Rattle.std.proofs.Common.{refl}
-use Rattle.check_judge.proofs.Judging.{judges_none}
-use Rattle.check_judge.proofs.judge.Judge.new.Goals as goal
-
-pub returns-clause-judges : goal.returns-clause-judges
-returns-clause-judges c plan keeps pending = judges_none plan _ c.new.ensures refl refl refl keeps pending

@@ -1,5 +1,0 @@
-use Rattle.check_judge.proofs.Telling.{one_told}
-use Rattle.check_judge.proofs.laws.one_text_is_told.Goals as goal
-
-pub returns : goal.returns
-returns c = one_told

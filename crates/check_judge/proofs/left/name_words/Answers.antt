@@ -1,9 +1,0 @@
-use Rattle.std.proofs.Common.{◌∙◌}
-use Rattle.check_judge.proofs.Naming.{named, unnamed}
-use Rattle.check_judge.proofs.left.name_words.Goals as goal
-
-pub returns-in-Ok : goal.returns-in-Ok
-returns-in-Ok c = c.word.ensures ∙ named c.in-Ok.op c.args.opcode c.args.param c.in-Ok.ensures.ok
-
-pub returns-in-Err : goal.returns-in-Err
-returns-in-Err c = unnamed c.args.opcode c.args.param (λ op is. let read = c.in-Err.ensures.all op is in absurd (cc))

@@ -1,8 +1,0 @@
--- The names so far are those of the masters so far.
-use Rattle.std.proofs.Common.{◌≡◌, map, take}
-use Rattle.check_system.specs.Master.{master_view}
-use Rattle.check_judge.specs.Names.{texts_of}
-use Rattle.check_judge.proofs.start.master_names.Given as goal
-
-abbrev pub invariant-loop-master : goal.invariant-loop-master
-invariant-loop-master l = texts_of l.names.items ≡ map (λ master. master.name) (map master_view (take l.master-index l.masters))

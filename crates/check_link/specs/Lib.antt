@@ -1,5 +1,0 @@
-pub mod Message
-pub mod Past
-pub mod Form
-pub mod Begun
-pub mod Laws

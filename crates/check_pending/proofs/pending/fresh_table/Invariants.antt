@@ -1,6 +1,0 @@
-use Rattle.std.proofs.Common.{◌≡◌, ℕ, None, vec_len}
-use Rattle.check_pending.specs.Table.{open_at}
-use Rattle.check_pending.proofs.pending.fresh_table.Given as goal
-
-abbrev pub invariant-loop-wide : goal.invariant-loop-wide
-invariant-loop-wide l = (vec_len l.table ≡ l._wide) × ((wide : ℕ) → open_at l.table.items wide ≡ None)

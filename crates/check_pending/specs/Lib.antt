@@ -1,3 +1,0 @@
-pub mod Table
-pub mod Began
-pub mod View

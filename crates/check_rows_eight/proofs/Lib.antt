@@ -1,4 +1,0 @@
-pub mod Alike
-pub mod NumbersAlike
-pub mod LanesAlike
-pub mod RowsAlike

@@ -1,9 +1,0 @@
--- No name so far is the one.
-use Rattle.std.proofs.Common.{◌≡◌, drop, map}
-use Rattle.check_system.specs.Name.{is_among}
-use Rattle.check_system.proofs.names.is_among.Given as goal
-
-abbrev pub invariant-loop-other : goal.invariant-loop-other
-invariant-loop-other l =
-    is_among (map (λ name. name.now) (drop l.other-index l.names)) l.name
-    ≡ is_among (map (λ name. name.now) l.names) l.name

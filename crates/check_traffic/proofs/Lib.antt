@@ -1,3 +1,0 @@
-pub mod Fresh
-pub mod Served
-pub mod Memory

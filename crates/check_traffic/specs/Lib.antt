@@ -1,3 +1,0 @@
-pub mod Flight
-pub mod Slave
-pub mod Side

@@ -1,4 +1,0 @@
-mod HeaderLemmas
-mod OutLemmas
-mod Taking
-mod Answering

@@ -1,4 +1,0 @@
-pub mod Fault
-pub mod Out
-pub mod Rows
-pub mod Capture
