@@ -208,8 +208,8 @@ static inline uint32_t tlx_system_read(struct tlx_system *system, const void *sc
   return tlx_system_read_at(system, (const uint8_t *)script, length, TLX_VERSION, text, room, &written);
 }
 
-/* Reads what the bytes of a system file name into an empty handle, for a judge, and writes the text of a fault as tlx_system_read does. A script
- * of tlx is a system file; its slots and operations are not looked at.
+/* Reads what the bytes of a system file name into an empty handle, for a judge, and writes the text of a fault as tlx_system_read does. A
+ * script of tlx is a system file; its slots and operations are not looked at.
  * Faults: TLX_NULL, TLX_OTHER_VERSION, TLX_FULL, TLX_TOO_LONG, TLX_NOT_TOML; then key by key, in the order that docs/FORMATS.md has,
  * TLX_MISSING, TLX_WRONG_TYPE, TLX_OUT_OF_RANGE; then TLX_TWO_CALLED. After TLX_TOO_LONG, TLX_MEMORY may come at any point. */
 static inline uint32_t tlx_system_describe(struct tlx_system *system, const void *file, size_t length, char *text, size_t room) {
@@ -224,8 +224,8 @@ static inline uint32_t tlx_system_describe(struct tlx_system *system, const void
 /* How many ports a system file names, which tlx_system_describe has read; 0 of another handle. The error port is none of them. */
 static inline uint64_t tlx_system_ports(struct tlx_system *system) { return system ? tlx_system_ports_at(system) : 0; }
 
-/* The file of a port's image, as the system file names it (from its own folder); an empty text if it names none for that port. A name that fills the
- * room may have been cut off. */
+/* The file of a port's image, as the system file names it (from its own folder on); an empty text if it names none for that port. A name that
+ * fills the room may have been cut off. */
 static inline size_t tlx_system_image_name(struct tlx_system *system, uint64_t port, char *text, size_t room) {
   return system && text && room ? tlx_system_image_name_at(system, port, text, room) : 0;
 }
@@ -272,10 +272,10 @@ static inline uint32_t tlx_model_byte(struct tlx_model *model, uint64_t address,
 static inline uint64_t tlx_model_masters(struct tlx_model *model) { return model ? tlx_model_masters_at(model) : 0; }
 static inline uint64_t tlx_model_ports(struct tlx_model *model) { return model ? tlx_model_ports_at(model) : 0; }
 
-/* Makes the judge of what a system's handle holds for one (tlx_system_describe), before any beat, in an empty handle: `links` are the links that are
- * watched (enum tlx_links), `order` when a request takes effect at a port for which the file does not say it (enum tlx_order). It takes
- * what the system's handle holds, which is empty from then on: after TLX_OK, TLX_BAD_PORTS, TLX_BAD_SOURCES and TLX_MEMORY. After another fault
- * the system's handle is as it was. The text of a fault is written as tlx_system_read does.
+/* Makes the judge of what a system's handle holds for one (tlx_system_describe), before any beat, in an empty handle: `links` are the links
+ * that are watched (enum tlx_links), `order` when a request takes effect at a port for which the file does not say it (enum tlx_order).
+ * It takes what the system's handle holds, which is empty from then on: after TLX_OK, TLX_BAD_PORTS, TLX_BAD_SOURCES and TLX_MEMORY. After
+ * another fault the system's handle is as it was. The text of a fault is written as tlx_system_read does.
  * Faults: TLX_NULL, TLX_BAD_ARGUMENT, TLX_FULL (the judge's handle), TLX_EMPTY (the system's), TLX_IMAGE_UNREADABLE (of the first port whose
  * image was not handed in), TLX_BAD_PORTS, TLX_BAD_SOURCES. After TLX_IMAGE_UNREADABLE, TLX_MEMORY may come at any point. */
 static inline uint32_t tlx_judge_make(struct tlx_judge *judge, struct tlx_system *system, uint8_t links, uint8_t order, char *text, size_t room) {
