@@ -159,7 +159,8 @@ class Run:
         self.wides = {owner: wide for wide, owner in owners_of(self.masters).items()}
         self.free = [set(range(master["sources"])) for master in self.masters]
         self.freed, self.used = [], [set() for _ in self.ports]
-        self.asks = [[ask_of(rng, self.ports) for _ in range(rng.randint(1, 8))] for _ in self.masters]
+        most = 8 if len(self.masters) < 4 else 1
+        self.asks = [[ask_of(rng, self.ports) for _ in range(rng.randint(1, most))] for _ in self.masters]
 
     def has_bug(self, name, chance=0.3):
         """Whether a bug shows itself now, which it does once."""
@@ -172,9 +173,9 @@ class Run:
         return None if self.rng.random() < 0.1 else self.rng.randrange(256)
 
     def rows(self):
-        """All rows of the run, with their times."""
-        time, rows = self.rng.choice([0, 10, self.rng.randrange(10_000), 2**64 - 20_000]), []
-        for _ in range(2000):
+        """All rows of the run, with their times. It ends when all is answered, or when nothing has crossed for long: a bug may stop it."""
+        time, rows, waited = self.rng.choice([0, 10, self.rng.randrange(10_000), 2**64 - 100_000]), [], 0
+        while (any(self.asks) or not self.is_idle()) and waited < 50:
             self.offer()
             crossed = [row for channel in self.channels.values() if (row := channel.beat(self.rng))]
             self.rng.shuffle(crossed)
@@ -183,8 +184,7 @@ class Run:
                 self.free[master].add(source)
             self.freed.clear()
             time += self.rng.choice([1, 1, 2, 5])
-            if not any(self.asks) and self.is_idle():
-                break
+            waited = 0 if crossed else waited + 1
         return rows
 
     def is_idle(self):
