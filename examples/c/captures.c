@@ -156,12 +156,16 @@ static int hand_in(struct tlx_system *system, const char *folder) {
   return is_well;
 }
 
-/* The system file of a capture: its own, if there is one, else that of all captures beside it. */
+/* The system file of a capture: its own, that of all captures whose names begin with its first word, or that of all captures beside it. */
 static size_t read_system_file(const char *folder, const char *name, char *file) {
-  char path[512];
-  snprintf(path, sizeof path, "%s.toml", name);
-  size_t length = read_file(folder, path, file);
-  return length ? length : read_file(folder, "system.toml", file);
+  const size_t fronts[] = {strlen(name), strcspn(name, "_")};
+  for (int k = 0; k < 2; k++) {
+    char path[512];
+    snprintf(path, sizeof path, "%.*s.toml", (int)fronts[k], name);
+    size_t length = read_file(folder, path, file);
+    if (length) return length;
+  }
+  return read_file(folder, "system.toml", file);
 }
 
 /* What the words beside a capture ask for. */

@@ -3,6 +3,7 @@
  * The monitors of an edge run in any order, and the judge wants beats in the order in which they cross (docs/CAPTURE.md): so they are kept
  * until the cycle ends. This file is C and C++, since Verilator compiles it as C++; a compiler that is given the header that the simulator
  * makes of the imports (-include Vtop__Dpi.h) compares them. */
+#include "svdpi.h"
 #include "tlx.h"
 
 #include <inttypes.h>
@@ -17,8 +18,8 @@ extern "C" {
 #define MAX_JUDGES 16
 #define MAX_BEATS 1024 /* of one cycle */
 #define MAX_TEXT 2048
-#define MAX_SCRIPT (1 << 20)
-#define BUS_LANES 8 /* of the module's links */
+#define MAX_NAME 4096 /* of a file */
+#define MAX_SYSTEM (1 << 20)
 
 struct watch {
   struct tlx_judge judge;
@@ -41,17 +42,63 @@ static uint8_t place_of(const char *word, const char *const *words, uint8_t coun
   return place;
 }
 
-/* A file's bytes, one more than a script may have at most, which the library then refuses; null if there are none to read. */
-static char *read_script(const char *path, size_t *length) {
+/* A file's bytes, to its end or to more than so many; null if there are none to read. */
+static char *read_file(const char *path, size_t most, size_t *length) {
   FILE *file = fopen(path, "rb");
-  char *script = file ? (char *)malloc(MAX_SCRIPT + 1) : NULL;
-  if (script) *length = fread(script, 1, MAX_SCRIPT + 1, file);
-  if (file && ferror(file)) {
-    free(script);
-    script = NULL;
+  char *bytes = NULL;
+  size_t room = 0, count = 1;
+  *length = 0;
+  while (file && count > 0 && *length <= most) {
+    room = room ? 2 * room : 4096;
+    char *more = (char *)realloc(bytes, room);
+    if (!more) break;
+    bytes = more;
+    count = fread(bytes + *length, 1, room - *length, file);
+    *length += count;
+  }
+  if (file && (ferror(file) || (count > 0 && *length <= most))) {
+    free(bytes);
+    bytes = NULL;
   }
   if (file) fclose(file);
-  return script;
+  return bytes;
+}
+
+/* The name of a file that a system file names, from the folder of that. */
+static void place_name(char *whole, const char *path, const char *name) {
+  const char *end = strrchr(path, '/');
+  if (name[0] == '/' || !end)
+    snprintf(whole, 2 * MAX_NAME, "%s", name);
+  else
+    snprintf(whole, 2 * MAX_NAME, "%.*s/%s", (int)(end - path), path, name);
+}
+
+/* Hands in the images that a system names. One that can't be read is not handed in, which the judge's maker then says. */
+static uint32_t read_images(struct tlx_system *system, const char *path, char *why, size_t room) {
+  uint32_t fault = TLX_OK;
+  for (uint64_t port = 0; port < tlx_system_ports(system) && fault == TLX_OK; port++) {
+    char name[MAX_NAME], whole[2 * MAX_NAME];
+    size_t length;
+    if (!tlx_system_image_name(system, port, name, sizeof name)) continue;
+    place_name(whole, path, name);
+    char *image = read_file(whole, SIZE_MAX / 4, &length);
+    if (image) fault = tlx_system_image(system, port, image, length, why, room);
+    free(image);
+    if (!image) break;
+  }
+  return fault;
+}
+
+/* Reads a system file with its images, and makes the judge of it. */
+static uint32_t make_judge(struct tlx_judge *judge, const char *path, const char *file, size_t length, uint8_t view, uint8_t order, char *why,
+                           size_t room) {
+  struct tlx_system system;
+  memset(&system, 0, sizeof system);
+  uint32_t fault = tlx_system_describe(&system, file, length, why, room);
+  if (fault == TLX_OK) fault = read_images(&system, path, why, room);
+  if (fault == TLX_OK) fault = tlx_judge_make(judge, &system, view, order, why, room);
+  tlx_system_free(&system);
+  return fault;
 }
 
 /* Makes the judge of a watch; what is wrong stands in its text. */
@@ -60,13 +107,13 @@ static void make(struct watch *watch, const char *path, const char *links, const
   size_t length = 0;
   char why[MAX_TEXT / 2] = "";
   uint8_t view = place_of(links, views, 4), when = place_of(order, orders, 2);
-  char *script = read_script(path, &length);
-  if (!script) {
+  char *file = read_file(path, MAX_SYSTEM, &length);
+  if (!file) {
     snprintf(watch->text, MAX_TEXT, "judge: %s: could not be read\n", path);
     return;
   }
-  uint32_t fault = tlx_judge_read(&watch->judge, script, length, view, when, why, sizeof why);
-  free(script);
+  uint32_t fault = make_judge(&watch->judge, path, file, length, view, when, why, sizeof why);
+  free(file);
   if (fault == TLX_OK) {
     watch->links = view;
     return;
@@ -75,21 +122,22 @@ static void make(struct watch *watch, const char *path, const char *links, const
   snprintf(watch->text, MAX_TEXT, "judge: %s, links %s, order %s: %s\n", path, links, order, why);
 }
 
-/* A judge for the crossbar that a script describes: its number, which the other calls take. */
+/* A judge for the crossbar that a system file describes: its number, which the other calls take. */
 int tl_judge_open(const char *path, const char *links, const char *order) {
   if (opened == MAX_JUDGES) return -1;
   make(&watches[opened], path, links, order);
   return opened++;
 }
 
-/* The lanes of a bus, of which data has eight bits each, lane 0 the low ones. */
-static void put_lanes(struct tlx_beat *beat, int lanes, uint64_t data, uint64_t known) {
+/* The lanes of a bus, of which data have eight bits each, lane 0 the low ones; four of them are a word. */
+static void put_lanes(struct tlx_beat *beat, uint8_t lanes, const svBitVecVal *data, uint64_t known) {
   beat->known = known;
-  for (int lane = 0; lane < lanes; lane++) beat->lanes[lane] = (uint8_t)(data >> 8 * lane);
+  for (uint8_t lane = 0; lane < lanes && lane < TLX_LANES; lane++) beat->lanes[lane] = (uint8_t)(data[lane / 4] >> 8 * (lane % 4));
 }
 
 /* Room for the beat that crosses a link, with what beats of both channels have; null where something is wrong already. */
-static struct tlx_beat *next_beat(int judge, const char *link, uint64_t time, uint8_t channel, uint64_t data, uint64_t known) {
+static struct tlx_beat *next_beat(int judge, const char *link, uint64_t time, uint8_t channel, uint8_t lanes, const svBitVecVal *data,
+                                  uint64_t known) {
   struct watch *watch = watch_of(judge);
   char *end;
   if (!watch || watch->text[0]) return NULL;
@@ -104,13 +152,14 @@ static struct tlx_beat *next_beat(int judge, const char *link, uint64_t time, ui
   beat->number = strtoull(link + 1, &end, 10);
   if (*end || end == link + 1) beat->number = UINT64_MAX;
   beat->channel = channel;
-  put_lanes(beat, BUS_LANES, data, known);
+  put_lanes(beat, lanes, data, known);
   return beat;
 }
 
 void tl_judge_request(int judge, const char *link, unsigned long long time, unsigned char opcode, unsigned char param, unsigned char size,
-                      unsigned short source, unsigned long long address, unsigned char mask, unsigned long long data, unsigned char known) {
-  struct tlx_beat *beat = next_beat(judge, link, time, TLX_A, data, known);
+                      unsigned short source, unsigned long long address, unsigned long long mask, unsigned char lanes, const svBitVecVal *data,
+                      unsigned long long known) {
+  struct tlx_beat *beat = next_beat(judge, link, time, TLX_A, lanes, data, known);
   if (!beat) return;
   beat->opcode = opcode;
   beat->param = param;
@@ -121,8 +170,8 @@ void tl_judge_request(int judge, const char *link, unsigned long long time, unsi
 }
 
 void tl_judge_reply(int judge, const char *link, unsigned long long time, unsigned char opcode, unsigned char size, unsigned short source,
-                    unsigned char denied, unsigned char corrupt, unsigned long long data, unsigned char known) {
-  struct tlx_beat *beat = next_beat(judge, link, time, TLX_D, data, known);
+                    unsigned char denied, unsigned char corrupt, unsigned char lanes, const svBitVecVal *data, unsigned long long known) {
+  struct tlx_beat *beat = next_beat(judge, link, time, TLX_D, lanes, data, known);
   if (!beat) return;
   beat->opcode = opcode;
   beat->size = size;

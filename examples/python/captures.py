@@ -1,8 +1,8 @@
 #!/usr/bin/env python3
 """Judges the captures of examples/captures and examples/systems by calls: captures.py FOLDER of the examples.
 
-Each must have its verdict, beat by beat and as one array. A capture NAME.csv has the system file NAME.toml beside it, or else system.toml. One
-whose verdict is about its text, which has no beats, is left out.
+Each must have its verdict, beat by beat and as one array. The system file of a capture NAME.csv is NAME.toml beside it, or that of the first word
+of its name (narrow.toml), or else system.toml. One whose verdict is about its text, which has no beats, is left out.
 """
 
 import csv
@@ -77,8 +77,9 @@ def main():
         if wanted.startswith("capture:"):
             continue
         words = path.with_suffix(".args").read_text().split() if path.with_suffix(".args").exists() else []
-        own = path.with_suffix(".toml")
-        system = tlx.System.read(own if own.exists() else path.with_name("system.toml"))
+        # its own, that of all captures whose names begin with its first word, or that of its folder
+        names = (f"{path.stem}.toml", f"{path.stem.split('_')[0]}.toml", "system.toml")
+        system = tlx.System.read(next(path.with_name(name) for name in names if path.with_name(name).exists()))
         beats = rows_of(path.with_suffix(".csv"))
         for is_array in (False, True):
             with tlx.Judge(system, option(words, "--links", "both"), option(words, "--order", "accept")) as judge:
