@@ -1,8 +1,7 @@
 //! What system files name, and the images of their ports.
 ghost use Rattle.std.specs.Prelude.{◌≡◌, ◌≢◌, ◌≤◌, ◌↔◌, [], IfNone, IfSome, None, Some, length, unwrap_or};
 ghost use Rattle.tl_c.specs.Calls.{HasDraft, HoldsDraft, IsImageAnswer, IsPartsAnswer};
-ghost use Rattle.tl_c.specs.Draft.{DraftView, IsDraftOf, IsFirstLacking, LacksNone, LacksSome, image_fault, image_file, with_image};
-ghost use Rattle.tl_c.specs.Handle.{unboxed};
+ghost use Rattle.tl_c.specs.Draft.{DraftView, IsDraftOf, IsFirstLacking, LacksNone, image_fault, image_file, with_image};
 ghost use Rattle.tl_c.specs.Text.{IsTextOf, IsWritten};
 ghost use Rattle.tl_c.specs.declared.held.Held.TheVariants as held;
 

@@ -169,16 +169,14 @@ fn step(alloc: Global, judge: &mut Judge, link: Link, beat: Beat, wire: &WireBea
     if !judge.watch.watches(link) {
         return NO_LINK;
     }
-    let bus = judge.watch.bus(link);
     let row = Row {
         line: wire.line,
         time: wire.time,
         link,
-        bus,
+        bus: judge.watch.bus(link),
         beat,
         known: wire.known,
     };
-    let _width = bus.bytes();
     judge_row(alloc, judge, &row, &wire.lanes)
 }
 

@@ -1,8 +1,9 @@
 //! tlx as a library of C: systems, models and judges behind handles that the caller owns.
 //!
 //! `include/tlx.h` is the interface, call by call; `docs/EMBEDDING.md` has a first use. Each export takes what a handle
-//! holds, has the public calls of the crates below do the work (most take one; a request that is served and a beat that
-//! is judged take several), and puts it back; its clauses are those of these calls, said of what the handle holds.
+//! holds, has the public calls of the crates below do the work, and puts it back. Most take one call; a judge that is
+//! made, a request that is served and a beat that is judged take several. Its clauses are those of these calls, said of
+//! what the handle holds.
 //! `laws` has the numbers of the header.
 #![tactic(auto)]
 

@@ -1,6 +1,6 @@
 //! Judges of the systems that files describe, before any beat.
-ghost use Rattle.std.specs.Prelude.{◌≡◌, ◌≢◌, ◌<◌, ◌≤◌, ◌↔◌, ◌⊎◌, IfErr, IfNone, IfOk, IfSome, IsSome, None, Some};
-ghost use Rattle.check_description.specs.Description.{IsFirstFaultOf, Makes};
+ghost use Rattle.std.specs.Prelude.{◌≡◌, ◌≢◌, ◌<◌, ◌≤◌, ◌↔◌, ◌⊎◌, IfErr, IfNone, IfOk, IfSome, None, Some};
+ghost use Rattle.check_description.specs.Description.{IsFirstFaultOf};
 ghost use Rattle.check_keys.specs.declared.fault.SystemFault.TheVariants.{Memory};
 ghost use Rattle.tl_c.specs.Calls.{HasDraft, HoldsDraft, HoldsJudge, IsFaultOfDraft, IsFileAnswer};
 ghost use Rattle.tl_c.specs.Draft.{IsFirstFileFault, LacksNone, LacksSome};
