@@ -1,11 +1,11 @@
 -- What each call makes of a judge. Lists of what crossed have the latest first. This project's own.
-use Rattle.std.specs.Prelude.{◌≡◌, ◌↔◌, ◌&&◌, ◌<◌, ◌≤◌, ◌==◌, ◌≢◌, ◌⊎◌, if◌then◌else◌, ℕ, List, [], ◌∷◌, length, Option, Some, None, IsSome, IsSomeAnd, vec_capacity}
+use Rattle.std.specs.Prelude.{◌≡◌, ◌↔◌, ◌&&◌, ◌%◌, ◌^◌, ◌<◌, ◌≤◌, ◌==◌, ◌≢◌, ◌⊎◌, if◌then◌else◌, ℕ, List, [], ◌∷◌, length, take, Option, Some, None, IsSome, IsSomeAnd, vec_capacity}
 use Rattle.check_flight.specs.declared.order.Order.{Order}
 use Rattle.check_flight.specs.declared.order.Order.TheVariants.{Accept, Reply}
-use Rattle.check_watch.specs.Plan.{Sighting}
+use Rattle.check_watch.specs.Plan.{Sighting, seen_at}
 use Rattle.check_watch.specs.declared.fault.Fault.{Fault}
 use Rattle.check_sides.specs.Lawful.{IsFirstFault, IsLawful, MayNeedMemory, what_is_seen}
-use Rattle.check_sides.specs.Plan.{Plan}
+use Rattle.check_sides.specs.Plan.{Layout, Plan, bus_of}
 use Rattle.check_sides.specs.View.{Keeps}
 use Rattle.check_sides.specs.declared.links.Links.{Links}
 use Rattle.check_sides.specs.declared.links.Links.TheVariants.{Both, Masters, Ports, Each}
@@ -27,6 +27,11 @@ use Rattle.tl_c.specs.declared.held.Judge.{Judge}
 use Rattle.tl_c.specs.declared.making.TheConstants.{LINE_ROOM}
 
 -- ---- beats
+
+-- what the bus of a link carries of a beat that is shown: its first lanes, and which of these were seen
+abbrev pub on_bus : Layout → Sighting → Sighting
+on_bus layout x =
+    seen_at x.link x.beat (x.known % 2 ^ bus_of layout x.link) (take (bus_of layout x.link) x.lanes)
 
 -- the judge was shown this, after these beats by this plan, and has answered this number
 pub record IsStep (plan : Plan) (past : List Sighting) (shown : Sighting) (old : Judge) (number : ℕ)

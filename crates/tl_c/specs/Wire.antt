@@ -90,7 +90,7 @@ abbrev pub beat_of : WireBeat → Option Beat
 beat_of w = if w.channel == 0 then Some (ask_beat w) else if w.channel == 1 then reply_beat w (flag_of w.denied)
     (flag_of w.corrupt) else None
 
--- the struct's lanes, seen with a beat at a link; those from the link's bus on no rule looks at
+-- a beat that was seen at a link, with all lanes of the struct
 abbrev pub seen_with : WireBeat → Option Link → Option Beat → Option Sighting
 seen_with w (Some link) (Some beat) = Some (seen_at link beat w.known w.lanes)
 seen_with w (Some link) None = None

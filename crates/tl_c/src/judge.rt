@@ -1,11 +1,12 @@
 //! Judges of beats.
-ghost use Rattle.std.specs.Prelude.{◌≡◌, ◌≢◌, ◌<◌, ◌≤◌, ◌↔◌, ◌&&◌, ◌⊎◌, ℕ, List, ◌∷◌, IsSome, None, Some, length, vec_capacity};
+ghost use Rattle.std.specs.Prelude.{◌≡◌, ◌≢◌, ◌%◌, ◌^◌, ◌<◌, ◌≤◌, ◌↔◌, ◌&&◌, ◌⊎◌, ℕ, List, ◌∷◌, IsSome, None, Some, length, vec_capacity};
 ghost use Rattle.tl_c.specs.Calls.{HoldsJudge, IsJudge};
-ghost use Rattle.tl_c.specs.Judging.{IsEndOf, IsFaultOfBeat, IsLineOf, IsLineOfLeft, IsStep, KeepsAllButLine, KeepsAllButText, row_at};
+ghost use Rattle.tl_c.specs.Judging.{IsEndOf, IsFaultOfBeat, IsLineOf, IsLineOfLeft, IsStep, KeepsAllButLine, KeepsAllButText, on_bus, row_at};
 ghost use Rattle.tl_c.specs.Text.{IsTextOf, IsWritten};
 ghost use Rattle.tl_c.specs.Wire.{shown_by};
 ghost use Rattle.tl_c.specs.declared.held.Judge.{Judge};
 ghost use Rattle.tl_c.specs.declared.held.Held.TheVariants as held;
+ghost use Rattle.check_beats.specs.Bus.{bus_bytes};
 ghost use Rattle.check_watch.specs.Plan.{Sighting, seen_at};
 ghost use Rattle.check_sides.specs.Pending.{IsChange};
 ghost use Rattle.check_sides.specs.Plan.{HasLink, IsWatched, Plan, bus_of};
@@ -21,6 +22,7 @@ use crate::held::{Held, Judge};
 use crate::system::take;
 use crate::text::put_text;
 use crate::wire::{WireBeat, seen_in};
+use check_beats::{Bus, MAX_LANES};
 use check_lines::{Names, push_incomplete, push_unlawful};
 use check_review::count_end;
 use check_rows::Row;
@@ -149,17 +151,25 @@ fn judge_row(alloc: Global, judge: &mut Judge, row: &Row, lanes: &[u8]) -> u32
     number
 }
 
-/// Judges one beat more. Its lanes are those of a struct: as many as the widest bus has.
+/// Which of the lanes of a bus are known, by the bits of all lanes.
+fn known_on(bus: Bus, known: u64) -> u64
+    ensures { result ≡ known % 2 ^ bus_bytes bus }
+{
+    known & (u64::MAX >> (MAX_LANES - bus.bytes()))
+}
+
+/// Judges one beat more, with as many lanes of its struct as the bus of its link has.
 fn step(alloc: Global, judge: &mut Judge, link: Link, beat: Beat, wire: &WireBeat) -> u32
     ensures step { (plan : Plan) (past : List Sighting) → Keeps plan past judge.old.watch → result ≢ NO_LINK
-        → IsStep plan past (seen_at link beat wire.now.known wire.now.lanes) judge.old result judge.new }
-    ensures fault { (plan : Plan) (past : List Sighting) → Keeps plan past judge.old.watch → NO_LINK < result
-        → IsFaultOfBeat plan past (seen_at link beat wire.now.known wire.now.lanes) wire.now.line wire.now.time
+        → IsStep plan past (on_bus judge.old.watch.layout (seen_at link beat wire.now.known wire.now.lanes))
         judge.old result judge.new }
+    ensures fault { (plan : Plan) (past : List Sighting) → Keeps plan past judge.old.watch → NO_LINK < result
+        → IsFaultOfBeat plan past (on_bus judge.old.watch.layout (seen_at link beat wire.now.known wire.now.lanes))
+        wire.now.line wire.now.time judge.old result judge.new }
     ensures pending { (plan : Plan) (rows : List SeenRow) → Keeps plan (beats_of rows) judge.old.watch
         → Holds plan rows judge.old.pending → result ≡ OK
-        → Holds plan (row_at wire.now.line wire.now.time (seen_at link beat wire.now.known wire.now.lanes) ∷ rows)
-        judge.new.pending }
+        → Holds plan (row_at wire.now.line wire.now.time
+        (on_bus judge.old.watch.layout (seen_at link beat wire.now.known wire.now.lanes)) ∷ rows) judge.new.pending }
     ensures link { result ≡ NO_LINK ↔ ((HasLink judge.old.watch.layout link
         × IsWatched judge.old.watch.layout.links link) → ⊥) }
     ensures first { result ≢ OK → result ≢ MEMORY → NO_LINK ≤ result }
@@ -169,15 +179,16 @@ fn step(alloc: Global, judge: &mut Judge, link: Link, beat: Beat, wire: &WireBea
     if !judge.watch.watches(link) {
         return NO_LINK;
     }
+    let bus = judge.watch.bus(link);
     let row = Row {
         line: wire.line,
         time: wire.time,
         link,
-        bus: judge.watch.bus(link),
+        bus,
         beat,
-        known: wire.known,
+        known: known_on(bus, wire.known),
     };
-    judge_row(alloc, judge, &row, &wire.lanes)
+    judge_row(alloc, judge, &row, &wire.lanes[..bus.bytes()])
 }
 
 /// `tlx_judge_step_at` of the header: judges one beat more.
@@ -188,14 +199,17 @@ pub extern "C" fn tlx_judge_step_at(alloc: Global, judge: &mut Handle, beat: &Wi
     ensures link { (j : Judge) (shown : Sighting) → judge.old.value ≡ Some (held.Judge j) → shown_by beat.now ≡ Some shown
         → (result ≡ NO_LINK ↔ ((HasLink j.watch.layout shown.link × IsWatched j.watch.layout.links shown.link) → ⊥)) }
     ensures step { (plan : Plan) (past : List Sighting) (j : Judge) (shown : Sighting) → judge.old.value ≡ Some (held.Judge j) → shown_by beat.now ≡ Some shown
-        → Keeps plan past j.watch → result ≢ NO_LINK → HoldsJudge (IsStep plan past shown j result) judge.new.value }
+        → Keeps plan past j.watch → result ≢ NO_LINK
+        → HoldsJudge (IsStep plan past (on_bus j.watch.layout shown) j result) judge.new.value }
     ensures fault { (plan : Plan) (past : List Sighting) (j : Judge) (shown : Sighting) → judge.old.value ≡ Some (held.Judge j) → shown_by beat.now ≡ Some shown
         → Keeps plan past j.watch → NO_LINK < result
-        → HoldsJudge (IsFaultOfBeat plan past shown beat.now.line beat.now.time j result) judge.new.value }
+        → HoldsJudge (IsFaultOfBeat plan past (on_bus j.watch.layout shown) beat.now.line beat.now.time j result)
+        judge.new.value }
     ensures pending { (plan : Plan) (rows : List SeenRow) (j : Judge) (shown : Sighting)
         → judge.old.value ≡ Some (held.Judge j) → shown_by beat.now ≡ Some shown → Keeps plan (beats_of rows) j.watch
         → Holds plan rows j.pending → result ≡ OK
-        → HoldsJudge (λ new. Holds plan (row_at beat.now.line beat.now.time shown ∷ rows) new.pending) judge.new.value }
+        → HoldsJudge (λ new. Holds plan (row_at beat.now.line beat.now.time (on_bus j.watch.layout shown) ∷ rows)
+        new.pending) judge.new.value }
     ensures first { result ≢ OK → result ≢ EMPTY → result ≢ BAD_ARGUMENT → result ≢ MEMORY → NO_LINK ≤ result }
     ensures err { result ≢ OK
         → HoldsJudge (λ old. HoldsJudge (KeepsAllButText old) judge.new.value) judge.old.value
