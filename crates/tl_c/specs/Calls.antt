@@ -1,5 +1,5 @@
 -- What each call makes of what a handle holds. This project's own.
-use Rattle.std.specs.Prelude.{◌≡◌, ◌<◌, ◌⊎◌, ⊤, ℕ, List, Option, Some, None}
+use Rattle.std.specs.Prelude.{◌≡◌, ◌≢◌, ◌<◌, ◌⊎◌, ⊤, ℕ, List, Option, Some, None}
 use Rattle.tl_model.specs.Crossbar.{CrossbarState, Accepts, IsFirstServeFault, IsServed}
 use Rattle.tl_model.specs.declared.crossbar.Answer.{Answer}
 use Rattle.tl_model.specs.declared.fault.ServeFault.{ServeFault}
@@ -97,7 +97,8 @@ pub record IsRefusedBy (old : CrossbarState) (master : ℕ) (wire : WireAsk) (nu
 -- version
 abbrev pub IsPartsAnswer : List ℕ → ℕ → Type 0
 IsPartsAnswer file number =
-    OTHER_VERSION < number → (fault : SystemFault) × (number ≡ file_number fault) × IsFirstPartFault file fault
+    MEMORY < number → number ≢ OTHER_VERSION
+    → (fault : SystemFault) × (number ≡ file_number fault) × IsFirstPartFault file fault
 
 -- the number is that of the fault of an image, if it has one; else there may be want of memory
 abbrev pub IsImageAnswer : Option ImageFault → ℕ → Type 0

@@ -9,7 +9,9 @@ ghost use Rattle.tl_c.specs.Text.{IsWritten};
 
 use crate::describe::{lacking_in, take_draft};
 use crate::draft::Draft;
-use crate::fault::{BAD_ARGUMENT, EMPTY, FULL, IMAGE_UNREADABLE, OK, OTHER_VERSION, file_number};
+use crate::fault::{
+    BAD_ARGUMENT, EMPTY, FULL, IMAGE_UNREADABLE, MEMORY, OK, OTHER_VERSION, file_number,
+};
 use crate::handle::Handle;
 use crate::held::{Held, Judge};
 use crate::system::{hold, is_full, put_fault};
@@ -117,7 +119,8 @@ pub extern "C" fn tlx_judge_make_at(
         ↔ (AreTerms links order × (judge.old.value ≡ None) × HoldsDraft LacksSome system.old.value) }
     ensures ok { result ≡ OK → ByTerms links order (λ terms.
         HoldsDraft (λ draft. HoldsJudge (IsJudgeOf terms draft) judge.new.value) system.old.value) }
-    ensures fault { OTHER_VERSION < result → HoldsDraft (λ draft. IsFaultOfDraft draft result) system.old.value }
+    ensures fault { MEMORY < result → result ≢ BAD_ARGUMENT
+        → HoldsDraft (λ draft. IsFaultOfDraft draft result) system.old.value }
     ensures err { result ≢ OK → judge.new.value ≡ judge.old.value }
     ensures kept { (result ≡ BAD_ARGUMENT) ⊎ (result ≡ FULL) ⊎ (result ≡ EMPTY) ⊎ (result ≡ IMAGE_UNREADABLE)
         → system.new.value ≡ system.old.value }

@@ -7,7 +7,7 @@ use Rattle.tl_c.proofs.Drafts.{holds_draft}
 use Rattle.tl_c.proofs.making.tlx_judge_make_at.Goals as goal
 
 pub returns-in-Some-lacking_in-clause-fault : goal.returns-in-Some-lacking_in-clause-fault
-returns-in-Some-lacking_in-clause-fault c _ =
+returns-in-Some-lacking_in-clause-fault c _ _ =
     let port = c.in-Some-lacking_in.port in
     holds_draft (λ draft. IsFirstLacking draft port) (λ draft. IsFaultOfDraft draft 63) c.args.system.now.value
     (λ draft is. record { fault = ImageUnreadable port; number_is = refl; first = is }) c.in-Some-lacking_in.ensures.some
