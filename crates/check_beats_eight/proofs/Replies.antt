@@ -56,8 +56,10 @@ beat_alike reply address b beat = (
     bytes = λ granted j byte at row.
         from_map (λ (x : ℕ). Some x)
         (λ (x : Option ℕ). StandsAt all_lanes beat.lanes (lane_of 8 address reply.size j) x) reply.bytes j
-        (λ x there. (lane_known (lane_of 8 address reply.size j) (lane_below address reply.size j),
-        s.bytes (sym s.fields.denied ∙ granted) j x there row)) byte at;
+        (λ x there. (
+          lane_known (lane_of 8 address reply.size j) (lane_below address reply.size j),
+          s.bytes (sym s.fields.denied ∙ granted) j x there row,
+        )) byte at;
   }),
 )
   where

@@ -41,7 +41,7 @@ loop-number-preserved g c =
     rw pushed (
       omega (arith, length-append images (image ∷ []), c.loop-number.invariant.0),
       one_more (map port_view ports) images image (port_view port) c.loop-number.invariant.1 here
-      c.in_ok-image.ensures.ok,
+          c.in_ok-image.ensures.ok,
     )
 
 pub returns-clause-ok : goal.returns-clause-ok
