@@ -1,0 +1,191 @@
+"""A design in Verilog before tlcheck: without a bug it is lawful, and of each planted bug tlcheck says what a table expects.
+
+`main` is the check of a folder with bugs.vh, bugs.txt and system.toml; this folder's and examples/soc128's call it. TLCHECK and TLVCD name
+other programs than the launchers at the top. The bench takes +seed=, +random=, +capture=, +dump= and +images=.
+"""
+
+import concurrent.futures
+import importlib.machinery
+import importlib.util
+import os
+import re
+import shutil
+import subprocess
+import sys
+import tempfile
+import tomllib
+
+HERE = os.path.dirname(os.path.abspath(__file__))
+EXAMPLES = os.path.dirname(HERE)
+TOP = os.path.dirname(EXAMPLES)
+RTL = os.path.join(EXAMPLES, "rtl")
+sys.dont_write_bytecode = True
+sys.path.insert(0, RTL)
+
+# the programs and the comparison of dumps of examples/rtl
+loader = importlib.machinery.SourceFileLoader("rtl_check", os.path.join(RTL, "check"))
+rtl = importlib.util.module_from_spec(importlib.util.spec_from_loader(loader.name, loader))
+loader.exec_module(rtl)
+
+VIEWS = ("both", "masters", "ports", "each")
+ORDERS = ("accept", "reply")
+SEEDS, BUG_SEEDS, DUMPED_SEEDS = range(1, 21), range(1, 5), (1, 2)
+UNLAWFUL = re.compile(r"unlawful: line (\d+), time (\d+), (\S+) ([AD]: .*)\n")
+
+
+class Folder:
+    """The design of a folder: how its bench is built, and what its links are called."""
+
+    def __init__(self, folder, sources, directory):
+        self.folder, self.directory = folder, directory
+        self.system = os.path.join(folder, "system.toml")
+        self.sources = [os.path.join(folder, name) for name in sources]
+        self.sources += [os.path.join(RTL, name) for name in ("tl_queue.v", "tl_monitor.v")]
+        with open(self.system, "rb") as file:
+            system = tomllib.load(file)
+        self.hosts = [master["name"] for master in system["master"]]
+        self.ports = [port["name"] for port in system["port"]]
+
+    def build(self, name, *defines):
+        """Builds the bench in a directory of its own."""
+        directory = os.path.join(self.directory, name)
+        os.makedirs(directory, exist_ok=True)
+        bench = os.path.join(directory, "bench")
+        options = ["-g2005-sv", "-Wall", "-Wno-timescale", "-I", self.folder, *defines]
+        subprocess.run(["iverilog", *options, "-o", bench, *self.sources], check=True)
+        return bench
+
+    def run(self, bench, seed, dumped=False):
+        """Runs a bench under a seed; its capture, beside which the dump lies if there is one."""
+        name = f"seed_{seed}"
+        arguments = [f"+seed={seed}", f"+capture={name}.csv", f"+images={self.folder}"] + [f"+dump={name}.vcd"] * dumped
+        subprocess.run(["vvp", "-n", bench, *arguments], cwd=os.path.dirname(bench), check=True, stdout=subprocess.DEVNULL)
+        return os.path.join(os.path.dirname(bench), name + ".csv")
+
+    def judge(self, capture, view, order="accept"):
+        """What tlcheck says of a capture, requests without replies included."""
+        return rtl.judge_of(self.system, capture, "--complete", "--links", view, "--order", order)
+
+    def link_of(self, name):
+        """The link that verdicts call by a name, as captures have it."""
+        return f"m{self.hosts.index(name)}" if name in self.hosts else f"p{self.ports.index(name)}"
+
+    def pattern_of(self, cell):
+        """A cell of the table as a regular expression for what is told of a verdict."""
+        hosts, ports = "|".join(self.hosts), "|".join(self.ports)
+        return cell.replace("HOST", f"({hosts})").replace("PORT", f"({ports})")
+
+
+def told_of(verdict):
+    """A verdict as the table has it: the link, the channel and the fault; `incomplete`; or `lawful`."""
+    named = UNLAWFUL.fullmatch(verdict)
+    if named:
+        return f"{named[3]} {named[4]}"
+    if verdict.startswith("incomplete: "):
+        return "incomplete"
+    return "lawful" if rtl.is_whole(verdict) else verdict
+
+
+def table_of(path):
+    """The rows of a table of bugs: the name, and a cell for each view."""
+    rows = {}
+    with open(path, encoding="utf-8") as file:
+        for line in file:
+            if line.strip() and not line.startswith("#"):
+                name, *cells = line.rstrip("\n").split(" | ")
+                rows[name] = dict(zip(VIEWS, cells, strict=True))
+    return rows
+
+
+def names_of(folder):
+    """The bugs that bugs.vh declares."""
+    return re.findall(r"^  ([A-Z0-9_]+) = [1-9]", rtl.read(os.path.join(folder, "bugs.vh")), re.M)
+
+
+def judge_design(folder, bench, seed):
+    """One run of a design without a bug: its capture, and what each view and order says of it."""
+    capture = folder.run(bench, seed, seed in DUMPED_SEEDS)
+    return capture, {(view, order): folder.judge(capture, view, order) for view in VIEWS for order in ORDERS}
+
+
+def check_design(folder, pool, name, defines, lawful):
+    """A design without a bug: lawful under all seeds in these views and orders, and for some seed in none else."""
+    bench = folder.build(name, *defines)
+    runs = [*pool.map(lambda seed: (seed, *judge_design(folder, bench, seed)), SEEDS)]
+    for seed, capture, verdicts in runs:
+        for view, order in lawful:
+            rtl.tell(f"{name}, seed {seed}, links {view}, order {order}: {verdicts[view, order]}", rtl.is_whole(verdicts[view, order]))
+        if seed in DUMPED_SEEDS:
+            rtl.compare_dump(f"{name}, seed {seed}", folder.system, rtl.dump_of(capture), capture)
+    for key in {(view, order) for view in VIEWS for order in ORDERS} - set(lawful):
+        seen = any(" D: wrong reply: " in verdicts[key] for _, _, verdicts in runs)
+        rtl.tell(f"{name}: lawful with links {key[0]} and order {key[1]} as well", seen)
+    print(f"{name}: {runs[0][2]['both', 'accept'].rstrip()}")
+
+
+def front_is_lawful(folder, capture, verdict, view):
+    """The row that a verdict names is of that time and link, and all rows of earlier times are lawful."""
+    line, time, name, fault = UNLAWFUL.fullmatch(verdict).groups()
+    with open(capture, encoding="ascii") as file:
+        rows = file.readlines()
+    cut = f"{capture}.{view}"
+    with open(cut, "w", encoding="ascii") as file:
+        file.writelines(rows[:1] + [row for row in rows[1:] if int(row.split(",")[0]) < int(time)])
+    before = rtl.judge_of(folder.system, cut, "--links", view)
+    return rows[int(line) - 1].split(",")[:3] == [time, folder.link_of(name), fault[0]] and rtl.LAWFUL.fullmatch(before) is not None
+
+
+def judge_bug(folder, bug):
+    """The runs of a bug: for each seed its capture, and the verdict of each view."""
+    bench = folder.build(bug, f"-DBUG={bug}")
+    captures = [folder.run(bench, seed, seed == 1) for seed in BUG_SEEDS]
+    return [(capture, {view: folder.judge(capture, view) for view in VIEWS}) for capture in captures]
+
+
+def check_bug(folder, bug, cells, runs):
+    """In each view some run shows the bug, unless the table has it that none need. A run that does says what the table expects, and names the first row."""
+    print(f"{bug}: {next((v['both'] for _, v in runs if told_of(v['both']) != 'lawful'), runs[0][1]['both'])[:150].rstrip()}")
+    rtl.compare_dump(bug, folder.system, rtl.dump_of(runs[0][0]), runs[0][0])
+    for view, cell in cells.items():
+        told = [told_of(verdicts[view]) for _, verdicts in runs]
+        for capture, verdicts in runs:
+            verdict = verdicts[view]
+            fits = re.fullmatch(folder.pattern_of(cell + "|lawful"), told_of(verdict))
+            rtl.tell(f"{bug}, links {view}: {verdict.rstrip()}, not {cell}", fits)
+            if UNLAWFUL.fullmatch(verdict):
+                rtl.tell(f"{bug}, links {view}: not the first row", front_is_lawful(folder, capture, verdict, view))
+        rtl.tell(f"{bug}, links {view}: not seen", "lawful" in cell.split("|") or any(word != "lawful" for word in told))
+
+
+def check_commands(folder, readme, expected):
+    """The commands that a README shows lead from a dump to the verdicts that it prints."""
+    text = rtl.read(readme)
+    block = re.search(r"```sh\n(.*?)```", text, re.S)[1]
+    rtl.tell(f"{readme}: more than ten lines", len(block.splitlines()) <= 10)
+    block = block.replace("/tmp/", folder.directory + "/")
+    for name, program in (("tlcheck", rtl.TLCHECK), ("tlvcd", rtl.TLVCD)):
+        block = block.replace(f"./{name} ", program + " ")
+    done = subprocess.run(["bash", "-c", block], cwd=TOP, capture_output=True, text=True)
+    told = [line for line in done.stdout.splitlines() if re.match(r"lawful|unlawful|incomplete", line)]
+    rtl.tell(f"{readme}: {done.stdout}{done.stderr}", told == expected and all(line in text for line in expected))
+
+
+def main(where, sources, designs, expected):
+    """The check of a folder: its status."""
+    if shutil.which("iverilog") is None:
+        print("iverilog is missing; on Debian and Ubuntu: apt-get install iverilog", file=sys.stderr)
+        return 69
+    empty = subprocess.run([rtl.TLCHECK, os.path.join(where, "system.toml")], input=rtl.stimulus.HEADER, text=True, stdout=subprocess.DEVNULL)
+    if empty.returncode != 0:
+        return 70
+    table = table_of(os.path.join(where, "bugs.txt"))
+    with tempfile.TemporaryDirectory() as scratch, concurrent.futures.ThreadPoolExecutor(max_workers=os.cpu_count()) as pool:
+        folder = Folder(where, sources, os.path.abspath(sys.argv[1]) if len(sys.argv) > 1 else scratch)
+        rtl.tell("bugs.txt: other bugs than bugs.vh", [*table] == names_of(where))
+        for design in designs:
+            check_design(folder, pool, *design)
+        for bug, runs in zip(table, pool.map(lambda bug: judge_bug(folder, bug), table)):
+            check_bug(folder, bug, table[bug], runs)
+        check_commands(folder, os.path.join(where, "README.md"), expected)
+    print(f"{rtl.passed} passed, {len(rtl.failed)} failed")
+    return 1 if rtl.failed else 0
