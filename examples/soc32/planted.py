@@ -154,23 +154,32 @@ def check_bug(folder, bug, cells, runs):
             rtl.tell(f"{bug}, links {view}: {verdict.rstrip()}, not {cell}", fits)
             if UNLAWFUL.fullmatch(verdict):
                 rtl.tell(f"{bug}, links {view}: not the first row", front_is_lawful(folder, capture, verdict, view))
-        rtl.tell(f"{bug}, links {view}: not seen", "lawful" in cell.split("|") or any(word != "lawful" for word in told))
+        rtl.tell(f"{bug}, links {view}: not seen", seen_of(cell) in ("no", "by luck") or any(word != "lawful" for word in told))
 
 
-def check_commands(folder, readme, expected):
-    """The commands that a README shows lead from a dump to the verdicts that it prints."""
-    text = rtl.read(readme)
-    block = re.search(r"```sh\n(.*?)```", text, re.S)[1]
-    rtl.tell(f"{readme}: more than ten lines", len(block.splitlines()) <= 10)
-    block = block.replace("/tmp/", folder.directory + "/")
-    for name, program in (("tlcheck", rtl.TLCHECK), ("tlvcd", rtl.TLVCD)):
-        block = block.replace(f"./{name} ", program + " ")
-    done = subprocess.run(["bash", "-c", block], cwd=TOP, capture_output=True, text=True)
-    told = [line for line in done.stdout.splitlines() if re.match(r"lawful|unlawful|incomplete", line)]
-    rtl.tell(f"{readme}: {done.stdout}{done.stderr}", told == expected and all(line in text for line in expected))
+def seen_of(cell):
+    """How a cell of the table stands in a README: whether the view sees the bug."""
+    ways = re.split(r"\|(?![^(]*\))", cell)
+    return "no" if ways == ["lawful"] else "by luck" if "lawful" in ways else "`--complete`" if ways == ["incomplete"] else "yes"
 
 
-def main(where, sources, designs, expected):
+def check_readme(folder, table):
+    """The README has a row for each bug that says which view sees it, and its commands lead from a dump to the verdicts that it shows."""
+    path = os.path.join(folder.folder, "README.md")
+    text = rtl.read(path)
+    for bug, cells in table.items():
+        ends = " | ".join(seen_of(cell) for cell in cells.values())
+        rtl.tell(f"{path}: {bug}: not {ends}", re.search(rf"^\| `{bug}` \| [^|]+ \| {re.escape(ends)} \|$", text, re.M))
+    commands, prints = re.search(r"```sh\n(.*?)```\n\nprints\n\n    (.*?)\n", text, re.S).groups()
+    without = re.search(r"^    (lawful: .*)$", text, re.M)[1]
+    rtl.tell(f"{path}: more than ten lines", len(commands.splitlines()) <= 10)
+    commands = commands.replace("/tmp/", folder.directory + "/").replace("./tlcheck ", rtl.TLCHECK + " ").replace("./tlvcd ", rtl.TLVCD + " ")
+    for words, expected in ((commands, prints), (re.sub(r"-DBUG=\w+ ", "", commands), without)):
+        done = subprocess.run(["bash", "-c", words], cwd=TOP, stdout=subprocess.PIPE, text=True)
+        rtl.tell(f"{path}: {done.stdout}", done.stdout.splitlines()[-1:] == [expected])
+
+
+def main(where, sources, designs):
     """The check of a folder: its status."""
     if shutil.which("iverilog") is None:
         print("iverilog is missing; on Debian and Ubuntu: apt-get install iverilog", file=sys.stderr)
@@ -186,6 +195,6 @@ def main(where, sources, designs, expected):
             check_design(folder, pool, *design)
         for bug, runs in zip(table, pool.map(lambda bug: judge_bug(folder, bug), table)):
             check_bug(folder, bug, table[bug], runs)
-        check_commands(folder, os.path.join(where, "README.md"), expected)
+        check_readme(folder, table)
     print(f"{rtl.passed} passed, {len(rtl.failed)} failed")
     return 1 if rtl.failed else 0
