@@ -1,7 +1,7 @@
 """A design in Verilog before tlcheck: without a bug it is lawful, and of each planted bug tlcheck says what a table expects.
 
 `main` is the check of a folder with bugs.vh, bugs.txt and system.toml; this folder's and examples/soc128's call it. TLCHECK and TLVCD name
-other programs than the launchers at the top. The bench takes +seed=, +random=, +capture=, +dump= and +images=.
+other programs than the launchers at the top. The bench takes +seed=, +capture=, +dump= and +images=.
 """
 
 import concurrent.futures
@@ -54,6 +54,11 @@ class Folder:
         options = ["-g2005-sv", "-Wall", "-Wno-timescale", "-I", self.folder, *defines]
         subprocess.run(["iverilog", *options, "-o", bench, *self.sources], check=True)
         return bench
+
+    def is_taken_by_verilator(self):
+        """Verilator takes the design and the bench as well."""
+        options = ["--lint-only", "--timing", "-Wno-fatal", "-Wno-WIDTH", "--top-module", "tb", f"-I{self.folder}"]
+        return subprocess.run(["verilator", *options, *self.sources], stderr=subprocess.DEVNULL).returncode == 0
 
     def run(self, bench, seed, dumped=False):
         """Runs a bench under a seed; its capture, beside which the dump lies if there is one."""
@@ -181,9 +186,10 @@ def check_readme(folder, table):
 
 def main(where, sources, designs):
     """The check of a folder: its status."""
-    if shutil.which("iverilog") is None:
-        print("iverilog is missing; on Debian and Ubuntu: apt-get install iverilog", file=sys.stderr)
-        return 69
+    for program in ("iverilog", "verilator"):
+        if shutil.which(program) is None:
+            print(f"{program} is missing; on Debian and Ubuntu: apt-get install {program}", file=sys.stderr)
+            return 69
     empty = subprocess.run([rtl.TLCHECK, os.path.join(where, "system.toml")], input=rtl.stimulus.HEADER, text=True, stdout=subprocess.DEVNULL)
     if empty.returncode != 0:
         return 70
@@ -191,6 +197,7 @@ def main(where, sources, designs):
     with tempfile.TemporaryDirectory() as scratch, concurrent.futures.ThreadPoolExecutor(max_workers=os.cpu_count()) as pool:
         folder = Folder(where, sources, os.path.abspath(sys.argv[1]) if len(sys.argv) > 1 else scratch)
         rtl.tell("bugs.txt: other bugs than bugs.vh", [*table] == names_of(where))
+        rtl.tell("not taken by verilator", folder.is_taken_by_verilator())
         for design in designs:
             check_design(folder, pool, *design)
         for bug, runs in zip(table, pool.map(lambda bug: judge_bug(folder, bug), table)):
