@@ -148,7 +148,7 @@ def judge_bug(folder, bug):
 
 
 def check_bug(folder, bug, cells, runs):
-    """In each view some run shows the bug, unless the table has it that none need. A run that does says what the table expects, and names the first row."""
+    """In each view some run shows the bug, unless none need by the table. One that does says what the table has, and names the first row."""
     print(f"{bug}: {next((v['both'] for _, v in runs if told_of(v['both']) != 'lawful'), runs[0][1]['both'])[:150].rstrip()}")
     rtl.compare_dump(bug, folder.system, rtl.dump_of(runs[0][0]), runs[0][0])
     for view, cell in cells.items():
