@@ -5,16 +5,16 @@
 `endif
 localparam NONE = 0,
   MASK_DROPPED = 1,          // the adapter's second narrow beat of a partial put has no mask
-  REQUEST_LANES_SHIFTED = 2, // it takes the lanes of an eight-byte request from the low half, wherever they stand
-  REPLY_LANES_SHIFTED = 3,   // it puts a reply of four bytes into the lowest word, wherever it belongs
-  HALVES_APART = 4,          // it makes two replies of the two narrow beats of eight bytes
-  STALE_SOURCE = 5,          // its replies have the source of the request that it passed on last
-  ADAPTER_LOSES_DENIAL = 6,  // its replies have no denied
+  REQUEST_LANES_SHIFTED = 2, // the adapter takes the lanes of an eight-byte request from the low half, wherever they stand
+  REPLY_LANES_SHIFTED = 3,   // the adapter puts a reply of four bytes into the lowest word, wherever it belongs
+  HALVES_APART = 4,          // the adapter makes two replies of the two narrow beats of eight bytes
+  STALE_SOURCE = 5,          // the adapter's replies have the source of the request that it passed on last
+  ADAPTER_LOSES_DENIAL = 6,  // the adapter's replies have no denied
   WIDE_TOO_HIGH = 7,         // behind the crossbar the DMA engine's sources begin at 20, not at 16
   ARBITER_UNLOCKS = 8,       // two clients' bursts are mixed at a slave
   REPLIES_MIXED = 9,         // two slaves' bursts are mixed at a client
   ERROR_ONE_BEAT = 10,       // the error responder answers a burst with one beat
-  DENIED_FIRST_ALONE = 11,   // it denies the first beat of a burst alone
+  DENIED_FIRST_ALONE = 11,   // the error responder denies the first beat of a burst alone
   CORRUPT_LOST = 12,         // denied replies that carry bytes are not corrupt
   HALVES_EXCHANGED = 13,     // the boot ROM's words have their halves exchanged
   ATOMIC_UNDENIED = 14,      // slaves without atomics answer one as a get

@@ -5,11 +5,11 @@
 `endif
 localparam NONE = 0,
   SOURCE_BIT_LOST = 1,     // a socket of several hosts loses the lowest bit of the host's source
-  STALE_HOST = 2,          // it routes a reply to the host that it served last, whatever the reply's source says
+  STALE_HOST = 2,          // a socket of several hosts routes a reply to the host that it served last, whatever the reply's source says
   HOST_NUMBER_ABOVE = 3,   // RAM's socket puts the host's number above the source, and takes it from there
   READY_TO_ALL = 4,        // of hosts that contend at a socket all are told that their request was taken
   NOT_HELD = 5,            // a host's socket lets a request go to another device while replies are under way
-  LATE_ERROR = 6,          // it doesn't count what it sent to the error responder
+  LATE_ERROR = 6,          // a host's socket doesn't count what it sent to the error responder
   ERROR_WITHOUT_DATA = 7,  // the error responder answers a get as a put
   ERROR_FLAG_LOST = 8,     // the reply register before a host loses d_error
   UART_BIT_SHORT = 9,      // uart0 is selected by one address bit too few, and gets what uart1 should
