@@ -116,11 +116,15 @@ class Incomplete(Exception):
         return type(self), (self.text,)
 
 
+# read ahead: there is no memory for them if they are wanted
+_MEMORY_WORDS = Fault.MEMORY.words
+
+
 def fault_of(number: int, text: str = "") -> Exception:
     """The exception for a fault of a call that is neither a text's nor an unlawful beat's."""
     fault = Fault(number)
     if fault is Fault.MEMORY:
-        return MemoryError(fault.words)
+        return MemoryError(_MEMORY_WORDS)
     if fault is Fault.EMPTY:
         return ValueError("it is closed")
     return Refused(fault, text)
