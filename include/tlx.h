@@ -97,7 +97,7 @@ enum tlx_fault {
 enum tlx_side { TLX_MASTER = 0, TLX_PORT = 1 };
 enum tlx_channel { TLX_A = 0, TLX_D = 1 };
 enum tlx_links { TLX_BOTH_LINKS = 0, TLX_MASTER_LINKS = 1, TLX_PORT_LINKS = 2, TLX_EACH_LINK = 3 };
-enum tlx_order { TLX_ACCEPT_ORDER = 0, TLX_REPLY_ORDER = 1 };
+enum tlx_order { TLX_ACCEPT_ORDER = 0, TLX_REPLY_ORDER = 1, TLX_ANY_ORDER = 2 };
 
 /* The handles. That of a system holds one for a model (tlx_system_read) or one for a judge (tlx_system_describe). */
 struct tlx_system { void *at; uint8_t live; };

@@ -17,6 +17,8 @@ SYSTEM_KINDS = (*KINDS, "device")
 # How many bytes a data bus may have, and how many it has if nobody says.
 BUSES = (1, 2, 4, 8, 16, 32, 64)
 BUS = 8
+# When a request may take effect at its port: with its last beat, with its reply's first beat, or at some moment between these.
+ORDERS = ("accept", "reply", "any")
 # The keys of a script: of the document, of a port and of a master.
 KEYS = {"": ("slots", "port", "master"), "port": ("kind", "base", "length", "reset"), "master": ("sources", "ops")}
 # The keys of a system file; those of a script that it may have too; and those that say where signals are (docs/CAPTURE.md).

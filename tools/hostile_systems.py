@@ -10,7 +10,7 @@ import random
 import re
 import subprocess
 
-from common import GROUPS, HEADER, LONGEST_SCRIPT, OPERATIONS, REPLIES, SECONDS, SYSTEM_KEYS, SYSTEM_KINDS, TLCHECK, TOP, system_of
+from common import GROUPS, HEADER, LONGEST_SCRIPT, OPERATIONS, ORDERS, REPLIES, SECONDS, SYSTEM_KEYS, SYSTEM_KINDS, TLCHECK, TOP, system_of
 
 KEY = "|".join(sorted({key for keys in SYSTEM_KEYS.values() for key in keys}))
 NAME = "[A-Za-z0-9_.-]+"
@@ -36,7 +36,7 @@ WORDS = ["bus", "port", "master", "kind", "base", "length", "ranges", "image", "
          "'device'", "'short.bin'", "'00ff'", "'accept'", "[0, 3]", "'''", '"""', "#", "\\", "\0", "é"]
 VALUES = ["0", "1", "2", "4", "16", "-1", "64", "0x1000", "0x1_0000", "65536", "9223372036854775807", "9223372036854775808", "1.5", "true", "false",
           "'ram'", "'rom'", "'regs'", "'w1c'", "'device'", "'error'", "''", "'00'", "'0'", "'short.bin'", "'long.bin'", "'missing.bin'", "'folder'",
-          "'accept'", "'reply'", "'any'", "'m0'", "'dram'", "[[0, 1]]", "[[0, 1], [0, 1]]", "[]", "{}", "{ get = [0, 2] }", "{ get = [2, 0] }",
+          "'accept'", "'reply'", "'any'", "'all'", "'m0'", "'dram'", "[[0, 1]]", "[[0, 1], [0, 1]]", "[]", "{}", "{ get = [0, 2] }", "{ get = [2, 0] }",
           "{ get = 1 }", "[1]"]
 CELLS = ["0", "1", "2", "3", "4", "7", "8", "9", "10", "256", "65536", "m0", "m1", "p0", "p1", "p300", "A", "D", "", "", "1000", "f", "0f", "ff", "x",
          "00000000", "0000000000000000", "xxxxxxxx", "18446744073709551616", '"', '"1"', "é", "\0"]
@@ -110,7 +110,7 @@ def port_of(rng, place, wild):
             (0.2, "reset", ["''", "'fF'"] + ["'0'", "'0g'", "'FF' ", "1", f"'{'00' * 70000}'"] * odd),
             (0.3, "image", [f'"{image_of(rng)}"'] if odd else ["'short.bin'"]),
             (0.3, "unknown", ["true", "false"] + ["1", "'true'"] * odd),
-            (0.3, "order", ["'accept'", "'reply'"] + ["'any'", "1"] * odd),
+            (0.3, "order", ["'accept'", "'reply'", "'any'"] + ["'all'", "1"] * odd),
             (0.3, "bus", [1, 2, 4, 8, 16, 32, 64] + [0, 3, 128, -8, "'8'", 2 ** 62] * odd),
             (0.3, "sizes", [sizes_of(rng, odd)]),
             (0.3, "name", [f"'s{place}'"] + ["'p0'", "''", "1", "'s0'"] * odd)):
@@ -191,7 +191,7 @@ def judge(seed, found, folder):
     for path, text in zip(paths, (system, capture)):
         with open(path, "wb") as file:
             file.write(text)
-    words = ["--links", rng.choice(["both", "masters", "ports", "each"]), "--order", rng.choice(["accept", "reply"])]
+    words = ["--links", rng.choice(["both", "masters", "ports", "each"]), "--order", rng.choice(ORDERS)]
     words += [word for word in ("--trace", "--complete") if rng.random() < 0.5]
     read_file, read_input = run([*words, *paths], b""), run([*words, paths[0], "-"], capture)
     for path in paths:

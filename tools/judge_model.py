@@ -61,7 +61,7 @@ class Flight:
         self.data, self.answer = [], []
         # the beats that have crossed of the request and of its reply, and the row that the reply began with
         self.asked, self.answered, self.reply_row = 0, 0, None
-        self.is_whole, self.place, self.expected = False, None, None
+        self.is_whole, self.place, self.expected, self.kept = False, None, None, None
         # with both sides watched: a port's flight knows its master's, and this one what the port gave
         self.origin, self.has_crossed, self.given = None, False, None
 
@@ -173,8 +173,14 @@ class Judge:
     def serve(self, link, flight, moment):
         """A request takes effect if this is the moment for it."""
         slave = self.slave_of(link, flight)
-        if slave and (slave.order or self.order) == moment:
+        order = slave and (slave.order or self.order)
+        if order == moment:
             flight.expected, flight.place = slave.served_next(flight.ask())
+        elif order == "any" and moment == "accept":
+            flight.kept = slave.accept(flight.ask())
+        elif order == "any":
+            slave.kept.remove(flight.kept)
+            flight.expected, flight.place = flight.kept.expected, flight.kept.place
 
     # ---- channel A
 

@@ -56,12 +56,29 @@ def port_of(ports, address, size):
 ERROR_PORT = {"kind": "error", "base": 0, "length": 0}
 
 
+class Kept:
+    """A request that a slave has accepted and not answered, with `--order any`: what its reply has to fit, and its place by acceptance."""
+
+    def __init__(self, ask, writes, expected, place):
+        self.ask, self.writes, self.expected, self.place = ask, writes, expected, place
+
+    def spoils(self, shared):
+        """The bytes that nobody knows once others may write these bytes of it too: an atomic's whole window, since a sum carries."""
+        return self.writes if shared and not self.ask.name.startswith("put") else shared
+
+    def lose(self, others):
+        """What the reply has to fit, once others may write these bytes before it begins."""
+        if self.expected and not self.expected.denied:
+            places = range(self.ask.address, self.ask.address + len(self.expected.data))
+            self.expected = Reply(False, [None if at in others else byte for at, byte in zip(places, self.expected.data)])
+
+
 class Slave:
     """A slave from reset on, and how many requests it has served."""
 
     def __init__(self, port, image=b""):
         self.kind, self.sizes, self.order = port["kind"], port.get("sizes"), port.get("order")
-        self.is_unknown, self.served = port.get("unknown", False), 0
+        self.is_unknown, self.served, self.kept = port.get("unknown", False), 0, []
         base = ranges_of(port)[0][0]
         self.cells = {base + place: byte for given in (image, bytes.fromhex(port.get("reset", ""))) for place, byte in enumerate(given)}
 
@@ -84,12 +101,37 @@ class Slave:
     def answer(self, ask):
         """What a memory answers to a request, which then has taken effect."""
         carries = reply_of(ask.name) == "AccessAckData"
-        if not self.supports(ask.name, ask.size) or ask.address % (1 << ask.size):
+        if not self.permits(ask):
             return Reply(True, [0] * (1 << ask.size) if carries else [])
         old = self.window(ask)
         if ask.data:
             self.cells.update(zip(range(ask.address, ask.address + len(old)), self.left_by(ask, old)))
         return Reply(False, old if carries else [])
+
+    def permits(self, ask):
+        """Whether a memory serves a request at one of its ranges."""
+        return self.supports(ask.name, ask.size) and ask.address % (1 << ask.size) == 0
+
+    def writes(self, ask):
+        """The addresses of the bytes that a request may write."""
+        if self.kind == "device" or not self.permits(ask):
+            return set()
+        return {ask.address + place for place, byte in enumerate(ask.data) if byte is not None}
+
+    def accept(self, ask):
+        """A request is accepted that takes effect at some moment before its reply begins. Bytes that two requests may write at once are unknown
+        from then on, and a request that another one meets expects no such byte."""
+        writes = self.writes(ask)
+        expected, place = self.served_next(ask)
+        new = Kept(ask, writes, expected, place)
+        for other in self.kept:
+            new.lose(other.writes)
+            other.lose(writes)
+            shared = writes & other.writes
+            for at in new.spoils(shared) | other.spoils(shared):
+                self.cells[at] = None
+        self.kept.append(new)
+        return new
 
     def left_by(self, ask, old):
         """The bytes that a put or an atomic leaves."""

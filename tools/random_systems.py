@@ -4,7 +4,7 @@ interleave, and what carries no byte is anything. With a planted bug the run is 
 import collections
 
 from bus import Bus, bus_of, reply_of
-from common import BUSES, GROUPS, KINDS, OPERATIONS, carries_data
+from common import BUSES, GROUPS, KINDS, OPERATIONS, ORDERS, carries_data
 from judge_model import owners_of
 from partial_memory import ERROR_PORT, Ask, Reply, Slave, port_of, ranges_of
 
@@ -49,7 +49,7 @@ def port_of_system(rng, number, images):
     if rng.random() < 0.3:
         port["sizes"] = sizes_of(rng)
     if rng.random() < 0.3:
-        port["order"] = rng.choice(["accept", "reply"])
+        port["order"] = rng.choice(ORDERS)
     if rng.random() < 0.3:
         port["name"] = f"slave_{number}"
     return port
@@ -99,14 +99,15 @@ def address_of(rng, ports, size):
     return base + offset if rng.random() < 0.1 else (base + offset) >> size << size
 
 
-def ask_of(rng, ports):
-    """A random request."""
+def ask_of(rng, ports, hot=()):
+    """A random request, mostly at one of the hot addresses if there are some."""
     name = rng.choice([*OPERATIONS, "get", "get", "get", "putfull", "putfull", "putpart", "putpart"])
     atomic = [2, 2, 3] if OPERATIONS[name][0] in (2, 3) and rng.random() < 0.9 else [0, 1, 2, 2, 2, 3, 3, 3, 4, 5]
     size = rng.choice(atomic) if rng.random() < 0.97 else rng.randrange(6, 9)
     hole = 0.3 if name == "putpart" else 0
     data = [None if rng.random() < hole else rng.choice([0, 255, rng.randrange(256)]) for _ in range(1 << size)] if carries_data(name) else []
-    return Ask(name, address_of(rng, ports, size), size, data)
+    address = rng.choice(hot) >> size << size if hot and rng.random() < 0.8 else address_of(rng, ports, size)
+    return Ask(name, address, size, data)
 
 
 class Message:
@@ -141,12 +142,25 @@ class Transfer:
 
     def __init__(self, ask, master, source, port):
         self.ask, self.master, self.source, self.port = ask, master, source, port
-        self.has_left, self.reply, self.has_come = False, None, False
+        self.has_left, self.has_come = False, False
+
+
+class Service:
+    """A request that a slave has accepted. It takes effect once, at the latest as its reply begins."""
+
+    def __init__(self, run, transfer, number):
+        self.run, self.transfer, self.number, self.reply = run, transfer, number, None
+
+    def done(self):
+        """The slave's reply, once the request has taken effect."""
+        self.reply = self.reply or self.run.slave_reply(self.transfer, self.number)
+        return self.reply
 
 
 class Run:
     """A run of a crossbar: each master's requests go to their port, are served there in its order, and their replies come back. One that is
-    serial has one request at a time: else ports may take requests in another order than they leave the masters."""
+    serial has one request at a time: else ports may take requests in another order than they leave the masters. With the order "any" each
+    request waits for a moment of its own."""
 
     def __init__(self, rng, system, images, order, bug=None, is_renumbering=False, is_serial=False):
         self.rng, self.ports, self.masters, self.order = rng, system["port"], system["master"], order
@@ -159,8 +173,12 @@ class Run:
         self.wides = {owner: wide for wide, owner in owners_of(self.masters).items()}
         self.free = [set(range(master["sources"])) for master in self.masters]
         self.freed, self.used = [], [set() for _ in self.ports]
+        # the requests that take effect at a moment of their own
+        self.services = []
         most = 8 if len(self.masters) < 4 else 1
-        self.asks = [[ask_of(rng, self.ports) for _ in range(rng.randint(1, most))] for _ in self.masters]
+        # now and then most requests meet at two addresses
+        hot = [address_of(rng, self.ports, 3) for _ in range(2)] if rng.random() < 0.5 else []
+        self.asks = [[ask_of(rng, self.ports, hot) for _ in range(rng.randint(1, most))] for _ in self.masters]
 
     def has_bug(self, name, chance=0.3):
         """Whether a bug shows itself now, which it does once."""
@@ -177,6 +195,7 @@ class Run:
         time, rows, waited = self.rng.choice([0, 10, self.rng.randrange(10_000), 2**64 - 100_000]), [], 0
         while (any(self.asks) or not self.is_idle()) and waited < 50:
             self.offer()
+            self.serve_some()
             crossed = [row for channel in self.channels.values() if (row := channel.beat(self.rng))]
             self.rng.shuffle(crossed)
             rows += [f"{time},{row}" for row in crossed]
@@ -190,6 +209,14 @@ class Run:
     def is_idle(self):
         """Whether no request is in flight."""
         return all(len(free) == master["sources"] for free, master in zip(self.free, self.masters))
+
+    def serve_some(self):
+        """Some of the requests that wait for a moment of their own take effect now, in any order."""
+        self.rng.shuffle(self.services)
+        for service in self.services:
+            if self.rng.random() < 0.3:
+                service.done()
+        self.services = [service for service in self.services if not service.reply]
 
     def offer(self):
         """Has masters with a free source ask next."""
@@ -235,7 +262,7 @@ class Run:
             ask = ask._replace(data=self.spoiled(ask.data))
         early = self.has_bug("early reply")
         if early:
-            self.reply_begins(transfer, port, wide, self.slave_reply(transfer, port))
+            self.reply_begins(transfer, port, wide, Service(self, transfer, port))
 
         def end():
             if not early:
@@ -246,11 +273,12 @@ class Run:
     def accept(self, transfer, port=None, wide=None):
         """The last beat of a request has crossed at its port's link, or at its master's if it is the error port's."""
         number = transfer.port if port is None else port
-        if (self.slaves[number].order or self.order) == "accept":
-            reply = self.slave_reply(transfer, number)
-            self.reply_begins(transfer, port, wide, reply)
-        else:
-            self.reply_begins(transfer, port, wide, None)
+        service, order = Service(self, transfer, number), self.slaves[number].order or self.order
+        if order == "accept":
+            service.done()
+        elif order == "any":
+            self.services.append(service)
+        self.reply_begins(transfer, port, wide, service)
 
     def slave_reply(self, transfer, number):
         """What the slave answers: bytes that nobody knows are anything, and a device answers what it likes."""
@@ -277,12 +305,12 @@ class Run:
         other = None if byte is None else ((data[at] or 0) + self.rng.randrange(1, 256)) % 256
         return [*data[:at], other, *data[at + 1:]]
 
-    def reply_begins(self, transfer, port, wide, reply):
+    def reply_begins(self, transfer, port, wide, service):
         """A reply waits for its turn: at the port's link, or at the master's if it is the error port's."""
         if port is None:
-            self.channels["m", transfer.master, "D"].waiting.append(lambda: self.reply_at_master(transfer, reply))
+            self.channels["m", transfer.master, "D"].waiting.append(lambda: self.reply_at_master(transfer, service.done()))
         else:
-            self.channels["p", port, "D"].waiting.append(lambda: self.reply_at_port(transfer, port, wide, reply))
+            self.channels["p", port, "D"].waiting.append(lambda: self.reply_at_port(transfer, port, wide, service.done()))
 
     def reply_columns(self, side, number, transfer, source, reply):
         bus, ask = self.buses[side][number], transfer.ask
@@ -301,7 +329,6 @@ class Run:
         return rows
 
     def reply_at_port(self, transfer, port, wide, reply):
-        transfer.reply = reply = reply or self.slave_reply(transfer, port)
         self.channels["m", transfer.master, "D"].waiting.append(lambda: self.reply_at_master(transfer, reply))
 
         def end():
@@ -313,7 +340,7 @@ class Run:
 
     def reply_at_master(self, transfer, reply):
         if transfer.port == len(self.ports):
-            reply, transfer.has_come = reply or self.slave_reply(transfer, transfer.port), True
+            transfer.has_come = True
         if reply.data and not reply.denied and self.has_bug("byte of a reply at its master"):
             reply = reply._replace(data=self.spoiled(reply.data))
         return Message(self.reply_columns("m", transfer.master, transfer, transfer.source, reply), lambda: transfer.has_come,

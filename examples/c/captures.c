@@ -177,7 +177,7 @@ static struct asked read_words(const char *folder, const char *name) {
   return (struct asked){
       .links = strstr(words, "masters") ? TLX_MASTER_LINKS : strstr(words, "ports") ? TLX_PORT_LINKS :
                strstr(words, "each") ? TLX_EACH_LINK : TLX_BOTH_LINKS,
-      .order = strstr(words, "reply") ? TLX_REPLY_ORDER : TLX_ACCEPT_ORDER,
+      .order = strstr(words, "reply") ? TLX_REPLY_ORDER : strstr(words, "any") ? TLX_ANY_ORDER : TLX_ACCEPT_ORDER,
       .complete = strstr(words, "--complete") != NULL,
   };
 }

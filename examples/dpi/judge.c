@@ -103,10 +103,10 @@ static uint32_t make_judge(struct tlx_judge *judge, const char *path, const char
 
 /* Makes the judge of a watch; what is wrong stands in its text. */
 static void make(struct watch *watch, const char *path, const char *links, const char *order) {
-  static const char *const views[] = {"both", "masters", "ports", "each"}, *const orders[] = {"accept", "reply"};
+  static const char *const views[] = {"both", "masters", "ports", "each"}, *const orders[] = {"accept", "reply", "any"};
   size_t length = 0;
   char why[MAX_TEXT / 2] = "";
-  uint8_t view = place_of(links, views, 4), when = place_of(order, orders, 2);
+  uint8_t view = place_of(links, views, 4), when = place_of(order, orders, 3);
   char *file = read_file(path, MAX_SYSTEM, &length);
   if (!file) {
     snprintf(watch->text, MAX_TEXT, "judge: %s: could not be read\n", path);

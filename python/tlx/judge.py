@@ -9,7 +9,7 @@ from .messages import BEAT, Beat, Beats, beat_at, check_beat, values_of
 from .system import System, check_system, make_judge
 
 LINKS = ("both", "masters", "ports", "each")
-ORDERS = ("accept", "reply")
+ORDERS = ("accept", "reply", "any")
 # How many beats a call of the library judges, after which the interpreter looks for signals.
 _TURN = 1 << 16
 # bound once, since `step` is called for each beat
@@ -29,7 +29,8 @@ class Judge:
     """The judge of a crossbar that a system describes, before any beat. A context manager, which gives its memory back.
 
     links: the links that are watched, "both" sides', the "masters"', the "ports"', or "each" side by itself. order: when a request
-    takes effect at a port for which the system does not say it, with its last beat ("accept") or its reply's first ("reply").
+    takes effect at a port for which the system does not say it, with its last beat ("accept"), with its reply's first ("reply"), or at
+    some moment between these ("any").
     InvalidSystem as of System; TypeError and ValueError of other words. One thread at a time uses a judge.
     """
 

@@ -21,10 +21,10 @@ abbrev pub links_at : ℕ × ℕ → ℕ × ℕ → ℕ × ℕ → ℕ × ℕ �
 links_at place a b c f =
     list_at place (at a (codes "both") ∷ at b (codes "masters") ∷ at c (codes "ports") ∷ at f (codes "each") ∷ [])
 
-abbrev pub orders_at : ℕ × ℕ → ℕ × ℕ → ℕ × ℕ → Names
-orders_at place a b = list_at place (at a (codes "accept") ∷ at b (codes "reply") ∷ [])
+abbrev pub orders_at : ℕ × ℕ → ℕ × ℕ → ℕ × ℕ → ℕ × ℕ → Names
+orders_at place a b c = list_at place (at a (codes "accept") ∷ at b (codes "reply") ∷ at c (codes "any") ∷ [])
 
--- a list of four words is one at its places, and so is a list of two
+-- a list of four words is one at its places, and so is a list of three
 of_four : (P : Names → Type 0) (s t u v : Text)
     → ((place a b c f : ℕ × ℕ) → P (list_at place (at a s ∷ at b t ∷ at c u ∷ at f v ∷ [])))
     → (names : Names) → texts_of names ≡ s ∷ t ∷ u ∷ v ∷ [] → P names
@@ -46,42 +46,45 @@ of_four P s t u v holds names listed = go names.now listed
         (holds names.ref_ptr a.ref_ptr b.ref_ptr c.ref_ptr f.ref_ptr)
     go (a ∷ b ∷ c ∷ f ∷ g ∷ words) e = cc
 
-of_two : (P : Names → Type 0) (s t : Text) → ((place a b : ℕ × ℕ) → P (list_at place (at a s ∷ at b t ∷ [])))
-    → (names : Names) → texts_of names ≡ s ∷ t ∷ [] → P names
-of_two P s t holds names listed = go names.now listed
+of_three : (P : Names → Type 0) (s t u : Text)
+    → ((place a b c : ℕ × ℕ) → P (list_at place (at a s ∷ at b t ∷ at c u ∷ [])))
+    → (names : Names) → texts_of names ≡ s ∷ t ∷ u ∷ [] → P names
+of_three P s t u holds names listed = go names.now listed
   where
-    go : (words : List (Bor Text)) → map (λ (word : Bor Text). word.now) words ≡ s ∷ t ∷ []
+    go : (words : List (Bor Text)) → map (λ (word : Bor Text). word.now) words ≡ s ∷ t ∷ u ∷ []
         → P (list_at names.ref_ptr words)
     go [] e = cc
     go (a ∷ []) e = cc
-    go (a ∷ b ∷ []) e =
+    go (a ∷ b ∷ []) e = cc
+    go (a ∷ b ∷ c ∷ []) e =
         let first : a ≡ at a.ref_ptr s = moved a s cc in
         let second : b ≡ at b.ref_ptr t = moved b t cc in
-        let all : at a.ref_ptr s ∷ at b.ref_ptr t ∷ [] ≡ a ∷ b ∷ [] = cc in
+        let third : c ≡ at c.ref_ptr u = moved c u cc in
+        let all : at a.ref_ptr s ∷ at b.ref_ptr t ∷ at c.ref_ptr u ∷ [] ≡ a ∷ b ∷ c ∷ [] = cc in
         subst (λ (words : List (Bor Text)). P (list_at names.ref_ptr words)) all
-        (holds names.ref_ptr a.ref_ptr b.ref_ptr)
-    go (a ∷ b ∷ c ∷ words) e = cc
+        (holds names.ref_ptr a.ref_ptr b.ref_ptr c.ref_ptr)
+    go (a ∷ b ∷ c ∷ d ∷ words) e = cc
 
 -- what holds at all places holds of the command line
 pub wherever : (P : App → Type 0)
-    → ((l a b c f o d e : ℕ × ℕ) → P (with_rules (links_at l a b c f) (orders_at o d e)))
+    → ((l a b c f o d e g : ℕ × ℕ) → P (with_rules (links_at l a b c f) (orders_at o d e g)))
     → (app : App) → IsCommandLine app → P app
 wherever P holds app line =
     subst P (sym line.is)
     (of_four (λ (links : Names). P (with_rules links line.orders)) _ _ _ _
-    (λ l a b c f. of_two (λ (orders : Names). P (with_rules (links_at l a b c f) orders)) _ _
+    (λ l a b c f. of_three (λ (orders : Names). P (with_rules (links_at l a b c f) orders)) _ _ _
     (holds l a b c f) line.orders line.orders_listed)
     line.links line.links_listed)
 
 -- it is one whose matches and faults clap tells
 pub is_simple_line : (app : App) → IsCommandLine app → is_simple app ≡ true
-is_simple_line = wherever (λ (app : App). is_simple app ≡ true) (λ l a b c f o d e. refl)
+is_simple_line = wherever (λ (app : App). is_simple app ≡ true) (λ l a b c f o d e g. refl)
 
 pub is_free_line : (app : App) → IsCommandLine app → is_simple_and_free app ≡ true
-is_free_line = wherever (λ (app : App). is_simple_and_free app ≡ true) (λ l a b c f o d e. refl)
+is_free_line = wherever (λ (app : App). is_simple_and_free app ≡ true) (λ l a b c f o d e g. refl)
 
 -- there is one
-pub some_line : IsCommandLine (with_rules (links_at (0, 0) (0, 0) (0, 0) (0, 0) (0, 0)) (orders_at (0, 0) (0, 0) (0, 0)))
+pub some_line : IsCommandLine (with_rules (links_at (0, 0) (0, 0) (0, 0) (0, 0) (0, 0)) (orders_at (0, 0) (0, 0) (0, 0) (0, 0)))
 some_line = record { links = _; orders = _; links_listed = refl; orders_listed = refl; is = refl }
 
 -- the first value of an option is what the words give it

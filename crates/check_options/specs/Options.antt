@@ -11,7 +11,7 @@ use Rattle.clap.specs.declared.error.ErrorKind.{ErrorKind}
 use Rattle.check_sides.specs.declared.links.Links.{Links}
 use Rattle.check_sides.specs.declared.links.Links.TheVariants.{Both, Masters, Ports, Each}
 use Rattle.check_flight.specs.declared.order.Order.{Order}
-use Rattle.check_flight.specs.declared.order.Order.TheVariants.{Accept, Reply}
+use Rattle.check_flight.specs.declared.order.Order.TheVariants.{Accept, Reply, Any}
 use Rattle.check_options.specs.declared.options.Options.{Options}
 
 -- ---- the command line
@@ -28,7 +28,7 @@ abbrev pub links_words : List Text
 links_words = codes "both" ∷ codes "masters" ∷ codes "ports" ∷ codes "each" ∷ []
 
 abbrev pub order_words : List Text
-order_words = codes "accept" ∷ codes "reply" ∷ []
+order_words = codes "accept" ∷ codes "reply" ∷ codes "any" ∷ []
 
 -- `--links`, one of its words, and `both` where it is not given
 abbrev pub links_rule : Names → Rule
@@ -131,7 +131,8 @@ links_of word =
     else (if bytes_eq word (codes "ports") then Ports else (if bytes_eq word (codes "each") then Each else Both))
 
 abbrev pub order_of : Text → Order
-order_of word = if bytes_eq word (codes "reply") then Reply else Accept
+order_of word =
+    if bytes_eq word (codes "reply") then Reply else (if bytes_eq word (codes "any") then Any else Accept)
 
 -- whether a flag with this value is set
 abbrev pub flag_of : Text → Bool

@@ -3,7 +3,7 @@
 ghost use Rattle.std.specs.Prelude.{[], ◌∷◌, codes, true, false, Some, None};
 ghost use Rattle.clap.specs.declared.error.ErrorKind.TheVariants.{DisplayHelp, DisplayVersion, InvalidValue, MissingRequiredArgument, TooManyValues, UnknownArgument};
 ghost use Rattle.check_sides.specs.declared.links.Links.TheVariants.{Both, Masters, Ports, Each};
-ghost use Rattle.check_flight.specs.declared.order.Order.TheVariants.{Accept, Reply};
+ghost use Rattle.check_flight.specs.declared.order.Order.TheVariants.{Accept, Reply, Any};
 ghost use Rattle.check_options.specs.Options.{AskFor, AreRefusedAs};
 
 /// The lines that name SYSTEM, and SYSTEM and CAPTURE. The first word is the program's name.
@@ -74,7 +74,7 @@ pub fn lines_ask_for_links()
         ∷ codes "--order" ∷ codes "reply" ∷ []) }
 {}
 
-/// A line with `--links=each` and `--order`.
+/// A line with `--links=each` and `--order`, and one with the third order.
 pub fn lines_ask_for_each()
     ensures each { AskFor (record {
       links = Each;
@@ -86,6 +86,15 @@ pub fn lines_ask_for_each()
     })
         (codes "tlcheck" ∷ codes "--links=each" ∷ codes "s.toml" ∷ codes "c.csv"
         ∷ codes "--order" ∷ codes "reply" ∷ []) }
+    ensures any { AskFor (record {
+      links = Masters;
+      order = Any;
+      trace = false;
+      complete = false;
+      system = codes "s.toml";
+      capture = None;
+    })
+        (codes "tlcheck" ∷ codes "--links=masters" ∷ codes "--order=any" ∷ codes "s.toml" ∷ []) }
 {}
 
 /// The lines with `--trace`, before SYSTEM and after CAPTURE.

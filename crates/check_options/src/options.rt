@@ -1,4 +1,4 @@
-//! The command line: `tlcheck [--links both|masters|ports|each] [--order accept|reply] [--trace] [--complete] SYSTEM [CAPTURE]`.
+//! The command line: `tlcheck [--links both|masters|ports|each] [--order accept|reply|any] [--trace] [--complete] SYSTEM [CAPTURE]`.
 ghost use Rattle.std.specs.Prelude.{◌≡◌, IfOk, [], map, false, option_map, unwrap_or};
 ghost use Rattle.clap.specs.Words.{app_of, first_value, found_of, rule_of};
 ghost use Rattle.check_options.specs.Options.{Answers, IsCommandLine, IsLinksRule, IsOrderRule, capture_rule, complete_rule, file_of, flag_of, links_of, order_of, program, system_rule, trace_rule};
@@ -80,6 +80,7 @@ fn read_order(word: &str) -> Order
 {
     match word {
         "reply" => Order::Reply,
+        "any" => Order::Any,
         _ => Order::Accept,
     }
 }
@@ -132,7 +133,7 @@ fn order_option<'a>(alloc: Global) -> Arg<'a>
     ensures rule { IsOrderRule (rule_of result) }
     ensures local { result.global ≡ false }
 {
-    let words: &'a [&'a str] = &["accept", "reply"];
+    let words: &'a [&'a str] = &["accept", "reply", "any"];
     Arg::new(alloc, "order")
         .long("order")
         .action(ArgAction::Set)

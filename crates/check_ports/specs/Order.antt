@@ -3,7 +3,7 @@ use Rattle.std.specs.Prelude.{ℕ, List, codes, Option, Some, None, Result, if�
 use Rattle.std.specs.Str.{bytes_eq}
 use Rattle.toml.specs.Data.{Members}
 use Rattle.check_flight.specs.declared.order.Order.{Order}
-use Rattle.check_flight.specs.declared.order.Order.TheVariants.{Accept, Reply}
+use Rattle.check_flight.specs.declared.order.Order.TheVariants.{Accept, Reply, Any}
 use Rattle.check_keys.specs.Reading.{◌>>=◌, if_any}
 use Rattle.check_keys.specs.Value.{text_if_any}
 use Rattle.check_keys.specs.declared.fault.Key.TheVariants.{Order as OrderKey}
@@ -15,6 +15,7 @@ abbrev pub order_of : List ℕ → Option Order
 order_of word =
     if bytes_eq word (codes "accept") then Some Accept
     else if bytes_eq word (codes "reply") then Some Reply
+    else if bytes_eq word (codes "any") then Some Any
     else None
 
 -- the order of a port, which may have none

@@ -16,6 +16,8 @@ fn order_of(word: &[u8]) -> Option<Order>
         Some(Order::Accept)
     } else if word == b"reply".as_slice() {
         Some(Order::Reply)
+    } else if word == b"any".as_slice() {
+        Some(Order::Any)
     } else {
         None
     }

@@ -1,7 +1,7 @@
 -- What each call makes of a judge. Lists of what crossed have the latest first. This project's own.
 use Rattle.std.specs.Prelude.{◌≡◌, ◌↔◌, ◌&&◌, ◌%◌, ◌^◌, ◌<◌, ◌≤◌, ◌==◌, ◌≢◌, ◌⊎◌, if◌then◌else◌, ℕ, List, [], ◌∷◌, length, take, Option, Some, None, IsSome, IsSomeAnd, vec_capacity}
 use Rattle.check_flight.specs.declared.order.Order.{Order}
-use Rattle.check_flight.specs.declared.order.Order.TheVariants.{Accept, Reply}
+use Rattle.check_flight.specs.declared.order.Order.TheVariants.{Accept, Reply, Any}
 use Rattle.check_watch.specs.Plan.{Sighting, seen_at}
 use Rattle.check_watch.specs.declared.fault.Fault.{Fault}
 use Rattle.check_sides.specs.Lawful.{IsFirstFault, IsLawful, MayNeedMemory, what_is_seen}
@@ -130,7 +130,11 @@ links_of n =
     else None
 
 abbrev pub order_of : ℕ → Option Order
-order_of n = if n == 0 then Some Accept else if n == 1 then Some Reply else None
+order_of n =
+    if n == 0 then Some Accept
+    else if n == 1 then Some Reply
+    else if n == 2 then Some Any
+    else None
 
 -- both have a meaning
 abbrev pub AreTerms : ℕ → ℕ → Type 0

@@ -52,6 +52,8 @@ fn order_of(number: u8) -> Option<Order>
         Some(Order::Accept)
     } else if number == 1 {
         Some(Order::Reply)
+    } else if number == 2 {
+        Some(Order::Any)
     } else {
         None
     }

@@ -50,6 +50,13 @@ const LINES: [Line; 9] = [
         Some("c"),
     ),
     (
+        &["tlcheck", "--order=any", "s"],
+        Links::Both,
+        Order::Any,
+        [false, false],
+        None,
+    ),
+    (
         &["tlcheck", "--trace", "s", "c"],
         Links::Both,
         Order::Accept,

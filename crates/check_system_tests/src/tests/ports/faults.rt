@@ -132,7 +132,7 @@ fn sizes_have_faults(rt: HostRuntime) {
 
 const RULES: [Row; 13] = [
     ("order = 1", "system: wrong type of order"),
-    ("order = 'any'", "system: order out of range"),
+    ("order = 'all'", "system: order out of range"),
     ("order = 'accept'", ""),
     ("order = 'reply'", ""),
     ("bus = '8'", "system: wrong type of bus"),
