@@ -174,7 +174,7 @@ class Run:
         self.free = [set(range(master["sources"])) for master in self.masters]
         self.freed, self.used = [], [set() for _ in self.ports]
         # the requests that take effect at a moment of their own
-        self.services = []
+        self.services, self.time = [], rng.choice([0, 10, rng.randrange(10_000), 2**64 - 100_000])
         most = 8 if len(self.masters) < 4 else 1
         # now and then most requests meet at two addresses
         hot = [address_of(rng, self.ports, 3) for _ in range(2)] if rng.random() < 0.5 else []
@@ -192,17 +192,17 @@ class Run:
 
     def rows(self):
         """All rows of the run, with their times. It ends when all is answered, or when nothing has crossed for long: a bug may stop it."""
-        time, rows, waited = self.rng.choice([0, 10, self.rng.randrange(10_000), 2**64 - 100_000]), [], 0
+        rows, waited = [], 0
         while (any(self.asks) or not self.is_idle()) and waited < 50:
             self.offer()
             self.serve_some()
             crossed = [row for channel in self.channels.values() if (row := channel.beat(self.rng))]
             self.rng.shuffle(crossed)
-            rows += [f"{time},{row}" for row in crossed]
+            rows += [f"{self.time},{row}" for row in crossed]
             for master, source in self.freed:
                 self.free[master].add(source)
             self.freed.clear()
-            time += self.rng.choice([1, 1, 2, 5])
+            self.time += self.rng.choice([1, 1, 2, 5])
             waited = 0 if crossed else waited + 1
         return rows
 
