@@ -7,6 +7,7 @@
 //!
 //! - `buses`: buses of 1 to 64 bytes, alike and mixed, with their masks, counts of beats and digits;
 //! - `memories`: bytes that are unknown, images and ranges;
+//! - `orders`: requests that take effect at a moment that nobody knows;
 //! - `slaves`: tables of sizes, devices and registers;
 //! - `sources`: sources in low bits and in blocks, names of links, and the most links;
 //! - `sides`: the links that are watched, and what crosses between them;

@@ -1,5 +1,6 @@
 mod buses;
 mod memories;
+mod orders;
 mod refused;
 mod scene;
 mod sides;
