@@ -181,13 +181,16 @@ const EACH: [Capture; 2] = [
 
 #[test]
 fn the_verdict_is_right_or_memory_is_refused(rt: HostRuntime) {
-    let asked = Asked {
-        links: Links::Both,
-        order: Order::Accept,
-        trace: true,
-        complete: true,
-    };
-    expect_each_or_none(&rt, rt.alloc(), asked, &BOTH);
+    // requests come one at a time, so any order is that of acceptance
+    for order in [Order::Accept, Order::Any] {
+        let asked = Asked {
+            links: Links::Both,
+            order,
+            trace: true,
+            complete: true,
+        };
+        expect_each_or_none(&rt, rt.alloc(), asked, &BOTH);
+    }
 }
 
 #[test]
