@@ -1,0 +1,33 @@
+-- What a system says of its links. This project's own.
+use Rattle.std.specs.Prelude.{List, map}
+use Rattle.check_beats.specs.declared.bus.Bus.{Bus}
+use Rattle.check_ports.specs.Port.{Port}
+use Rattle.check_description.specs.Description.{Description}
+use Rattle.check_description.specs.Master.{Master}
+use Rattle.check_signals.specs.Names.{Names, names_view}
+use Rattle.check_waves.specs.declared.system.Links as code_links
+
+-- the buses of the masters' links and of the ports', and the names of all signals
+pub record Links : Type 0 where
+  pub masters : List Bus
+  pub ports : List Bus
+  pub names : Names
+
+abbrev pub master_buses : List Master → List Bus
+master_buses masters = map (λ (master : Master). master.bus) masters
+
+abbrev pub port_buses : List Port → List Bus
+port_buses ports = map (λ (port : Port). port.bus) ports
+
+-- the links of a system whose signals have these names
+abbrev pub links_of : Description → Names → Links
+links_of system names =
+    record { masters = master_buses system.masters; ports = port_buses system.ports; names = names }
+
+-- what contracts see
+abbrev pub links_view : code_links.Links → Links
+links_view links = record {
+  masters = links.master_buses.items;
+  ports = links.port_buses.items;
+  names = names_view links.names;
+}

@@ -1,0 +1,22 @@
+//! What the program `tlvcd` does: it writes the capture that a value change dump holds, for tlcheck.
+//!
+//! SYSTEM is a system file that says where the signals of each link are (`check_signals`); DUMP is a dump (`check_vcd`).
+//! [`write_capture`] carries the theorem: the capture is the header, and a row for each beat that crosses a link at a rising
+//! edge of the clock (`check_samples`), as the definitions say over the bytes of both files. A fault is one line, and the
+//! rows before it are written. [`read_options`] reads the command line, and [`ended`] says with which status the program
+//! ends. Read on in `docs/CAPTURE.md`, "Your own design".
+//!
+//! It is a library, so that its tests stand in a crate above it (`check_program_tests`): a crate with tests is proved
+//! twice.
+#![tactic(auto)]
+
+mod engine;
+mod fault;
+mod options;
+mod program;
+mod system;
+
+pub use engine::write_capture;
+pub use fault::WaveFault;
+pub use options::{Options, read_options};
+pub use program::ended;

@@ -1,0 +1,76 @@
+//! What a system file says of its links.
+ghost use Rattle.std.specs.Prelude.{◌≡◌, IfErr, IfOk, map};
+ghost use Rattle.check_ports.specs.Port.{port_view};
+ghost use Rattle.check_description.specs.Master.{master_view};
+ghost use Rattle.check_signals.specs.Names.{names_view};
+ghost use Rattle.check_waves.specs.Capture.{GivesLinks, IsOfSystem};
+ghost use Rattle.check_waves.specs.Links.{links_of as links_of_system, links_view, master_buses as buses_of_masters, port_buses as buses_of_ports};
+
+use crate::fault::WaveFault;
+use check_beats::Bus;
+use check_description::{Description, MAX_SYSTEM, Master, describe, read_parts};
+use check_ports::Port;
+use check_signals::{Names, read_names};
+use std::alloc::{AllocError, Global};
+use std::io::Read;
+use tl_streams::{LimitedReader, read_up_to};
+
+/// The buses of a system's links, and the names of its signals.
+#[derive(Drop)]
+pub struct Links {
+    pub master_buses: Vec<Bus>,
+    pub port_buses: Vec<Bus>,
+    pub names: Names,
+}
+
+/// The buses of the masters' links.
+fn master_buses(alloc: Global, masters: &[Master]) -> Result<Vec<Bus>, AllocError>
+    ensures { IfOk result (λ buses. buses.items ≡ buses_of_masters (map master_view masters.now)) }
+{
+    let mut buses = Vec::new(alloc);
+    for master in masters {
+        buses.push(master.bus)?;
+    }
+    Ok(buses)
+}
+
+/// The buses of the ports' links.
+fn port_buses(alloc: Global, ports: &[Port]) -> Result<Vec<Bus>, AllocError>
+    ensures { IfOk result (λ buses. buses.items ≡ buses_of_ports (map port_view ports.now)) }
+{
+    let mut buses = Vec::new(alloc);
+    for port in ports {
+        buses.push(port.bus)?;
+    }
+    Ok(buses)
+}
+
+/// The links of a system whose signals have these names.
+fn links_of(alloc: Global, system: &Description, names: Names) -> Result<Links, AllocError>
+    ensures { IfOk result (λ links. links_view links ≡ links_of_system system.now (names_view names)) }
+{
+    Ok(Links {
+        master_buses: master_buses(alloc, system.masters())?,
+        port_buses: port_buses(alloc, system.ports())?,
+        names,
+    })
+}
+
+/// What a system file says of its links. The file has to describe a system, and to say where the signals are. The files
+/// of images are not looked at, so it is no fault here if one is missing.
+pub fn read_links<S: Read>(
+    alloc: Global,
+    reader: &mut LimitedReader<'_, S>,
+) -> Result<Links, WaveFault>
+    ensures same { reader.new.reader.ghost_name ≡ reader.old.reader.ghost_name }
+    ensures ok { IfOk result (λ links. GivesLinks (S.remaining reader.old.reader.now)
+        (S.remaining reader.new.reader.now) (links_view links)) }
+    ensures fault { IfErr result (IsOfSystem (S.remaining reader.old.reader.now)
+        (S.remaining reader.new.reader.now)) }
+{
+    let bytes = read_up_to(alloc, reader, MAX_SYSTEM + 1)?;
+    let parts = read_parts(alloc, &bytes)?;
+    let system = describe(alloc, parts)?;
+    let names = read_names(alloc, &bytes)?;
+    Ok(links_of(alloc, &system, names)?)
+}
