@@ -34,7 +34,7 @@ alone slots place number at indexed is i there =
     let other : place number ≡ Some at = indexed.known number at is in
     cc
 
-at_from_slot : (slots : List Slot) (at number : ℕ) (slot : Slot) → slice_get slots at ≡ Some slot → slot.number ≡ number
+pub at_from_slot : (slots : List Slot) (at number : ℕ) (slot : Slot) → slice_get slots at ≡ Some slot → slot.number ≡ number
     → IsAt slots number at
 at_from_slot slots at number slot is numbered = ap (option_map (λ (s : Slot). s.number)) is
     ∙ ap (λ (n : ℕ). Some n) numbered
@@ -59,7 +59,7 @@ numbers_kept (s ∷ slots) zero slot new (suc i) is same = refl
 numbers_kept (s ∷ slots) (suc at) slot new zero is same = refl
 numbers_kept (s ∷ slots) (suc at) slot new (suc i) is same = numbers_kept slots at slot new i is same
 
-set_here : (slots : List Slot) (at : ℕ) (slot new : Slot) → slice_get slots at ≡ Some slot
+pub set_here : (slots : List Slot) (at : ℕ) (slot new : Slot) → slice_get slots at ≡ Some slot
     → slice_get (set slots at new) at ≡ Some new
 set_here [] at slot new is = cc
 set_here (s ∷ slots) zero slot new is = refl

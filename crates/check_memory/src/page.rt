@@ -6,7 +6,7 @@ ghost use Rattle.tl_ops.specs.declared.kind.Kind.TheVariants.{Ram, ClearRegs};
 ghost use Rattle.tl_types.specs.Operation.{carries_bytes, reply_op_of};
 ghost use Rattle.check_memory.specs.Known.{known, replaced};
 ghost use Rattle.check_memory.specs.Pattern.{shown_cells};
-ghost use Rattle.check_memory.specs.Cells.{put_cells, new_cells, clear_cell, is_atomic, is_swap};
+ghost use Rattle.check_memory.specs.Cells.{put_cells, new_cells, clear_cell, is_atomic, is_swap, forgotten};
 ghost use Rattle.check_memory.specs.Place.{fill_of};
 
 use check_cells::{Cells, give, known_cell, mark_cell, mask_of, ones};
@@ -213,6 +213,29 @@ impl Page {
         let old = self.lanes.update(start, op, given);
         cells.set_cell(old, mask, width);
         mark_cell(self.masks.as_mut_slice(), start, width, known);
+    }
+
+    /// Makes the bytes that are flagged unknown, from a place on.
+    pub fn forget(&mut self, start: usize, flags: &[bool])
+        requires inside { start + length flags.now ≤ length self.old }
+        requires limit { length self.old ≤ PAGE_BYTES }
+        ensures after { self.new ≡ forgotten flags.now start self.old }
+        ensures len { length self.new ≡ length self.old }
+    {
+        for k in 0..flags.len() {
+            if flags[k] {
+                self.forget_byte(start + k);
+            }
+        }
+    }
+
+    /// Makes one byte unknown.
+    fn forget_byte(&mut self, place: usize)
+        requires { place < length self.old }
+        ensures after { self.new ≡ slice_set self.old place None }
+        ensures len { length self.new ≡ length self.old }
+    {
+        mark_cell(self.masks.as_mut_slice(), place, 1, false);
     }
 }
 

@@ -3,7 +3,7 @@ ghost use Rattle.std.specs.Prelude.{◌≡◌, ℕ, ◌+◌, ◌*◌, ◌/◌, �
 ghost use Rattle.tl_types.specs.Operation.{carries_bytes, reply_op_of};
 ghost use Rattle.tl_ops.specs.Cell.{FitsWords};
 ghost use Rattle.check_memory.specs.Known.{known, replaced};
-ghost use Rattle.check_memory.specs.Cells.{new_cells, is_atomic};
+ghost use Rattle.check_memory.specs.Cells.{new_cells, is_atomic, forgotten};
 ghost use Rattle.check_memory.specs.Pattern.{shown_cells};
 ghost use Rattle.check_memory.specs.Paged.{seen, IsAt};
 
@@ -128,10 +128,22 @@ impl Pages {
             seen self.new ≡ replaced (seen self.old) ask.now.address (new_cells kind ask.now.op old ask.now.bytes) }
         ensures shown { let old = take (2 ^ ask.now.size) (drop ask.now.address (seen self.old)) in
             cells.new ≡ shown_cells (reply_op_of ask.now.op) old }
+        ensures at { IsAt self.new.slots (ask.now.address / PAGE_BYTES) at }
     {
         let start = (ask.address() % PAGE_BYTES as u64) as usize;
         let slot = &mut self.slots[at];
         slot.page.serve(kind, start, ask, cells);
+    }
+
+    /// Makes the bytes that are flagged unknown, from an address on, in the page at a place.
+    pub fn forget(&mut self, at: usize, address: u64, flags: &[bool])
+        requires at { IsAt self.old.slots (address / PAGE_BYTES) at }
+        requires inside { address % PAGE_BYTES + length flags.now ≤ PAGE_BYTES }
+        ensures { seen self.new ≡ forgotten flags.now address (seen self.old) }
+    {
+        let start = (address % PAGE_BYTES as u64) as usize;
+        let slot = &mut self.slots[at];
+        slot.page.forget(start, flags);
     }
 
     /// Writes bytes from an address on, in the page at a place.

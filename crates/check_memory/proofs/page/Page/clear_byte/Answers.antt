@@ -1,4 +1,4 @@
-use Rattle.std.proofs.Common.{◌≡◌, ◌∙◌, ℕ, ◌+◌, false, ◌==◌, List, [], ◌∷◌, zero, suc, length, set, get_or, slice_get, Some, None, refl, sym, ap, arith, rules}
+use Rattle.std.proofs.Common.{◌≡◌, ◌∙◌, ℕ, ◌+◌, false, ◌==◌, List, length, set, get_or, slice_get, Some, None, refl, sym, ap, arith, rules}
 use Rattle.std.proofs.lemmas.List.{set-get_or}
 use Rattle.std.proofs.lemmas.Option.{get_or_from_slice_get}
 use Rattle.std.specs.Int.{bit_at}
@@ -6,6 +6,7 @@ use Rattle.std.specs.Prelude.{option_map}
 use Rattle.tl_types.specs.Bytes.{bit_in, given_in, given_byte}
 use Rattle.tl_types.proofs.Given.{length-given_in, slice_get-given_in}
 use Rattle.check_memory.specs.Cells.{clear_cell}
+use Rattle.check_memory.proofs.Forgotten.{clear_bit}
 use Rattle.check_memory.proofs.page.Page.clear_byte.Goals as goal
 
 pub known_cell-requires-clause-inside : goal.known_cell-requires-clause-inside
@@ -53,11 +54,6 @@ returns-then-known_cell-eq1-clause-after c =
 stays : (ones : ℕ) → (ones ≡ 255 → ⊥) → clear_cell None (Some ones) ≡ None
 stays ones apart = let test : (ones == 255) ≡ false = search rules in rw test refl
 
-none_at : (bits : ℕ → ℕ) (lanes : List ℕ) (place : ℕ) → bits place ≡ 0 → get_or (given_in bits lanes) place None ≡ None
-none_at bits [] place clear = refl
-none_at bits (byte ∷ lanes) zero clear = ap (λ b. given_byte b byte) clear
-none_at bits (byte ∷ lanes) (suc place) clear = none_at (λ k. bits (suc k)) lanes place clear
-
 pub returns-else-ones-eq255-clause-after : goal.returns-else-ones-eq255-clause-after
 returns-else-ones-eq255-clause-after c =
     let inside = c.self.inside in
@@ -68,7 +64,7 @@ returns-else-ones-eq255-clause-after c =
     ∙ sym (bits 0 (omega arith)) ∙ ap (λ m. bit_at m 0) clear in
     let was : get_or c.args.self.now c.args.place None ≡ None =
     ap (λ cells. get_or cells c.args.place None) (sym c.self.view_is)
-    ∙ none_at (bit_in inside.masks.items) inside.lanes c.args.place bit in
+    ∙ clear_bit (bit_in inside.masks.items) inside.lanes c.args.place bit in
     let left : clear_cell (get_or c.args.self.now c.args.place None) (Some c.args.ones)
     ≡ get_or c.args.self.now c.args.place None = ap (λ cell. clear_cell cell (Some c.args.ones)) was
     ∙ stays c.args.ones c.if-ones-eq255.false ∙ sym was in

@@ -1,4 +1,4 @@
-use Rattle.std.proofs.Common.{◌≡◌, ◌∙◌, ◌+◌, ◌/◌, ◌%◌, ◌^◌, ◌<◌, ◌≤◌, length, take, drop, slice_get, Some, refl, sym, ap, arith, nat_cmp}
+use Rattle.std.proofs.Common.{◌≡◌, ◌∙◌, ◌+◌, ◌/◌, ◌%◌, ◌^◌, ◌<◌, ◌≤◌, length, take, drop, set, slice_get, Some, refl, sym, ap, arith, nat_cmp}
 use Rattle.std.specs.BTreeMap.{get}
 use Rattle.std.proofs.lemmas.List.{length-take-le, length-drop}
 use Rattle.check_memory.specs.declared.page.Slot.{Slot}
@@ -7,7 +7,7 @@ use Rattle.check_memory.specs.Cells.{new_cells}
 use Rattle.check_memory.specs.Pattern.{shown_cells}
 use Rattle.tl_types.specs.Operation.{reply_op_of}
 use Rattle.check_memory.specs.Paged.{seen, IsAt}
-use Rattle.check_memory.proofs.Slots.{slot_at, paged_at, page_shown, page_changed, indexed_kept, length-new_cells}
+use Rattle.check_memory.proofs.Slots.{slot_at, set_here, at_from_slot, paged_at, page_shown, page_changed, indexed_kept, length-new_cells}
 use Rattle.check_memory.proofs.pages.Pages.serve.Goals as goal
 
 -- the page that the request names
@@ -72,3 +72,11 @@ returns-clause-after c =
     ∙ ap (λ p. replaced (seen p) ask.address cells) c.self.view_is
     ∙ ap (λ was. replaced (seen c.args.self.now) ask.address (new_cells c.args.kind ask.op was ask.bytes))
     (sym (window c))
+
+pub returns-clause-at : goal.returns-clause-at
+returns-clause-at c =
+    let slots = c.self.inside.slots.items in
+    let slot = c.index_mut-slot.result.now in
+    let new : Slot = record { number = slot.number; page = c.serve.new.self } in
+    at_from_slot (set slots c.args.at new) c.args.at (c.args.ask.now.address / 4096) new
+    (set_here slots c.args.at slot new (here c).0) (here c).1
