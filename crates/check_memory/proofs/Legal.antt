@@ -25,15 +25,15 @@ allowed memory ask is = search rules
 pub aligned : (memory : Partial) (ask : Request) → permits memory ask ≡ true → ask.address % 2 ^ ask.size ≡ 0
 aligned memory ask is = search rules
 
-pub fits_words : (address size : ℕ) → size ≤ 8 → address % 2 ^ size ≡ 0 → FitsWords (address % 4096) (2 ^ size)
+pub fits_words : (address size : ℕ) → size ≤ 8 → address % 2 ^ size ≡ 0 → FitsWords (address % 256) (2 ^ size)
 fits_words address size small is =
-    let base = 4096 * (address / 4096) in
-    let at : base % 8 + (address - base) ≡ address % 4096 = omega arith in
+    let base = 256 * (address / 256) in
+    let at : base % 8 + (address - base) ≡ address % 256 = omega arith in
     let below : base ≤ address = omega arith in
     let P : ℕ → Type 0 = λ n. FitsWords n (2 ^ size) in
     subst P at (FitsWords-from_aligned base address size small below is)
 
-pub in_page : (address size : ℕ) → size ≤ 8 → address % 2 ^ size ≡ 0 → address % 4096 + 2 ^ size ≤ 4096
+pub in_page : (address size : ℕ) → size ≤ 8 → address % 2 ^ size ≡ 0 → address % 256 + 2 ^ size ≤ 256
 in_page address zero small is = omega arith
 in_page address (suc zero) small is = omega (arith, is)
 in_page address (suc (suc zero)) small is = omega (arith, is)

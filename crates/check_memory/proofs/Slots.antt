@@ -39,14 +39,14 @@ pub at_from_slot : (slots : List Slot) (at number : ℕ) (slot : Slot) → slice
 at_from_slot slots at number slot is numbered = ap (option_map (λ (s : Slot). s.number)) is
     ∙ ap (λ (n : ℕ). Some n) numbered
 
-pub paged_at : (slots : List Slot) (at : ℕ) (slot : Slot) → All (λ (s : Slot). length s.page ≡ 4096) slots
-    → slice_get slots at ≡ Some slot → length slot.page ≡ 4096
+pub paged_at : (slots : List Slot) (at : ℕ) (slot : Slot) → All (λ (s : Slot). length s.page ≡ 256) slots
+    → slice_get slots at ≡ Some slot → length slot.page ≡ 256
 paged_at [] at slot all is = cc
 paged_at (s ∷ slots) zero slot all is =
     let same : s ≡ slot = cc in
-    ap (λ (t : Slot). length t.page) (sym same) ∙ All-head (λ (t : Slot). length t.page ≡ 4096) s slots all
+    ap (λ (t : Slot). length t.page) (sym same) ∙ All-head (λ (t : Slot). length t.page ≡ 256) s slots all
 paged_at (s ∷ slots) (suc at) slot all is =
-    paged_at slots at slot (All-tail (λ (t : Slot). length t.page ≡ 4096) s slots all) is
+    paged_at slots at slot (All-tail (λ (t : Slot). length t.page ≡ 256) s slots all) is
 
 numbers_kept : (slots : List Slot) (at : ℕ) (slot new : Slot) (i : ℕ) → slice_get slots at ≡ Some slot
     → new.number ≡ slot.number
@@ -69,29 +69,29 @@ set_here (s ∷ slots) (suc at) slot new is = set_here slots at slot new is
 
 pub page_shown : (slots : List Slot) (place : ℕ → Option ℕ) (at number : ℕ) (slot : Slot) (known : Bool)
     (n address width : ℕ) → AreIndexed slots place → slice_get slots at ≡ Some slot → slot.number ≡ number
-    → number ≡ address / 4096
-    → address % 4096 + width ≤ 4096 → address + width ≤ n
-    → take width (drop address (tabulate (content slots known) n)) ≡ take width (drop (address % 4096) slot.page)
+    → number ≡ address / 256
+    → address % 256 + width ≤ 256 → address + width ≤ n
+    → take width (drop address (tabulate (content slots known) n)) ≡ take width (drop (address % 256) slot.page)
 page_shown slots place at number slot known n address width indexed is numbered here inside within =
-    let whole : length slot.page ≡ 4096 = paged_at slots at slot indexed.paged is in
-    window_seen (content slots known) n slot.page address (address % 4096) width within (omega (arith, whole, inside))
+    let whole : length slot.page ≡ 256 = paged_at slots at slot indexed.paged is in
+    window_seen (content slots known) n slot.page address (address % 256) width within (omega (arith, whole, inside))
     (λ k below.
-    let word : number ≡ (address + k) / 4096 = omega (arith, here, inside, below) in
-    let lane : (address + k) % 4096 ≡ address % 4096 + k = omega (arith, inside, below) in
+    let word : number ≡ (address + k) / 256 = omega (arith, here, inside, below) in
+    let lane : (address + k) % 256 ≡ address % 256 + k = omega (arith, inside, below) in
     content_here slots at number slot known (address + k) is numbered
     (alone slots place number at indexed (at_from_slot slots at number slot is numbered)) word
     ∙ ap (λ p. get_or slot.page p None) lane)
 
 -- where there is no page
 pub fill_shown : (slots : List Slot) (number : ℕ) (known : Bool) (n address width : ℕ)
-    → ((i : ℕ) → IsAt slots number i → ⊥) → number ≡ address / 4096
-    → address % 4096 + width ≤ 4096 → address + width ≤ n
+    → ((i : ℕ) → IsAt slots number i → ⊥) → number ≡ address / 256
+    → address % 256 + width ≤ 256 → address + width ≤ n
     → take width (drop address (tabulate (content slots known) n)) ≡ replicate width (fill_of known)
 fill_shown slots number known n address width none here inside within =
     let page = replicate width (fill_of known) in
     let long : length page ≡ width = length-replicate width (fill_of known) in
     window_seen (content slots known) n page address 0 width within (omega (arith, long)) (λ k below.
-    let word : number ≡ (address + k) / 4096 = omega (arith, here, inside, below) in
+    let word : number ≡ (address + k) / 256 = omega (arith, here, inside, below) in
     let zero_k : 0 + k ≡ k = omega arith in
     content_absent slots number known (address + k) none word
     ∙ sym (ap (λ i. get_or page i None) zero_k ∙ get_or-replicate width k (fill_of known) None below))
@@ -101,46 +101,46 @@ fill_shown slots number known n address width none here inside within =
 
 pub page_changed : (slots : List Slot) (place : ℕ → Option ℕ) (at number : ℕ) (slot new : Slot) (known : Bool)
     (n address : ℕ) (cells : List (Option ℕ)) → AreIndexed slots place → slice_get slots at ≡ Some slot
-    → slot.number ≡ number → new.number ≡ slot.number → number ≡ address / 4096
-    → address % 4096 + length cells ≤ 4096 → address + length cells ≤ n
-    → new.page ≡ replaced slot.page (address % 4096) cells
+    → slot.number ≡ number → new.number ≡ slot.number → number ≡ address / 256
+    → address % 256 + length cells ≤ 256 → address + length cells ≤ n
+    → new.page ≡ replaced slot.page (address % 256) cells
     → tabulate (content (set slots at new) known) n ≡ replaced (tabulate (content slots known) n) address cells
 page_changed slots place at number slot new known n address cells indexed is numbered same here inside within made =
     replaced_seen (content slots known) (content (set slots at new) known) n address cells within
     (λ k below.
-    let word : number ≡ (address + k) / 4096 = omega (arith, here, inside, below) in
-    let lane : (address + k) % 4096 ≡ address % 4096 + k = omega (arith, inside, below) in
-    shown (address + k) word ∙ ap (λ p. get_or p ((address + k) % 4096) None) made
-    ∙ ap (λ i. get_or (replaced slot.page (address % 4096) cells) i None) lane
-    ∙ get_or-replaced_in slot.page cells (address % 4096) k room below)
+    let word : number ≡ (address + k) / 256 = omega (arith, here, inside, below) in
+    let lane : (address + k) % 256 ≡ address % 256 + k = omega (arith, inside, below) in
+    shown (address + k) word ∙ ap (λ p. get_or p ((address + k) % 256) None) made
+    ∙ ap (λ i. get_or (replaced slot.page (address % 256) cells) i None) lane
+    ∙ get_or-replaced_in slot.page cells (address % 256) k room below)
     (λ a beside. ⊎_elim
-    (λ (word : number ≡ a / 4096).
-    let out : (a % 4096 < address % 4096) ⊎ (address % 4096 + length cells ≤ a % 4096) =
+    (λ (word : number ≡ a / 256).
+    let out : (a % 256 < address % 256) ⊎ (address % 256 + length cells ≤ a % 256) =
     ⊎_elim (λ before. inl (omega (arith, before, word, here)))
     (λ past. inr (omega (arith, past, word, here))) beside in
-    shown a word ∙ ap (λ p. get_or p (a % 4096) None) made
-    ∙ get_or-replaced_out slot.page cells (address % 4096) (a % 4096) room out
+    shown a word ∙ ap (λ p. get_or p (a % 256) None) made
+    ∙ get_or-replaced_out slot.page cells (address % 256) (a % 256) room out
     ∙ sym (content_here slots at number slot known a is numbered
     (alone slots place number at indexed (at_from_slot slots at number slot is numbered)) word))
     (λ apart. content_there slots at slot new known a is same (λ e. apart (sym numbered ∙ e)))
-    (cases_eq number (a / 4096)))
+    (cases_eq number (a / 256)))
   where
-    room : address % 4096 + length cells ≤ length slot.page
-    room = let whole : length slot.page ≡ 4096 = paged_at slots at slot indexed.paged is in omega (arith, whole, inside)
+    room : address % 256 + length cells ≤ length slot.page
+    room = let whole : length slot.page ≡ 256 = paged_at slots at slot indexed.paged is in omega (arith, whole, inside)
 
     alone' : (i : ℕ) → IsAt (set slots at new) number i → i ≡ at
     alone' i there = alone slots place number at indexed (at_from_slot slots at number slot is numbered) i
         (sym (numbers_kept slots at slot new i is same) ∙ there)
 
-    shown : (a : ℕ) → number ≡ a / 4096 → content (set slots at new) known a ≡ get_or new.page (a % 4096) None
+    shown : (a : ℕ) → number ≡ a / 256 → content (set slots at new) known a ≡ get_or new.page (a % 256) None
     shown a word = content_here (set slots at new) at number new known a (set_here slots at slot new is) (same
         ∙ numbered) alone' word
 
 pub indexed_kept : (slots : List Slot) (place : ℕ → Option ℕ) (at : ℕ) (slot new : Slot) → AreIndexed slots place
-    → slice_get slots at ≡ Some slot → new.number ≡ slot.number → length new.page ≡ 4096
+    → slice_get slots at ≡ Some slot → new.number ≡ slot.number → length new.page ≡ 256
     → AreIndexed (set slots at new) place
 indexed_kept slots place at slot new indexed is same whole = record {
-  paged = All-set (λ (s : Slot). length s.page ≡ 4096) slots at new whole indexed.paged;
+  paged = All-set (λ (s : Slot). length s.page ≡ 256) slots at new whole indexed.paged;
   there = λ number i has. numbers_kept slots at slot new i is same ∙ indexed.there number i has;
   known = λ number i there. indexed.known number i (sym (numbers_kept slots at slot new i is same) ∙ there);
 }
@@ -187,11 +187,11 @@ at_either (s ∷ slots) slot number (suc at) is =
     ⊎_elim (λ old. inl old) (λ new. inr (ap suc new.0, new.1)) (at_either slots slot number at is)
 
 pub indexed_more : (slots : List Slot) (place place' : ℕ → Option ℕ) (slot : Slot) (at : ℕ) → AreIndexed slots place
-    → ((i : ℕ) → IsAt slots slot.number i → ⊥) → length slot.page ≡ 4096 → at ≡ length slots
+    → ((i : ℕ) → IsAt slots slot.number i → ⊥) → length slot.page ≡ 256 → at ≡ length slots
     → place' slot.number ≡ Some at → ((q : ℕ) → (q ≡ slot.number → ⊥) → place' q ≡ place q)
     → AreIndexed (slots ++ slot ∷ []) place'
 indexed_more slots place place' slot at indexed none whole is here there = record {
-  paged = All-push (λ (s : Slot). length s.page ≡ 4096) slots slot indexed.paged whole;
+  paged = All-push (λ (s : Slot). length s.page ≡ 256) slots slot indexed.paged whole;
   there = λ number i has. ⊎_elim
       (λ (same : number ≡ slot.number).
       let e : Some at ≡ Some i = sym here ∙ ap place' (sym same) ∙ has in
@@ -207,7 +207,7 @@ indexed_more slots place place' slot at indexed none whole is here there = recor
       (at_either slots slot number i has);
 }
 
-pub pages_same : (slots : List Slot) (slot : Slot) (known : Bool) (n : ℕ) → slot.page ≡ replicate 4096 (fill_of known)
+pub pages_same : (slots : List Slot) (slot : Slot) (known : Bool) (n : ℕ) → slot.page ≡ replicate 256 (fill_of known)
     → ((i : ℕ) → IsAt slots slot.number i → ⊥)
     → tabulate (content (slots ++ slot ∷ []) known) n ≡ tabulate (content slots known) n
 pages_same slots slot known n page none =

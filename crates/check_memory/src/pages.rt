@@ -10,7 +10,7 @@ ghost use Rattle.check_memory.specs.Paged.{seen, IsAt};
 use crate::page::{PAGE_BYTES, Page, Slot};
 use check_cells::Cells;
 use std::alloc::{AllocError, Global};
-use std::collections::BTreeMap;
+use std::collections::HashMap;
 use std::marker::Model;
 use tl_ops::Kind;
 use tl_types::{Ask, MAX_BYTES, WORD_BYTES};
@@ -22,20 +22,20 @@ use tl_types::{Ask, MAX_BYTES, WORD_BYTES};
 #[derive(Drop)]
 pub struct Pages {
     slots: Vec<Slot>,
-    index: BTreeMap<u64, usize>,
+    index: HashMap<u64, usize>,
     known: bool,
 }
 
 impl Model for Pages {
-    ghost use Rattle.std.specs.Ordering.{nat_cmp};
-    ghost use Rattle.std.specs.BTreeMap.{get};
+    ghost use Rattle.std.specs.Prelude.{nat_eq};
+    ghost use Rattle.std.specs.HashMap.{get};
     ghost use Rattle.check_memory.specs.Paged.{Paged, AreIndexed};
 
     ghost Value = { Paged };
 
     ghost view = { λ p. record { slots = p.slots.items; known = p.known } };
 
-    ghost invariant = { λ p. AreIndexed p.slots.items (get nat_cmp p.index) };
+    ghost invariant = { λ p. AreIndexed p.slots.items (get nat_eq p.index) };
 }
 
 impl Pages {
@@ -45,7 +45,7 @@ impl Pages {
     {
         Pages {
             slots: Vec::new(alloc),
-            index: BTreeMap::new(alloc),
+            index: HashMap::new(alloc),
             known,
         }
     }

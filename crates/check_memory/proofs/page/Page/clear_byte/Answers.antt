@@ -15,10 +15,9 @@ known_cell-requires-clause-inside c =
       arith,
       c.requires,
       ap length c.self.view_is,
-      length-given_in (bit_in c.self.inside.masks.items) c.self.inside.lanes,
+      length-given_in (bit_in c.self.inside.masks) c.self.inside.lanes,
       c.self.invariant.lanes_counted,
       c.self.invariant.masks_counted,
-      ap length c.as_slice.ensures.value,
     )
 
 pub byte-byte-requires : goal.byte-byte-requires
@@ -26,7 +25,7 @@ byte-byte-requires c = omega (
   arith,
   c.requires,
   ap length c.self.view_is,
-  length-given_in (bit_in c.self.inside.masks.items) c.self.inside.lanes,
+  length-given_in (bit_in c.self.inside.masks) c.self.inside.lanes,
 )
 
 -- a byte that is known, and one that is not
@@ -41,12 +40,12 @@ pub returns-then-known_cell-eq1-clause-after : goal.returns-then-known_cell-eq1-
 returns-then-known_cell-eq1-clause-after c =
     let inside = c.self.inside in
     let zero : c.args.place + 0 ≡ c.args.place = omega arith in
-    let bits = rw c.as_slice.ensures.value at c.known_cell.ensures.bits in
-    let bit : bit_in inside.masks.items c.args.place ≡ 1 = ap (bit_in inside.masks.items) (sym zero)
+    let bits = c.known_cell.ensures.bits in
+    let bit : bit_in inside.masks c.args.place ≡ 1 = ap (bit_in inside.masks) (sym zero)
     ∙ sym (bits 0 (omega arith)) ∙ ap (λ m. bit_at m 0) c.if-known_cell-eq1.true in
     let was : get_or c.args.self.now c.args.place None ≡ Some c.byte-byte.result =
     ap (λ cells. get_or cells c.args.place None) (sym c.self.view_is)
-    ∙ known_at inside.masks.items inside.lanes c.args.place c.byte-byte.result 1 c.byte-byte.ensures bit in
+    ∙ known_at inside.masks inside.lanes c.args.place c.byte-byte.result 1 c.byte-byte.ensures bit in
     c.put_byte.ensures.after ∙ ap (λ cell. set c.args.self.now c.args.place (clear_cell cell (Some c.args.ones)))
     (sym was)
 
@@ -58,13 +57,13 @@ pub returns-else-ones-eq255-clause-after : goal.returns-else-ones-eq255-clause-a
 returns-else-ones-eq255-clause-after c =
     let inside = c.self.inside in
     let zero_place : c.args.place + 0 ≡ c.args.place = omega arith in
-    let bits = rw c.as_slice.ensures.value at c.known_cell.ensures.bits in
+    let bits = c.known_cell.ensures.bits in
     let clear : c.known_cell.result ≡ 0 = omega (arith, c.known_cell.ensures.fits, c.if-known_cell-eq1.false) in
-    let bit : bit_in inside.masks.items c.args.place ≡ 0 = ap (bit_in inside.masks.items) (sym zero_place)
+    let bit : bit_in inside.masks c.args.place ≡ 0 = ap (bit_in inside.masks) (sym zero_place)
     ∙ sym (bits 0 (omega arith)) ∙ ap (λ m. bit_at m 0) clear in
     let was : get_or c.args.self.now c.args.place None ≡ None =
     ap (λ cells. get_or cells c.args.place None) (sym c.self.view_is)
-    ∙ clear_bit (bit_in inside.masks.items) inside.lanes c.args.place bit in
+    ∙ clear_bit (bit_in inside.masks) inside.lanes c.args.place bit in
     let left : clear_cell (get_or c.args.self.now c.args.place None) (Some c.args.ones)
     ≡ get_or c.args.self.now c.args.place None = ap (λ cell. clear_cell cell (Some c.args.ones)) was
     ∙ stays c.args.ones c.if-ones-eq255.false ∙ sym was in

@@ -1,5 +1,5 @@
-use Rattle.std.proofs.Common.{◌≡◌, ◌∙◌, ◌^◌, List, [], ◌∷◌, ◌++◌, length, ap, rules, nat_cmp}
-use Rattle.std.specs.BTreeMap.{get}
+use Rattle.std.proofs.Common.{◌≡◌, ◌∙◌, ◌^◌, List, [], ◌∷◌, ◌++◌, length, ap, rules, nat_eq}
+use Rattle.std.specs.HashMap.{get}
 use Rattle.check_memory.specs.declared.page.Slot.{Slot}
 use Rattle.check_memory.specs.Place.{fill_of, tabulate}
 use Rattle.check_memory.specs.Paged.{seen, content}
@@ -32,10 +32,10 @@ invariant_of-self-in_default c =
     let none = rw (← c.self.view_is) at c.requires in
     let pushed : c.push.new.self.items ≡ slots ++ slot ∷ [] = c.in_ok-push.ensures.items in
     let last : c.len-at.result ≡ length slots = search rules in
-    let whole : length c.in_ok-page.page ≡ 4096 = ap length c.in_ok-page.ensures
-    ∙ length-replicate 4096 (fill_of c.self.inside.known) in
+    let whole : length c.in_ok-page.page ≡ 256 = ap length c.in_ok-page.ensures
+    ∙ length-replicate 256 (fill_of c.self.inside.known) in
     let updates = c.in_default.ensures.updates in
-    rw pushed (indexed_more slots (get nat_cmp c.self.inside.index)
-    (get nat_cmp c.insert.new.self) slot c.len-at.result c.self.invariant none whole last
+    rw pushed (indexed_more slots (get nat_eq c.self.inside.index)
+    (get nat_eq c.insert.new.self) slot c.len-at.result c.self.invariant none whole last
     updates.1
     (λ q apart. updates.2 q (search rules)))
