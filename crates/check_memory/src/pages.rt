@@ -17,11 +17,13 @@ use tl_types::{Ask, MAX_BYTES, WORD_BYTES};
 
 /// Pages, in the order in which they were made.
 ///
-/// An index knows the place of each, and most are found with no look at it: those that were made one after the other
-/// from the first on stand as far from it as their numbers do.
+/// The first of them are a run, in which each has the number after that of the one before. A page of the run stands as far
+/// from the first as their numbers do; an index knows the places of all others.
 #[derive(Drop)]
 pub struct Pages {
     slots: Vec<Slot>,
+    first: u64,
+    run: usize,
     index: HashMap<u64, usize>,
     known: bool,
 }
@@ -35,7 +37,7 @@ impl Model for Pages {
 
     ghost view = { λ p. record { slots = p.slots.items; known = p.known } };
 
-    ghost invariant = { λ p. AreIndexed p.slots.items (get nat_eq p.index) };
+    ghost invariant = { λ p. AreIndexed p.slots.items p.first p.run (get nat_eq p.index) };
 }
 
 impl Pages {
@@ -45,6 +47,8 @@ impl Pages {
     {
         Pages {
             slots: Vec::new(alloc),
+            first: 0,
+            run: 0,
             index: HashMap::new(alloc),
             known,
         }
@@ -62,11 +66,8 @@ impl Pages {
         ensures found { IfSome result (λ at. IsAt self.now.slots number at) }
         ensures none { result ≡ None → (at : ℕ) → IsAt self.now.slots number at → ⊥ }
     {
-        if !self.slots.is_empty() {
-            let guess = number.wrapping_sub(self.slots[0].number);
-            if guess < self.slots.len() as u64 && self.slots[guess as usize].number == number {
-                return Some(guess as usize);
-            }
+        if self.first <= number && number - self.first < self.run as u64 {
+            return Some((number - self.first) as usize);
         }
         self.index.get(&number).copied()
     }
@@ -92,6 +93,15 @@ impl Pages {
         let page = Page::new(alloc, self.known)?;
         let at = self.slots.len();
         self.slots.push(Slot { number, page })?;
+        if at == 0 {
+            self.first = number;
+            self.run = 1;
+            return Ok(at);
+        }
+        if at == self.run && self.first <= number && number - self.first == at as u64 {
+            self.run += 1;
+            return Ok(at);
+        }
         if let Err(_) = self.index.insert(number, at) {
             self.slots.pop();
             return Err(AllocError);

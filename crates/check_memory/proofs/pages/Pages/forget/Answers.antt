@@ -21,14 +21,14 @@ here c =
     (c.args.address / 256) c.index_mut-slot.result.now found c.index_mut-slot.ensures.value
 
 whole : (c : goal.After-self-1) → length c.index_mut-slot.result.now.page ≡ 256
-whole c = paged_at c.self.inside.slots.items c.args.at c.index_mut-slot.result.now c.self.invariant.paged (here c).0
+whole c = paged_at c.self.inside.slots.items c.args.at c.index_mut-slot.result.now c.self.invariant.distinct.paged (here c).0
 
 pub invariant_of-self : goal.invariant_of-self
 invariant_of-self c =
     let slots = c.self.inside.slots.items in
     let slot = c.index_mut-slot.result.now in
     let place = get nat_eq c.self.inside.index in
-    indexed_kept slots place c.args.at slot
+    indexed_kept slots c.self.inside.first c.self.inside.run place c.args.at slot
     (record { number = slot.number; page = c.forget.new.self }) c.self.invariant (here c).0 refl
     (c.forget.ensures.len ∙ whole c)
 
@@ -50,11 +50,11 @@ returns c =
     let within : address + n ≤ 2 ^ 64 = omega (arith, c.requires.inside, c.ranges.address.fits) in
     let shown : cells ≡ marked flags (drop address (tabulate (content slots known) (2 ^ 64))) =
     sym (marked-take flags (drop start slot.page))
-    ∙ ap (marked flags) (sym (page_shown slots place c.args.at (address / 256) slot known (2 ^ 64) address n
-    c.self.invariant (here c).0 (here c).1 refl c.requires.inside within))
+    ∙ ap (marked flags) (sym (page_shown slots c.args.at (address / 256) slot known (2 ^ 64) address n
+    c.self.invariant.distinct (here c).0 (here c).1 refl c.requires.inside within))
     ∙ marked-take flags (drop address (tabulate (content slots known) (2 ^ 64))) in
-    page_changed slots place c.args.at (address / 256) slot new known (2 ^ 64) address
-    cells c.self.invariant (here c).0 (here c).1 refl refl (omega (arith, long, c.requires.inside))
+    page_changed slots c.args.at (address / 256) slot new known (2 ^ 64) address
+    cells c.self.invariant.distinct (here c).0 (here c).1 refl refl (omega (arith, long, c.requires.inside))
     (omega (arith, long, within)) c.forget.ensures.after
     ∙ ap (replaced (tabulate (content slots known) (2 ^ 64)) address) shown
     ∙ ap (λ p. forgotten flags address (seen p)) c.self.view_is

@@ -22,8 +22,8 @@ invariant_of-self c =
     let slots = c.self.inside.slots.items in
     let slot = c.index_mut-slot.result.now in
     let place = get nat_eq c.self.inside.index in
-    let whole : length slot.page ≡ 256 = paged_at slots c.args.at slot c.self.invariant.paged (here c).0 in
-    indexed_kept slots place c.args.at slot
+    let whole : length slot.page ≡ 256 = paged_at slots c.args.at slot c.self.invariant.distinct.paged (here c).0 in
+    indexed_kept slots c.self.inside.first c.self.inside.run place c.args.at slot
     (record { number = slot.number; page = c.load.new.self }) c.self.invariant (here c).0 refl
     (c.load.ensures.len ∙ whole)
 
@@ -37,7 +37,7 @@ returns c =
     let cells = known c.args.bytes.now in
     let long : length cells ≡ length c.args.bytes.now = length-map c.args.bytes.now (λ byte. Some byte) in
     let room : c.args.address % 256 + length cells ≤ 256 = omega (arith, c.requires.inside, long) in
-    page_changed slots place c.args.at (c.args.address / 256) slot new c.self.inside.known (2 ^ 64) c.args.address
-    cells c.self.invariant (here c).0 (here c).1 refl refl room
+    page_changed slots c.args.at (c.args.address / 256) slot new c.self.inside.known (2 ^ 64) c.args.address
+    cells c.self.invariant.distinct (here c).0 (here c).1 refl refl room
     (omega (arith, room, c.ranges.address.fits)) c.load.ensures.after
     ∙ ap (λ p. replaced (seen p) c.args.address cells) c.self.view_is

@@ -1,5 +1,4 @@
-use Rattle.std.proofs.Common.{◌∙◌, ◌+◌, ◌/◌, ◌^◌, ◌≤◌, take, drop, refl, sym, ap, arith, nat_eq}
-use Rattle.std.specs.HashMap.{get}
+use Rattle.std.proofs.Common.{◌∙◌, ◌+◌, ◌/◌, ◌^◌, ◌≤◌, take, drop, refl, sym, ap, arith}
 use Rattle.check_memory.specs.Paged.{seen, IsAt}
 use Rattle.check_memory.proofs.Slots.{slot_at, page_shown, fill_shown}
 use Rattle.check_memory.proofs.pages.Pages.read.Goals as goal
@@ -12,8 +11,8 @@ returns-in-Some c =
     let here = slot_at slots c.in-Some.at number c.index-slot.result.now found c.index-slot.ensures in
     let within : c.args.address + c.args.width ≤ 2 ^ 64 = omega (arith, c.requires.inside, c.ranges.address.fits) in
     c.read.ensures
-    ∙ sym (page_shown slots (get nat_eq c.self.inside.index) c.in-Some.at number c.index-slot.result.now
-    c.self.inside.known (2 ^ 64) c.args.address c.args.width c.self.invariant here.0 here.1 refl c.requires.inside
+    ∙ sym (page_shown slots c.in-Some.at number c.index-slot.result.now
+    c.self.inside.known (2 ^ 64) c.args.address c.args.width c.self.invariant.distinct here.0 here.1 refl c.requires.inside
     within)
     ∙ ap (λ p. take c.args.width (drop c.args.address (seen p))) c.self.view_is
 

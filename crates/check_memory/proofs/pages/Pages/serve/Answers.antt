@@ -25,8 +25,8 @@ invariant_of-self c =
     let slots = c.self.inside.slots.items in
     let slot = c.index_mut-slot.result.now in
     let place = get nat_eq c.self.inside.index in
-    let whole : length slot.page ≡ 256 = paged_at slots c.args.at slot c.self.invariant.paged (here c).0 in
-    indexed_kept slots place c.args.at slot (record { number = slot.number; page = c.serve.new.self }) c.self.invariant
+    let whole : length slot.page ≡ 256 = paged_at slots c.args.at slot c.self.invariant.distinct.paged (here c).0 in
+    indexed_kept slots c.self.inside.first c.self.inside.run place c.args.at slot (record { number = slot.number; page = c.serve.new.self }) c.self.invariant
     (here c).0 refl (c.serve.ensures.len ∙ whole)
 
 within : (c : goal.After-self-1) → c.args.ask.now.address + 2 ^ c.args.ask.now.size ≤ 2 ^ 64
@@ -40,9 +40,9 @@ window : (c : goal.After-self-1)
 window c =
     let ask = c.args.ask.now in
     ap (λ p. take (2 ^ ask.size) (drop ask.address (seen p))) (sym c.self.view_is)
-    ∙ page_shown c.self.inside.slots.items (get nat_eq c.self.inside.index) c.args.at
+    ∙ page_shown c.self.inside.slots.items c.args.at
     (ask.address / 256) c.index_mut-slot.result.now c.self.inside.known (2 ^ 64) ask.address
-    (2 ^ ask.size) c.self.invariant (here c).0 (here c).1 refl c.requires.inside (within c)
+    (2 ^ ask.size) c.self.invariant.distinct (here c).0 (here c).1 refl c.requires.inside (within c)
 
 pub returns-clause-shown : goal.returns-clause-shown
 returns-clause-shown c =
@@ -59,15 +59,15 @@ returns-clause-after c =
     let new : Slot = record { number = slot.number; page = c.serve.new.self } in
     let old = take (2 ^ ask.size) (drop start slot.page) in
     let cells = new_cells c.args.kind ask.op old ask.bytes in
-    let whole : length slot.page ≡ 256 = paged_at slots c.args.at slot c.self.invariant.paged (here c).0 in
+    let whole : length slot.page ≡ 256 = paged_at slots c.args.at slot c.self.invariant.distinct.paged (here c).0 in
     let old_long : length old ≡ 2 ^ ask.size =
     length-take-le (2 ^ ask.size) (drop start slot.page)
     (omega (arith, whole, c.requires.inside, length-drop start slot.page)) in
     let long : length cells ≡ 2 ^ ask.size =
     length-new_cells c.args.kind ask.op old ask.bytes (c.requires.counted ∙ sym old_long) ∙ old_long in
     let made : c.serve.new.self ≡ replaced slot.page start cells = rw c.address.ensures at c.serve.ensures.after in
-    page_changed slots place c.args.at (ask.address / 256) slot new c.self.inside.known
-    (2 ^ 64) ask.address cells c.self.invariant (here c).0 (here c).1 refl refl
+    page_changed slots c.args.at (ask.address / 256) slot new c.self.inside.known
+    (2 ^ 64) ask.address cells c.self.invariant.distinct (here c).0 (here c).1 refl refl
     (omega (arith, long, c.requires.inside)) (omega (arith, long, within c)) made
     ∙ ap (λ p. replaced (seen p) ask.address cells) c.self.view_is
     ∙ ap (λ was. replaced (seen c.args.self.now) ask.address (new_cells c.args.kind ask.op was ask.bytes))
