@@ -3,39 +3,41 @@ ghost use Rattle.std.specs.Prelude.{◌≡◌, ℕ, ◌+◌, ◌*◌, ◌/◌, �
 ghost use Rattle.tl_types.specs.Operation.{carries_bytes, reply_op_of};
 ghost use Rattle.tl_ops.specs.Cell.{FitsWords};
 ghost use Rattle.check_memory.specs.Known.{known, replaced};
-ghost use Rattle.check_memory.specs.Cells.{new_cells, is_atomic};
+ghost use Rattle.check_memory.specs.Cells.{new_cells, is_atomic, forgotten};
 ghost use Rattle.check_memory.specs.Pattern.{shown_cells};
 ghost use Rattle.check_memory.specs.Paged.{seen, IsAt};
 
-use crate::page::{PAGE_BYTES, Page, Slot};
+use crate::sheet::PAGE_BYTES;
+use crate::slots::Slots;
 use check_cells::Cells;
 use std::alloc::{AllocError, Global};
-use std::collections::BTreeMap;
+use std::collections::HashMap;
 use std::marker::Model;
 use tl_ops::Kind;
 use tl_types::{Ask, MAX_BYTES, WORD_BYTES};
 
 /// Pages, in the order in which they were made.
 ///
-/// An index knows the place of each, and most are found with no look at it: those that were made one after the other
-/// from the first on stand as far from it as their numbers do.
+/// The first of them are a run, in which each has the number after that of the one before. A page of the run stands as far
+/// from the first as their numbers do; an index knows the places of all others.
 #[derive(Drop)]
 pub struct Pages {
-    slots: Vec<Slot>,
-    index: BTreeMap<u64, usize>,
-    known: bool,
+    slots: Slots,
+    first: u64,
+    run: usize,
+    index: HashMap<u64, usize>,
 }
 
 impl Model for Pages {
-    ghost use Rattle.std.specs.Ordering.{nat_cmp};
-    ghost use Rattle.std.specs.BTreeMap.{get};
+    ghost use Rattle.std.specs.Prelude.{nat_eq};
+    ghost use Rattle.std.specs.HashMap.{get};
     ghost use Rattle.check_memory.specs.Paged.{Paged, AreIndexed};
 
     ghost Value = { Paged };
 
-    ghost view = { λ p. record { slots = p.slots.items; known = p.known } };
+    ghost view = { λ p. p.slots };
 
-    ghost invariant = { λ p. AreIndexed p.slots.items (get nat_cmp p.index) };
+    ghost invariant = { λ p. AreIndexed p.slots.slots p.first p.run (get nat_eq p.index) };
 }
 
 impl Pages {
@@ -44,9 +46,10 @@ impl Pages {
         ensures { result ≡ record { slots = []; known = known } }
     {
         Pages {
-            slots: Vec::new(alloc),
-            index: BTreeMap::new(alloc),
-            known,
+            slots: Slots::new(alloc, known),
+            first: 0,
+            run: 0,
+            index: HashMap::new(alloc),
         }
     }
 
@@ -62,11 +65,8 @@ impl Pages {
         ensures found { IfSome result (λ at. IsAt self.now.slots number at) }
         ensures none { result ≡ None → (at : ℕ) → IsAt self.now.slots number at → ⊥ }
     {
-        if !self.slots.is_empty() {
-            let guess = number.wrapping_sub(self.slots[0].number);
-            if guess < self.slots.len() as u64 && self.slots[guess as usize].number == number {
-                return Some(guess as usize);
-            }
+        if self.first <= number && number - self.first < self.run as u64 {
+            return Some((number - self.first) as usize);
         }
         self.index.get(&number).copied()
     }
@@ -89,11 +89,21 @@ impl Pages {
         ensures same { seen self.new ≡ seen self.old }
         ensures at { IfOk result (λ at. IsAt self.new.slots number at) }
     {
-        let page = Page::new(alloc, self.known)?;
         let at = self.slots.len();
-        self.slots.push(Slot { number, page })?;
-        if let Err(_) = self.index.insert(number, at) {
-            self.slots.pop();
+        if at == 0 {
+            self.slots.add(alloc, number)?;
+            self.first = number;
+            self.run = 1;
+            return Ok(at);
+        }
+        if at == self.run && self.first <= number && number - self.first == at as u64 {
+            self.slots.add(alloc, number)?;
+            self.run += 1;
+            return Ok(at);
+        }
+        self.index.insert(number, at)?;
+        if let Err(_) = self.slots.add(alloc, number) {
+            self.index.remove(&number);
             return Err(AllocError);
         }
         Ok(at)
@@ -108,11 +118,10 @@ impl Pages {
     {
         match self.find(address / PAGE_BYTES as u64) {
             Some(at) => {
-                let slot = &self.slots[at];
-                slot.page
-                    .read((address % PAGE_BYTES as u64) as usize, width, cells);
+                let start = (address % PAGE_BYTES as u64) as usize;
+                self.slots.read(at, start, width, cells);
             }
-            None => cells.fill(self.known, width),
+            None => cells.fill(self.slots.known(), width),
         }
     }
 
@@ -128,10 +137,20 @@ impl Pages {
             seen self.new ≡ replaced (seen self.old) ask.now.address (new_cells kind ask.now.op old ask.now.bytes) }
         ensures shown { let old = take (2 ^ ask.now.size) (drop ask.now.address (seen self.old)) in
             cells.new ≡ shown_cells (reply_op_of ask.now.op) old }
+        ensures at { IsAt self.new.slots (ask.now.address / PAGE_BYTES) at }
     {
         let start = (ask.address() % PAGE_BYTES as u64) as usize;
-        let slot = &mut self.slots[at];
-        slot.page.serve(kind, start, ask, cells);
+        self.slots.serve(at, kind, start, ask, cells);
+    }
+
+    /// Makes the bytes that are flagged unknown, from an address on, in the page at a place.
+    pub fn forget(&mut self, at: usize, address: u64, flags: &[bool])
+        requires at { IsAt self.old.slots (address / PAGE_BYTES) at }
+        requires inside { address % PAGE_BYTES + length flags.now ≤ PAGE_BYTES }
+        ensures { seen self.new ≡ forgotten flags.now address (seen self.old) }
+    {
+        let start = (address % PAGE_BYTES as u64) as usize;
+        self.slots.forget(at, start, flags);
     }
 
     /// Writes bytes from an address on, in the page at a place.
@@ -141,7 +160,6 @@ impl Pages {
         ensures { seen self.new ≡ replaced (seen self.old) address (known bytes.now) }
     {
         let start = (address % PAGE_BYTES as u64) as usize;
-        let slot = &mut self.slots[at];
-        slot.page.load(start, bytes);
+        self.slots.load(at, start, bytes);
     }
 }
