@@ -7,7 +7,7 @@ use Rattle.check_memory.specs.declared.slave.Slave.TheVariants.{Memory, Device}
 use Rattle.check_memory.specs.Slave.{slave_after, expected_of}
 use Rattle.check_flight.specs.declared.answer.Answer.{Answer}
 use Rattle.check_flight.specs.declared.order.Order.{Order}
-use Rattle.check_flight.specs.Order.{is_at_acceptance, is_at_reply, effect_by}
+use Rattle.check_flight.specs.declared.order.Order.TheVariants.{Accept, Reply}
 
 -- a memory or a device, when requests take effect there, whether its system says that its bytes may be unknown, and how
 -- many requests have taken effect, modulo 2 ^ 64
@@ -38,22 +38,45 @@ may_be_unknown slave = is_device slave.kept || slave.unknown
 abbrev pub served_by : PortSlave → Request → PortSlave
 served_by slave ask = record slave { kept = slave_after slave.kept ask; served = (slave.served + 1) % 2 ^ 64 }
 
-abbrev pub slave_by : PortSlave → Option Request → PortSlave
-slave_by slave None = slave
-slave_by slave (Some ask) = served_by slave ask
-
 -- what the reply to a request has to fit, with the port and the request's place in the port's list
-abbrev pub answer_by : ℕ → PortSlave → Option Request → Option Answer
-answer_by port slave None = None
-answer_by port slave (Some ask) =
-    Some (record { reply = expected_of slave.kept ask; port = port; index = slave.served })
+abbrev pub answer_of : ℕ → PortSlave → Request → Answer
+answer_of port slave ask = record { reply = expected_of slave.kept ask; port = port; index = slave.served }
 
--- ---- when they take effect
+-- ---- a request is accepted, with its last beat
 
--- of a request that is accepted, the one that takes effect: it, or none
-abbrev pub effect_at_acceptance : PortSlave → Option Request → Option Request
-effect_at_acceptance slave ask = effect_by (is_at_acceptance slave.order) ask
+-- the slave afterwards, by when requests of a wide source take effect there
+abbrev pub accepted_by : Order → PortSlave → ℕ → Request → PortSlave
+accepted_by Accept slave wide ask = served_by slave ask
+accepted_by Reply slave wide ask = slave
 
--- the same of a request whose reply begins
-abbrev pub effect_at_reply : PortSlave → Option Request → Option Request
-effect_at_reply slave ask = effect_by (is_at_reply slave.order) ask
+-- what the reply has to fit, if that is known then
+abbrev pub due_accepted_by : Order → ℕ → PortSlave → Request → Option Answer
+due_accepted_by Accept port slave ask = Some (answer_of port slave ask)
+due_accepted_by Reply port slave ask = None
+
+-- the same of a request that is accepted, if there is one
+abbrev pub accepting : PortSlave → ℕ → Option Request → PortSlave
+accepting slave wide None = slave
+accepting slave wide (Some ask) = accepted_by slave.order slave wide ask
+
+abbrev pub due_accepting : ℕ → PortSlave → Option Request → Option Answer
+due_accepting port slave None = None
+due_accepting port slave (Some ask) = due_accepted_by slave.order port slave ask
+
+-- ---- it is answered, with the first beat of its reply
+
+abbrev pub answered_by : Order → PortSlave → ℕ → Request → PortSlave
+answered_by Accept slave wide ask = slave
+answered_by Reply slave wide ask = served_by slave ask
+
+abbrev pub due_answered_by : Order → ℕ → PortSlave → ℕ → Request → Option Answer
+due_answered_by Accept port slave wide ask = None
+due_answered_by Reply port slave wide ask = Some (answer_of port slave ask)
+
+abbrev pub answering : PortSlave → ℕ → Option Request → PortSlave
+answering slave wide None = slave
+answering slave wide (Some ask) = answered_by slave.order slave wide ask
+
+abbrev pub due_answering : ℕ → PortSlave → ℕ → Option Request → Option Answer
+due_answering port slave wide None = None
+due_answering port slave wide (Some ask) = due_answered_by slave.order port slave wide ask

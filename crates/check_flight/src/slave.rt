@@ -1,9 +1,12 @@
 //! A port's slave, as the judge keeps it.
-ghost use Rattle.std.specs.Prelude.{◌≡◌, Some, OnOk, OnErr};
-ghost use Rattle.check_flight.specs.PortSlave.{answer_by, fresh_slave, may_be_unknown, served_by};
+ghost use Rattle.std.specs.Prelude.{◌≡◌, Some, false, IfOk, IsTrue, OnOk, OnErr};
+ghost use Rattle.check_flight.specs.Flight.{due_kept};
+ghost use Rattle.check_flight.specs.Order.{is_at_acceptance, is_at_reply};
+ghost use Rattle.check_flight.specs.PortSlave.{accepting, answer_of, answering, due_accepting, due_answering, fresh_slave, may_be_unknown, served_by};
 
 use crate::answer::Answer;
 use crate::order::Order;
+use crate::place::Place;
 use check_memory::Slave;
 use std::alloc::{AllocError, Global};
 use std::marker::Model;
@@ -57,7 +60,7 @@ impl PortSlave {
 
     /// Serves a request, as the slave of this port, and puts the answer in the place of another. Where there is no memory
     /// for a page, nothing is changed.
-    pub fn serve_into(
+    fn serve_into(
         &mut self,
         alloc: Global,
         port: usize,
@@ -65,7 +68,7 @@ impl PortSlave {
         answer: &mut Answer,
     ) -> Result<(), AllocError>
         ensures served { OnOk result (self.new ≡ served_by self.old ask.now) }
-        ensures answer { OnOk result (Some answer.new ≡ answer_by port self.old (Some ask.now)) }
+        ensures answer { OnOk result (answer.new ≡ answer_of port self.old ask.now) }
         ensures unchanged { OnErr result (self.new ≡ self.old) }
         ensures answer_unchanged { OnErr result (answer.new ≡ answer.old) }
     {
@@ -78,10 +81,75 @@ impl PortSlave {
 
     /// Puts the answer of the slave of this port to a request that it does not serve in the place of another.
     pub fn answer_into(&self, port: usize, ask: &Ask, answer: &mut Answer)
-        ensures { Some answer.new ≡ answer_by port self.now (Some ask.now) }
+        ensures { answer.new ≡ answer_of port self.now ask.now }
     {
         self.kept.answer(ask, &mut answer.reply);
         answer.port = port;
         answer.index = self.served;
+    }
+
+    /// A request is accepted: whether it is known now what its reply has to fit. If it is, that is put in the place of
+    /// another answer. Where there is no memory, nothing is changed.
+    pub fn accept(
+        &mut self,
+        alloc: Global,
+        place: Place,
+        ask: &Ask,
+        answer: &mut Answer,
+    ) -> Result<bool, AllocError>
+        ensures slave { OnOk result (self.new ≡ accepting self.old place.wide (Some ask.now)) }
+        ensures due { IfOk result (λ is_due.
+            due_kept is_due answer.new ≡ due_accepting place.port self.old (Some ask.now)) }
+        ensures served { OnErr result (IsTrue (is_at_acceptance self.old.order)) }
+        ensures unchanged { OnErr result (self.new ≡ self.old) }
+        ensures answer_unchanged { OnErr result (answer.new ≡ answer.old) }
+    {
+        match self.order {
+            Order::Accept => {
+                self.serve_into(alloc, place.port, ask, answer)?;
+                Ok(true)
+            }
+            Order::Reply => Ok(false),
+        }
+    }
+
+    /// The reply begins to a request that was accepted: whether it is known now, and not before, what the reply has to
+    /// fit. If it is, that is put in the place of another answer. Where there is no memory, nothing is changed.
+    pub fn answer(
+        &mut self,
+        alloc: Global,
+        place: Place,
+        ask: &Ask,
+        answer: &mut Answer,
+    ) -> Result<bool, AllocError>
+        ensures slave { OnOk result (self.new ≡ answering self.old place.wide (Some ask.now)) }
+        ensures due { IfOk result (λ is_due.
+            due_kept is_due answer.new ≡ due_answering place.port self.old place.wide (Some ask.now)) }
+        ensures kept { IfOk result (λ is_due. is_due ≡ false → answer.new ≡ answer.old) }
+        ensures served { OnErr result (IsTrue (is_at_reply self.old.order)) }
+        ensures unchanged { OnErr result (self.new ≡ self.old) }
+        ensures answer_unchanged { OnErr result (answer.new ≡ answer.old) }
+    {
+        match self.order {
+            Order::Accept => Ok(false),
+            Order::Reply => {
+                self.serve_into(alloc, place.port, ask, answer)?;
+                Ok(true)
+            }
+        }
+    }
+
+    /// What the reply to a request of a wide source has to fit that was accepted, if the reply begins now: whether it is
+    /// known then, and not before. If it is, it is put in the place of another answer.
+    pub fn due_into(&self, port: usize, wide: usize, ask: &Ask, answer: &mut Answer) -> bool
+        ensures { due_kept result answer.new ≡ due_answering port self.now wide (Some ask.now) }
+    {
+        match self.order {
+            Order::Accept => false,
+            Order::Reply => {
+                self.answer_into(port, ask, answer);
+                true
+            }
+        }
     }
 }
