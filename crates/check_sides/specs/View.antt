@@ -90,8 +90,8 @@ pub record IsAfter (layout : GroupLayout) (port : ℕ) (beyond : Beyond) (old ne
   pub flights : (source : ℕ) → flight_in new source ≡ (if source_of beat == source
       then flight_after layout (Port port) (port_scene layout port beyond old beat) beat lanes
       else flight_in old source)
-  pub slave : new.slave ≡ accepting (port_scene layout port beyond old beat).slave (source_of beat)
-      (accepted layout (Port port) (port_scene layout port beyond old beat) beat lanes)
+  pub slave : let here = port_scene layout port beyond old beat in
+      new.slave ≡ accepting here.slave here.wide (accepted layout (Port port) here beat lanes)
   pub unkept : (source : ℕ) → kept_of new.flights source ≡ None
       → (kept_of old.flights source ≡ None) × (IsAskOf beat source → ⊥)
 

@@ -1,5 +1,6 @@
 pub mod Crossed
 pub mod Messages
 pub mod Memories
+pub mod Moments
 pub mod Crossings
 pub mod Rules

@@ -25,14 +25,15 @@ returns-clause-flight c =
     (put_through c.self.inside.kept (c.get_mut.follows.lender c.answer.new.self) c.args.self.now c.args.source
     c.answer.new.self _ c.self.view_is refl
     ((c.get_mut.follows.holds c.answer.new.self).3 (search rules))))
-    c.answer.ensures.flight
+    (rw c.place_at.ensures at c.answer.ensures.flight)
 
 pub returns-clause-slave : goal.returns-clause-slave
 returns-clause-slave c =
     let flight : c.in-Some.flight.now ≡ flight_of c.args.self.now c.args.source =
     ap (λ o. unwrap_or o idle) (sym (here c)) in
     subst (λ (f : Flight). OnOk c.answer.result (c.answer.new.slave
-    ≡ answering c.args.slave.now c.args.source (asked f.turn))) flight c.answer.ensures.slave
+    ≡ answering c.args.slave.now c.args.source (asked f.turn))) flight
+    (rw c.place_at.ensures at c.answer.ensures.slave)
 
 pub returns-clause-err : goal.returns-clause-err
 returns-clause-err c =
