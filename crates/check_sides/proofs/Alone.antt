@@ -1,8 +1,7 @@
 -- A beat at a port's link that is judged by itself: the first reason why it is not lawful, or that it is.
-use Rattle.std.proofs.Common.{◌≡◌, ◌∙◌, ℕ, ◌<◌, Bool, false, List, Option, Some, None, refl, sym, subst}
+use Rattle.std.proofs.Common.{◌≡◌, ◌∙◌, ℕ, ◌<◌, Bool, false, List, refl, sym, subst}
 use Rattle.std.specs.Prelude.{IsTrue}
 use Rattle.tl_types.specs.Fault.{IsFirstOf}
-use Rattle.tl_types.specs.Request.{Request}
 use Rattle.tl_map.specs.declared.map.Range.{Range}
 use Rattle.check_beats.specs.Form.{FitsAsk, FitsReply, IsKnown}
 use Rattle.check_beats.specs.State.{ends_reply, first_ask, first_reply}

@@ -14,7 +14,7 @@ use Rattle.check_flight.specs.Crossing.{Crossing}
 use Rattle.check_flight.specs.Crossing.Crossing.{Waiting, Crossed, Given}
 use Rattle.check_flight.specs.Flight.{Turn, asked, Flight, idle, flight_due}
 use Rattle.check_flight.specs.Flight.Turn.{Idle, Asking, Asked}
-use Rattle.check_flight.specs.Order.{is_at_acceptance, is_at_reply}
+use Rattle.check_flight.specs.Order.{is_at_reply}
 use Rattle.check_flight.specs.PortSlave.{PortSlave, accepting, answering}
 use Rattle.check_flight.specs.Side.{under_at, flight_at, flights_due, ask_crossed, reply_crossed}
 use Rattle.check_watch.specs.declared.beat.Beat.{Beat}
@@ -31,7 +31,7 @@ use Rattle.check_watch.specs.Lawful.{IsLawful, IsServed, IsAllowedBeat, IsFirstR
 use Rattle.check_watch.specs.Past.{State, no_slave, slave_at, port_of, found_in, scene_of, state_after, state, scene}
 use Rattle.check_watch.specs.Plan.{Layout, Plan, Sighting, Side, HasLink, side_of, number_of, source_of, wide_of, same_side, is_link, is_of, seen_at}
 use Rattle.check_watch.specs.Plan.Side.{AtMasters, AtPorts}
-use Rattle.check_watch.specs.Scene.{Scene, ask_by, ask_if, begins_reply, serving, takes_effect, under_after, accepted, once_answered, flight_after, crossing_after, given_by, captured}
+use Rattle.check_watch.specs.Scene.{Scene, ask_by, ask_if, serving, takes_effect, under_after, accepted, once_answered, flight_after, crossing_after, given_by, captured}
 use Rattle.check_watch.specs.View.{View, is_answering_in, is_served_late_in, IsSized, wides_in, Keeps, AreSame, IsPlace, state_in, side_in, own_side, crossing_at, under_in, flight_in, scene_in, slaves_accepting, slaves_answering, crossings_taken, crossings_asked, crossings_given, crossings_replied, accepted_in, served_in, answered_in, late_answer, asked_flight, with_side, with_ask, with_late, with_part, with_end, with_reply}
 use Rattle.check_watch.proofs.Judging.{wide_is, no_ask_reason}
 use Rattle.check_watch.proofs.Replying.{no_reply_reason}
@@ -547,17 +547,6 @@ some_asked : (number : ℕ) (turn : Turn) (P : Request → Type 0) → OfAsked n
 some_asked number Idle P of = absurd of
 some_asked number (Asking at) P of = absurd of
 some_asked number (Asked at ask) P of = refl
-
--- a request that is accepted is served as it is accepted, if its beat ends it
-pub accepted_serves : (view : View) (link : Link) (port : ℕ) (beat : AskHead) (lanes : List ℕ)
-    → takes_effect view.layout link port ≡ true → is_at_acceptance (slave_at view.slaves port).order ≡ true
-    → ends_ask (under_in view link).bus (under_in view link).asking beat ≡ true
-    → IsSome (served_in view link port (ask_by (under_in view link) beat lanes))
-accepted_serves view link port beat lanes takes early ends =
-    let ask = ask_by (under_in view link) beat lanes in
-    let some : IsSome ask = rw ends refl in
-    subst (λ (o : Option Request). IsSome o) (sym (ap (λ b. ask_if b (accepted_in view link port ask)) early
-    ∙ ap (λ b. ask_if b ask) takes)) some
 
 module _ (plan : Plan) (past : List Sighting) (view : View) (link : Link) (known : ℕ) (lanes : List ℕ)
     (place : Place) (keeps : Keeps plan past view) where

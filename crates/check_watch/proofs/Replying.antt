@@ -1,8 +1,7 @@
 -- From what a judge finds of a beat of a reply to what it is after its past: the first reason, or that it is lawful.
-use Rattle.std.proofs.Common.{◌≡◌, ℕ, ◌<◌, ◌≤◌, ◌⊎◌, inl, inr, Bool, false, List, Option, Some, None, sym, subst, refl, arith}
+use Rattle.std.proofs.Common.{◌≡◌, ℕ, ◌<◌, ◌≤◌, ◌⊎◌, inl, inr, Bool, false, List, Option, Some, None, sym, subst, arith}
 use Rattle.std.specs.Prelude.{IsTrue, IsSome}
 use Rattle.tl_types.specs.Fault.{IsFirstOf}
-use Rattle.tl_types.specs.Request.{Request}
 use Rattle.tl_types.specs.declared.operation.ReplyOp.{ReplyOp}
 use Rattle.check_beats.specs.Form.{FitsReply, HasReplyFormFault, IsLawfulFlag}
 use Rattle.check_beats.specs.State.{ends_reply, first_reply}

@@ -4,10 +4,10 @@ use Rattle.std.proofs.Common.{◌≡◌, ◌∙◌, ◌<◌, ℕ, List, length, 
 use Rattle.std.proofs.lemmas.Option.{slice_get-get_or}
 use Rattle.std.specs.Prelude.{slice_set, unwrap_or}
 use Rattle.tl_types.specs.Request.{Request}
-use Rattle.check_flight.specs.PortSlave.{PortSlave, accepting, answering}
+use Rattle.check_flight.specs.PortSlave.{PortSlave, answering}
 use Rattle.check_flight.proofs.Served.{set_own}
 use Rattle.check_watch.specs.Past.{no_slave, slave_at}
-use Rattle.check_watch.specs.View.{slaves_accepting, slaves_answering}
+use Rattle.check_watch.specs.View.{slaves_answering}
 
 pub slaves_answered : (slaves : List PortSlave) (port wide : ℕ) (ask : Option Request)
     → slice_set slaves port (answering (slave_at slaves port) wide ask) ≡ slaves_answering slaves port wide ask

@@ -13,7 +13,7 @@ use Rattle.check_flight.specs.Crossing.Crossing.{Waiting, Crossed, Given}
 use Rattle.check_flight.specs.Flight.{Turn, Flight, idle, asked, flight_due}
 use Rattle.check_flight.specs.Flight.Turn.{Idle, Asking, Asked}
 use Rattle.check_flight.specs.Order.{is_at_acceptance, is_at_reply}
-use Rattle.check_flight.specs.PortSlave.{PortSlave, accepting, answering, due_accepting, due_answering}
+use Rattle.check_flight.specs.PortSlave.{PortSlave, answering, due_accepting, due_answering}
 use Rattle.check_flight.specs.Side.{ask_crossed, reply_crossed}
 use Rattle.check_watch.specs.declared.beat.Beat.{Beat}
 use Rattle.check_watch.specs.declared.beat.Beat.TheVariants.{A, D}

@@ -1,5 +1,5 @@
 -- What each port's slave holds is what the moments leave at which it accepts and answers requests.
-use Rattle.std.proofs.Common.{◌≡◌, ◌∙◌, ℕ, Bool, true, false, if◌then◌else◌, List, [], ◌∷◌, ◌++◌, map, filter, Option, Some, None, refl, ap, sym, eqb-true, append-nil}
+use Rattle.std.proofs.Common.{◌≡◌, ◌∙◌, ℕ, Bool, true, false, if◌then◌else◌, List, [], ◌∷◌, ◌++◌, Option, Some, None, refl, ap, sym, eqb-true, append-nil}
 use Rattle.std.specs.Prelude.{◌==◌, ◌&&◌}
 use Rattle.tl_types.specs.Request.{Request}
 use Rattle.check_beats.specs.State.{Under, ends_ask, ask_of}

@@ -1,5 +1,5 @@
 -- Each lane of a lawful beat that carries a byte, and has to be known, was known.
-use Rattle.std.proofs.Common.{◌≡◌, ◌∙◌, ℕ, Bool, true, false, if◌then◌else◌, List, [], ◌∷◌, Option, Some, None, refl, ap, sym, subst, eqb-true}
+use Rattle.std.proofs.Common.{◌≡◌, ◌∙◌, ℕ, Bool, true, false, if◌then◌else◌, List, [], ◌∷◌, refl, ap, sym, subst, eqb-true}
 use Rattle.std.specs.Prelude.{◌==◌}
 use Rattle.tl_types.specs.Request.{Request}
 use Rattle.check_beats.specs.State.{Under}
