@@ -1,0 +1,6 @@
+//! Slaves that take requests in an order that nobody knows.
+#![tactic(auto)]
+
+mod accepted;
+
+pub use accepted::Accepted;
