@@ -1,2 +1,3 @@
 pub mod Writes
 pub mod Contests
+pub mod Moments
