@@ -1,7 +1,6 @@
 -- Bytes that are below 256 stay so.
-use Rattle.std.proofs.Common.{◌≡◌, ◌∙◌, ◌⊎◌, ⊎_elim, ◌+◌, ◌^◌, ℕ, zero, suc, ◌<◌, ◌≤◌, ◌%◌, Bool, true, false, if◌then◌else◌, ◌==◌, List, [], ◌∷◌, length, get_or, map, replicate, Option, Some, None, unwrap_or, bit_and, refl, sym, ap, subst, rules, arith}
+use Rattle.std.proofs.Common.{◌≡◌, ◌∙◌, ⊎_elim, ◌+◌, ◌^◌, ℕ, zero, suc, ◌<◌, ◌≤◌, Bool, true, false, if◌then◌else◌, ◌==◌, List, [], ◌∷◌, length, get_or, replicate, Option, Some, None, unwrap_or, bit_and, refl, sym, ap, arith}
 use Rattle.std.specs.Prelude.{nat_lt, int_lt}
-use Rattle.std.specs.List.{zip}
 use Rattle.std.proofs.lemmas.Nat.{or_of_8, xor_of_8, and_le_l}
 use Rattle.tl_types.specs.Bytes.{plain_of}
 use Rattle.tl_types.specs.Request.{Request}
@@ -20,7 +19,7 @@ use Rattle.check_memory.specs.Laws.{IsLawful}
 use Rattle.check_memory.specs.Partial.{Partial, permits, AreWithin}
 use Rattle.check_contests.specs.Moments.{AreBytes}
 use Rattle.check_contests.proofs.Cells.{none_known}
-use Rattle.check_contests.proofs.Effect.{cells_after, new_of, window, window_long, get_or-window, there_if_known, Stands, stands, after_in, after_out, after_denied, Where, where_is}
+use Rattle.check_contests.proofs.Effect.{cells_after, new_of, window, window_long, get_or-window, there_if_known, Stands, stands, after_in, after_out, after_denied, where_is}
 
 -- each is below 256
 abbrev pub AreSmall : List ℕ → Type 0

@@ -1,6 +1,5 @@
 -- What a request makes of each byte of its window: a put of each byte by itself, an atomic of the whole window.
-use Rattle.std.proofs.Common.{◌≡◌, ◌∙◌, ℕ, zero, suc, ◌<◌, ◌≤◌, Bool, true, false, if◌then◌else◌, ◌==◌, List, [], ◌∷◌, length, get_or, map, replicate, Option, Some, None, unwrap_or, bit_and, refl, sym, ap, subst, rules, arith}
-use Rattle.std.specs.List.{zip}
+use Rattle.std.proofs.Common.{◌≡◌, ◌∙◌, ℕ, zero, suc, ◌<◌, Bool, true, false, if◌then◌else◌, ◌==◌, List, [], ◌∷◌, length, get_or, replicate, Option, Some, None, unwrap_or, bit_and, refl, sym, ap, arith}
 use Rattle.std.specs.Int.Bits.{and_zero_r}
 use Rattle.std.proofs.lemmas.Bool.{eqb-true}
 use Rattle.std.proofs.lemmas.Nat.{and_mask}
@@ -11,7 +10,7 @@ use Rattle.tl_types.specs.declared.operation.Logic.{Logic}
 use Rattle.tl_types.specs.declared.operation.Logic.TheVariants.{Xor, Or, And, Swap}
 use Rattle.tl_ops.specs.declared.kind.Kind.{Kind}
 use Rattle.tl_ops.specs.declared.kind.Kind.TheVariants.{Ram, Rom, Regs, ClearRegs, NoDevice}
-use Rattle.tl_ops.specs.Window.{operand_of, combine_arith, combine_logic, not_byte}
+use Rattle.tl_ops.specs.Window.{operand_of, combine_arith, combine_logic}
 use Rattle.check_memory.specs.Known.{known, all_known}
 use Rattle.check_memory.specs.Cells.{clear_cell, put_at, put_cells, combined, combined_logic, new_cells, is_atomic}
 

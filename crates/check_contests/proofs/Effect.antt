@@ -1,7 +1,7 @@
 -- What a request makes of each byte of a memory, by its address.
-use Rattle.std.proofs.Common.{◌≡◌, ◌∙◌, ◌⊎◌, inl, inr, ⊎_elim, ℕ, zero, suc, [], ◌∷◌, ◌+◌, ◌-◌, ◌^◌, ◌<◌, ◌≤◌, Bool, true, false, ◌&&◌, nat_le, nat_lt, List, length, take, drop, get_or, Option, Some, None, refl, sym, ap, subst, rules, arith}
+use Rattle.std.proofs.Common.{◌≡◌, ◌∙◌, ◌⊎◌, inl, inr, ⊎_elim, ℕ, zero, suc, [], ◌∷◌, ◌+◌, ◌-◌, ◌^◌, ◌<◌, ◌≤◌, Bool, true, false, ◌&&◌, nat_le, nat_lt, List, length, take, drop, get_or, Option, Some, None, refl, sym, ap, subst, arith}
 use Rattle.std.specs.Prelude.{is_some}
-use Rattle.std.proofs.lemmas.Bool.{and_parts, and_from, cases_lt, leb-true, ltb-true, le-leb, lt-ltb, cases_Bool}
+use Rattle.std.proofs.lemmas.Bool.{and_parts, and_from, cases_lt, leb-true, ltb-true, le-leb, lt-ltb}
 use Rattle.std.proofs.lemmas.List.{length-take-le, length-drop, get_or-take, get_or-drop}
 use Rattle.tl_types.specs.Operation.{carries_bytes, byte_count}
 use Rattle.tl_types.specs.Request.{Request}
@@ -11,7 +11,7 @@ use Rattle.tl_ops.specs.declared.kind.Kind.{Kind}
 use Rattle.tl_ops.specs.declared.kind.Kind.TheVariants.{ClearRegs}
 use Rattle.check_memory.specs.Known.{replaced}
 use Rattle.check_memory.specs.Cells.{put_at, put_cells, new_cells, is_atomic}
-use Rattle.check_memory.specs.Partial.{Partial, permits, window_of, after_partial, AreWithin}
+use Rattle.check_memory.specs.Partial.{Partial, permits, after_partial, AreWithin}
 use Rattle.check_memory.specs.Laws.{IsLawful}
 use Rattle.check_memory.proofs.PageCells.{length-replaced}
 use Rattle.check_memory.proofs.Slots.{length-new_cells}

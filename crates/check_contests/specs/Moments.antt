@@ -1,6 +1,6 @@
 -- The moments of a port, and a slave of which each request takes effect at one of them: after the request is accepted,
 -- and before its reply begins. It is this project's own.
-use Rattle.std.specs.Prelude.{◌≡◌, ℕ, ◌<◌, if◌then◌else◌, ◌==◌, List, [], ◌∷◌, length, Option, Some, None, slice_index_or}
+use Rattle.std.specs.Prelude.{◌≡◌, ℕ, ◌<◌, if◌then◌else◌, ◌==◌, List, [], ◌∷◌, Option, Some, None, slice_index_or}
 use Rattle.tl_types.specs.Request.{Request}
 use Rattle.tl_ops.specs.declared.kind.Kind.TheVariants.{ClearRegs}
 use Rattle.check_memory.specs.Laws.{IsLawful}

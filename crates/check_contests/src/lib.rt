@@ -2,5 +2,6 @@
 #![tactic(auto)]
 
 mod accepted;
+pub mod laws;
 
 pub use accepted::Accepted;
