@@ -12,3 +12,5 @@ pub mod Serving
 pub mod Answering
 pub mod Runs
 pub mod Uncontested
+pub mod Near
+pub mod Dues

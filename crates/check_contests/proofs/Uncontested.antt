@@ -44,7 +44,7 @@ any_none_of P test (item ∷ items) none all =
     (any_none_of P test items none (All-tail P item items all))
 
 -- what is due stays, if no byte of it is named
-due_stays : (memory : Partial) (ask : Request) (test : ℕ → Bool) (due : Pattern)
+pub due_stays : (memory : Partial) (ask : Request) (test : ℕ → Bool) (due : Pattern)
     → ((k : ℕ) → k < length due.bytes → test (ask.address + k) ≡ false) → due_beside memory ask test due ≡ due
 due_stays memory ask test due none = by_cases (permits memory ask) refl
   where

@@ -3,5 +3,7 @@
 
 mod accepted;
 pub mod laws;
+mod due;
+mod writes;
 
 pub use accepted::Accepted;
