@@ -1,10 +1,10 @@
 -- What a legal request is like.
-use Rattle.std.proofs.Common.{◌≡◌, ◌∙◌, ℕ, zero, suc, ◌+◌, ◌-◌, ◌*◌, ◌/◌, ◌%◌, ◌^◌, ◌<◌, ◌≤◌, true, List, [], ◌∷◌, ◌++◌, length, take, drop, Option, None, Some, refl, sym, ap, subst, lit≤, rules, arith}
+use Rattle.std.proofs.Common.{◌≡◌, ◌∙◌, ℕ, zero, suc, ◌+◌, ◌-◌, ◌*◌, ◌/◌, ◌%◌, ◌^◌, ◌<◌, ◌≤◌, Bool, true, false, ◌&&◌, List, [], ◌∷◌, ◌++◌, length, take, drop, Option, None, Some, refl, sym, ap, subst, lit≤, rules, arith}
 use Rattle.std.specs.Prelude.{IfSome}
 use Rattle.std.proofs.Math.Nat.{pow-le-pow_right}
 use Rattle.std.proofs.lemmas.Nat.{pow_pos}
 use Rattle.std.proofs.lemmas.List.{append_assoc, take-append-drop, drop-drop}
-use Rattle.tl_types.specs.Operation.{byte_count}
+use Rattle.tl_types.specs.Operation.{carries_bytes, byte_count}
 use Rattle.tl_types.specs.Request.{Request}
 use Rattle.tl_types.specs.declared.operation.AskOp.{AskOp}
 use Rattle.tl_types.specs.declared.operation.AskOp.TheVariants.{PutFull, PutPartial, Arithmetic, Logical, Get, Intent}
@@ -16,7 +16,7 @@ use Rattle.check_memory.specs.declared.sizes.SizeTable.{SizeTable}
 use Rattle.check_memory.specs.Sizes.{spans, allows, IsBetween, IsLawfulTable}
 use Rattle.check_memory.specs.Known.{replaced}
 use Rattle.check_memory.specs.Cells.{new_cells, is_atomic}
-use Rattle.check_memory.specs.Partial.{Partial, permits, window_of, after_partial}
+use Rattle.check_memory.specs.Partial.{Partial, permits, takes_bytes, window_of, after_partial, after_forgetting}
 
 pub allowed : (memory : Partial) (ask : Request) → permits memory ask ≡ true
     → allows memory.sizes ask.op ask.size ≡ true
@@ -25,15 +25,15 @@ allowed memory ask is = search rules
 pub aligned : (memory : Partial) (ask : Request) → permits memory ask ≡ true → ask.address % 2 ^ ask.size ≡ 0
 aligned memory ask is = search rules
 
-pub fits_words : (address size : ℕ) → size ≤ 8 → address % 2 ^ size ≡ 0 → FitsWords (address % 4096) (2 ^ size)
+pub fits_words : (address size : ℕ) → size ≤ 8 → address % 2 ^ size ≡ 0 → FitsWords (address % 256) (2 ^ size)
 fits_words address size small is =
-    let base = 4096 * (address / 4096) in
-    let at : base % 8 + (address - base) ≡ address % 4096 = omega arith in
+    let base = 256 * (address / 256) in
+    let at : base % 8 + (address - base) ≡ address % 256 = omega arith in
     let below : base ≤ address = omega arith in
     let P : ℕ → Type 0 = λ n. FitsWords n (2 ^ size) in
     subst P at (FitsWords-from_aligned base address size small below is)
 
-pub in_page : (address size : ℕ) → size ≤ 8 → address % 2 ^ size ≡ 0 → address % 4096 + 2 ^ size ≤ 4096
+pub in_page : (address size : ℕ) → size ≤ 8 → address % 2 ^ size ≡ 0 → address % 256 + 2 ^ size ≤ 256
 in_page address zero small is = omega arith
 in_page address (suc zero) small is = omega (arith, is)
 in_page address (suc (suc zero)) small is = omega (arith, is)
@@ -112,3 +112,35 @@ unchanged memory ask is none =
     rw is (ap left (ap (replaced memory.cells ask.address)
     (same_window memory.kind ask.op ask.size (window_of memory ask) ask.bytes none)
     ∙ replaced-same memory.cells ask.address (2 ^ ask.size)))
+
+-- ---- a request that forgets, and one that does not
+
+no_count : (op : AskOp) (size : ℕ) → carries_bytes op ≡ false → byte_count op size ≡ 0
+no_count op size is = rw is refl
+
+pub takes_legal : (memory : Partial) (ask : Request) → takes_bytes memory ask ≡ true → permits memory ask ≡ true
+takes_legal memory ask is = both (permits memory ask) (carries_bytes ask.op) is
+  where
+    both : (a b : Bool) → (a && b) ≡ true → a ≡ true
+    both true b is = refl
+    both false b is = is
+
+pub takes_count : (memory : Partial) (ask : Request) → takes_bytes memory ask ≡ true
+    → byte_count ask.op ask.size ≡ 2 ^ ask.size
+takes_count memory ask is = rw (both (permits memory ask) (carries_bytes ask.op) is) refl
+  where
+    both : (a b : Bool) → (a && b) ≡ true → b ≡ true
+    both true b is = is
+    both false b is = cc
+
+none_carried : (memory : Partial) (ask : Request) → permits memory ask ≡ true → takes_bytes memory ask ≡ false
+    → carries_bytes ask.op ≡ false
+none_carried memory ask is none = rw is at none
+
+pub forgets_nothing : (memory : Partial) (ask : Request) (flags : List Bool) → takes_bytes memory ask ≡ false
+    → memory ≡ after_forgetting memory ask flags
+forgets_nothing memory ask flags none = rw none (left (permits memory ask) refl)
+  where
+    left : (legal : Bool) → permits memory ask ≡ legal → memory ≡ after_partial memory ask
+    left true is = sym (unchanged memory ask is (no_count ask.op ask.size (none_carried memory ask is none)))
+    left false is = rw is refl

@@ -151,72 +151,72 @@ eq_false x y apart = search rules
 -- the page of a number, where no other has it
 pub content_here : (slots : List Slot) (at number : ℕ) (slot : Slot) (known : Bool) (address : ℕ)
     → slice_get slots at ≡ Some slot → slot.number ≡ number → ((i : ℕ) → IsAt slots number i → i ≡ at)
-    → number ≡ address / 4096
-    → content slots known address ≡ get_or slot.page (address % 4096) None
+    → number ≡ address / 256
+    → content slots known address ≡ get_or slot.page (address % 256) None
 content_here [] at number slot known address is numbered alone here = cc
 content_here (s ∷ slots) zero number slot known address is numbered alone here =
     let same : s ≡ slot = cc in
-    let test : (s.number == address / 4096) ≡ true =
-    eq_true s.number (address / 4096) (ap (λ (t : Slot). t.number) same ∙ numbered ∙ here) in
-    rw test (ap (λ (t : Slot). get_or t.page (address % 4096) None) same)
+    let test : (s.number == address / 256) ≡ true =
+    eq_true s.number (address / 256) (ap (λ (t : Slot). t.number) same ∙ numbered ∙ here) in
+    rw test (ap (λ (t : Slot). get_or t.page (address % 256) None) same)
 content_here (s ∷ slots) (suc at) number slot known address is numbered alone here =
-    let apart : s.number ≡ address / 4096 → ⊥ = λ same. let first : 0 ≡ suc at =
+    let apart : s.number ≡ address / 256 → ⊥ = λ same. let first : 0 ≡ suc at =
     alone 0 (ap (λ (n : ℕ). Some n) (same ∙ sym here)) in absurd (omega (arith, first)) in
-    let test : (s.number == address / 4096) ≡ false = eq_false s.number (address / 4096) apart in
+    let test : (s.number == address / 256) ≡ false = eq_false s.number (address / 256) apart in
     rw test (content_here slots at number slot known address is numbered (λ i there. let e : suc i ≡ suc at =
     alone (suc i) there in omega (arith, e)) here)
 
 -- other numbers are shown as before
 pub content_there : (slots : List Slot) (at : ℕ) (slot new : Slot) (known : Bool) (address : ℕ)
-    → slice_get slots at ≡ Some slot → new.number ≡ slot.number → (slot.number ≡ address / 4096 → ⊥)
+    → slice_get slots at ≡ Some slot → new.number ≡ slot.number → (slot.number ≡ address / 256 → ⊥)
     → content (set slots at new) known address ≡ content slots known address
 content_there [] at slot new known address is same apart = refl
 content_there (s ∷ slots) zero slot new known address is same apart =
     let was : s ≡ slot = cc in
-    let test : (new.number == address / 4096) ≡ false =
-    eq_false new.number (address / 4096) (λ e. apart (sym same ∙ e)) in
-    let test' : (s.number == address / 4096) ≡ false =
-    eq_false s.number (address / 4096) (λ e. apart (sym (ap (λ (t : Slot). t.number) was) ∙ e)) in
+    let test : (new.number == address / 256) ≡ false =
+    eq_false new.number (address / 256) (λ e. apart (sym same ∙ e)) in
+    let test' : (s.number == address / 256) ≡ false =
+    eq_false s.number (address / 256) (λ e. apart (sym (ap (λ (t : Slot). t.number) was) ∙ e)) in
     rw (test, test') refl
 content_there (s ∷ slots) (suc at) slot new known address is same apart =
-    ap (λ rest. if s.number == address / 4096 then get_or s.page (address % 4096) None else rest)
+    ap (λ rest. if s.number == address / 256 then get_or s.page (address % 256) None else rest)
     (content_there slots at slot new known address is same apart)
 
 -- a number that no page has
 pub content_absent : (slots : List Slot) (number : ℕ) (known : Bool) (address : ℕ) → ((i : ℕ) → IsAt slots number i → ⊥)
-    → number ≡ address / 4096 → content slots known address ≡ fill_of known
+    → number ≡ address / 256 → content slots known address ≡ fill_of known
 content_absent [] number known address none here = refl
 content_absent (s ∷ slots) number known address none here =
-    let test : (s.number == address / 4096) ≡ false =
-    eq_false s.number (address / 4096) (λ same. none 0 (ap (λ (n : ℕ). Some n) (same ∙ sym here))) in
+    let test : (s.number == address / 256) ≡ false =
+    eq_false s.number (address / 256) (λ same. none 0 (ap (λ (n : ℕ). Some n) (same ∙ sym here))) in
     rw test (content_absent slots number known address (λ i there. none (suc i) there) here)
 
 -- a new page of bytes that nothing has written
 content_more : (slots : List Slot) (slot : Slot) (known : Bool) (address : ℕ)
-    → (slot.number ≡ address / 4096 → get_or slot.page (address % 4096) None ≡ content slots known address)
-    → ((slot.number ≡ address / 4096) → (i : ℕ) → IsAt slots slot.number i → ⊥)
+    → (slot.number ≡ address / 256 → get_or slot.page (address % 256) None ≡ content slots known address)
+    → ((slot.number ≡ address / 256) → (i : ℕ) → IsAt slots slot.number i → ⊥)
     → content (slots ++ slot ∷ []) known address ≡ content slots known address
 content_more [] slot known address fresh none =
     ⊎_elim
-    (λ same. let test : (slot.number == address / 4096) ≡ true = eq_true slot.number (address / 4096) same in
+    (λ same. let test : (slot.number == address / 256) ≡ true = eq_true slot.number (address / 256) same in
     rw test (fresh same))
-    (λ apart. let test : (slot.number == address / 4096) ≡ false = eq_false slot.number (address / 4096) apart in
+    (λ apart. let test : (slot.number == address / 256) ≡ false = eq_false slot.number (address / 256) apart in
     rw test refl)
-    (cases_eq slot.number (address / 4096))
+    (cases_eq slot.number (address / 256))
 content_more (s ∷ slots) slot known address fresh none =
     ⊎_elim
-    (λ same. let test : (s.number == address / 4096) ≡ true = eq_true s.number (address / 4096) same in rw test refl)
-    (λ apart. let test : (s.number == address / 4096) ≡ false = eq_false s.number (address / 4096) apart in
+    (λ same. let test : (s.number == address / 256) ≡ true = eq_true s.number (address / 256) same in rw test refl)
+    (λ apart. let test : (s.number == address / 256) ≡ false = eq_false s.number (address / 256) apart in
     rw test (content_more slots slot known address (λ same. fresh same ∙ rw test refl)
     (λ same i there. none same (suc i) there)))
-    (cases_eq s.number (address / 4096))
+    (cases_eq s.number (address / 256))
 
 pub content_push : (slots : List Slot) (slot : Slot) (known : Bool) (address : ℕ)
-    → slot.page ≡ replicate 4096 (fill_of known) → ((i : ℕ) → IsAt slots slot.number i → ⊥)
+    → slot.page ≡ replicate 256 (fill_of known) → ((i : ℕ) → IsAt slots slot.number i → ⊥)
     → content (slots ++ slot ∷ []) known address ≡ content slots known address
 content_push slots slot known address page none =
     content_more slots slot known address
-    (λ same. ap (λ p. get_or p (address % 4096) None) page
-    ∙ get_or-replicate 4096 (address % 4096) (fill_of known) None (omega arith)
+    (λ same. ap (λ p. get_or p (address % 256) None) page
+    ∙ get_or-replicate 256 (address % 256) (fill_of known) None (omega arith)
     ∙ sym (content_absent slots slot.number known address none same))
     (λ same. none)

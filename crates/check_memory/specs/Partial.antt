@@ -1,13 +1,15 @@
 -- A port's memory as contracts see it: what it supports, where it answers, and one byte for each address, known or
 -- unknown. What is legal there, and what a request leaves.
-use Rattle.std.specs.Prelude.{ℕ, ◌+◌, ◌%◌, ◌^◌, ◌≤◌, Bool, false, ◌&&◌, ◌||◌, if◌then◌else◌, ◌==◌, nat_le, List, [], ◌∷◌, take, drop, Option, All}
+use Rattle.std.specs.Prelude.{ℕ, ◌+◌, ◌-◌, ◌%◌, ◌^◌, ◌≤◌, Bool, false, ◌&&◌, ◌||◌, if◌then◌else◌, ◌==◌, nat_le, List, [], ◌∷◌, take, drop, Option, All}
+use Rattle.tl_types.specs.Operation.{carries_bytes}
 use Rattle.tl_types.specs.Request.{Request}
+use Rattle.tl_types.specs.declared.limits.TheConstants.{MAX_BYTES}
 use Rattle.tl_ops.specs.declared.kind.Kind.{Kind}
 use Rattle.check_memory.specs.declared.sizes.SizeTable.{SizeTable}
 use Rattle.check_memory.specs.declared.range.Range.{Range}
 use Rattle.check_memory.specs.Sizes.{allows}
 use Rattle.check_memory.specs.Known.{known, replaced}
-use Rattle.check_memory.specs.Cells.{new_cells}
+use Rattle.check_memory.specs.Cells.{new_cells, forgotten}
 
 -- a port's memory: cell a is the byte at address a. Cells outside of the ranges are never answered and never changed
 pub record Partial : Type 0 where
@@ -42,6 +44,24 @@ after_partial memory ask =
           (new_cells memory.kind ask.op (window_of memory ask) ask.bytes);
     }
     else memory
+
+-- the first address of the block that holds an address: blocks are as long as the largest message
+abbrev pub block_of : ℕ → ℕ
+block_of address = address - address % MAX_BYTES
+
+-- whether a memory takes the bytes of a request: the request is legal and carries some
+abbrev pub takes_bytes : Partial → Request → Bool
+takes_bytes memory ask = permits memory ask && carries_bytes ask.op
+
+-- the memory after a request, of whose block each byte that is flagged is then unknown; where the memory takes no bytes,
+-- it forgets none
+abbrev pub after_forgetting : Partial → Request → List Bool → Partial
+after_forgetting memory ask flags =
+    if takes_bytes memory ask then
+    record (after_partial memory ask) {
+      cells = forgotten flags (block_of ask.address) (after_partial memory ask).cells;
+    }
+    else after_partial memory ask
 
 -- the memory with these bytes from an address on
 abbrev pub loaded : Partial → ℕ → List ℕ → Partial

@@ -1,14 +1,20 @@
 -- What stands at a port: a memory, or a device, which keeps nothing and decides for itself. This project's own.
+use Rattle.std.specs.Prelude.{List, Bool}
 use Rattle.tl_types.specs.Request.{Request}
 use Rattle.check_memory.specs.declared.slave.Slave.{Slave}
 use Rattle.check_memory.specs.declared.slave.Slave.TheVariants.{Memory, Device}
-use Rattle.check_memory.specs.Partial.{after_partial}
+use Rattle.check_memory.specs.Partial.{after_partial, after_forgetting}
 use Rattle.check_memory.specs.Pattern.{Pattern, Fits, FitsDevice, pattern, device_pattern}
 
 -- the slave after a request
 abbrev pub slave_after : Slave → Request → Slave
 slave_after (Memory memory) ask = Memory (after_partial memory ask)
 slave_after Device ask = Device
+
+-- the slave after a request, of whose block each byte that is flagged is then unknown; a device has none to forget
+abbrev pub slave_after_forgetting : Slave → Request → List Bool → Slave
+slave_after_forgetting (Memory memory) ask flags = Memory (after_forgetting memory ask flags)
+slave_after_forgetting Device ask flags = Device
 
 -- the answer that is expected of it
 abbrev pub expected_of : Slave → Request → Pattern

@@ -2,8 +2,9 @@
 //!
 //! Contracts see a [`Memory`] as a `Partial` (`specs/Partial.antt`): its kind, the sizes that it supports, its ranges,
 //! and one byte for each address, known or unknown. [`Memory::serve_into`] leaves the memory `after_partial` a request
-//! and the `pattern` of its answer; [`Pattern::fits`] (`check_cells`) says whether a captured reply fits it. A [`Slave`] is a memory
-//! or a device, which keeps nothing. A table of sizes is within the rules, or makes no [`Sizes`].
+//! and the `pattern` of its answer; [`Pattern::fits`] (`check_cells`) says whether a captured reply fits it.
+//! [`Memory::serve_and_forget`] does the same and then makes bytes near the request unknown. A [`Slave`] is a memory or a
+//! device, which keeps nothing. A table of sizes is within the rules, or makes no [`Sizes`].
 //!
 //! `laws` says that a memory that is wholly known is the sequential memory of `tl_ops`, and that the true reply fits
 //! whatever the unknown bytes are. The bytes stand in pages (`page`), which are made as they are written.

@@ -1,8 +1,9 @@
 //! Memories of bytes that are known or unknown, which serve requests.
 ghost use Rattle.std.specs.Prelude.{◌≡◌, ℕ, ◌+◌, ◌*◌, ◌%◌, ◌^◌, ◌≤◌, length, take, replicate, Some, true, IfOk, OnOk, OnErr};
 ghost use Rattle.tl_types.specs.Operation.{reply_op_of};
+ghost use Rattle.tl_types.specs.Request.{IsLawfulRequest};
 ghost use Rattle.check_memory.specs.Known.{known as known_of};
-ghost use Rattle.check_memory.specs.Partial.{permits, after_partial, loaded, AreWithin, holds};
+ghost use Rattle.check_memory.specs.Partial.{permits, takes_bytes, after_partial, after_forgetting, loaded, AreWithin, holds};
 ghost use Rattle.check_memory.specs.Pattern.{pattern, shown_cells};
 ghost use Rattle.check_memory.specs.Place.{fill_of, tabulate};
 
@@ -14,7 +15,7 @@ use check_cells::{Cells, Pattern};
 use std::alloc::{AllocError, Global};
 use std::marker::Model;
 use tl_ops::Kind;
-use tl_types::Ask;
+use tl_types::{Ask, MAX_BYTES};
 
 /// A port's memory: which of its bytes are known, and what they are.
 #[derive(Drop)]
@@ -73,6 +74,14 @@ impl Memory {
             && holds(self.ranges.as_slice(), ask.address(), width)
     }
 
+    /// Whether a request is legal here and carries bytes.
+    fn takes_bytes(&self, ask: &Ask) -> bool
+        ensures value { result ≡ takes_bytes self.now ask.now }
+        ensures lawful { IsLawfulRequest ask.now.op ask.now.size ask.now.bytes }
+    {
+        !ask.bytes().is_empty() && self.permits(ask)
+    }
+
     /// Serves a request: the memory is the one after it, and what its answer has to fit stands in the place of another.
     /// Where there is no memory for a page, nothing is changed.
     pub fn serve_into(
@@ -116,6 +125,34 @@ impl Memory {
             .page_for(alloc, ask.address() / PAGE_BYTES as u64)?;
         answer.head(ask, Some(false));
         self.pages.serve(at, self.kind, ask, &mut answer.cells);
+        Ok(())
+    }
+
+    /// Serves a request as `serve_into` does, and then forgets each byte that is flagged of the block that holds the first
+    /// byte of the request. A request that is illegal, or carries no bytes, forgets nothing.
+    pub fn serve_and_forget(
+        &mut self,
+        alloc: Global,
+        ask: &Ask,
+        flags: &[bool; MAX_BYTES],
+        answer: &mut Pattern,
+    ) -> Result<(), AllocError>
+        ensures after { IfOk result (λ _. self.new ≡ after_forgetting self.old ask.now flags.now) }
+        ensures pattern { IfOk result (λ _. answer.new ≡ pattern self.old ask.now) }
+        ensures unchanged { OnErr result (self.new ≡ self.old) }
+        ensures answer_unchanged { OnErr result (answer.new ≡ answer.old) }
+    {
+        if !self.takes_bytes(ask) {
+            self.answer(ask, answer);
+            return Ok(());
+        }
+        let at = self
+            .pages
+            .page_for(alloc, ask.address() / PAGE_BYTES as u64)?;
+        answer.head(ask, Some(false));
+        self.pages.serve(at, self.kind, ask, &mut answer.cells);
+        let block = ask.address() - ask.address() % MAX_BYTES as u64;
+        self.pages.forget(at, block, flags);
         Ok(())
     }
 

@@ -6,7 +6,7 @@ ghost use Rattle.tl_ops.specs.declared.kind.Kind.TheVariants.{Ram, ClearRegs};
 ghost use Rattle.tl_types.specs.Operation.{carries_bytes, reply_op_of};
 ghost use Rattle.check_memory.specs.Known.{known, replaced};
 ghost use Rattle.check_memory.specs.Pattern.{shown_cells};
-ghost use Rattle.check_memory.specs.Cells.{put_cells, new_cells, clear_cell, is_atomic, is_swap};
+ghost use Rattle.check_memory.specs.Cells.{put_cells, new_cells, clear_cell, is_atomic, is_swap, forgotten};
 ghost use Rattle.check_memory.specs.Place.{fill_of};
 
 use check_cells::{Cells, give, known_cell, mark_cell, mask_of, ones};
@@ -16,8 +16,9 @@ use tl_ops::Kind;
 use tl_ops::lanes::Lanes;
 use tl_types::{Ask, AskOp, Bytes, Logic, MAX_BYTES, WORD_BYTES};
 
-/// The bytes of a page.
-pub const PAGE_BYTES: usize = 4096;
+/// The bytes of a page: a multiple of those of the longest message, so that one page holds each request. It is small, so
+/// that words far from one another take little memory.
+pub const PAGE_BYTES: usize = 256;
 
 /// The words of a page.
 const PAGE_WORDS: usize = PAGE_BYTES / WORD_BYTES;
@@ -26,7 +27,7 @@ const PAGE_WORDS: usize = PAGE_BYTES / WORD_BYTES;
 #[derive(Drop)]
 pub struct Page {
     lanes: Lanes,
-    masks: Vec<u8>,
+    masks: [u8; PAGE_WORDS],
 }
 
 /// A page and its number, which is that of its first address in pages.
@@ -43,9 +44,9 @@ impl Model for Page {
 
     ghost Value = { List (Option ℕ) };
 
-    ghost view = { λ p. given_in (bit_in p.masks.items) p.lanes };
+    ghost view = { λ p. given_in (bit_in p.masks) p.lanes };
 
-    ghost invariant = { λ p. IsPage p.lanes p.masks.items };
+    ghost invariant = { λ p. IsPage p.lanes p.masks };
 }
 
 impl Page {
@@ -54,11 +55,8 @@ impl Page {
         ensures { IfOk result (λ page. page ≡ replicate PAGE_BYTES (fill_of known)) }
     {
         let lanes = Lanes::zeros(alloc, PAGE_WORDS)?;
-        let mask = mask_of(known);
-        Ok(Page {
-            lanes,
-            masks: vec![in alloc; mask; PAGE_WORDS]?,
-        })
+        let masks = [mask_of(known); PAGE_WORDS];
+        Ok(Page { lanes, masks })
     }
 
     /// The bytes from a place on.
@@ -69,7 +67,7 @@ impl Page {
         ensures { cells.new ≡ take width (drop start self.now) }
     {
         if width <= WORD_BYTES {
-            let known = known_cell(self.masks.as_slice(), start, width);
+            let known = known_cell(&self.masks, start, width);
             cells.set_cell(self.lanes.cell(start, width), known, width);
         } else {
             self.read_words(start, width, cells);
@@ -88,7 +86,7 @@ impl Page {
     {
         let first = start / WORD_BYTES;
         let count = width / WORD_BYTES;
-        let masks = part(self.masks.as_slice(), first, count);
+        let masks = part(&self.masks, first, count);
         cells.set_words(self.lanes.words(start, count), masks);
     }
 
@@ -101,7 +99,7 @@ impl Page {
         ensures len { length self.new ≡ length self.old }
     {
         self.lanes.put(start, given);
-        give(self.masks.as_mut_slice(), start, given);
+        give(&mut self.masks, start, given);
     }
 
     /// Puts one byte, which is known then.
@@ -111,7 +109,7 @@ impl Page {
         ensures len { length self.new ≡ length self.old }
     {
         self.lanes.put_byte(place, byte);
-        mark_cell(self.masks.as_mut_slice(), place, 1, true);
+        mark_cell(&mut self.masks, place, 1, true);
     }
 
     /// Writes bytes, all known, from a place on.
@@ -133,7 +131,7 @@ impl Page {
             self.new ≡ slice_set self.old place (clear_cell old (Some ones)) }
         ensures len { length self.new ≡ length self.old }
     {
-        if known_cell(self.masks.as_slice(), place, 1) == 1 {
+        if known_cell(&self.masks, place, 1) == 1 {
             let byte = self.lanes.byte(place);
             self.put_byte(place, byte & !ones);
         } else if ones == u8::MAX {
@@ -208,11 +206,34 @@ impl Page {
         ensures len { length self.new ≡ length self.old }
     {
         let width = given.len();
-        let mask = known_cell(self.masks.as_slice(), start, width);
+        let mask = known_cell(&self.masks, start, width);
         let known = is_known_after(mask == ones(width), op);
         let old = self.lanes.update(start, op, given);
         cells.set_cell(old, mask, width);
-        mark_cell(self.masks.as_mut_slice(), start, width, known);
+        mark_cell(&mut self.masks, start, width, known);
+    }
+
+    /// Makes the bytes that are flagged unknown, from a place on.
+    pub fn forget(&mut self, start: usize, flags: &[bool])
+        requires inside { start + length flags.now ≤ length self.old }
+        requires limit { length self.old ≤ PAGE_BYTES }
+        ensures after { self.new ≡ forgotten flags.now start self.old }
+        ensures len { length self.new ≡ length self.old }
+    {
+        for k in 0..flags.len() {
+            if flags[k] {
+                self.forget_byte(start + k);
+            }
+        }
+    }
+
+    /// Makes one byte unknown.
+    fn forget_byte(&mut self, place: usize)
+        requires { place < length self.old }
+        ensures after { self.new ≡ slice_set self.old place None }
+        ensures len { length self.new ≡ length self.old }
+    {
+        mark_cell(&mut self.masks, place, 1, false);
     }
 }
 

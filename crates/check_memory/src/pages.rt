@@ -3,39 +3,41 @@ ghost use Rattle.std.specs.Prelude.{◌≡◌, ℕ, ◌+◌, ◌*◌, ◌/◌, �
 ghost use Rattle.tl_types.specs.Operation.{carries_bytes, reply_op_of};
 ghost use Rattle.tl_ops.specs.Cell.{FitsWords};
 ghost use Rattle.check_memory.specs.Known.{known, replaced};
-ghost use Rattle.check_memory.specs.Cells.{new_cells, is_atomic};
+ghost use Rattle.check_memory.specs.Cells.{new_cells, is_atomic, forgotten};
 ghost use Rattle.check_memory.specs.Pattern.{shown_cells};
 ghost use Rattle.check_memory.specs.Paged.{seen, IsAt};
 
 use crate::page::{PAGE_BYTES, Page, Slot};
 use check_cells::Cells;
 use std::alloc::{AllocError, Global};
-use std::collections::BTreeMap;
+use std::collections::HashMap;
 use std::marker::Model;
 use tl_ops::Kind;
 use tl_types::{Ask, MAX_BYTES, WORD_BYTES};
 
 /// Pages, in the order in which they were made.
 ///
-/// An index knows the place of each, and most are found with no look at it: those that were made one after the other
-/// from the first on stand as far from it as their numbers do.
+/// The first of them are a run, in which each has the number after that of the one before. A page of the run stands as far
+/// from the first as their numbers do; an index knows the places of all others.
 #[derive(Drop)]
 pub struct Pages {
     slots: Vec<Slot>,
-    index: BTreeMap<u64, usize>,
+    first: u64,
+    run: usize,
+    index: HashMap<u64, usize>,
     known: bool,
 }
 
 impl Model for Pages {
-    ghost use Rattle.std.specs.Ordering.{nat_cmp};
-    ghost use Rattle.std.specs.BTreeMap.{get};
+    ghost use Rattle.std.specs.Prelude.{nat_eq};
+    ghost use Rattle.std.specs.HashMap.{get};
     ghost use Rattle.check_memory.specs.Paged.{Paged, AreIndexed};
 
     ghost Value = { Paged };
 
     ghost view = { λ p. record { slots = p.slots.items; known = p.known } };
 
-    ghost invariant = { λ p. AreIndexed p.slots.items (get nat_cmp p.index) };
+    ghost invariant = { λ p. AreIndexed p.slots.items p.first p.run (get nat_eq p.index) };
 }
 
 impl Pages {
@@ -45,7 +47,9 @@ impl Pages {
     {
         Pages {
             slots: Vec::new(alloc),
-            index: BTreeMap::new(alloc),
+            first: 0,
+            run: 0,
+            index: HashMap::new(alloc),
             known,
         }
     }
@@ -62,11 +66,8 @@ impl Pages {
         ensures found { IfSome result (λ at. IsAt self.now.slots number at) }
         ensures none { result ≡ None → (at : ℕ) → IsAt self.now.slots number at → ⊥ }
     {
-        if !self.slots.is_empty() {
-            let guess = number.wrapping_sub(self.slots[0].number);
-            if guess < self.slots.len() as u64 && self.slots[guess as usize].number == number {
-                return Some(guess as usize);
-            }
+        if self.first <= number && number - self.first < self.run as u64 {
+            return Some((number - self.first) as usize);
         }
         self.index.get(&number).copied()
     }
@@ -92,6 +93,15 @@ impl Pages {
         let page = Page::new(alloc, self.known)?;
         let at = self.slots.len();
         self.slots.push(Slot { number, page })?;
+        if at == 0 {
+            self.first = number;
+            self.run = 1;
+            return Ok(at);
+        }
+        if at == self.run && self.first <= number && number - self.first == at as u64 {
+            self.run += 1;
+            return Ok(at);
+        }
         if let Err(_) = self.index.insert(number, at) {
             self.slots.pop();
             return Err(AllocError);
@@ -128,10 +138,22 @@ impl Pages {
             seen self.new ≡ replaced (seen self.old) ask.now.address (new_cells kind ask.now.op old ask.now.bytes) }
         ensures shown { let old = take (2 ^ ask.now.size) (drop ask.now.address (seen self.old)) in
             cells.new ≡ shown_cells (reply_op_of ask.now.op) old }
+        ensures at { IsAt self.new.slots (ask.now.address / PAGE_BYTES) at }
     {
         let start = (ask.address() % PAGE_BYTES as u64) as usize;
         let slot = &mut self.slots[at];
         slot.page.serve(kind, start, ask, cells);
+    }
+
+    /// Makes the bytes that are flagged unknown, from an address on, in the page at a place.
+    pub fn forget(&mut self, at: usize, address: u64, flags: &[bool])
+        requires at { IsAt self.old.slots (address / PAGE_BYTES) at }
+        requires inside { address % PAGE_BYTES + length flags.now ≤ PAGE_BYTES }
+        ensures { seen self.new ≡ forgotten flags.now address (seen self.old) }
+    {
+        let start = (address % PAGE_BYTES as u64) as usize;
+        let slot = &mut self.slots[at];
+        slot.page.forget(start, flags);
     }
 
     /// Writes bytes from an address on, in the page at a place.

@@ -1,11 +1,11 @@
 //! What stands at a port.
 ghost use Rattle.std.specs.Prelude.{◌≡◌, IfOk, OnErr};
-ghost use Rattle.check_memory.specs.Slave.{slave_after, expected_of};
+ghost use Rattle.check_memory.specs.Slave.{slave_after, slave_after_forgetting, expected_of};
 
 use crate::memory::Memory;
 use check_cells::Pattern;
 use std::alloc::{AllocError, Global};
-use tl_types::Ask;
+use tl_types::{Ask, MAX_BYTES};
 
 /// A slave, as the judge keeps it.
 #[derive(Drop)]
@@ -32,6 +32,29 @@ impl Slave {
     {
         match self {
             Slave::Memory(memory) => memory.serve_into(alloc, ask, answer),
+            Slave::Device => {
+                answer.expect_any(ask);
+                Ok(())
+            }
+        }
+    }
+
+    /// Serves a request as `serve_into` does, and then forgets each byte that is flagged of the block that holds the first
+    /// byte of the request. A request that is illegal, or carries no bytes, forgets nothing.
+    pub fn serve_and_forget(
+        &mut self,
+        alloc: Global,
+        ask: &Ask,
+        flags: &[bool; MAX_BYTES],
+        answer: &mut Pattern,
+    ) -> Result<(), AllocError>
+        ensures after { IfOk result (λ _. self.new ≡ slave_after_forgetting self.old ask.now flags.now) }
+        ensures expected { IfOk result (λ _. answer.new ≡ expected_of self.old ask.now) }
+        ensures unchanged { OnErr result (self.new ≡ self.old) }
+        ensures answer_unchanged { OnErr result (answer.new ≡ answer.old) }
+    {
+        match self {
+            Slave::Memory(memory) => memory.serve_and_forget(alloc, ask, flags, answer),
             Slave::Device => {
                 answer.expect_any(ask);
                 Ok(())

@@ -1,7 +1,5 @@
 use Rattle.std.proofs.Common.{◌≡◌, ◌∙◌, ℕ, ◌+◌, ◌-◌, ◌^◌, ◌<◌, ◌≤◌, true, false, List, length, take, drop, Option, ⊎_elim, sym, ap, arith, rules, nat_eq}
 use Rattle.std.specs.Int.{bit_at}
-use Rattle.std.specs.Vec.{with_items}
-use Rattle.std.proofs.lemmas.List.{with_items_is}
 use Rattle.tl_types.specs.Bytes.{bit_in, given_in}
 use Rattle.tl_types.proofs.Given.{length-given_in}
 use Rattle.check_memory.specs.Known.{replaced}
@@ -22,10 +20,9 @@ known_cell-mask-requires-clause-inside c =
       c.requires.inside,
       c.len-width.ensures.value,
       ap length c.self.view_is,
-      length-given_in (bit_in c.self.inside.masks.items) c.self.inside.lanes,
+      length-given_in (bit_in c.self.inside.masks) c.self.inside.lanes,
       c.self.invariant.lanes_counted,
       c.self.invariant.masks_counted,
-      ap length c.as_slice.ensures.value,
     )
 
 pub update-old-requires-clause-inside : goal.update-old-requires-clause-inside
@@ -34,7 +31,7 @@ update-old-requires-clause-inside c =
       arith,
       c.requires.inside,
       ap length c.self.view_is,
-      length-given_in (bit_in c.self.inside.masks.items) c.self.inside.lanes,
+      length-given_in (bit_in c.self.inside.masks) c.self.inside.lanes,
     )
 
 pub mark_cell-requires-clause-inside : goal.mark_cell-requires-clause-inside
@@ -44,20 +41,15 @@ mark_cell-requires-clause-inside c =
       c.requires.inside,
       c.len-width.ensures.value,
       ap length c.self.view_is,
-      length-given_in (bit_in c.self.inside.masks.items) c.self.inside.lanes,
+      length-given_in (bit_in c.self.inside.masks) c.self.inside.lanes,
       c.self.invariant.lanes_counted,
       c.self.invariant.masks_counted,
-      ap length c.as_mut_slice.ensures.value,
     )
-
-items : (c : goal.After-self-1) → (with_items c.self.inside.masks c.mark_cell.new.masks).items ≡ c.mark_cell.new.masks
-items c = with_items_is c.self.inside.masks c.mark_cell.new.masks (c.mark_cell.auto.masks ∙ c.as_mut_slice.ensures.len)
 
 pub invariant_of-self : goal.invariant_of-self
 invariant_of-self c = record {
   lanes_counted = c.update-old.ensures.len ∙ c.self.invariant.lanes_counted;
-  masks_counted = ap length (items c) ∙ c.mark_cell.auto.masks ∙ ap length c.as_mut_slice.ensures.value
-      ∙ c.self.invariant.masks_counted;
+  masks_counted = c.mark_cell.auto.masks ∙ c.self.invariant.masks_counted;
 }
 
 -- a mask of all ones has all bits, and one of all bits is all ones
@@ -82,7 +74,7 @@ pub returns-clause-after : goal.returns-clause-after
 returns-clause-after c =
     let n = length c.args.given.now in
     let start = c.args.start in
-    let masks = c.self.inside.masks.items in
+    let masks = c.self.inside.masks in
     let inside : start + n ≤ length c.self.inside.lanes =
     omega (
       arith,
@@ -91,15 +83,14 @@ returns-clause-after c =
       length-given_in (bit_in masks) c.self.inside.lanes,
     ) in
     let marked = rw c.len-width.ensures.value at c.mark_cell.ensures.inside in
-    let others = rw (c.as_mut_slice.ensures.value, c.len-width.ensures.value) at c.mark_cell.ensures.outside in
-    let bits = rw (c.as_slice.ensures.value, c.len-width.ensures.value) at c.known_cell-mask.ensures.bits in
+    let others = rw c.len-width.ensures.value at c.mark_cell.ensures.outside in
+    let bits = rw c.len-width.ensures.value at c.known_cell-mask.ensures.bits in
     let small = rw c.len-width.ensures.value at c.known_cell-mask.ensures.fits in
     let ones : c.ones.result ≡ 2 ^ n - 1 = c.ones.ensures.value ∙ ap (λ m. 2 ^ m - 1) c.len-width.ensures.value in
     let whole = nat_eq c.known_cell-mask.result c.ones.result in
     let left : List (Option ℕ) → List (Option ℕ) =
     λ cells. replaced cells start (new_cells Ram c.args.op (take n (drop start cells)) c.args.given.now) in
-    ap (λ ms. given_in (bit_in ms) c.update-old.new.self) (items c)
-    ∙ ap (given_in (bit_in c.mark_cell.new.masks)) c.update-old.ensures.after
+    ap (given_in (bit_in c.mark_cell.new.masks)) c.update-old.ensures.after
     ∙ atomic_shown c.args.op masks c.mark_cell.new.masks c.self.inside.lanes start c.args.given.now
     c.is_known_after-known.result whole inside c.requires.atomic marked others
     (λ is. all_ones (λ k. bit_in masks (start + k)) c.known_cell-mask.result n
@@ -113,18 +104,18 @@ returns-clause-after c =
 
 pub returns-clause-len : goal.returns-clause-len
 returns-clause-len c =
-    length-given_in (bit_in (with_items c.self.inside.masks c.mark_cell.new.masks).items) c.update-old.new.self
-    ∙ c.update-old.ensures.len ∙ sym (length-given_in (bit_in c.self.inside.masks.items) c.self.inside.lanes)
+    length-given_in (bit_in c.mark_cell.new.masks) c.update-old.new.self
+    ∙ c.update-old.ensures.len ∙ sym (length-given_in (bit_in c.self.inside.masks) c.self.inside.lanes)
     ∙ ap length c.self.view_is
 
 pub returns-clause-shown : goal.returns-clause-shown
 returns-clause-shown c =
     let n = length c.args.given.now in
     let inside = c.self.inside in
-    let bits = rw (c.as_slice.ensures.value, c.len-width.ensures.value) at c.known_cell-mask.ensures.bits in
+    let bits = rw c.len-width.ensures.value at c.known_cell-mask.ensures.bits in
     c.set_cell.ensures
     ∙ ap (λ width. given_in (bit_at c.known_cell-mask.result) (low_bytes width c.update-old.result))
     c.len-width.ensures.value
-    ∙ cell_shown inside.masks.items inside.lanes c.args.start n c.known_cell-mask.result c.update-old.result
+    ∙ cell_shown inside.masks inside.lanes c.args.start n c.known_cell-mask.result c.update-old.result
     c.update-old.ensures.bytes bits
     ∙ ap (λ cells. take n (drop c.args.start cells)) c.self.view_is

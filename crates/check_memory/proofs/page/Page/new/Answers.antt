@@ -1,11 +1,8 @@
-use Rattle.std.proofs.Common.{◌≡◌, ◌*◌, replicate, refl, rules}
-use Rattle.check_memory.specs.Place.{known_bit}
+use Rattle.std.proofs.Common.{replicate, refl, ap}
 use Rattle.check_memory.proofs.PageCells.{filled_page}
 use Rattle.check_memory.proofs.page.Page.new.Goals as goal
 
 pub returns : goal.returns
 returns c =
-    let items : c.in_ok-vec.field-0.items ≡ replicate 512 c.mask_of-mask.result = search rules in
-    let masks : c.in_ok-vec.field-0.items ≡ replicate 512 (255 * known_bit c.args.known) =
-    rw c.mask_of-mask.ensures at items in
-    filled_page c.in_ok-lanes.lanes c.in_ok-vec.field-0.items c.args.known 4096 512 c.in_ok-lanes.ensures masks refl
+    filled_page c.in_ok-lanes.lanes (replicate 32 c.mask_of-masks.result) c.args.known 256 32 c.in_ok-lanes.ensures
+    (ap (replicate 32) c.mask_of-masks.ensures) refl

@@ -1,7 +1,6 @@
 use Rattle.std.proofs.Common.{◌≡◌, ◌∙◌, ℕ, ◌+◌, ◌≤◌, List, length, take, drop, map, Option, sym, ap, arith}
 use Rattle.std.specs.List.{zip}
-use Rattle.std.specs.Vec.{with_items}
-use Rattle.std.proofs.lemmas.List.{with_items_is, length-take-le, length-drop}
+use Rattle.std.proofs.lemmas.List.{length-take-le, length-drop}
 use Rattle.tl_types.specs.Bytes.{bit_in, given_in}
 use Rattle.tl_types.proofs.Given.{length-given_in}
 use Rattle.tl_ops.specs.Window.{merged}
@@ -17,7 +16,7 @@ put-requires-clause-inside c =
       arith,
       c.requires.inside,
       ap length c.self.view_is,
-      length-given_in (bit_in c.self.inside.masks.items) c.self.inside.lanes,
+      length-given_in (bit_in c.self.inside.masks) c.self.inside.lanes,
     )
 
 pub give-requires-clause-inside : goal.give-requires-clause-inside
@@ -26,10 +25,9 @@ give-requires-clause-inside c =
       arith,
       c.requires.inside,
       ap length c.self.view_is,
-      length-given_in (bit_in c.self.inside.masks.items) c.self.inside.lanes,
+      length-given_in (bit_in c.self.inside.masks) c.self.inside.lanes,
       c.self.invariant.lanes_counted,
       c.self.invariant.masks_counted,
-      ap length c.as_mut_slice.ensures.value,
     )
 
 pub give-requires-clause-limit : goal.give-requires-clause-limit
@@ -38,21 +36,18 @@ give-requires-clause-limit c =
       arith,
       c.requires.inside,
       ap length c.self.view_is,
-      length-given_in (bit_in c.self.inside.masks.items) c.self.inside.lanes,
+      length-given_in (bit_in c.self.inside.masks) c.self.inside.lanes,
       c.self.invariant.lanes_counted,
     )
 
-items : (c : goal.After-self-1) → (with_items c.self.inside.masks c.give.new.masks).items ≡ c.give.new.masks
-items c = with_items_is c.self.inside.masks c.give.new.masks (c.give.auto.masks ∙ c.as_mut_slice.ensures.len)
-
-lanes_long : (c : goal.After-self-1) → length c.put.new.self ≡ length c.self.inside.lanes
+lanes_long : (c : goal.After-give) → length c.put.new.self ≡ length c.self.inside.lanes
 lanes_long c =
     let inside : c.args.start + length c.args.given.now ≤ length c.self.inside.lanes =
     omega (
       arith,
       c.requires.inside,
       ap length c.self.view_is,
-      length-given_in (bit_in c.self.inside.masks.items) c.self.inside.lanes,
+      length-given_in (bit_in c.self.inside.masks) c.self.inside.lanes,
     ) in
     let old = take (length c.args.given.now) (drop c.args.start c.self.inside.lanes) in
     let wide : length c.args.given.now ≡ length old =
@@ -65,8 +60,7 @@ lanes_long c =
 pub invariant_of-self : goal.invariant_of-self
 invariant_of-self c = record {
   lanes_counted = lanes_long c ∙ c.self.invariant.lanes_counted;
-  masks_counted = ap length (items c) ∙ c.give.auto.masks ∙ ap length c.as_mut_slice.ensures.value
-      ∙ c.self.invariant.masks_counted;
+  masks_counted = c.give.auto.masks ∙ c.self.invariant.masks_counted;
 }
 
 pub returns-clause-after : goal.returns-clause-after
@@ -78,19 +72,18 @@ returns-clause-after c =
       arith,
       c.requires.inside,
       ap length c.self.view_is,
-      length-given_in (bit_in c.self.inside.masks.items) c.self.inside.lanes,
+      length-given_in (bit_in c.self.inside.masks) c.self.inside.lanes,
     ) in
-    let bits = rw c.as_mut_slice.ensures.value at c.give.ensures.inside in
-    let others = rw c.as_mut_slice.ensures.value at c.give.ensures.outside in
+    let bits = c.give.ensures.inside in
+    let others = c.give.ensures.outside in
     let left : List (Option ℕ) → List (Option ℕ) =
     λ cells. replaced cells start
     (map (λ pair. put_cell pair.0 pair.1) (zip (take n (drop start cells)) c.args.given.now)) in
-    ap (λ ms. given_in (bit_in ms) c.put.new.self) (items c)
-    ∙ ap (given_in (bit_in c.give.new.masks)) c.put.ensures.after
-    ∙ put_shown c.self.inside.masks.items c.give.new.masks c.self.inside.lanes start c.args.given.now inside bits others
+    ap (given_in (bit_in c.give.new.masks)) c.put.ensures.after
+    ∙ put_shown c.self.inside.masks c.give.new.masks c.self.inside.lanes start c.args.given.now inside bits others
     ∙ ap left c.self.view_is
 
 pub returns-clause-len : goal.returns-clause-len
 returns-clause-len c =
-    length-given_in (bit_in (with_items c.self.inside.masks c.give.new.masks).items) c.put.new.self ∙ lanes_long c
-    ∙ sym (length-given_in (bit_in c.self.inside.masks.items) c.self.inside.lanes) ∙ ap length c.self.view_is
+    length-given_in (bit_in c.give.new.masks) c.put.new.self ∙ lanes_long c
+    ∙ sym (length-given_in (bit_in c.self.inside.masks) c.self.inside.lanes) ∙ ap length c.self.view_is

@@ -1,6 +1,4 @@
 use Rattle.std.proofs.Common.{◌≡◌, ◌∙◌, ◌<◌, [], ◌∷◌, length, set, Some, sym, ap, arith}
-use Rattle.std.specs.Vec.{with_items}
-use Rattle.std.proofs.lemmas.List.{with_items_is}
 use Rattle.tl_types.specs.Bytes.{bit_in, given_in}
 use Rattle.tl_types.proofs.Given.{length-given_in}
 use Rattle.tl_ops.proofs.LaneLists.{length-with_window}
@@ -12,7 +10,7 @@ put_byte-requires c = omega (
   arith,
   c.requires,
   ap length c.self.view_is,
-  length-given_in (bit_in c.self.inside.masks.items) c.self.inside.lanes,
+  length-given_in (bit_in c.self.inside.masks) c.self.inside.lanes,
 )
 
 pub mark_cell-requires-clause-inside : goal.mark_cell-requires-clause-inside
@@ -21,45 +19,39 @@ mark_cell-requires-clause-inside c =
       arith,
       c.requires,
       ap length c.self.view_is,
-      length-given_in (bit_in c.self.inside.masks.items) c.self.inside.lanes,
+      length-given_in (bit_in c.self.inside.masks) c.self.inside.lanes,
       c.self.invariant.lanes_counted,
       c.self.invariant.masks_counted,
-      ap length c.as_mut_slice.ensures.value,
     )
 
-items : (c : goal.After-self-1) → (with_items c.self.inside.masks c.mark_cell.new.masks).items ≡ c.mark_cell.new.masks
-items c = with_items_is c.self.inside.masks c.mark_cell.new.masks (c.mark_cell.auto.masks ∙ c.as_mut_slice.ensures.len)
-
-within : (c : goal.After-self-1) → c.args.place < length c.self.inside.lanes
+within : (c : goal.After-mark_cell) → c.args.place < length c.self.inside.lanes
 within c = omega (
   arith,
   c.requires,
   ap length c.self.view_is,
-  length-given_in (bit_in c.self.inside.masks.items) c.self.inside.lanes,
+  length-given_in (bit_in c.self.inside.masks) c.self.inside.lanes,
 )
 
-lanes_long : (c : goal.After-self-1) → length c.put_byte.new.self ≡ length c.self.inside.lanes
+lanes_long : (c : goal.After-mark_cell) → length c.put_byte.new.self ≡ length c.self.inside.lanes
 lanes_long c = ap length c.put_byte.ensures
     ∙ length-with_window c.self.inside.lanes c.args.place (c.args.byte ∷ []) (omega (arith, within c))
 
 pub invariant_of-self : goal.invariant_of-self
 invariant_of-self c = record {
   lanes_counted = lanes_long c ∙ c.self.invariant.lanes_counted;
-  masks_counted = ap length (items c) ∙ c.mark_cell.auto.masks ∙ ap length c.as_mut_slice.ensures.value
-      ∙ c.self.invariant.masks_counted;
+  masks_counted = c.mark_cell.auto.masks ∙ c.self.invariant.masks_counted;
 }
 
 pub returns-clause-after : goal.returns-clause-after
 returns-clause-after c =
-    let bits = rw c.as_mut_slice.ensures.value at c.mark_cell.ensures.outside in
-    ap (λ ms. given_in (bit_in ms) c.put_byte.new.self) (items c)
-    ∙ ap (given_in (bit_in c.mark_cell.new.masks)) c.put_byte.ensures
-    ∙ byte_shown c.self.inside.masks.items c.mark_cell.new.masks c.self.inside.lanes c.args.place c.args.byte (within c)
+    let bits = c.mark_cell.ensures.outside in
+    ap (given_in (bit_in c.mark_cell.new.masks)) c.put_byte.ensures
+    ∙ byte_shown c.self.inside.masks c.mark_cell.new.masks c.self.inside.lanes c.args.place c.args.byte (within c)
     (c.mark_cell.ensures.inside 0 (omega arith)) bits
     ∙ ap (λ cells. set cells c.args.place (Some c.args.byte)) c.self.view_is
 
 pub returns-clause-len : goal.returns-clause-len
 returns-clause-len c =
-    length-given_in (bit_in (with_items c.self.inside.masks c.mark_cell.new.masks).items) c.put_byte.new.self
-    ∙ lanes_long c ∙ sym (length-given_in (bit_in c.self.inside.masks.items) c.self.inside.lanes)
+    length-given_in (bit_in c.mark_cell.new.masks) c.put_byte.new.self
+    ∙ lanes_long c ∙ sym (length-given_in (bit_in c.self.inside.masks) c.self.inside.lanes)
     ∙ ap length c.self.view_is

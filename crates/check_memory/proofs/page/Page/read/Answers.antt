@@ -10,10 +10,9 @@ known_cell-known-requires-clause-inside c =
       arith,
       c.requires.inside,
       ap length c.self.view_is,
-      length-given_in (bit_in c.self.inside.masks.items) c.self.inside.lanes,
+      length-given_in (bit_in c.self.inside.masks) c.self.inside.lanes,
       c.self.invariant.lanes_counted,
       c.self.invariant.masks_counted,
-      ap length c.as_slice.ensures.value,
     )
 
 pub cell-requires-clause-inside : goal.cell-requires-clause-inside
@@ -22,13 +21,13 @@ cell-requires-clause-inside c =
       arith,
       c.requires.inside,
       ap length c.self.view_is,
-      length-given_in (bit_in c.self.inside.masks.items) c.self.inside.lanes,
+      length-given_in (bit_in c.self.inside.masks) c.self.inside.lanes,
     )
 
 pub returns-then-width-le-WORD_BYTES : goal.returns-then-width-le-WORD_BYTES
 returns-then-width-le-WORD_BYTES c =
     let inside = c.self.inside in
-    let bits = rw c.as_slice.ensures.value at c.known_cell-known.ensures.bits in
-    c.set_cell.ensures ∙ cell_shown inside.masks.items inside.lanes c.args.start c.args.width c.known_cell-known.result
+    let bits = c.known_cell-known.ensures.bits in
+    c.set_cell.ensures ∙ cell_shown inside.masks inside.lanes c.args.start c.args.width c.known_cell-known.result
     c.cell.result c.cell.ensures.bytes bits
     ∙ ap (λ cells. take c.args.width (drop c.args.start cells)) c.self.view_is

@@ -14,7 +14,7 @@ words-requires-clause-inside c =
       c.requires.inside,
       c.requires.words,
       ap length c.self.view_is,
-      length-given_in (bit_in c.self.inside.masks.items) c.self.inside.lanes,
+      length-given_in (bit_in c.self.inside.masks) c.self.inside.lanes,
     )
 
 pub part-masks-requires : goal.part-masks-requires
@@ -24,10 +24,9 @@ part-masks-requires c = omega (
   c.requires.words,
   c.requires.whole,
   ap length c.self.view_is,
-  length-given_in (bit_in c.self.inside.masks.items) c.self.inside.lanes,
+  length-given_in (bit_in c.self.inside.masks) c.self.inside.lanes,
   c.self.invariant.lanes_counted,
   c.self.invariant.masks_counted,
-  ap length c.as_slice.ensures.value,
 )
 
 words_long : (lanes words : List ℕ) (start count : ℕ) → start + 8 * count ≤ length lanes
@@ -44,7 +43,7 @@ pub set_words-requires-clause-paired : goal.set_words-requires-clause-paired
 set_words-requires-clause-paired c =
     let first = c.args.start / 8 in
     let count = c.args.width / 8 in
-    let masks = c.self.inside.masks.items in
+    let masks = c.self.inside.masks in
     let inside : c.args.start + 8 * count ≤ length c.self.inside.lanes =
     omega (
       arith,
@@ -55,7 +54,7 @@ set_words-requires-clause-paired c =
     ) in
     let some : first + count ≤ length masks =
     omega (arith, inside, c.requires.whole, c.self.invariant.lanes_counted, c.self.invariant.masks_counted) in
-    ap length (c.part-masks.ensures ∙ ap (λ ms. take count (drop first ms)) c.as_slice.ensures.value)
+    ap length c.part-masks.ensures
     ∙ length-take-le count (drop first masks) (omega (arith, some, length-drop first masks))
     ∙ sym (words_long c.self.inside.lanes c.words.result.now c.args.start count inside c.words.ensures)
 
@@ -68,7 +67,7 @@ set_words-requires-clause-room c =
       c.requires.inside,
       c.requires.words,
       ap length c.self.view_is,
-      length-given_in (bit_in c.self.inside.masks.items) c.self.inside.lanes,
+      length-given_in (bit_in c.self.inside.masks) c.self.inside.lanes,
     ) in
     omega (
       arith,
@@ -80,7 +79,7 @@ pub returns : goal.returns
 returns c =
     let first = c.args.start / 8 in
     let count = c.args.width / 8 in
-    let masks = c.self.inside.masks.items in
+    let masks = c.self.inside.masks in
     let inside : c.args.start + 8 * count ≤ length c.self.inside.lanes =
     omega (
       arith,
@@ -91,8 +90,7 @@ returns c =
     ) in
     let whole : 8 * count ≡ c.args.width = omega (arith, c.requires.words) in
     c.set_words.ensures
-    ∙ ap (λ ms. given_in (bit_in ms) (lanes_of c.words.result.now)) (c.part-masks.ensures
-    ∙ ap (λ ms. take count (drop first ms)) c.as_slice.ensures.value)
+    ∙ ap (λ ms. given_in (bit_in ms) (lanes_of c.words.result.now)) c.part-masks.ensures
     ∙ words_shown masks c.self.inside.lanes c.words.result.now c.args.start first count
     (omega (arith, c.requires.whole)) inside c.words.ensures
     ∙ ap (λ n. take n (drop c.args.start (given_in (bit_in masks) c.self.inside.lanes))) whole

@@ -1,0 +1,16 @@
+pub mod Cells
+pub mod Effect
+pub mod Bytes
+pub mod Kept
+pub mod Clash
+pub mod Expected
+pub mod Courses
+pub mod AcceptedBytes
+pub mod AcceptedMemory
+pub mod AcceptedSlave
+pub mod Serving
+pub mod Answering
+pub mod Runs
+pub mod Uncontested
+pub mod Near
+pub mod Dues

@@ -1,0 +1,9 @@
+//! Slaves that take requests in an order that nobody knows.
+#![tactic(auto)]
+
+mod accepted;
+pub mod laws;
+mod due;
+mod writes;
+
+pub use accepted::Accepted;
