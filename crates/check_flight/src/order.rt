@@ -7,4 +7,6 @@ pub enum Order {
     Accept,
     /// When it is answered: with the first beat of its reply.
     Reply,
+    /// At some moment between the two: nobody knows when.
+    Any,
 }

@@ -2,11 +2,12 @@
 ghost use Rattle.std.specs.Prelude.{◌≡◌, Some, false, IfOk, IsTrue, OnOk, OnErr};
 ghost use Rattle.check_flight.specs.Flight.{due_kept};
 ghost use Rattle.check_flight.specs.Order.{is_at_acceptance, is_at_reply};
-ghost use Rattle.check_flight.specs.PortSlave.{accepting, answer_of, answering, due_accepting, due_answering, fresh_slave, may_be_unknown, served_by};
+ghost use Rattle.check_flight.specs.PortSlave.{accepting, answer_of, answer_of_kept, answering, contested_by, due_accepting, due_answering, fresh_slave, may_be_unknown, served_by};
 
 use crate::answer::Answer;
 use crate::order::Order;
 use crate::place::Place;
+use check_contests::{Accepted, Contests};
 use check_memory::Slave;
 use std::alloc::{AllocError, Global};
 use std::marker::Model;
@@ -20,6 +21,8 @@ pub struct PortSlave {
     unknown: bool,
     /// Modulo 2^64.
     served: usize,
+    /// The requests that are accepted and not yet answered, if nobody knows when they take effect.
+    contests: Contests,
 }
 
 impl Model for PortSlave {
@@ -27,13 +30,32 @@ impl Model for PortSlave {
 
     ghost Value = { PortSlave };
 
-    ghost view = { λ s. record { kept = s.kept; order = s.order; unknown = s.unknown; served = s.served } };
+    ghost view = { λ s. record {
+      kept = s.kept;
+      order = s.order;
+      unknown = s.unknown;
+      served = s.served;
+      contests = s.contests;
+    } };
+}
+
+/// Puts what is due to a request that is kept as this one in the place of another answer.
+fn kept_into(port: usize, ask: &Ask, entry: &Accepted, answer: &mut Answer)
+    ensures { Some answer.new ≡ answer_of_kept port ask.now (Some entry.now) }
+{
+    let due = &entry.due;
+    answer.reply.refill_from(due);
+    answer
+        .reply
+        .set_fields(due.op(), due.size(), ask.source(), due.denied());
+    answer.port = port;
+    answer.index = entry.index;
 }
 
 impl PortSlave {
     /// A memory or a device, before any request: when requests take effect there, and whether its system says that its
     /// bytes may be unknown.
-    pub fn new(kept: Slave, order: Order, unknown: bool) -> PortSlave
+    pub fn new(alloc: Global, kept: Slave, order: Order, unknown: bool) -> PortSlave
         ensures { result ≡ fresh_slave kept order unknown }
     {
         PortSlave {
@@ -41,6 +63,7 @@ impl PortSlave {
             order,
             unknown,
             served: 0,
+            contests: Contests::new(alloc),
         }
     }
 
@@ -88,6 +111,18 @@ impl PortSlave {
         answer.index = self.served;
     }
 
+    /// Accepts a request that takes effect then or later. Where there is no memory, nothing is changed.
+    fn contest(&mut self, alloc: Global, wide: usize, ask: &Ask) -> Result<(), AllocError>
+        ensures contested { OnOk result (self.new ≡ contested_by self.old wide ask.now) }
+        ensures unchanged { OnErr result (self.new ≡ self.old) }
+    {
+        let index = self.served;
+        self.contests
+            .accept(alloc, &mut self.kept, wide, index, ask)?;
+        self.served = index.wrapping_add(1);
+        Ok(())
+    }
+
     /// A request is accepted: whether it is known now what its reply has to fit. If it is, that is put in the place of
     /// another answer. Where there is no memory, nothing is changed.
     pub fn accept(
@@ -110,6 +145,10 @@ impl PortSlave {
                 Ok(true)
             }
             Order::Reply => Ok(false),
+            Order::Any => {
+                self.contest(alloc, place.wide, ask)?;
+                Ok(false)
+            }
         }
     }
 
@@ -136,6 +175,13 @@ impl PortSlave {
                 self.serve_into(alloc, place.port, ask, answer)?;
                 Ok(true)
             }
+            Order::Any => {
+                let Some(entry) = self.contests.answer(place.wide) else {
+                    return Ok(false);
+                };
+                kept_into(place.port, ask, &entry, answer);
+                Ok(true)
+            }
         }
     }
 
@@ -148,6 +194,13 @@ impl PortSlave {
             Order::Accept => false,
             Order::Reply => {
                 self.answer_into(port, ask, answer);
+                true
+            }
+            Order::Any => {
+                let Some(entry) = self.contests.due(wide) else {
+                    return false;
+                };
+                kept_into(port, ask, entry, answer);
                 true
             }
         }

@@ -7,13 +7,15 @@ use Rattle.check_beats.specs.Message.{seen_at as seen_bytes}
 use Rattle.check_beats.specs.State.{Under, ReplyBegun, first_reply, ends_reply, replied_beats, replied_bytes}
 use Rattle.check_beats.specs.declared.beat.AskHead.{AskHead}
 use Rattle.check_beats.specs.declared.beat.ReplyHead.{ReplyHead}
+use Rattle.check_contests.specs.declared.accepted.Accepted.{Accepted}
+use Rattle.check_contests.specs.Contests.{kept_of}
 use Rattle.check_flight.specs.declared.answer.Answer.{Answer}
 use Rattle.check_flight.specs.declared.order.Order.{Order}
-use Rattle.check_flight.specs.declared.order.Order.TheVariants.{Accept, Reply}
+use Rattle.check_flight.specs.declared.order.Order.TheVariants.{Accept, Reply, Any}
 use Rattle.check_flight.specs.Flight.{Turn, Flight, idle, asked, due_by}
 use Rattle.check_flight.specs.Flight.Turn.{Idle, Asking, Asked}
 use Rattle.check_flight.specs.Order.{is_due_at_reply}
-use Rattle.check_flight.specs.PortSlave.{PortSlave, due_accepted_by, due_accepting, due_answered_by, due_answering}
+use Rattle.check_flight.specs.PortSlave.{PortSlave, answer_of_kept, due_accepted_by, due_accepting, due_answered_by, due_answering}
 use Rattle.check_watch.specs.declared.beat.Beat.{Beat}
 use Rattle.check_watch.specs.declared.beat.Beat.TheVariants.{A, D}
 use Rattle.check_watch.specs.declared.beat.Link.{Link}
@@ -65,6 +67,7 @@ accepted_sourced : (n port : ℕ) (slave : PortSlave) (ask : Request) (order : O
     → IsSourced (Asked n ask) (due_accepted_by order port slave ask)
 accepted_sourced n port slave ask Accept = reply_source slave.kept ask
 accepted_sourced n port slave ask Reply = tt
+accepted_sourced n port slave ask Any = tt
 
 new_sourced : (n port : ℕ) (slave : PortSlave) (effect : Bool) (ended : Option Request)
     → IsSourced (turn_by n ended) (due_accepting port slave (ask_if effect ended))
@@ -80,6 +83,7 @@ accepted_begun plan s side wide n port slave ask Accept is =
     λ late. absurd (true_or_false (is_due_at_reply (order_at plan (port_for plan (link_on side n) ask))) late
     (ap is_due_at_reply (sym is)))
 accepted_begun plan s side wide n port slave ask Reply is = tt
+accepted_begun plan s side wide n port slave ask Any is = tt
 
 new_begun : (plan : Plan) (s : State) (side : Side) (wide n port : ℕ) (slave : PortSlave) (effect : Bool)
     (ended : Option Request)
@@ -96,6 +100,11 @@ answered_sourced : (port wide : ℕ) (slave : PortSlave) (n : ℕ) (ask : Reques
     → IsSourced (Asked n ask) due → IsSourced (Asked n ask) (due_by due (due_answered_by order port slave wide ask))
 answered_sourced port wide slave n ask due Accept was = was
 answered_sourced port wide slave n ask due Reply was = reply_source slave.kept ask
+answered_sourced port wide slave n ask due Any was = go (kept_of slave.contests wide)
+  where
+    go : (kept : Option Accepted) → IsSourced (Asked n ask) (due_by due (answer_of_kept port ask kept))
+    go None = was
+    go (Some entry) = refl
 
 pub late_sourced : (port wide : ℕ) (slave : PortSlave) (effect : Bool) (n : ℕ) (ask : Request) (due : Option Answer)
     → IsSourced (Asked n ask) due

@@ -30,3 +30,4 @@ pub mod BackTurns
 pub mod BackCross
 pub mod BackReplies
 pub mod Back
+pub mod Whenever

@@ -1,16 +1,17 @@
 -- What lawful beats say of slaves.
-use Rattle.std.proofs.Common.{◌≡◌, ◌∙◌, ℕ, ◌≤◌, Bool, true, false, if◌then◌else◌, List, [], ◌∷◌, length, Option, Some, None, refl, sym, subst, arith}
+use Rattle.std.proofs.Common.{◌≡◌, ◌≢◌, ◌∙◌, ℕ, ◌≤◌, Bool, true, false, if◌then◌else◌, List, [], ◌∷◌, length, Option, Some, None, refl, sym, subst, arith}
 use Rattle.std.specs.Prelude.{◌==◌}
 use Rattle.tl_types.specs.Request.{Request}
 use Rattle.check_cells.specs.Pattern.{Pattern}
 use Rattle.check_flight.specs.declared.answer.Answer.{Answer}
+use Rattle.check_flight.specs.declared.order.Order.TheVariants.{Any}
 use Rattle.check_flight.specs.Flight.{Turn}
 use Rattle.check_flight.specs.Flight.Turn.{Idle, Asking, Asked}
 use Rattle.check_watch.specs.Lawful.{IsLawful}
 use Rattle.check_watch.specs.Past.{state}
 use Rattle.check_watch.specs.Plan.{Plan, Sighting, Side}
 use Rattle.check_watch_laws.specs.Crossed.{AreWatched}
-use Rattle.check_watch_laws.specs.Memories.{side_for, port_for, asks_done, replay_slave, reset_of, IsDoneAt, AreEntries, exchanges_at}
+use Rattle.check_watch_laws.specs.Memories.{side_for, port_for, order_at, asks_done, replay_slave, reset_of, IsDoneAt, AreEntries, exchanges_at}
 use Rattle.check_watch_laws.specs.Moments.{IsDueAt}
 use Rattle.check_watch_laws.proofs.Done.{are_replayed}
 use Rattle.check_watch_laws.proofs.Turns.{link_on}
@@ -49,13 +50,14 @@ due_at plan past watched lawful port = (
 )
 
 pub done_at : (plan : Plan) (past : List Sighting) → AreWatched plan.layout past → IsLawful plan past → (port : ℕ)
-    → (history : List (Request × Pattern)) × IsDoneAt plan past port history
-done_at plan past watched lawful port =
+    → order_at plan port ≢ Any → (history : List (Request × Pattern)) × IsDoneAt plan past port history
+done_at plan past watched lawful port known =
     let due = due_at plan past watched lawful port in
-    (due.0, done_of_due plan past port due.0 due.1)
+    (due.0, done_of_due plan past port due.0 known due.1)
 
 -- what the judge keeps of the slave is what these requests leave
 pub kept_at : (plan : Plan) (past : List Sighting) → AreWatched plan.layout past → IsLawful plan past → (port : ℕ)
+    → order_at plan port ≢ Any
     → (state plan past).slaves port ≡ replay_slave (reset_of plan port) (asks_done plan port past)
-kept_at plan past watched lawful port =
-    are_replayed plan past watched lawful port ∙ slave_is_replayed plan port past
+kept_at plan past watched lawful port known =
+    are_replayed plan past watched lawful port ∙ slave_is_replayed plan port past known

@@ -12,7 +12,7 @@ use Rattle.check_flight.specs.declared.answer.Answer.{Answer}
 use Rattle.check_flight.specs.Flight.{Turn, Flight, idle, asked, due_by}
 use Rattle.check_flight.specs.Flight.Turn.{Idle, Asking, Asked}
 use Rattle.check_flight.specs.declared.order.Order.{Order}
-use Rattle.check_flight.specs.declared.order.Order.TheVariants.{Accept, Reply}
+use Rattle.check_flight.specs.declared.order.Order.TheVariants.{Accept, Reply, Any}
 use Rattle.check_flight.specs.Order.{is_due_at_reply}
 use Rattle.check_flight.specs.PortSlave.{PortSlave, due_answered_by, due_answering}
 use Rattle.check_watch.specs.declared.beat.Beat.{Beat}
@@ -229,6 +229,7 @@ late_by : (order : Order) (port : ℕ) (slave : PortSlave) (wide : ℕ) (ask : R
     → due_answered_by order port slave wide ask ≡ Some answer → is_due_at_reply order ≡ true
 late_by Accept port slave wide ask answer is = cc
 late_by Reply port slave wide ask answer is = refl
+late_by Any port slave wide ask answer is = refl
 
 late_if : (effect : Bool) (port : ℕ) (slave : PortSlave) (wide : ℕ) (ask : Request) (answer : Answer)
     → due_answering port slave wide (ask_if effect (Some ask)) ≡ Some answer
