@@ -14,3 +14,6 @@ pub mod Runs
 pub mod Uncontested
 pub mod Near
 pub mod Dues
+pub mod Marks
+pub mod Blocks
+pub mod Contested

@@ -4,6 +4,7 @@
 mod accepted;
 pub mod laws;
 mod due;
+mod flags;
 mod writes;
 
 pub use accepted::Accepted;

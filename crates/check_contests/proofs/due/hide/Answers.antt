@@ -16,7 +16,7 @@ returns-else-carries_bytes c =
     | else-carries_bytes-via-then-carries_bytes+then-is_near+else-permits w ↦ stays_denied memory ask other due
           (sym w.permits.ensures ∙ w.if-permits.false)
     | else-carries_bytes-via-then-carries_bytes+else-is_near w ↦
-        stays_far memory ask other due w.address.result w.len.result w.is_near.result w.is_near.ensures w.if-is_near.false
+        stays_far memory ask other due w.address.result w.len.result w.is_near.result w.is_near.ensures.near w.if-is_near.false
         w.address.ensures (w.len.ensures.value ∙ ap (λ p. length p.bytes) c.due.view_is)
     | else-carries_bytes-via-else-carries_bytes w ↦ stays_carrying memory ask other due
         (ap carries_bytes (sym c.op.ensures) ∙ sym c.carries_bytes.ensures ∙ w.if-carries_bytes.false)

@@ -1,0 +1,9 @@
+use Rattle.std.proofs.Common.{false, refl}
+use Rattle.std.proofs.lemmas.List.{get_or-replicate}
+use Rattle.check_contests.proofs.flags.contested.Goals as goal
+
+pub loop-entry-init : goal.loop-entry-init
+loop-entry-init c = record {
+  flagged = λ k below. get_or-replicate 256 k false false below;
+  outside = λ address beside. refl;
+}
