@@ -124,7 +124,7 @@ asks_then slave kept course wide index ask none asks other = ⊎_elim
 
 -- ---- the memory then
 
-after_same : (truth : Partial) (ours : List (Option ℕ)) (kept : List Accepted) (ask : Request)
+pub after_same : (truth : Partial) (ours : List (Option ℕ)) (kept : List Accepted) (ask : Request)
     → memory_accepting (with_cells truth ours) kept ask
     ≡ with_cells truth (memory_accepting (with_cells truth ours) kept ask).cells
 after_same truth ours kept ask = by_cases (permits truth ask) refl

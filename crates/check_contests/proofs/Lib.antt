@@ -17,3 +17,6 @@ pub mod Dues
 pub mod Marks
 pub mod Blocks
 pub mod Contested
+pub mod Forgetting
+pub mod Places
+pub mod Beside

@@ -1,7 +1,7 @@
 //! Which bytes of a block two requests leave unknown.
 //!
 //! A window lies in one block of as many bytes as the largest message has. So do two windows that have a byte in common.
-ghost use Rattle.std.specs.Prelude.{◌≡◌, ◌↔◌, ℕ, ◌+◌, ◌^◌, ◌<◌, ◌≤◌, ◌⊎◌, ◌&&◌, ◌||◌, IsTrue, true, false, slice_index_or};
+ghost use Rattle.std.specs.Prelude.{◌≡◌, ◌↔◌, ℕ, ◌+◌, ◌^◌, ◌<◌, ◌≤◌, ◌⊎◌, ◌&&◌, ◌||◌, IsTrue, true, false, length, slice_index_or};
 ghost use Rattle.check_memory.specs.Cells.{is_atomic};
 ghost use Rattle.check_memory.specs.Partial.{permits, block_of};
 ghost use Rattle.check_contests.specs.Writes.{in_window, writes, meets, leave_unknown, LiesIn};
@@ -84,6 +84,7 @@ fn mark_contested(
 /// Which bytes of the block of a legal request are unknown once it is accepted beside those that are kept.
 pub fn contested(memory: &Memory, kept: &[Accepted], ask: &Ask) -> [bool; MAX_BYTES]
     requires { permits memory.now ask.now ≡ true }
+    ensures counted { length result ≡ MAX_BYTES }
     ensures flags { (k : ℕ) → k < MAX_BYTES → slice_index_or result k false
         ≡ is_contested memory.now kept.now ask.now (block_of ask.now.address + k) }
     ensures outside { (address : ℕ)

@@ -2,9 +2,11 @@
 #![tactic(auto)]
 
 mod accepted;
-pub mod laws;
+mod contests;
 mod due;
 mod flags;
+pub mod laws;
 mod writes;
 
 pub use accepted::Accepted;
+pub use contests::Contests;
