@@ -1,12 +1,12 @@
 -- Flags of a block that say which bytes two requests leave unknown.
-use Rattle.std.proofs.Common.{◌≡◌, ◌∙◌, ◌⊎◌, ⊎_elim, ℕ, ◌+◌, ◌<◌, ◌≤◌, Bool, true, false, ◌&&◌, ◌||◌, ◌↔◌, List, get_or, refl, sym, ap, subst, arith}
+use Rattle.std.proofs.Common.{◌≡◌, ◌∙◌, ℕ, ◌+◌, Bool, true, false, ◌&&◌, ◌||◌, ◌↔◌, refl, sym, ap}
 use Rattle.std.proofs.lemmas.Bool.{and_parts, and_from, false_from_ne_true}
 use Rattle.tl_types.specs.Request.{Request}
 use Rattle.tl_types.specs.declared.operation.AskOp.{AskOp}
 use Rattle.tl_types.specs.declared.operation.AskOp.TheVariants.{PutFull, PutPartial, Arithmetic, Logical, Get, Intent}
 use Rattle.check_memory.specs.Cells.{is_atomic}
 use Rattle.check_memory.specs.Partial.{Partial, permits}
-use Rattle.check_contests.specs.Writes.{in_window, writes, may_write, combines, meets, leave_unknown, LiesIn}
+use Rattle.check_contests.specs.Writes.{in_window, writes, may_write, combines, meets, leave_unknown}
 use Rattle.check_contests.proofs.Blocks.{met_at, met_legal, unmet_leaves}
 use Rattle.check_contests.proofs.Clash.{not_both, meets_at}
 use Rattle.check_contests.proofs.Marks.{shared, or_false}
@@ -24,9 +24,12 @@ pub unshared : (memory : Partial) (ask other : Request) (met : Bool) → permits
 unshared memory ask other met legal says unmet =
     false_from_ne_true (meets memory ask other) (λ is.
     let at = met_at memory ask other is in
-    not_both (says.1 (at.0, and_from (writes ask.op ask at.0) (writes other.op other at.0)
-    (sym (legal_writes memory ask at.0 legal) ∙ at.1)
-    (sym (legal_writes memory other at.0 (met_legal memory ask other is)) ∙ at.2))) unmet)
+    not_both (says.1 (
+      at.0,
+      and_from (writes ask.op ask at.0) (writes other.op other at.0)
+          (sym (legal_writes memory ask at.0 legal) ∙ at.1)
+          (sym (legal_writes memory other at.0 (met_legal memory ask other is)) ∙ at.2),
+    )) unmet)
 
 -- two that share one do
 shared_meet : (memory : Partial) (ask other : Request) (met : Bool) → permits memory ask ≡ true

@@ -1,10 +1,9 @@
 -- The memory that forgets the bytes that are flagged is the one without those that are contested.
-use Rattle.std.proofs.Common.{◌≡◌, ◌∙◌, ◌⊎◌, inl, inr, ⊎_elim, ℕ, zero, suc, ◌+◌, ◌^◌, ◌<◌, ◌≤◌, Bool, true, false, ◌&&◌, ◌||◌, if◌then◌else◌, List, [], ◌∷◌, ◌++◌, length, map, take, drop, get_or, Option, Some, None, refl, sym, ap, subst, arith}
-use Rattle.std.specs.List.{zip, list_any, range_with_len}
-use Rattle.std.proofs.lemmas.Bool.{and_left}
+use Rattle.std.proofs.Common.{◌≡◌, ◌∙◌, ◌⊎◌, inl, inr, ⊎_elim, ℕ, zero, suc, ◌+◌, ◌^◌, ◌<◌, ◌≤◌, Bool, true, false, ◌&&◌, if◌then◌else◌, List, [], ◌∷◌, ◌++◌, length, map, take, drop, get_or, Option, None, refl, sym, ap, arith}
+use Rattle.std.specs.List.{zip, range_with_len}
+use Rattle.std.proofs.lemmas.Bool.{and_left, and_right}
 use Rattle.tl_types.specs.Operation.{carries_bytes}
 use Rattle.tl_types.specs.Request.{Request}
-use Rattle.check_memory.specs.Known.{replaced}
 use Rattle.check_memory.specs.Cells.{forgotten_cell, forgotten}
 use Rattle.check_memory.specs.Partial.{Partial, permits, block_of, takes_bytes, after_partial, after_forgetting}
 use Rattle.check_contests.specs.Writes.{writes, may_write, leave_unknown, unknown_where}
@@ -102,7 +101,7 @@ carrying_leaves memory ask other a none =
     unmet_leaves memory ask other a
     (any_none (λ b. may_write memory ask b && may_write memory other b) (range_with_len ask.address (2 ^ ask.size))
     (λ b. and_left (may_write memory ask b) (may_write memory other b)
-    (Rattle.std.proofs.lemmas.Bool.and_right (permits memory ask) (writes ask.op ask b)
+    (and_right (permits memory ask) (writes ask.op ask b)
     (carries_none ask.op ask b none))))
 
 pub not_taken : (memory : Partial) (kept : List Accepted) (ask : Request) → carries_bytes ask.op ≡ false

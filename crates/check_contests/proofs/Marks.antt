@@ -1,9 +1,9 @@
 -- Flags of a block, as requests are looked at one after the other.
-use Rattle.std.proofs.Common.{◌≡◌, ◌∙◌, ◌⊎◌, inl, inr, ⊎_elim, ℕ, zero, suc, ◌+◌, ◌-◌, ◌^◌, ◌<◌, ◌≤◌, Bool, true, false, ◌&&◌, ◌||◌, ◌↔◌, List, [], ◌∷◌, length, get_or, set, refl, sym, ap, subst, arith}
-use Rattle.std.proofs.lemmas.Bool.{and_parts, cases_lt, cases_eq, true_from_ne_false}
+use Rattle.std.proofs.Common.{◌≡◌, ◌∙◌, ◌⊎◌, inl, inr, ⊎_elim, ℕ, ◌+◌, ◌-◌, ◌^◌, ◌<◌, ◌≤◌, Bool, true, false, ◌&&◌, ◌||◌, ◌↔◌, List, length, get_or, set, refl, sym, ap, subst, arith}
+use Rattle.std.proofs.lemmas.Bool.{and_parts, cases_lt, cases_eq, true_from_ne_false, and_left}
 use Rattle.std.proofs.lemmas.List.{get_or-set_same, get_or-set_other}
 use Rattle.tl_types.specs.Request.{Request}
-use Rattle.check_contests.specs.Writes.{in_window, writes}
+use Rattle.check_contests.specs.Writes.{writes}
 use Rattle.check_contests.proofs.Clash.{not_both}
 use Rattle.check_contests.proofs.Effect.{place_in, where_is, written_in}
 use Rattle.check_contests.proofs.Near.{out_below, out_above, not_written}
@@ -97,7 +97,7 @@ all_flagged ask other block at start count old flags met is here first from widt
     (where_is ask (block + k))
   where
     none : (block + k < ask.address) ⊎ (ask.address + 2 ^ ask.size ≤ block + k) → shared ask other (block + k) ≡ false
-    none beside = Rattle.std.proofs.lemmas.Bool.and_left (writes ask.op ask (block + k))
+    none beside = and_left (writes ask.op ask (block + k))
         (writes other.op other (block + k))
         (not_written ask.op ask (block + k)
         (⊎_elim (λ before. out_below ask (block + k) before) (λ past. out_above ask (block + k) past) beside))
@@ -106,7 +106,7 @@ pub is_met : (ask other : Request) (start count : ℕ) (old flags : List Bool) (
     → Marked (λ j. shared ask other (ask.address + j)) old flags start count met → count ≡ 2 ^ ask.size
     → (met ≡ true) ↔ ((address : ℕ) × (shared ask other address ≡ true))
 is_met ask other start count old flags met is width = (
-  λ yes'. let at = is.met_at yes' in (ask.address + at.0, at.1),
+  λ met'. let at = is.met_at met' in (ask.address + at.0, at.1),
   λ at. true_from_ne_false met (λ unmet.
       let place = place_in ask at.0 (written_in ask.op ask at.0
       (and_parts (writes ask.op ask at.0) (writes other.op other at.0) at.1).0) in

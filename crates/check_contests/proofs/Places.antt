@@ -1,7 +1,7 @@
 -- Those kept by their places, and what is due as they are looked at one after the other.
-use Rattle.std.proofs.Common.{◌≡◌, ◌∙◌, ◌⊎◌, inl, inr, ⊎_elim, ℕ, zero, suc, ◌+◌, ◌<◌, ◌≤◌, Bool, true, false, ◌&&◌, ◌||◌, if◌then◌else◌, ◌==◌, List, [], ◌∷◌, ◌++◌, length, map, take, drop, set, get_or, slice_get, Option, Some, None, refl, sym, ap, subst, arith}
-use Rattle.std.specs.List.{remove, list_any}
-use Rattle.std.proofs.lemmas.Bool.{eq-eqb, ne_eqb, eqb-true}
+use Rattle.std.proofs.Common.{◌≡◌, ◌∙◌, ℕ, zero, suc, ◌+◌, ◌<◌, ◌≤◌, Bool, true, false, ◌||◌, if◌then◌else◌, ◌==◌, List, [], ◌∷◌, ◌++◌, length, map, take, drop, set, get_or, slice_get, Option, Some, None, refl, sym, ap, arith}
+use Rattle.std.specs.List.{remove}
+use Rattle.std.proofs.lemmas.Bool.{eq-eqb, ne_eqb, eqb-true, eqb-false}
 use Rattle.std.proofs.lemmas.List.{take_all}
 use Rattle.std.proofs.lemmas.List.Folds.{list_any_more}
 use Rattle.tl_types.specs.Request.{Request}
@@ -22,7 +22,7 @@ none_tail first rest wide is = by_cases (first.wide == wide) refl is
     by_cases : (b : Bool) → (first.wide == wide) ≡ b → (if b then Some first else rest) ≡ None
         → (first.wide ≡ wide → ⊥) × (rest ≡ None)
     by_cases true here is' = cc
-    by_cases false here is' = (λ same. Rattle.std.proofs.lemmas.Bool.eqb-false first.wide wide here same, is')
+    by_cases false here is' = (λ same. eqb-false first.wide wide here same, is')
 
 pub found : (kept : List Accepted) (wide place : ℕ) (entry : Accepted) → place < length kept
     → entry ≡ get_or kept place entry → entry.wide ≡ wide → kept_of (take place kept) wide ≡ None
@@ -35,8 +35,7 @@ found (first ∷ kept) wide zero entry below is same none =
 found (first ∷ kept) wide (suc place) entry below is same none =
     let apart = none_tail first (kept_of (take place kept) wide) wide none in
     let here : (first.wide == wide) ≡ false = ne_eqb first.wide wide apart.0 in
-    let rest = found kept wide place entry (omega (arith, below)) is same apart.1 in
-    (
+    let rest = found kept wide place entry (omega (arith, below)) is same apart.1 in (
       rw here rest.0,
       rw here (ap (λ (es : List Accepted). first ∷ es) rest.1),
     )

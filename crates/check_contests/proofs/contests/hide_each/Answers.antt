@@ -1,4 +1,4 @@
-use Rattle.std.proofs.Common.{◌≡◌, ◌∙◌, ℕ, ◌<◌, length, take, ap, arith}
+use Rattle.std.proofs.Common.{◌∙◌, ap, arith}
 use Rattle.check_contests.specs.Writes.{may_write}
 use Rattle.check_contests.specs.Contests.{due_beside}
 use Rattle.check_contests.proofs.Places.{hide_none, hide_more}

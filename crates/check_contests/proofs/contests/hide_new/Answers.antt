@@ -1,4 +1,4 @@
-use Rattle.std.proofs.Common.{◌≡◌, ◌∙◌, ℕ, ◌<◌, List, length, get_or, map, sym, ap, subst, arith}
+use Rattle.std.proofs.Common.{◌∙◌, get_or, map, sym, ap}
 use Rattle.check_memory.specs.declared.slave.Slave.{Slave}
 use Rattle.check_memory.specs.declared.slave.Slave.TheVariants.{Memory}
 use Rattle.check_contests.specs.Contests.{Accepted, entry_accepting}

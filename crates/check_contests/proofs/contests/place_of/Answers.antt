@@ -1,4 +1,4 @@
-use Rattle.std.proofs.Common.{◌≤◌, length, arith}
+use Rattle.std.proofs.Common.{arith}
 use Rattle.check_contests.proofs.Places.{found, not_yet, none_at_all, none_answered}
 use Rattle.check_contests.proofs.contests.place_of.Goals as goal
 

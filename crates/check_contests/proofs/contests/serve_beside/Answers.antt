@@ -1,4 +1,4 @@
-use Rattle.std.proofs.Common.{◌≡◌, ◌∙◌, ap}
+use Rattle.std.proofs.Common.{◌∙◌, ap}
 use Rattle.check_contests.specs.Contests.{due_beside, one_may_write}
 use Rattle.check_contests.proofs.Beside.{due_then}
 use Rattle.check_contests.proofs.contests.serve_beside.Goals as goal

@@ -1,4 +1,4 @@
-use Rattle.std.proofs.Common.{◌≡◌, ◌∙◌, ◌⊎◌, ℕ, ◌+◌, ◌<◌, ◌≤◌, length, sym, ap, subst, arith}
+use Rattle.std.proofs.Common.{◌≡◌, ◌∙◌, ◌⊎◌, ℕ, ◌+◌, ◌<◌, ◌≤◌, sym, ap, subst, arith}
 use Rattle.std.specs.Prelude.{IfOk}
 use Rattle.std.proofs.lemmas.Bool.{and_from}
 use Rattle.tl_types.specs.Operation.{carries_bytes}
@@ -32,10 +32,10 @@ returns-else-carries_bytes-clause-after c =
     let P : Partial → Type 0 = λ m. IfOk c.serve_into.result (λ _. c.serve_into.new.self ≡ m) in
     subst P
     (elim c.else-carries_bytes.branch [
-      else-carries_bytes-via-then-carries_bytes+else-permits w ↦
-        denied_is memory kept ask (sym w.permits.ensures ∙ w.if-permits.false)
-    | else-carries_bytes-via-else-carries_bytes w ↦
-        not_taken memory kept ask
-        (ap carries_bytes (sym c.op.ensures) ∙ sym c.carries_bytes.ensures ∙ w.if-carries_bytes.false)
+      | else-carries_bytes-via-then-carries_bytes+else-permits w ↦
+          denied_is memory kept ask (sym w.permits.ensures ∙ w.if-permits.false)
+      | else-carries_bytes-via-else-carries_bytes w ↦
+          not_taken memory kept ask
+          (ap carries_bytes (sym c.op.ensures) ∙ sym c.carries_bytes.ensures ∙ w.if-carries_bytes.false)
     ])
     c.serve_into.ensures.after

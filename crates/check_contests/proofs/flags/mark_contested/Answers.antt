@@ -1,6 +1,5 @@
-use Rattle.std.proofs.Common.{◌≡◌, ◌∙◌, ℕ, ◌+◌, Bool, true, false, List, get_or, sym, ap, subst, arith}
-use Rattle.check_memory.specs.Partial.{block_of}
-use Rattle.check_contests.specs.Writes.{LiesIn, leave_unknown}
+use Rattle.std.proofs.Common.{◌∙◌, ℕ, ◌+◌, false, get_or, sym, ap, subst}
+use Rattle.check_contests.specs.Writes.{LiesIn}
 use Rattle.check_contests.proofs.Blocks.{leaves_outside, unmet_leaves}
 use Rattle.check_contests.proofs.Contested.{flags_met, flags_unmet, flags_same, not_met, unshared}
 use Rattle.check_contests.proofs.flags.mark_contested.Goals as goal
@@ -28,15 +27,15 @@ returns-else-may_meet-clause-flags c k below =
     let ask = c.args.ask.now in
     let other = c.args.other.now in
     elim c.else-may_meet.branch [
-      else-may_meet-via-then-may_meet+else-mark_shared w ↦
-        ap (λ fs. get_or fs k false) w.flags-is
-        ∙ flags_unmet memory ask other c.args.block k w.mark_shared.result (get_or c.args.flags.now k false)
-        (get_or w.mark_shared.new.flags k false) c.requires.legal w.mark_shared.ensures.met w.if-mark_shared.false
-        (w.mark_shared.ensures.flags k below)
-    | else-may_meet-via-else-may_meet w ↦
-        ap (λ fs. get_or fs k false) w.flags-is
-        ∙ flags_same memory ask other (c.args.block + k) (get_or c.args.flags.now k false)
-        (not_met memory ask other c.may_meet.result c.may_meet.ensures.met w.if-may_meet.false)
+      | else-may_meet-via-then-may_meet+else-mark_shared w ↦
+          ap (λ fs. get_or fs k false) w.flags-is
+          ∙ flags_unmet memory ask other c.args.block k w.mark_shared.result (get_or c.args.flags.now k false)
+          (get_or w.mark_shared.new.flags k false) c.requires.legal w.mark_shared.ensures.met w.if-mark_shared.false
+          (w.mark_shared.ensures.flags k below)
+      | else-may_meet-via-else-may_meet w ↦
+          ap (λ fs. get_or fs k false) w.flags-is
+          ∙ flags_same memory ask other (c.args.block + k) (get_or c.args.flags.now k false)
+          (not_met memory ask other c.may_meet.result c.may_meet.ensures.met w.if-may_meet.false)
     ]
 
 pub returns-else-may_meet-clause-outside : goal.returns-else-may_meet-clause-outside
@@ -46,8 +45,8 @@ returns-else-may_meet-clause-outside c address beside =
     let other = c.args.other.now in
     unmet_leaves memory ask other address
     (elim c.else-may_meet.branch [
-      else-may_meet-via-then-may_meet+else-mark_shared w ↦
-        unshared memory ask other w.mark_shared.result c.requires.legal w.mark_shared.ensures.met w.if-mark_shared.false
-    | else-may_meet-via-else-may_meet w ↦
-        not_met memory ask other c.may_meet.result c.may_meet.ensures.met w.if-may_meet.false
+      | else-may_meet-via-then-may_meet+else-mark_shared w ↦
+          unshared memory ask other w.mark_shared.result c.requires.legal w.mark_shared.ensures.met w.if-mark_shared.false
+      | else-may_meet-via-else-may_meet w ↦
+          not_met memory ask other c.may_meet.result c.may_meet.ensures.met w.if-may_meet.false
     ])

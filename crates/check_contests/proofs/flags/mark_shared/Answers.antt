@@ -1,7 +1,7 @@
-use Rattle.std.proofs.Common.{◌≡◌, ◌∙◌, ℕ, ◌+◌, ◌-◌, ◌<◌, ◌≤◌, Bool, true, false, List, length, set, refl, sym, ap, subst, rules, arith}
+use Rattle.std.proofs.Common.{◌∙◌, ℕ, ◌+◌, ◌-◌, Bool, refl, sym, ap, arith}
 use Rattle.std.proofs.lemmas.Bool.{and_from, and_left, and_right}
 use Rattle.check_contests.specs.Writes.{writes}
-use Rattle.check_contests.proofs.Marks.{Marked, shared, step_yes, step_no, all_flagged, is_met}
+use Rattle.check_contests.proofs.Marks.{shared, step_yes, step_no, all_flagged, is_met}
 use Rattle.check_contests.proofs.flags.mark_shared.Goals as goal
 use Rattle.check_contests.proofs.flags.mark_shared.Goals.{then-writes_at+then-writes_after, else-writes_at, else-writes_at-via-then-writes_at+else-writes_after, else-writes_at-via-else-writes_at}
 
@@ -16,25 +16,25 @@ loop-place-preserved c =
     let flags = c.loop-place.flags in
     let met = c.loop-place.met in
     elim c.if-writes_at.branch [
-      then-writes_at+then-writes_after w ↦
-        step_yes test old flags c.if-writes_at.flags start k met c.if-writes_at.met c.loop-place.invariant
-        (and_from (writes ask.op ask (ask.address + k)) (writes other.op other (ask.address + k))
-        (sym c.writes_at.ensures ∙ w.if-writes_at.true)
-        (ap (λ a. writes other.op other (a + k)) (sym w.address-then-writes_at.ensures) ∙ sym w.writes_after.ensures
-        ∙ w.if-writes_after.true))
-        (omega arith) w.flags-is w.met-is
-    | else-writes_at w ↦
-        step_no test old flags c.if-writes_at.flags start k met c.if-writes_at.met c.loop-place.invariant
-        (elim w.else-writes_at.branch [
-          else-writes_at-via-then-writes_at+else-writes_after w' ↦
-            and_right (writes ask.op ask (ask.address + k)) (writes other.op other (ask.address + k))
-            (ap (λ a. writes other.op other (a + k)) (sym w'.address-then-writes_at.ensures)
-            ∙ sym w'.writes_after.ensures ∙ w'.if-writes_after.false)
-        | else-writes_at-via-else-writes_at w' ↦
-            and_left (writes ask.op ask (ask.address + k)) (writes other.op other (ask.address + k))
-            (sym c.writes_at.ensures ∙ w'.if-writes_at.false)
-        ])
-        w.flags-is w.met-is
+      | then-writes_at+then-writes_after w ↦
+          step_yes test old flags c.if-writes_at.flags start k met c.if-writes_at.met c.loop-place.invariant
+          (and_from (writes ask.op ask (ask.address + k)) (writes other.op other (ask.address + k))
+          (sym c.writes_at.ensures ∙ w.if-writes_at.true)
+          (ap (λ a. writes other.op other (a + k)) (sym w.address-then-writes_at.ensures) ∙ sym w.writes_after.ensures
+          ∙ w.if-writes_after.true))
+          (omega arith) w.flags-is w.met-is
+      | else-writes_at w ↦
+          step_no test old flags c.if-writes_at.flags start k met c.if-writes_at.met c.loop-place.invariant
+          (elim w.else-writes_at.branch [
+            | else-writes_at-via-then-writes_at+else-writes_after w' ↦
+                and_right (writes ask.op ask (ask.address + k)) (writes other.op other (ask.address + k))
+                (ap (λ a. writes other.op other (a + k)) (sym w'.address-then-writes_at.ensures)
+                ∙ sym w'.writes_after.ensures ∙ w'.if-writes_after.false)
+            | else-writes_at-via-else-writes_at w' ↦
+                and_left (writes ask.op ask (ask.address + k)) (writes other.op other (ask.address + k))
+                (sym c.writes_at.ensures ∙ w'.if-writes_at.false)
+          ])
+          w.flags-is w.met-is
     ]
 
 pub returns-clause-flags : goal.returns-clause-flags

@@ -1,6 +1,5 @@
-use Rattle.std.proofs.Common.{◌≡◌, ◌∙◌, ℕ, List, ◌++◌, length, map, take, drop, refl, sym, ap, subst, arith}
+use Rattle.std.proofs.Common.{◌≡◌, ◌∙◌, List, ◌++◌, length, map, take, drop, ap}
 use Rattle.std.proofs.lemmas.List.{take_at, length-map}
-use Rattle.check_memory.specs.declared.slave.Slave.{Slave}
 use Rattle.check_contests.specs.Contests.{Accepted, due_of, slave_accepting, entry_accepting}
 use Rattle.check_contests.proofs.Beside.{kept_then}
 use Rattle.check_contests.proofs.contests.Contests.accept.Goals as goal
