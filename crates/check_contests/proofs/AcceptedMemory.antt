@@ -1,5 +1,6 @@
 -- What is kept says no more than the truth, once a request is accepted.
 use Rattle.std.proofs.Common.{◌≡◌, ◌∙◌, ◌⊎◌, inl, inr, ⊎_elim, ℕ, ◌+◌, Bool, true, false, List, length, map, Option, Some, None, refl, sym, ap, subst}
+use Rattle.std.specs.List.{list_any}
 use Rattle.std.specs.Prelude.{option_map}
 use Rattle.std.proofs.lemmas.Bool.{cases_eq}
 use Rattle.tl_types.specs.Request.{Request}
@@ -26,7 +27,7 @@ Asks kept course = (wide : ℕ)
 
 -- what none of those kept has, no request has that is there
 pub none_there : (test : Request → Bool) (kept : List Accepted) (course : ℕ → Course) (other : ℕ) (ask : Request)
-    → Asks kept course → Rattle.std.specs.List.list_any (λ (entry : Accepted). test entry.ask) kept ≡ false
+    → Asks kept course → list_any (λ (entry : Accepted). test entry.ask) kept ≡ false
     → asked_of (course other) ≡ Some ask → test ask ≡ false
 none_there test kept course other ask asks none there =
     let entry = entry_of (kept_of kept other) ask (asks other ∙ there) in
@@ -124,7 +125,7 @@ asks_then slave kept course wide index ask none asks other = ⊎_elim
 
 -- ---- the memory then
 
-after_same : (truth : Partial) (ours : List (Option ℕ)) (kept : List Accepted) (ask : Request)
+pub after_same : (truth : Partial) (ours : List (Option ℕ)) (kept : List Accepted) (ask : Request)
     → memory_accepting (with_cells truth ours) kept ask
     ≡ with_cells truth (memory_accepting (with_cells truth ours) kept ask).cells
 after_same truth ours kept ask = by_cases (permits truth ask) refl

@@ -1,5 +1,6 @@
 -- What is kept says no more than the truth, once a request is answered, and what was due to it fits.
 use Rattle.std.proofs.Common.{◌≡◌, ◌∙◌, ⊎_elim, ℕ, List, Some, None, sym, ap, subst}
+use Rattle.check_memory.specs.Partial.{Partial}
 use Rattle.std.specs.Prelude.{option_map}
 use Rattle.std.proofs.lemmas.Bool.{cases_eq}
 use Rattle.tl_types.specs.Request.{Request}
@@ -38,7 +39,7 @@ waited_before course wide other ask is = ⊎_elim
     idle_waits : Idle ≡ Waiting ask → ⊥
     idle_waits e = cc
 
-memory_then : (ours truth : Rattle.check_memory.specs.Partial.Partial) (kept : List Accepted) (course : ℕ → Course)
+memory_then : (ours truth : Partial) (kept : List Accepted) (course : ℕ → Course)
     (wide : ℕ) (ask : Request) (reply : Pattern) → course wide ≡ Served ask reply → IsMemoryBelow ours truth kept course
     → IsMemoryBelow ours truth (kept_answering kept wide) (course_with course wide Idle)
 memory_then ours truth kept course wide ask reply served is = record {

@@ -1,5 +1,5 @@
 -- Cells of which some are made unknown, one after the other and all at once.
-use Rattle.std.proofs.Common.{◌≡◌, ◌∙◌, ℕ, zero, suc, ◌+◌, ◌<◌, ◌≤◌, Bool, true, false, ◌&&◌, ◌||◌, if◌then◌else◌, List, [], ◌∷◌, ◌++◌, length, take, get_or, Option, Some, None, refl, sym, ap, subst, arith}
+use Rattle.std.proofs.Common.{◌≡◌, ◌∙◌, ℕ, zero, suc, ◌+◌, ◌<◌, Bool, true, false, ◌&&◌, ◌||◌, if◌then◌else◌, List, [], ◌∷◌, ◌++◌, length, take, get_or, Option, Some, None, refl, sym, ap, subst, arith}
 use Rattle.std.specs.Prelude.{◌↔◌, slice_get}
 use Rattle.std.proofs.lemmas.Bool.{and_left, and_right, false_from_ne_true}
 use Rattle.tl_types.specs.Operation.{carries_bytes}
@@ -11,7 +11,6 @@ use Rattle.check_memory.specs.Pattern.{Pattern}
 use Rattle.check_contests.specs.Writes.{in_window, writes, may_write, unknown_where}
 use Rattle.check_contests.specs.Contests.{due_beside}
 use Rattle.check_contests.proofs.Clash.{not_both}
-use Rattle.check_contests.proofs.Effect.{written_in}
 use Rattle.check_contests.proofs.Expected.{beside_legal, beside_denied}
 use Rattle.check_contests.proofs.Near.{IsNear, not_written}
 use Rattle.check_contests.proofs.Uncontested.{due_stays}

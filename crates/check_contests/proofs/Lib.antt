@@ -14,3 +14,9 @@ pub mod Runs
 pub mod Uncontested
 pub mod Near
 pub mod Dues
+pub mod Marks
+pub mod Blocks
+pub mod Contested
+pub mod Forgetting
+pub mod Places
+pub mod Beside

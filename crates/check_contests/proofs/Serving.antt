@@ -1,5 +1,6 @@
 -- What is kept says no more than the truth, once a request takes effect.
 use Rattle.std.proofs.Common.{◌≡◌, ◌∙◌, ⊎_elim, ℕ, ◌+◌, ◌<◌, Bool, true, false, List, length, get_or, Option, Some, None, refl, sym, ap, subst}
+use Rattle.check_memory.specs.Laws.{IsLawful}
 use Rattle.std.proofs.lemmas.Bool.{cases_eq}
 use Rattle.tl_types.specs.Request.{Request}
 use Rattle.tl_ops.specs.declared.kind.Kind.TheVariants.{ClearRegs}
@@ -78,7 +79,7 @@ served_byte ours truth kept course wide ask reply a byte is known = record {
     right : IsKnownRightly truth course a byte
     right = is.below.known a byte known
 
-    lawful : Rattle.check_memory.specs.Laws.IsLawful ask
+    lawful : IsLawful ask
     lawful = (is.below.carried wide ask (ap asked_of is.waits)).lawful
 
     unmoved : (place : ℕ) → may_write truth ask place ≡ false
@@ -151,10 +152,10 @@ memory_fits ours truth kept course wide ask is w entry ask' apart waits there fi
     left : List (Option ℕ)
     left = cells_after truth ask truth.cells
 
-    lawful : Rattle.check_memory.specs.Laws.IsLawful ask
+    lawful : IsLawful ask
     lawful = (is.below.carried wide ask (ap asked_of is.waits)).lawful
 
-    lawful' : Rattle.check_memory.specs.Laws.IsLawful ask'
+    lawful' : IsLawful ask'
     lawful' = (is.below.carried w ask' (ap asked_of waits)).lawful
 
     within' : AreWithin truth.ranges (length left)

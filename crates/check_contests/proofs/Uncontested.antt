@@ -31,7 +31,7 @@ unknown_none test (cell ∷ cells) none =
     rw first (ap (λ cs. cell ∷ cs)
     (unknown_none (λ k. test (suc k)) cells (λ k below. none (suc k) (omega (arith, below)))))
 
-any_none : {A : Type 0} (test : A → Bool) (items : List A) → ((item : A) → test item ≡ false)
+pub any_none : {A : Type 0} (test : A → Bool) (items : List A) → ((item : A) → test item ≡ false)
     → list_any test items ≡ false
 any_none test [] none = refl
 any_none test (item ∷ items) none = or_from (test item) (list_any test items) (none item) (any_none test items none)
@@ -118,7 +118,7 @@ with_same : (memory : Partial) (cells : List (Option ℕ)) → cells ≡ memory.
     → record memory { cells = cells } ≡ memory
 with_same memory cells same = ap (λ (cs : List (Option ℕ)). record memory { cells = cs }) same
 
-leaves_is : (memory : Partial) (kept : List Accepted) (ask : Request)
+pub leaves_is : (memory : Partial) (kept : List Accepted) (ask : Request)
     → ((a : ℕ) → is_contested memory kept ask a ≡ false)
     → memory_accepting memory kept ask ≡ after_partial memory ask
 leaves_is memory kept ask none =
@@ -165,7 +165,7 @@ uncontested_is_as_served memory kept wide index ask beside = record {
 denied_writes : (memory : Partial) (ask : Request) (a : ℕ) → permits memory ask ≡ false → may_write memory ask a ≡ false
 denied_writes memory ask a is = and_left (permits memory ask) (writes ask.op ask a) is
 
-denied_leaves : (memory : Partial) (ask other : Request) (a : ℕ) → permits memory ask ≡ false
+pub denied_leaves : (memory : Partial) (ask other : Request) (a : ℕ) → permits memory ask ≡ false
     → leave_unknown memory ask other a ≡ false
 denied_leaves memory ask other a is =
     and_left (meets memory ask other)
@@ -197,7 +197,7 @@ denied_is_as_served memory kept wide index ask is =
           (due_of (Memory memory) kept ask) (pattern memory ask) (denied_keeps memory ask kept is) due;
     }
 
-device_keeps : (ask : Request) (kept : List Accepted) → map (entry_accepting Device ask) kept ≡ kept
+pub device_keeps : (ask : Request) (kept : List Accepted) → map (entry_accepting Device ask) kept ≡ kept
 device_keeps ask [] = refl
 device_keeps ask (entry ∷ kept) = ap (λ (rest : List Accepted). entry ∷ rest) (device_keeps ask kept)
 

@@ -1,9 +1,10 @@
 -- Which bytes a request may write, and which bytes two requests leave unknown whose order nobody knows. What a request
 -- writes is the chapter "TL-UL and TL-UH operations" of the TileLink specification; what is unknown then is this
 -- project's own.
-use Rattle.std.specs.Prelude.{ℕ, suc, ◌+◌, ◌-◌, ◌^◌, Bool, false, ◌&&◌, ◌||◌, nat_le, nat_lt, if◌then◌else◌, List, [], ◌∷◌, Option, None, is_some, slice_index_or}
+use Rattle.std.specs.Prelude.{ℕ, suc, ◌+◌, ◌-◌, ◌^◌, ◌≤◌, Bool, false, ◌&&◌, ◌||◌, nat_le, nat_lt, if◌then◌else◌, List, [], ◌∷◌, Option, None, is_some, slice_index_or}
 use Rattle.std.specs.List.{list_any, range_with_len}
 use Rattle.tl_types.specs.Request.{Request}
+use Rattle.tl_types.specs.declared.limits.TheConstants.{MAX_BYTES}
 use Rattle.tl_types.specs.declared.operation.AskOp.{AskOp}
 use Rattle.tl_types.specs.declared.operation.AskOp.TheVariants.{PutFull, PutPartial, Arithmetic, Logical, Get, Intent}
 use Rattle.check_memory.specs.Cells.{is_atomic}
@@ -52,6 +53,11 @@ leave_unknown memory ask other address =
     meets memory ask other
     && ((may_write memory ask address && may_write memory other address)
     || combines memory ask address || combines memory other address)
+
+-- the window of a request lies in the block of this first address: as many bytes as the largest message has
+pub record LiesIn (ask : Request) (block : ℕ) : Type 0 where
+  pub from : block ≤ ask.address
+  pub to : ask.address + 2 ^ ask.size ≤ block + MAX_BYTES
 
 -- ---- what is unknown
 

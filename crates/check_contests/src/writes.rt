@@ -55,11 +55,14 @@ pub fn is_atomic(op: AskOp) -> bool
 
 /// Whether so many addresses from one on and a request's window have one in common.
 pub fn is_near(ask: &Ask, address: u64, count: usize) -> bool
-    ensures { IsTrue result ↔ ((place : ℕ) × (place < count) × (in_window ask.now (address + place) ≡ true)) }
+    ensures near { IsTrue result ↔ ((place : ℕ) × (place < count) × (in_window ask.now (address + place) ≡ true)) }
+    ensures in_limit { 2 ^ ask.now.size ≤ MAX_BYTES }
 {
-    if address <= ask.address() {
-        ask.address() - address < count as u64
+    let start = ask.address();
+    let width = ask.width();
+    if address <= start {
+        start - address < count as u64
     } else {
-        count > 0 && address - ask.address() < ask.width() as u64
+        count > 0 && address - start < width as u64
     }
 }

@@ -1,7 +1,6 @@
-use Rattle.std.proofs.Common.{◌++◌, ◌∷◌, [], ◌≡◌, ◌∙◌, ℕ, ◌+◌, ◌<◌, Bool, if◌then◌else◌, length, take, get_or, Option, Some, None, sym, ap, rules, arith}
+use Rattle.std.proofs.Common.{◌++◌, ◌∷◌, [], ◌≡◌, ◌∙◌, ℕ, ◌+◌, ◌<◌, Bool, if◌then◌else◌, length, take, get_or, None, sym, ap, arith}
 use Rattle.std.proofs.lemmas.List.{length-take-le}
-use Rattle.std.proofs.lemmas.Grind.{common_steps}
-use Rattle.check_contests.specs.Writes.{writes, unknown_where}
+use Rattle.check_contests.specs.Writes.{writes}
 use Rattle.check_contests.proofs.Dues.{unknown-more, chosen_none, chosen_cell, got}
 use Rattle.check_contests.proofs.Kept.{length-unknown_where}
 use Rattle.check_contests.proofs.due.without.Goals as goal
@@ -28,11 +27,11 @@ loop-place-preserved c =
     let below : k < length cells = omega arith in
     let new : c.if-writes_after.byte ≡ (if test k then None else get_or cells k None) =
     elim c.if-writes_after.branch [
-      then-writes_after w ↦ chosen_none (test k) (get_or cells k None) c.if-writes_after.byte
-        (sym c.writes_after.ensures ∙ w.if-writes_after.true) w.byte-is
-    | else-writes_after w ↦ chosen_cell (test k) (get_or cells k None) c.if-writes_after.byte
-        (sym c.writes_after.ensures ∙ w.if-writes_after.false)
-        (w.byte-is ∙ sym (got cells k w.get-byte.result w.get-byte.ensures))
+      | then-writes_after w ↦ chosen_none (test k) (get_or cells k None) c.if-writes_after.byte
+          (sym c.writes_after.ensures ∙ w.if-writes_after.true) w.byte-is
+      | else-writes_after w ↦ chosen_cell (test k) (get_or cells k None) c.if-writes_after.byte
+          (sym c.writes_after.ensures ∙ w.if-writes_after.false)
+          (w.byte-is ∙ sym (got cells k w.get-byte.result w.get-byte.ensures))
     ] in
     c.push.ensures ∙ ap (λ left. left ++ c.if-writes_after.byte ∷ []) c.loop-place.invariant
     ∙ sym (unknown-more test cells k c.if-writes_after.byte below new)
