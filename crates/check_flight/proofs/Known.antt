@@ -1,5 +1,5 @@
 -- Slaves whose bytes are all known.
-use Rattle.std.proofs.Common.{◌≡◌, ◌∙◌, ℕ, true, List, [], ◌∷◌, refl, sym, ap, subst}
+use Rattle.std.proofs.Common.{◌≡◌, ◌∙◌, ℕ, true, List, [], ◌∷◌, Option, Some, None, refl, sym, ap, subst}
 use Rattle.tl_types.specs.Request.{Request}
 use Rattle.tl_types.specs.Response.{Response}
 use Rattle.check_cells.specs.Known.{known, all_known}
@@ -11,15 +11,53 @@ use Rattle.check_memory.specs.Whole.{true_after, true_reply}
 use Rattle.check_memory.specs.declared.slave.Slave.{Slave}
 use Rattle.check_memory.specs.declared.slave.Slave.TheVariants.{Memory, Device}
 use Rattle.check_memory.proofs.Wholeness.{whole_stays_whole}
-use Rattle.check_flight.specs.PortSlave.{PortSlave, is_device}
+use Rattle.check_contests.specs.declared.accepted.Accepted.{Accepted}
+use Rattle.check_contests.specs.Contests.{slave_accepting}
+use Rattle.check_flight.specs.declared.order.Order.{Order}
+use Rattle.check_flight.specs.declared.order.Order.TheVariants.{Accept, Reply, Any}
+use Rattle.check_flight.specs.PortSlave.{PortSlave, accepted_by, accepting, answered_by, answering, contested_by, is_device, served_by}
 use Rattle.check_flight.specs.Laws.{IsWholeMemory, IsWholePattern, StaysAsItIs, StaysWhole}
 
 device_stays : (slave : Slave) (ask : Request) → is_device (slave_after slave ask) ≡ is_device slave
 device_stays (Memory memory) ask = refl
 device_stays Device ask = refl
 
-pub stays_as_it_is : (slave : PortSlave) (ask : Request) → StaysAsItIs slave ask
-stays_as_it_is slave ask = record { order = refl; lanes = rw (device_stays slave.kept ask) refl }
+serving_stays : (slave : PortSlave) (ask : Request) → StaysAsItIs slave (served_by slave ask)
+serving_stays slave ask = record { order = refl; lanes = rw (device_stays slave.kept ask) refl }
+
+device_contested : (slave : Slave) (kept : List Accepted) (ask : Request)
+    → is_device (slave_accepting slave kept ask) ≡ is_device slave
+device_contested (Memory memory) kept ask = refl
+device_contested Device kept ask = refl
+
+contesting_stays : (slave : PortSlave) (wide : ℕ) (ask : Request) → StaysAsItIs slave (contested_by slave wide ask)
+contesting_stays slave wide ask = record {
+  order = refl;
+  lanes = rw (device_contested slave.kept slave.contests ask) refl;
+}
+
+idling_stays : (slave : PortSlave) → StaysAsItIs slave slave
+idling_stays slave = record { order = refl; lanes = refl }
+
+pub stays_accepting : (slave : PortSlave) (wide : ℕ) (ask : Option Request)
+    → StaysAsItIs slave (accepting slave wide ask)
+stays_accepting slave wide None = idling_stays slave
+stays_accepting slave wide (Some ask) = go slave.order
+  where
+    go : (order : Order) → StaysAsItIs slave (accepted_by order slave wide ask)
+    go Accept = serving_stays slave ask
+    go Reply = idling_stays slave
+    go Any = contesting_stays slave wide ask
+
+pub stays_answering : (slave : PortSlave) (wide : ℕ) (ask : Option Request)
+    → StaysAsItIs slave (answering slave wide ask)
+stays_answering slave wide None = idling_stays slave
+stays_answering slave wide (Some ask) = go slave.order
+  where
+    go : (order : Order) → StaysAsItIs slave (answered_by order slave wide ask)
+    go Accept = idling_stays slave
+    go Reply = serving_stays slave ask
+    go Any = record { order = refl; lanes = refl }
 
 all_known-known : (bytes : List ℕ) → all_known (known bytes) ≡ true
 all_known-known [] = refl

@@ -12,7 +12,7 @@ pub data Turn : Type 0 where
   Asking : ℕ → Turn
   Asked : ℕ → Request → Turn
 
--- what is in flight of a source on one side, with what its reply has to fit, if it has taken effect there
+-- what is in flight of a source on one side, with what its reply has to fit, if that is known there
 pub record Flight : Type 0 where
   pub turn : Turn
   pub due : Option Answer

@@ -1,5 +1,5 @@
 -- The laws, said on their own.
-use Rattle.std.specs.Prelude.{◌≡◌, ℕ, Bool, true, List, Some, length, IsTrue}
+use Rattle.std.specs.Prelude.{◌≡◌, ℕ, Bool, true, List, Option, Some, length, IsTrue}
 use Rattle.tl_types.specs.Request.{Request}
 use Rattle.check_beats.specs.State.{Under, ends_ask, ends_reply}
 use Rattle.check_beats.specs.declared.beat.AskHead.{AskHead}
@@ -12,7 +12,7 @@ use Rattle.check_memory.specs.Slave.{expected_of}
 use Rattle.check_memory.specs.Whole.{whole}
 use Rattle.check_memory.specs.declared.slave.Slave.{Slave}
 use Rattle.check_memory.specs.declared.slave.Slave.TheVariants.{Memory}
-use Rattle.check_flight.specs.PortSlave.{PortSlave, may_be_unknown, served_by}
+use Rattle.check_flight.specs.PortSlave.{PortSlave, accepting, answering, may_be_unknown, served_by}
 use Rattle.check_flight.specs.Side.{ask_crossed, ask_ended, reply_crossed, reply_ended}
 
 -- ---- links
@@ -30,13 +30,19 @@ LastBeatEndsReply =
 
 -- ---- slaves
 
--- when requests take effect at a slave, and whether lanes of its replies may be unknown, stays as it is
-pub record StaysAsItIs (slave : PortSlave) (ask : Request) : Type 0 where
-  pub order : (served_by slave ask).order ≡ slave.order
-  pub lanes : may_be_unknown (served_by slave ask) ≡ may_be_unknown slave
+-- when requests take effect at a slave, and whether lanes of its replies may be unknown, is as it was
+pub record StaysAsItIs (slave later : PortSlave) : Type 0 where
+  pub order : later.order ≡ slave.order
+  pub lanes : may_be_unknown later ≡ may_be_unknown slave
 
-abbrev pub SlaveStaysAsItIs : Type 0
-SlaveStaysAsItIs = (slave : PortSlave) (ask : Request) → StaysAsItIs slave ask
+-- as a request of a wide source is accepted, and as it is answered
+abbrev pub AcceptingSlaveStays : Type 0
+AcceptingSlaveStays =
+    (slave : PortSlave) (wide : ℕ) (ask : Option Request) → StaysAsItIs slave (accepting slave wide ask)
+
+abbrev pub AnsweringSlaveStays : Type 0
+AnsweringSlaveStays =
+    (slave : PortSlave) (wide : ℕ) (ask : Option Request) → StaysAsItIs slave (answering slave wide ask)
 
 -- it is a memory, and all its bytes are known
 pub record IsWholeMemory (slave : Slave) : Type 0 where

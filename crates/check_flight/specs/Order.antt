@@ -1,21 +1,24 @@
 -- When a request takes effect at its port. The standard leaves it to the slave; which orders there are is this project's
 -- own.
-use Rattle.std.specs.Prelude.{Bool, true, false, Option, None}
-use Rattle.tl_types.specs.Request.{Request}
+use Rattle.std.specs.Prelude.{Bool, true, false}
 use Rattle.check_flight.specs.declared.order.Order.{Order}
-use Rattle.check_flight.specs.declared.order.Order.TheVariants.{Accept, Reply}
+use Rattle.check_flight.specs.declared.order.Order.TheVariants.{Accept, Reply, Any}
 
--- it does as it is accepted, with its last beat
+-- the slave that is kept serves it as it is accepted, with its last beat; if nobody knows when it takes effect, it may
+-- from then on
 abbrev pub is_at_acceptance : Order → Bool
 is_at_acceptance Accept = true
 is_at_acceptance Reply = false
+is_at_acceptance Any = true
 
--- it does as it is answered, with the first beat of its reply
+-- the slave serves it as it is answered, with the first beat of its reply
 abbrev pub is_at_reply : Order → Bool
 is_at_reply Accept = false
 is_at_reply Reply = true
+is_at_reply Any = false
 
--- the request, if there is one and it takes effect
-abbrev pub effect_by : Bool → Option Request → Option Request
-effect_by true ask = ask
-effect_by false ask = None
+-- what its reply has to fit is known as it is answered, and not before
+abbrev pub is_due_at_reply : Order → Bool
+is_due_at_reply Accept = false
+is_due_at_reply Reply = true
+is_due_at_reply Any = true

@@ -1,25 +1,35 @@
 -- What a port's slave makes of a request. What stands there changes and answers as `check_memory` says (`specs/Slave.antt`
 -- there); the rest is this project's own.
-use Rattle.std.specs.Prelude.{ℕ, ◌+◌, ◌%◌, ◌^◌, Bool, true, false, ◌||◌, Option, Some, None}
+use Rattle.std.specs.Prelude.{ℕ, ◌+◌, ◌%◌, ◌^◌, Bool, true, false, ◌||◌, List, [], Option, Some, None}
 use Rattle.tl_types.specs.Request.{Request}
 use Rattle.check_memory.specs.declared.slave.Slave.{Slave}
 use Rattle.check_memory.specs.declared.slave.Slave.TheVariants.{Memory, Device}
 use Rattle.check_memory.specs.Slave.{slave_after, expected_of}
+use Rattle.check_contests.specs.declared.accepted.Accepted.{Accepted}
+use Rattle.check_contests.specs.Contests.{slave_accepting, kept_accepting, kept_of, kept_answering}
 use Rattle.check_flight.specs.declared.answer.Answer.{Answer}
 use Rattle.check_flight.specs.declared.order.Order.{Order}
-use Rattle.check_flight.specs.Order.{is_at_acceptance, is_at_reply, effect_by}
+use Rattle.check_flight.specs.declared.order.Order.TheVariants.{Accept, Reply, Any}
 
 -- a memory or a device, when requests take effect there, whether its system says that its bytes may be unknown, and how
--- many requests have taken effect, modulo 2 ^ 64
+-- many requests have taken effect, modulo 2 ^ 64. If nobody knows when they do, those that are accepted and not yet
+-- answered are kept, and those that were accepted are counted
 pub record PortSlave : Type 0 where
   pub kept : Slave
   pub order : Order
   pub unknown : Bool
   pub served : ℕ
+  pub contests : List Accepted
 
 -- before any request
 abbrev pub fresh_slave : Slave → Order → Bool → PortSlave
-fresh_slave kept order unknown = record { kept = kept; order = order; unknown = unknown; served = 0 }
+fresh_slave kept order unknown = record {
+  kept = kept;
+  order = order;
+  unknown = unknown;
+  served = 0;
+  contests = [];
+}
 
 -- ---- unknown lanes
 
@@ -38,22 +48,63 @@ may_be_unknown slave = is_device slave.kept || slave.unknown
 abbrev pub served_by : PortSlave → Request → PortSlave
 served_by slave ask = record slave { kept = slave_after slave.kept ask; served = (slave.served + 1) % 2 ^ 64 }
 
-abbrev pub slave_by : PortSlave → Option Request → PortSlave
-slave_by slave None = slave
-slave_by slave (Some ask) = served_by slave ask
-
 -- what the reply to a request has to fit, with the port and the request's place in the port's list
-abbrev pub answer_by : ℕ → PortSlave → Option Request → Option Answer
-answer_by port slave None = None
-answer_by port slave (Some ask) =
-    Some (record { reply = expected_of slave.kept ask; port = port; index = slave.served })
+abbrev pub answer_of : ℕ → PortSlave → Request → Answer
+answer_of port slave ask = record { reply = expected_of slave.kept ask; port = port; index = slave.served }
 
--- ---- when they take effect
+-- the slave after a request is accepted that takes effect then or later
+abbrev pub contested_by : PortSlave → ℕ → Request → PortSlave
+contested_by slave wide ask = record slave {
+  kept = slave_accepting slave.kept slave.contests ask;
+  served = (slave.served + 1) % 2 ^ 64;
+  contests = kept_accepting slave.kept slave.contests wide slave.served ask;
+}
 
--- of a request that is accepted, the one that takes effect: it, or none
-abbrev pub effect_at_acceptance : PortSlave → Option Request → Option Request
-effect_at_acceptance slave ask = effect_by (is_at_acceptance slave.order) ask
+-- what the reply has to fit to a request that is kept as this one: what is due to that, with the source of the request
+abbrev pub answer_of_kept : ℕ → Request → Option Accepted → Option Answer
+answer_of_kept port ask None = None
+answer_of_kept port ask (Some entry) =
+    Some (record { reply = record entry.due { source = ask.source }; port = port; index = entry.index })
 
--- the same of a request whose reply begins
-abbrev pub effect_at_reply : PortSlave → Option Request → Option Request
-effect_at_reply slave ask = effect_by (is_at_reply slave.order) ask
+-- ---- a request is accepted, with its last beat
+
+-- the slave afterwards, by when requests of a wide source take effect there
+abbrev pub accepted_by : Order → PortSlave → ℕ → Request → PortSlave
+accepted_by Accept slave wide ask = served_by slave ask
+accepted_by Reply slave wide ask = slave
+accepted_by Any slave wide ask = contested_by slave wide ask
+
+-- what the reply has to fit, if that is known then
+abbrev pub due_accepted_by : Order → ℕ → PortSlave → Request → Option Answer
+due_accepted_by Accept port slave ask = Some (answer_of port slave ask)
+due_accepted_by Reply port slave ask = None
+due_accepted_by Any port slave ask = None
+
+-- the same of a request that is accepted, if there is one
+abbrev pub accepting : PortSlave → ℕ → Option Request → PortSlave
+accepting slave wide None = slave
+accepting slave wide (Some ask) = accepted_by slave.order slave wide ask
+
+abbrev pub due_accepting : ℕ → PortSlave → Option Request → Option Answer
+due_accepting port slave None = None
+due_accepting port slave (Some ask) = due_accepted_by slave.order port slave ask
+
+-- ---- it is answered, with the first beat of its reply
+
+abbrev pub answered_by : Order → PortSlave → ℕ → Request → PortSlave
+answered_by Accept slave wide ask = slave
+answered_by Reply slave wide ask = served_by slave ask
+answered_by Any slave wide ask = record slave { contests = kept_answering slave.contests wide }
+
+abbrev pub due_answered_by : Order → ℕ → PortSlave → ℕ → Request → Option Answer
+due_answered_by Accept port slave wide ask = None
+due_answered_by Reply port slave wide ask = Some (answer_of port slave ask)
+due_answered_by Any port slave wide ask = answer_of_kept port ask (kept_of slave.contests wide)
+
+abbrev pub answering : PortSlave → ℕ → Option Request → PortSlave
+answering slave wide None = slave
+answering slave wide (Some ask) = answered_by slave.order slave wide ask
+
+abbrev pub due_answering : ℕ → PortSlave → ℕ → Option Request → Option Answer
+due_answering port slave wide None = None
+due_answering port slave wide (Some ask) = due_answered_by slave.order port slave wide ask

@@ -5,7 +5,8 @@
 ghost use Rattle.std.specs.Prelude.{◌≡◌, ◌≤◌, ◌↔◌, length, IsTrue, OnOk, OnErr, Some, None, option_map};
 ghost use Rattle.check_beats.specs.Form.{FitsAsk};
 ghost use Rattle.check_beats.specs.State.{ask_of, ends_ask, first_ask};
-ghost use Rattle.check_flight.specs.PortSlave.{answer_by, effect_at_acceptance, effect_at_reply, served_by, slave_by};
+ghost use Rattle.check_flight.specs.Order.{is_at_acceptance, is_at_reply};
+ghost use Rattle.check_flight.specs.PortSlave.{accepting, answering, due_accepting, due_answering};
 ghost use Rattle.check_flight.specs.Flight.Turn.{Idle, Asking, Asked};
 ghost use Rattle.check_flight.specs.Flight.{asked, flight_due, idle, IsInFlight};
 
@@ -28,7 +29,7 @@ pub enum Stage {
     Ended(usize),
 }
 
-/// What is in flight of a source on one side, with what its reply has to fit, if it has taken effect there.
+/// What is in flight of a source on one side, with what its reply has to fit, if that is known there.
 #[derive(Debug, Drop)]
 pub struct Flight {
     stage: Stage,
@@ -102,7 +103,7 @@ impl Flight {
         self.is_due = false;
     }
 
-    /// The request has ended there, by a beat after those under way, and takes no effect yet.
+    /// The request has ended there, by a beat after those under way, and no slave accepts it there.
     pub fn end(&mut self, number: usize, under: &UnderWay, beat: &AskHead, lanes: &[u8])
         requires fits { FitsAsk under.now.bus (first_ask under.now.asking) beat.now }
         requires ends { IsTrue (ends_ask under.now.bus under.now.asking beat.now) }
@@ -115,8 +116,8 @@ impl Flight {
         self.is_due = false;
     }
 
-    /// The request has ended, by a beat after those under way, and the slave of its port accepts it: the slave serves it
-    /// now, if requests take effect there as they are accepted. Where there is no memory for a page, nothing is changed.
+    /// The request has ended, by a beat after those under way, and the slave of its port accepts it. Where there is no
+    /// memory, nothing is changed.
     pub fn accept(
         &mut self,
         alloc: Global,
@@ -130,58 +131,26 @@ impl Flight {
         requires ends { IsTrue (ends_ask under.now.bus under.now.asking beat.now) }
         requires lanes { under.now.bus ≤ length lanes.now }
         ensures flight { let ask = ask_of under.now.bus under.now.asking beat.now lanes.now in
-            OnOk result (self.new ≡ record {
-              turn = Asked place.link ask;
-              due = answer_by place.port slave.old (effect_at_acceptance slave.old (Some ask));
-            }) }
-        ensures slave { let ask = ask_of under.now.bus under.now.asking beat.now lanes.now in
-            OnOk result (slave.new ≡ slave_by slave.old (effect_at_acceptance slave.old (Some ask))) }
-        ensures unchanged { OnErr result (self.new ≡ self.old) }
-        ensures slave_unchanged { OnErr result (slave.new ≡ slave.old) }
-    {
-        if slave.order().is_at_acceptance() {
-            self.serve_whole(alloc, place, under, beat, lanes, slave)
-        } else {
-            self.end(place.link, under, beat, lanes);
-            Ok(())
-        }
-    }
-
-    /// The request has ended, by a beat after those under way, and the slave of its port serves it. Where there is no
-    /// memory for a page, nothing is changed.
-    fn serve_whole(
-        &mut self,
-        alloc: Global,
-        place: Place,
-        under: &UnderWay,
-        beat: &AskHead,
-        lanes: &[u8],
-        slave: &mut PortSlave,
-    ) -> Result<(), AllocError>
-        requires fits { FitsAsk under.now.bus (first_ask under.now.asking) beat.now }
-        requires ends { IsTrue (ends_ask under.now.bus under.now.asking beat.now) }
-        requires lanes { under.now.bus ≤ length lanes.now }
-        ensures flight { let ask = ask_of under.now.bus under.now.asking beat.now lanes.now in
             OnOk result (self.new
-            ≡ record { turn = Asked place.link ask; due = answer_by place.port slave.old (Some ask) }) }
+            ≡ record { turn = Asked place.link ask; due = due_accepting place.port slave.old (Some ask) }) }
         ensures slave { let ask = ask_of under.now.bus under.now.asking beat.now lanes.now in
-            OnOk result (slave.new ≡ served_by slave.old ask) }
+            OnOk result (slave.new ≡ accepting slave.old place.wide (Some ask)) }
+        ensures served { OnErr result (IsTrue (is_at_acceptance slave.old.order)) }
         ensures unchanged { OnErr result (self.new ≡ self.old) }
         ensures slave_unchanged { OnErr result (slave.new ≡ slave.old) }
     {
         if self.asked().is_some() {
-            return self.serve_apart(alloc, place, under, beat, lanes, slave);
+            return self.accept_apart(alloc, place, under, beat, lanes, slave);
         }
         under.ask_into(beat, lanes, &mut self.ask);
-        slave.serve_into(alloc, place.port, &self.ask, &mut self.due)?;
+        self.is_due = slave.accept(alloc, place, &self.ask, &mut self.due)?;
         self.stage = Stage::Ended(place.link);
-        self.is_due = true;
         Ok(())
     }
 
     /// The same where a request has ended before, as it has at no lawful beat: that one stays if memory is refused.
     #[inline(never)]
-    fn serve_apart(
+    fn accept_apart(
         &mut self,
         alloc: Global,
         place: Place,
@@ -195,43 +164,42 @@ impl Flight {
         requires lanes { under.now.bus ≤ length lanes.now }
         ensures flight { let ask = ask_of under.now.bus under.now.asking beat.now lanes.now in
             OnOk result (self.new
-            ≡ record { turn = Asked place.link ask; due = answer_by place.port slave.old (Some ask) }) }
+            ≡ record { turn = Asked place.link ask; due = due_accepting place.port slave.old (Some ask) }) }
         ensures slave { let ask = ask_of under.now.bus under.now.asking beat.now lanes.now in
-            OnOk result (slave.new ≡ served_by slave.old ask) }
+            OnOk result (slave.new ≡ accepting slave.old place.wide (Some ask)) }
+        ensures served { OnErr result (IsTrue (is_at_acceptance slave.old.order)) }
         ensures unchanged { OnErr result (self.new ≡ self.old) }
         ensures slave_unchanged { OnErr result (slave.new ≡ slave.old) }
     {
         let mut ask = Ask::blank();
         under.ask_into(beat, lanes, &mut ask);
-        slave.serve_into(alloc, place.port, &ask, &mut self.due)?;
+        self.is_due = slave.accept(alloc, place, &ask, &mut self.due)?;
         self.ask = ask;
         self.stage = Stage::Ended(place.link);
-        self.is_due = true;
         Ok(())
     }
 
-    /// The reply begins to the request in flight, if that has ended: the slave of this port serves it now, if requests
-    /// take effect there as they are answered. Where there is no memory for a page, nothing is changed.
+    /// The reply begins to the request in flight, if that has ended: the slave of its port answers it. Where there is no
+    /// memory, nothing is changed.
     pub fn answer(
         &mut self,
         alloc: Global,
-        port: usize,
+        place: Place,
         slave: &mut PortSlave,
     ) -> Result<(), AllocError>
         ensures flight { OnOk result (self.new
-            ≡ flight_due self.old (answer_by port slave.old (effect_at_reply slave.old (asked self.old.turn)))) }
-        ensures slave { OnOk result (slave.new ≡ slave_by slave.old (effect_at_reply slave.old (asked self.old.turn))) }
+            ≡ flight_due self.old (due_answering place.port slave.old place.wide (asked self.old.turn))) }
+        ensures slave { OnOk result (slave.new ≡ answering slave.old place.wide (asked self.old.turn)) }
+        ensures served { OnErr result (IsTrue (is_at_reply slave.old.order)) }
         ensures unchanged { OnErr result (self.new ≡ self.old) }
         ensures slave_unchanged { OnErr result (slave.new ≡ slave.old) }
     {
-        if !slave.order().is_at_reply() {
-            return Ok(());
-        }
         match self.stage {
             Stage::Nothing | Stage::Begun(_) => Ok(()),
             Stage::Ended(_) => {
-                slave.serve_into(alloc, port, &self.ask, &mut self.due)?;
-                self.is_due = true;
+                if slave.answer(alloc, place, &self.ask, &mut self.due)? {
+                    self.is_due = true;
+                }
                 Ok(())
             }
         }

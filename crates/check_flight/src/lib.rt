@@ -3,7 +3,7 @@
 //!
 //! A [`Side`] has the messages under way at each link of the masters, or of the ports, each on its own bus, and what is in
 //! flight there of each wide source. That is a [`Flight`]: nothing, a request that has begun, or one that has ended, with
-//! what its reply has to fit ([`Answer`]), if it has taken effect. A [`Crossing`] says how far a source's request has
+//! what its reply has to fit ([`Answer`]), if that is known. A [`Crossing`] says how far a source's request has
 //! come across, and what its port gave. A [`PortSlave`] is a memory or a device, which serves requests in its [`Order`].
 //!
 //! Each step promises what is kept from then on, and that all else stays; one that needs a page of memory and does not

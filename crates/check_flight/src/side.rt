@@ -2,7 +2,8 @@
 ghost use Rattle.std.specs.Prelude.{◌≡◌, ◌<◌, ◌≤◌, ℕ, Some, None, false, length, IfOk, OnOk, OnErr, IsTrue};
 ghost use Rattle.check_beats.specs.Form.{FitsAsk, FitsReply};
 ghost use Rattle.check_beats.specs.State.{nothing_under, first_ask, first_reply, ends_ask, ends_reply, ask_of};
-ghost use Rattle.check_flight.specs.PortSlave.{answer_by, effect_at_acceptance, effect_at_reply, slave_by};
+ghost use Rattle.check_flight.specs.Order.{is_at_acceptance, is_at_reply};
+ghost use Rattle.check_flight.specs.PortSlave.{accepting, answering, due_accepting, due_answering};
 ghost use Rattle.check_flight.specs.Flight.Turn.{Asking, Asked};
 ghost use Rattle.check_flight.specs.Flight.{asked, idle};
 ghost use Rattle.check_flight.specs.Side.{ask_crossed, ask_ended, bus_at, flight_at, reply_crossed, reply_ended, side_due, side_under, side_with, under_at};
@@ -118,7 +119,7 @@ impl Side {
         self.flights[place.wide].begin(place.link);
     }
 
-    /// A beat crosses that ends its request, which takes no effect yet.
+    /// A beat crosses that ends its request, which no slave accepts there.
     pub fn end_ask(&mut self, place: Place, beat: &AskHead, lanes: &[u8])
         requires link { place.link < length self.old.links }
         requires wide { place.wide < length self.old.flights }
@@ -137,8 +138,8 @@ impl Side {
         self.links[place.link].take_ask_end();
     }
 
-    /// A beat crosses that ends its request, which the slave of its port accepts: the slave serves it now, if requests
-    /// take effect there as they are accepted. Where there is no memory for a page, nothing is changed.
+    /// A beat crosses that ends its request, which the slave of its port accepts. Where there is no memory, nothing is
+    /// changed.
     pub fn accept(
         &mut self,
         alloc: Global,
@@ -158,11 +159,12 @@ impl Side {
             let ask = ask_of under.bus under.asking beat.now lanes.now in
             OnOk result (self.new ≡ side_with self.old place.link (ask_ended under) place.wide (record {
               turn = Asked place.link ask;
-              due = answer_by place.port slave.old (effect_at_acceptance slave.old (Some ask));
+              due = due_accepting place.port slave.old (Some ask);
             })) }
         ensures slave { let under = under_at self.old.links place.link in
             let ask = ask_of under.bus under.asking beat.now lanes.now in
-            OnOk result (slave.new ≡ slave_by slave.old (effect_at_acceptance slave.old (Some ask))) }
+            OnOk result (slave.new ≡ accepting slave.old place.wide (Some ask)) }
+        ensures served { OnErr result (IsTrue (is_at_acceptance slave.old.order)) }
         ensures unchanged { OnErr result (self.new ≡ self.old) }
         ensures slave_unchanged { OnErr result (slave.new ≡ slave.old) }
     {
@@ -172,8 +174,8 @@ impl Side {
         Ok(())
     }
 
-    /// The reply begins to the request in flight of a wide source, if that has ended: the slave of its port serves it now,
-    /// if requests take effect there as they are answered. Where there is no memory for a page, nothing is changed.
+    /// The reply begins to the request in flight of a wide source, if that has ended: the slave of its port answers it.
+    /// Where there is no memory, nothing is changed.
     pub fn answer(
         &mut self,
         alloc: Global,
@@ -183,13 +185,14 @@ impl Side {
         requires { place.wide < length self.old.flights }
         ensures side { let ask = asked (flight_at self.old.flights place.wide).turn in
             OnOk result (self.new
-            ≡ side_due self.old place.wide (answer_by place.port slave.old (effect_at_reply slave.old ask))) }
+            ≡ side_due self.old place.wide (due_answering place.port slave.old place.wide ask)) }
         ensures slave { let ask = asked (flight_at self.old.flights place.wide).turn in
-            OnOk result (slave.new ≡ slave_by slave.old (effect_at_reply slave.old ask)) }
+            OnOk result (slave.new ≡ answering slave.old place.wide ask) }
+        ensures served { OnErr result (IsTrue (is_at_reply slave.old.order)) }
         ensures unchanged { OnErr result (self.new ≡ self.old) }
         ensures slave_unchanged { OnErr result (slave.new ≡ slave.old) }
     {
-        self.flights[place.wide].answer(alloc, place.port, slave)?;
+        self.flights[place.wide].answer(alloc, place, slave)?;
         Ok(())
     }
 

@@ -1,9 +1,13 @@
 //! A port's slave, as the judge keeps it.
-ghost use Rattle.std.specs.Prelude.{◌≡◌, Some, OnOk, OnErr};
-ghost use Rattle.check_flight.specs.PortSlave.{answer_by, fresh_slave, may_be_unknown, served_by};
+ghost use Rattle.std.specs.Prelude.{◌≡◌, Some, false, IfOk, IsTrue, OnOk, OnErr};
+ghost use Rattle.check_flight.specs.Flight.{due_kept};
+ghost use Rattle.check_flight.specs.Order.{is_at_acceptance, is_at_reply};
+ghost use Rattle.check_flight.specs.PortSlave.{accepting, answer_of, answer_of_kept, answering, contested_by, due_accepting, due_answering, fresh_slave, may_be_unknown, served_by};
 
 use crate::answer::Answer;
 use crate::order::Order;
+use crate::place::Place;
+use check_contests::{Accepted, Contests};
 use check_memory::Slave;
 use std::alloc::{AllocError, Global};
 use std::marker::Model;
@@ -17,6 +21,8 @@ pub struct PortSlave {
     unknown: bool,
     /// Modulo 2^64.
     served: usize,
+    /// The requests that are accepted and not yet answered, if nobody knows when they take effect.
+    contests: Contests,
 }
 
 impl Model for PortSlave {
@@ -24,13 +30,32 @@ impl Model for PortSlave {
 
     ghost Value = { PortSlave };
 
-    ghost view = { λ s. record { kept = s.kept; order = s.order; unknown = s.unknown; served = s.served } };
+    ghost view = { λ s. record {
+      kept = s.kept;
+      order = s.order;
+      unknown = s.unknown;
+      served = s.served;
+      contests = s.contests;
+    } };
+}
+
+/// Puts what is due to a request that is kept as this one in the place of another answer.
+fn kept_into(port: usize, ask: &Ask, entry: &Accepted, answer: &mut Answer)
+    ensures { Some answer.new ≡ answer_of_kept port ask.now (Some entry.now) }
+{
+    let due = &entry.due;
+    answer.reply.refill_from(due);
+    answer
+        .reply
+        .set_fields(due.op(), due.size(), ask.source(), due.denied());
+    answer.port = port;
+    answer.index = entry.index;
 }
 
 impl PortSlave {
     /// A memory or a device, before any request: when requests take effect there, and whether its system says that its
     /// bytes may be unknown.
-    pub fn new(kept: Slave, order: Order, unknown: bool) -> PortSlave
+    pub fn new(alloc: Global, kept: Slave, order: Order, unknown: bool) -> PortSlave
         ensures { result ≡ fresh_slave kept order unknown }
     {
         PortSlave {
@@ -38,6 +63,7 @@ impl PortSlave {
             order,
             unknown,
             served: 0,
+            contests: Contests::new(alloc),
         }
     }
 
@@ -57,7 +83,7 @@ impl PortSlave {
 
     /// Serves a request, as the slave of this port, and puts the answer in the place of another. Where there is no memory
     /// for a page, nothing is changed.
-    pub fn serve_into(
+    fn serve_into(
         &mut self,
         alloc: Global,
         port: usize,
@@ -65,7 +91,7 @@ impl PortSlave {
         answer: &mut Answer,
     ) -> Result<(), AllocError>
         ensures served { OnOk result (self.new ≡ served_by self.old ask.now) }
-        ensures answer { OnOk result (Some answer.new ≡ answer_by port self.old (Some ask.now)) }
+        ensures answer { OnOk result (answer.new ≡ answer_of port self.old ask.now) }
         ensures unchanged { OnErr result (self.new ≡ self.old) }
         ensures answer_unchanged { OnErr result (answer.new ≡ answer.old) }
     {
@@ -78,10 +104,105 @@ impl PortSlave {
 
     /// Puts the answer of the slave of this port to a request that it does not serve in the place of another.
     pub fn answer_into(&self, port: usize, ask: &Ask, answer: &mut Answer)
-        ensures { Some answer.new ≡ answer_by port self.now (Some ask.now) }
+        ensures { answer.new ≡ answer_of port self.now ask.now }
     {
         self.kept.answer(ask, &mut answer.reply);
         answer.port = port;
         answer.index = self.served;
+    }
+
+    /// Accepts a request that takes effect then or later. Where there is no memory, nothing is changed.
+    fn contest(&mut self, alloc: Global, wide: usize, ask: &Ask) -> Result<(), AllocError>
+        ensures contested { OnOk result (self.new ≡ contested_by self.old wide ask.now) }
+        ensures unchanged { OnErr result (self.new ≡ self.old) }
+    {
+        let index = self.served;
+        self.contests
+            .accept(alloc, &mut self.kept, wide, index, ask)?;
+        self.served = index.wrapping_add(1);
+        Ok(())
+    }
+
+    /// A request is accepted: whether it is known now what its reply has to fit. If it is, that is put in the place of
+    /// another answer. Where there is no memory, nothing is changed.
+    pub fn accept(
+        &mut self,
+        alloc: Global,
+        place: Place,
+        ask: &Ask,
+        answer: &mut Answer,
+    ) -> Result<bool, AllocError>
+        ensures slave { OnOk result (self.new ≡ accepting self.old place.wide (Some ask.now)) }
+        ensures due { IfOk result (λ is_due.
+            due_kept is_due answer.new ≡ due_accepting place.port self.old (Some ask.now)) }
+        ensures served { OnErr result (IsTrue (is_at_acceptance self.old.order)) }
+        ensures unchanged { OnErr result (self.new ≡ self.old) }
+        ensures answer_unchanged { OnErr result (answer.new ≡ answer.old) }
+    {
+        match self.order {
+            Order::Accept => {
+                self.serve_into(alloc, place.port, ask, answer)?;
+                Ok(true)
+            }
+            Order::Reply => Ok(false),
+            Order::Any => {
+                self.contest(alloc, place.wide, ask)?;
+                Ok(false)
+            }
+        }
+    }
+
+    /// The reply begins to a request that was accepted: whether it is known now, and not before, what the reply has to
+    /// fit. If it is, that is put in the place of another answer. Where there is no memory, nothing is changed.
+    pub fn answer(
+        &mut self,
+        alloc: Global,
+        place: Place,
+        ask: &Ask,
+        answer: &mut Answer,
+    ) -> Result<bool, AllocError>
+        ensures slave { OnOk result (self.new ≡ answering self.old place.wide (Some ask.now)) }
+        ensures due { IfOk result (λ is_due.
+            due_kept is_due answer.new ≡ due_answering place.port self.old place.wide (Some ask.now)) }
+        ensures kept { IfOk result (λ is_due. is_due ≡ false → answer.new ≡ answer.old) }
+        ensures served { OnErr result (IsTrue (is_at_reply self.old.order)) }
+        ensures unchanged { OnErr result (self.new ≡ self.old) }
+        ensures answer_unchanged { OnErr result (answer.new ≡ answer.old) }
+    {
+        match self.order {
+            Order::Accept => Ok(false),
+            Order::Reply => {
+                self.serve_into(alloc, place.port, ask, answer)?;
+                Ok(true)
+            }
+            Order::Any => {
+                let Some(entry) = self.contests.answer(place.wide) else {
+                    return Ok(false);
+                };
+                kept_into(place.port, ask, &entry, answer);
+                Ok(true)
+            }
+        }
+    }
+
+    /// What the reply to a request of a wide source has to fit that was accepted, if the reply begins now: whether it is
+    /// known then, and not before. If it is, it is put in the place of another answer.
+    pub fn due_into(&self, port: usize, wide: usize, ask: &Ask, answer: &mut Answer) -> bool
+        ensures { due_kept result answer.new ≡ due_answering port self.now wide (Some ask.now) }
+    {
+        match self.order {
+            Order::Accept => false,
+            Order::Reply => {
+                self.answer_into(port, ask, answer);
+                true
+            }
+            Order::Any => {
+                let Some(entry) = self.contests.due(wide) else {
+                    return false;
+                };
+                kept_into(port, ask, entry, answer);
+                true
+            }
+        }
     }
 }

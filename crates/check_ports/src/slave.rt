@@ -91,7 +91,12 @@ pub fn slave_of(
     }
     let kept = kept_of(alloc, port, image)?;
     let order = port.order.unwrap_or(order);
-    Ok(PortSlave::new(kept, order, port.contents.unknown))
+    Ok(PortSlave::new(
+        alloc,
+        kept,
+        order,
+        port.contents.unknown,
+    ))
 }
 
 /// The slave of the error port: a memory with no range, which denies every request.
@@ -106,5 +111,5 @@ pub fn error_slave(alloc: Global, order: Order) -> PortSlave
         nowhere,
         true,
     );
-    PortSlave::new(Slave::Memory(memory), order, false)
+    PortSlave::new(alloc, Slave::Memory(memory), order, false)
 }

@@ -1,16 +1,15 @@
 -- A beat at a port's link that is judged by itself: the first reason why it is not lawful, or that it is.
-use Rattle.std.proofs.Common.{◌≡◌, ◌∙◌, ℕ, ◌<◌, Bool, false, List, Option, Some, None, refl, sym, subst}
+use Rattle.std.proofs.Common.{◌≡◌, ◌∙◌, ℕ, ◌<◌, Bool, false, List, refl, sym, subst}
 use Rattle.std.specs.Prelude.{IsTrue}
 use Rattle.tl_types.specs.Fault.{IsFirstOf}
-use Rattle.tl_types.specs.Request.{Request}
 use Rattle.tl_map.specs.declared.map.Range.{Range}
 use Rattle.check_beats.specs.Form.{FitsAsk, FitsReply, IsKnown}
 use Rattle.check_beats.specs.State.{ends_reply, first_ask, first_reply}
 use Rattle.check_beats.specs.declared.beat.AskHead.{AskHead}
 use Rattle.check_beats.specs.declared.beat.ReplyHead.{ReplyHead}
 use Rattle.check_flight.specs.Flight.{Turn}
-use Rattle.check_flight.specs.PortSlave.{PortSlave, may_be_unknown, slave_by}
-use Rattle.check_flight.proofs.Known.{stays_as_it_is}
+use Rattle.check_flight.specs.PortSlave.{may_be_unknown}
+use Rattle.check_flight.proofs.Known.{stays_answering}
 use Rattle.check_watch.specs.declared.beat.Beat.TheVariants.{D}
 use Rattle.check_watch.specs.declared.beat.Link.TheVariants.{Port}
 use Rattle.check_watch.specs.declared.fault.Reason.{Reason}
@@ -21,15 +20,10 @@ use Rattle.check_watch.specs.Plan.{Layout, HasSource}
 use Rattle.check_watch.specs.Scene.{Scene}
 use Rattle.check_watch.proofs.Judging.{AskUpTo}
 use Rattle.check_watch.proofs.Replying.{first_answer, first_end}
-use Rattle.check_sides.specs.View.{Beyond, IsOwnPort, PortView, captured_in, due_in, flight_in, late_in, port_scene}
+use Rattle.check_sides.specs.View.{Beyond, IsOwnPort, PortView, captured_in, due_in, answered_in, flight_in, port_scene}
 
 apart : Ports ≡ Both → ⊥
 apart is = cc
-
--- a slave that serves may leave lanes unknown exactly if it might before
-unknown_stays : (slave : PortSlave) (ask : Option Request) → may_be_unknown (slave_by slave ask) ≡ may_be_unknown slave
-unknown_stays slave None = refl
-unknown_stays slave (Some ask) = (stays_as_it_is slave ask).lanes
 
 module _ (layout : Layout) (map : List (List Range)) (port : ℕ) (own : IsOwnPort layout map) where
   -- every source is the link's
@@ -59,7 +53,7 @@ module _ (layout : Layout) (map : List (List Range)) (port : ℕ) (own : IsOwnPo
     turn_here = (flight_in view beat.source).turn
 
     unknown_here : may_be_unknown here.slave ≡ may_be_unknown view.slave
-    unknown_here = unknown_stays view.slave (late_in view beat.source)
+    unknown_here = (stays_answering view.slave beat.source (answered_in view beat.source)).lanes
 
     abbrev AnswersFound : Type 0
     AnswersFound = OfAsked port turn_here (IsAnswer view.under.bus (may_be_unknown view.slave) beat known)

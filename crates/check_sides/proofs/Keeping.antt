@@ -185,7 +185,7 @@ module _ (plan : Plan) (past : List Sighting) (view : View) (x : Sighting) (keep
 
 -- ---- what may need memory
 
--- at a port's link that is judged by itself: a request takes effect, or a source is new
+-- at a port's link that is judged by itself: its slave serves a request, or a source is new
 pub needed_alone : (plan : Plan) (past : List Sighting) (x : Sighting) → is_alone plan.layout.links x.link ≡ true
     → (IsServed plan past x ⊎ IsFirstRequest (past_at plan.layout.links x.link past) x.beat) → MayNeedMemory plan past x
 needed_alone plan past x alone (inl served) = inl served

@@ -4,7 +4,7 @@ use Rattle.std.specs.Prelude.{◌==◌}
 use Rattle.std.proofs.lemmas.Bool.{eqb-false}
 use Rattle.check_beats.specs.State.{Under}
 use Rattle.check_flight.specs.Flight.{Flight}
-use Rattle.check_flight.specs.PortSlave.{PortSlave, slave_by}
+use Rattle.check_flight.specs.PortSlave.{PortSlave, accepting}
 use Rattle.check_watch.specs.declared.beat.Beat.{Beat}
 use Rattle.check_watch.specs.declared.beat.Beat.TheVariants.{A, D}
 use Rattle.check_watch.specs.declared.beat.Link.TheVariants.{Port}
@@ -12,7 +12,7 @@ use Rattle.check_watch.specs.Lawful.{IsLawful}
 use Rattle.check_watch.specs.Past.{found_in, state, scene}
 use Rattle.check_watch.specs.Plan.{Plan, Sighting, seen_at, source_of}
 use Rattle.check_watch.specs.Plan.Side.{AtMasters, AtPorts}
-use Rattle.check_watch.specs.Scene.{Scene, answering, effect, flight_after, under_after}
+use Rattle.check_watch.specs.Scene.{Scene, accepted, flight_after, once_answered, under_after}
 use Rattle.check_sides.specs.View.{Beyond, IsAfter, KeepsPort, PortView, flight_in, port_scene}
 
 -- at a place where it stands, the first of two answers
@@ -38,6 +38,7 @@ module _ (plan : Plan) (port : ℕ) (past : List Sighting) (view : PortView) (kn
   abbrev found_here : Beat → Scene
   found_here beat = record {
     under = view.under;
+    wide = source_of beat;
     flight = flight_in view (source_of beat);
     sent = (beyond_of (source_of beat)).sent;
     crossing = (beyond_of (source_of beat)).crossing;
@@ -52,6 +53,7 @@ module _ (plan : Plan) (port : ℕ) (past : List Sighting) (view : PortView) (kn
       let found : Under → Flight → PortSlave → Scene =
       λ u f v. record {
         under = u;
+        wide = source;
         flight = f;
         sent = (s.flights AtMasters source).turn;
         crossing = s.crossings source;
@@ -64,7 +66,7 @@ module _ (plan : Plan) (port : ℕ) (past : List Sighting) (view : PortView) (kn
 
   pub scene_is : (beat : Beat)
       → scene plan past (at_port beat) ≡ port_scene plan.layout port (beyond_of (source_of beat)) view beat
-  scene_is beat = ap (λ (s : Scene). answering plan.layout (Port port) s beat) (found_is beat)
+  scene_is beat = ap (λ (s : Scene). once_answered plan.layout (Port port) s beat) (found_is beat)
 
   pub carried : (beat : Beat) (Q : Scene → Type 0)
       → Q (port_scene plan.layout port (beyond_of (source_of beat)) view beat) → Q (scene plan past (at_port beat))
@@ -92,10 +94,10 @@ module _ (plan : Plan) (port : ℕ) (past : List Sighting) (view : PortView) (kn
         ∙ sym (after.flights source)
 
     slave_after : (beat : Beat) → IsAfter plan.layout port (beyond_of (source_of beat)) view new beat known lanes
-        → slave_by (scene plan past (at_port beat)).slave
-        (effect plan.layout (Port port) (scene plan past (at_port beat)) beat lanes) ≡ new.slave
+        → accepting (scene plan past (at_port beat)).slave (scene plan past (at_port beat)).wide
+        (accepted plan.layout (Port port) (scene plan past (at_port beat)) beat lanes) ≡ new.slave
     slave_after beat after =
-        ap (λ (s : Scene). slave_by s.slave (effect plan.layout (Port port) s beat lanes)) (scene_is beat)
+        ap (λ (s : Scene). accepting s.slave s.wide (accepted plan.layout (Port port) s beat lanes)) (scene_is beat)
         ∙ sym after.slave
 
     pub kept : (beat : Beat) → IsAfter plan.layout port (beyond_of (source_of beat)) view new beat known lanes

@@ -35,7 +35,7 @@ what_is_seen plan past x =
 
 -- ---- what may need memory
 
--- a request takes effect with a beat after this past
+-- a port's slave serves a request with a beat after this past
 abbrev pub IsServed : Plan → List Sighting → Sighting → Type 0
 IsServed plan past x =
     group_lawful.IsServed (plan_at plan x.link) (past_at plan.layout.links x.link past) x

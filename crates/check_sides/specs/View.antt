@@ -12,8 +12,8 @@ use Rattle.check_beats.specs.declared.bus.Bus.{Bus}
 use Rattle.check_flight.specs.declared.answer.Answer.{Answer}
 use Rattle.check_flight.specs.Crossing.{Crossing}
 use Rattle.check_flight.specs.Flight.{Flight, Turn, asked, due_by}
-use Rattle.check_flight.specs.Order.{effect_by, is_at_reply}
-use Rattle.check_flight.specs.PortSlave.{PortSlave, answer_by, slave_by, effect_at_reply}
+use Rattle.check_flight.specs.Order.{is_at_reply}
+use Rattle.check_flight.specs.PortSlave.{PortSlave, accepting, due_answering}
 use Rattle.check_flight.specs.Side.{bus_at}
 use Rattle.check_watch.specs.declared.beat.Beat.{Beat}
 use Rattle.check_watch.specs.declared.beat.Link.TheVariants.{Port}
@@ -22,7 +22,7 @@ use Rattle.check_watch.specs.Lawful as group_lawful
 use Rattle.check_watch.specs.Past as group
 use Rattle.check_watch.specs.Plan.{Layout as GroupLayout, Plan as GroupPlan, Sighting, source_of}
 use Rattle.check_watch.specs.Plan.Side.{AtPorts}
-use Rattle.check_watch.specs.Scene.{Scene, answering, begins_reply, captured, effect, flight_after, under_after}
+use Rattle.check_watch.specs.Scene.{Scene, accepted, ask_if, begins_reply, captured, flight_after, once_answered, under_after}
 use Rattle.check_watch.specs.View as group_view
 use Rattle.check_watch.specs.View.{View as GroupView}
 use Rattle.check_sides.specs.Flights.{flight_of, kept_of}
@@ -56,8 +56,9 @@ flight_in view source = flight_of view.flights source
 -- what a beat finds there
 abbrev pub port_scene : GroupLayout → ℕ → Beyond → PortView → Beat → Scene
 port_scene layout port beyond view beat =
-    answering layout (Port port) (record {
+    once_answered layout (Port port) (record {
       under = view.under;
+      wide = source_of beat;
       flight = flight_in view (source_of beat);
       sent = beyond.sent;
       crossing = beyond.crossing;
@@ -65,19 +66,18 @@ port_scene layout port beyond view beat =
       slave = view.slave;
     }) beat
 
--- requests take effect as the next beat of channel D crosses
-abbrev pub is_late_in : PortView → Bool
-is_late_in view = begins_reply view.under.replying && is_at_reply view.slave.order
+-- the request in flight of a source that the slave answers, if its reply begins with the next beat of channel D
+abbrev pub answered_in : PortView → ℕ → Option Request
+answered_in view source = ask_if (begins_reply view.under.replying) (asked (flight_in view source).turn)
 
--- the request in flight of a source that takes effect as its reply begins
-abbrev pub late_in : PortView → ℕ → Option Request
-late_in view source =
-    effect_by (begins_reply view.under.replying) (effect_at_reply view.slave (asked (flight_in view source).turn))
+-- the slave serves what it answers with the next beat of channel D
+abbrev pub is_served_late_in : PortView → Bool
+is_served_late_in view = is_at_reply view.slave.order && begins_reply view.under.replying
 
 -- the reply that the slave expects to what is in flight of a source
 abbrev pub due_in : PortView → ℕ → ℕ → Option Answer
 due_in view port source =
-    due_by (flight_in view source).due (answer_by port view.slave (late_in view source))
+    due_by (flight_in view source).due (due_answering port view.slave source (answered_in view source))
 
 -- the reply that a beat ends, as it was captured
 abbrev pub captured_in : PortView → ReplyHead → ℕ → List ℕ → Pattern
@@ -90,8 +90,8 @@ pub record IsAfter (layout : GroupLayout) (port : ℕ) (beyond : Beyond) (old ne
   pub flights : (source : ℕ) → flight_in new source ≡ (if source_of beat == source
       then flight_after layout (Port port) (port_scene layout port beyond old beat) beat lanes
       else flight_in old source)
-  pub slave : new.slave ≡ slave_by (port_scene layout port beyond old beat).slave
-      (effect layout (Port port) (port_scene layout port beyond old beat) beat lanes)
+  pub slave : let here = port_scene layout port beyond old beat in
+      new.slave ≡ accepting here.slave here.wide (accepted layout (Port port) here beat lanes)
   pub unkept : (source : ℕ) → kept_of new.flights source ≡ None
       → (kept_of old.flights source ≡ None) × (IsAskOf beat source → ⊥)
 

@@ -1,10 +1,11 @@
 //! What is in flight of each source at one port's link, which is made as it is needed.
-ghost use Rattle.std.specs.Prelude.{◌≡◌, ◌≤◌, [], Some, None, OnOk, OnErr, IsTrue, length};
+ghost use Rattle.std.specs.Prelude.{◌≡◌, ◌≤◌, ◌⊎◌, [], Some, None, OnOk, OnErr, IsTrue, length};
 ghost use Rattle.check_beats.specs.Form.{FitsAsk};
 ghost use Rattle.check_beats.specs.State.{ask_of, ends_ask, first_ask};
 ghost use Rattle.check_flight.specs.Flight.Turn.{Asking, Asked};
 ghost use Rattle.check_flight.specs.Flight.{asked, flight_due, idle};
-ghost use Rattle.check_flight.specs.PortSlave.{answer_by, effect_at_acceptance, effect_at_reply, slave_by};
+ghost use Rattle.check_flight.specs.Order.{is_at_acceptance, is_at_reply};
+ghost use Rattle.check_flight.specs.PortSlave.{accepting, answering, due_accepting, due_answering};
 ghost use Rattle.check_sides.specs.Flights.{IsChanged, IsPut, flight_of, kept_of};
 
 use check_beats::{AskHead, UnderWay};
@@ -81,37 +82,8 @@ impl Flights {
         Ok(())
     }
 
-    /// A request has ended there, by a beat after those under way, and takes no effect yet. Memory may be refused to a
-    /// source that has no room.
-    pub fn end(
-        &mut self,
-        number: usize,
-        under: &UnderWay,
-        beat: &AskHead,
-        lanes: &[u8],
-    ) -> Result<(), AllocError>
-        requires fits { FitsAsk under.now.bus (first_ask under.now.asking) beat.now }
-        requires ends { IsTrue (ends_ask under.now.bus under.now.asking beat.now) }
-        requires lanes { under.now.bus ≤ length lanes.now }
-        ensures ended { let ask = ask_of under.now.bus under.now.asking beat.now lanes.now in
-            OnOk result (IsPut self.old self.new beat.now.source
-            (record { turn = Asked number ask; due = None })) }
-        ensures refused { OnErr result (kept_of self.old beat.now.source ≡ None) }
-        ensures err { OnErr result (self.new ≡ self.old) }
-    {
-        let source = beat.source;
-        if let Some(flight) = self.kept.get_mut(&source) {
-            flight.end(number, under, beat, lanes);
-            return Ok(());
-        }
-        let mut flight = Flight::idle();
-        flight.end(number, under, beat, lanes);
-        self.kept.insert(source, flight)?;
-        Ok(())
-    }
-
-    /// A request has ended at the link of a port, by a beat after those under way, and its slave accepts it: the slave
-    /// serves it now, if requests take effect there as they are accepted. If there is no memory, nothing is changed.
+    /// A request has ended at the link of a port, by a beat after those under way, and its slave accepts it. Memory may be
+    /// refused to a source that has no room, and to the slave. Then nothing is changed.
     pub fn accept(
         &mut self,
         alloc: Global,
@@ -127,10 +99,12 @@ impl Flights {
         ensures flight { let ask = ask_of under.now.bus under.now.asking beat.now lanes.now in
             OnOk result (IsPut self.old self.new beat.now.source (record {
               turn = Asked port ask;
-              due = answer_by port slave.old (effect_at_acceptance slave.old (Some ask));
+              due = due_accepting port slave.old (Some ask);
             })) }
         ensures slave { let ask = ask_of under.now.bus under.now.asking beat.now lanes.now in
-            OnOk result (slave.new ≡ slave_by slave.old (effect_at_acceptance slave.old (Some ask))) }
+            OnOk result (slave.new ≡ accepting slave.old beat.now.source (Some ask)) }
+        ensures refused { OnErr result ((kept_of self.old beat.now.source ≡ None)
+            ⊎ IsTrue (is_at_acceptance slave.old.order)) }
         ensures err { OnErr result (self.new ≡ self.old) }
         ensures slave_err { OnErr result (slave.new ≡ slave.old) }
     {
@@ -159,10 +133,12 @@ impl Flights {
         ensures flight { let ask = ask_of under.now.bus under.now.asking beat.now lanes.now in
             OnOk result (IsPut self.old self.new beat.now.source (record {
               turn = Asked port ask;
-              due = answer_by port slave.old (effect_at_acceptance slave.old (Some ask));
+              due = due_accepting port slave.old (Some ask);
             })) }
         ensures slave { let ask = ask_of under.now.bus under.now.asking beat.now lanes.now in
-            OnOk result (slave.new ≡ slave_by slave.old (effect_at_acceptance slave.old (Some ask))) }
+            OnOk result (slave.new ≡ accepting slave.old beat.now.source (Some ask)) }
+        ensures refused { OnErr result ((kept_of self.old beat.now.source ≡ None)
+            ⊎ IsTrue (is_at_acceptance slave.old.order)) }
         ensures err { OnErr result (self.new ≡ self.old) }
         ensures slave_err { OnErr result (slave.new ≡ slave.old) }
     {
@@ -178,8 +154,8 @@ impl Flights {
         Ok(())
     }
 
-    /// The reply begins to the request in flight of a source, if that has ended: the slave of this port serves it now, if
-    /// requests take effect there as they are answered. If there is no memory for a page, nothing is changed.
+    /// The reply begins to the request in flight of a source, if that has ended: the slave of this port answers it. If
+    /// there is no memory, nothing is changed.
     pub fn answer(
         &mut self,
         alloc: Global,
@@ -188,17 +164,17 @@ impl Flights {
         slave: &mut PortSlave,
     ) -> Result<(), AllocError>
         ensures flight { OnOk result (IsChanged self.old self.new source (λ flight.
-            flight_due flight
-            (answer_by port slave.old (effect_at_reply slave.old (asked flight.turn))))) }
+            flight_due flight (due_answering port slave.old source (asked flight.turn)))) }
         ensures slave { OnOk result (slave.new
-            ≡ slave_by slave.old (effect_at_reply slave.old (asked (flight_of self.old source).turn))) }
+            ≡ answering slave.old source (asked (flight_of self.old source).turn)) }
+        ensures served { OnErr result (IsTrue (is_at_reply slave.old.order)) }
         ensures err { OnErr result (self.new ≡ self.old) }
         ensures slave_err { OnErr result (slave.new ≡ slave.old) }
     {
         let Some(flight) = self.kept.get_mut(&source) else {
             return Ok(());
         };
-        flight.answer(alloc, port, slave)
+        flight.answer(alloc, place_at(port, source), slave)
     }
 
     /// Nothing is in flight of a source any more.

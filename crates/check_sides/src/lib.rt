@@ -9,8 +9,8 @@
 //! [`Watch::step`] takes one beat more. It answers `Ok` exactly if the list with this beat is lawful, if memory is not
 //! refused, and keeps that list then; an `Err` changes nothing, and is the first fault that the beat has in its group, or
 //! want of memory. [`Watch::take`] makes neither the fault nor the reply. Memory may be refused to a lawful beat with
-//! which a request takes effect; at a port's link that is judged by itself, also to the first request of a source, for
-//! which room is made there.
+//! which a port's slave serves a request; at a port's link that is judged by itself, also to the first request of a
+//! source, for which room is made there.
 //!
 //! Read on in `docs/MODEL.md`, "Groups of links of any width".
 #![tactic(auto)]

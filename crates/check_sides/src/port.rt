@@ -14,7 +14,7 @@ ghost use Rattle.check_watch.specs.Lawful.{IsFirstFault, IsFirstReason, IsLawful
 ghost use Rattle.check_watch.specs.Plan.{Layout, Plan, Sighting, seen_at};
 ghost use Rattle.check_watch.specs.Scene.{seen};
 ghost use Rattle.check_watch.specs.View.{FitsBeat};
-ghost use Rattle.check_sides.specs.View.{Beyond, IsOwnPort, KeepsPort, captured_in, due_in, fresh_link, is_late_in, port_scene};
+ghost use Rattle.check_sides.specs.View.{Beyond, IsOwnPort, KeepsPort, captured_in, due_in, fresh_link, port_scene};
 
 use crate::flights::Flights;
 use check_beats::{AskHead, Bus, ReplyHead, UnderWay};
@@ -63,26 +63,22 @@ impl PortLink {
         }
     }
 
-    /// Whether requests take effect as the next beat of channel D crosses.
-    pub(crate) fn is_late(&self) -> bool
-        ensures { result ≡ is_late_in self.now }
-    {
-        self.under.begins_reply() && self.slave.order().is_at_reply()
-    }
-
-    /// What the reply has to fit to what is in flight of a source. If the request takes effect as its reply begins, and that
-    /// begins now, the answer is written into the room.
+    /// What the reply has to fit to what is in flight of a source. If that is known as the reply begins, and not before, and
+    /// it begins now, the answer is written into the room.
     fn due<'a>(&'a self, port: usize, source: u16, room: &'a mut Answer) -> Option<&'a Answer>
         ensures { option_map (λ answer. answer.now) result ≡ due_in self.now port source }
     {
         let flight = self.flights.flight(source);
-        if !self.is_late() {
+        if !self.under.begins_reply() {
             return flight.due();
         }
         match flight.asked() {
             Some(ask) => {
-                self.slave.answer_into(port, ask, room);
-                Some(room)
+                if self.slave.due_into(port, usize::from(source), ask, room) {
+                    Some(room)
+                } else {
+                    flight.due()
+                }
             }
             None => flight.due(),
         }

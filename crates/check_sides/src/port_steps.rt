@@ -5,16 +5,16 @@ ghost use Rattle.check_beats.specs.State.{ask_of, ends_ask, ends_reply, first_as
 ghost use Rattle.check_flight.specs.Flight.Turn.{Asked};
 ghost use Rattle.check_flight.specs.Flight.{flight_due};
 ghost use Rattle.check_flight.specs.Order.{is_at_acceptance};
-ghost use Rattle.check_flight.specs.PortSlave.{answer_by, effect_at_acceptance, slave_by};
+ghost use Rattle.check_flight.specs.PortSlave.{accepting, answering, due_accepting, due_answering};
 ghost use Rattle.check_watch.specs.declared.beat.Beat.TheVariants.{A, D};
 ghost use Rattle.check_watch.specs.declared.beat.Link.TheVariants.{Port};
 ghost use Rattle.check_watch.specs.Lawful.{IsFirstFault, IsLawful, IsServed, OfFault, what_is_seen};
 ghost use Rattle.check_watch.specs.Plan.{Layout, Plan, Sighting, seen_at};
-ghost use Rattle.check_watch.specs.Scene.{ask_by, ended};
+ghost use Rattle.check_watch.specs.Scene.{ask_by, ask_if, ended};
 ghost use Rattle.check_watch.specs.View.{FitsBeat};
 ghost use Rattle.check_sides.specs.Flights.{IsChanged, IsPut, kept_of};
 ghost use Rattle.check_sides.specs.Lawful.{IsFirstRequest};
-ghost use Rattle.check_sides.specs.View.{Beyond, IsAfter, IsOwnPort, KeepsPort, is_late_in, late_in};
+ghost use Rattle.check_sides.specs.View.{Beyond, IsAfter, IsOwnPort, KeepsPort, answered_in, is_served_late_in};
 
 use crate::port::PortLink;
 use check_beats::{AskHead, ReplyHead};
@@ -23,9 +23,9 @@ use check_watch::{Beat, Ended, Seen, StepError};
 use std::alloc::{AllocError, Global};
 
 impl PortLink {
-    /// The request that a beat ends is in flight from then on, and its slave serves it now, if requests take effect there
-    /// as they are accepted. If there is no memory, nothing is changed.
-    fn end_ask(
+    /// The request that a beat ends is in flight from then on, and the slave accepts it. If there is no memory, nothing is
+    /// changed.
+    fn accept(
         &mut self,
         alloc: Global,
         port: usize,
@@ -37,24 +37,17 @@ impl PortLink {
         requires lanes { self.old.under.bus ≤ length lanes.now }
         ensures under { self.new.under ≡ self.old.under }
         ensures flight { let ask = ask_of self.old.under.bus self.old.under.asking beat.now lanes.now in
-            OnOk result (IsPut self.old.flights self.new.flights beat.now.source (record {
-              turn = Asked port ask;
-              due = answer_by port self.old.slave (effect_at_acceptance self.old.slave (Some ask));
-            })) }
+            OnOk result (IsPut self.old.flights self.new.flights beat.now.source
+            (record { turn = Asked port ask; due = due_accepting port self.old.slave (Some ask) })) }
         ensures slave { let ask = ask_of self.old.under.bus self.old.under.asking beat.now lanes.now in
-            OnOk result (self.new.slave
-            ≡ slave_by self.old.slave (effect_at_acceptance self.old.slave (Some ask))) }
+            OnOk result (self.new.slave ≡ accepting self.old.slave beat.now.source (Some ask)) }
         ensures refused { OnErr result ((kept_of self.old.flights beat.now.source ≡ None)
             ⊎ IsTrue (is_at_acceptance self.old.slave.order)) }
         ensures err { OnErr result (self.new ≡ self.old) }
     {
         let _source = beat.source;
-        if self.slave.order().is_at_acceptance() {
-            return self
-                .flights
-                .accept(alloc, port, &self.under, beat, lanes, &mut self.slave);
-        }
-        self.flights.end(port, &self.under, beat, lanes)
+        self.flights
+            .accept(alloc, port, &self.under, beat, lanes, &mut self.slave)
     }
 
     /// Takes a beat of a request: whether it ends it. If there is no memory, nothing is changed.
@@ -72,7 +65,8 @@ impl PortLink {
         ensures ends { IfOk result (λ ends.
             ends ≡ ends_ask self.old.under.bus self.old.under.asking beat.now) }
         ensures refused { OnErr result ((kept_of self.old.flights beat.now.source ≡ None)
-            ⊎ IsSome (effect_at_acceptance self.old.slave (ask_by self.old.under beat.now lanes.now))) }
+            ⊎ IsSome (ask_if (is_at_acceptance self.old.slave.order)
+            (ask_by self.old.under beat.now lanes.now))) }
         ensures err { OnErr result (self.new ≡ self.old) }
         ensures bus { self.new.under.bus ≡ self.old.under.bus }
     {
@@ -82,29 +76,28 @@ impl PortLink {
             self.under.take_ask_part(beat, lanes);
             return Ok(false);
         }
-        self.end_ask(alloc, port, beat, lanes)?;
+        self.accept(alloc, port, beat, lanes)?;
         self.under.take_ask_end();
         Ok(true)
     }
 
-    /// The slave serves the request in flight of a source, if it takes effect as its reply begins. If there is no
-    /// memory for a page, nothing is changed.
-    fn serve_late(&mut self, alloc: Global, port: usize, source: u16) -> Result<(), AllocError>
+    /// The slave answers the request in flight of a source, if its reply begins. If there is no memory, nothing is changed.
+    fn answer_first(&mut self, alloc: Global, port: usize, source: u16) -> Result<(), AllocError>
         ensures under { self.new.under ≡ self.old.under }
         ensures flight { OnOk result (IsChanged self.old.flights self.new.flights source (λ flight.
-            flight_due flight (answer_by port self.old.slave (late_in self.old source)))) }
+            flight_due flight (due_answering port self.old.slave source (answered_in self.old source)))) }
         ensures slave { OnOk result
-            (self.new.slave ≡ slave_by self.old.slave (late_in self.old source)) }
-        ensures served { OnErr result (IsTrue (is_late_in self.old)) }
+            (self.new.slave ≡ answering self.old.slave source (answered_in self.old source)) }
+        ensures served { OnErr result (IsTrue (is_served_late_in self.old)) }
         ensures err { OnErr result (self.new ≡ self.old) }
     {
-        if self.is_late() {
+        if self.under.begins_reply() {
             return self.flights.answer(alloc, source, port, &mut self.slave);
         }
         Ok(())
     }
 
-    /// Takes a beat of a reply: whether it ends it. If there is no memory for a page, nothing is changed.
+    /// Takes a beat of a reply: whether it ends it. If there is no memory, nothing is changed.
     fn admit_reply(
         &mut self,
         alloc: Global,
@@ -119,12 +112,12 @@ impl PortLink {
             → OnOk result (IsAfter layout port beyond self.old self.new (D beat.now) known lanes.now) }
         ensures ends { IfOk result (λ ends.
             ends ≡ ends_reply self.old.under.bus self.old.under.replying beat.now) }
-        ensures served { OnErr result (IsTrue (is_late_in self.old)) }
+        ensures served { OnErr result (IsTrue (is_served_late_in self.old)) }
         ensures err { OnErr result (self.new ≡ self.old) }
         ensures bus { self.new.under.bus ≡ self.old.under.bus }
     {
         let source = beat.source;
-        self.serve_late(alloc, port, source)?;
+        self.answer_first(alloc, port, source)?;
         if !self.under.ends_reply(beat) {
             self.under.take_reply_part(beat, known, lanes);
             return Ok(false);

@@ -154,8 +154,8 @@ impl Watch {
     }
 
     /// Takes one beat more, at a link that is watched, if it is lawful: what it ends. `None` says that it is not. Then
-    /// nothing changes, nor if memory is refused to a lawful one: a request takes effect with it, or it is the first of a
-    /// source at a port's link that is judged by itself. There are as many lanes as the link's bus has, or more; those
+    /// nothing changes, nor if memory is refused to a lawful one: a port's slave serves a request with it, or it is the first
+    /// of a source at a port's link that is judged by itself. There are as many lanes as the link's bus has, or more; those
     /// past the bus are not looked at.
     ///
     /// It costs less than [`Watch::step`], which makes the fault or the reply that a beat ends, too.
@@ -194,8 +194,8 @@ impl Watch {
     }
 
     /// Judges one beat more, at a link that is watched: what it ends, or its first fault. An `Err` changes nothing, and
-    /// [`StepError::Memory`] says that the beat is lawful, and that a request takes effect with it, or that it is the first
-    /// of a source at a port's link that is judged by itself. There are as many lanes as the link's bus has, or more; those
+    /// [`StepError::Memory`] says that the beat is lawful, and that a port's slave serves a request with it, or that it is the
+    /// first of a source at a port's link that is judged by itself. There are as many lanes as the link's bus has, or more; those
     /// past the bus are not looked at.
     pub fn step(
         &mut self,

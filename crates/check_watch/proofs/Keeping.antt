@@ -14,8 +14,8 @@ use Rattle.check_flight.specs.Crossing.{Crossing}
 use Rattle.check_flight.specs.Crossing.Crossing.{Waiting, Crossed, Given}
 use Rattle.check_flight.specs.Flight.{Turn, asked, Flight, idle, flight_due}
 use Rattle.check_flight.specs.Flight.Turn.{Idle, Asking, Asked}
-use Rattle.check_flight.specs.Order.{effect_by, is_at_acceptance, is_at_reply}
-use Rattle.check_flight.specs.PortSlave.{PortSlave, served_by, slave_by}
+use Rattle.check_flight.specs.Order.{is_at_reply}
+use Rattle.check_flight.specs.PortSlave.{PortSlave, accepting, answering}
 use Rattle.check_flight.specs.Side.{under_at, flight_at, flights_due, ask_crossed, reply_crossed}
 use Rattle.check_watch.specs.declared.beat.Beat.{Beat}
 use Rattle.check_watch.specs.declared.beat.Beat.TheVariants.{A, D}
@@ -31,8 +31,8 @@ use Rattle.check_watch.specs.Lawful.{IsLawful, IsServed, IsAllowedBeat, IsFirstR
 use Rattle.check_watch.specs.Past.{State, no_slave, slave_at, port_of, found_in, scene_of, state_after, state, scene}
 use Rattle.check_watch.specs.Plan.{Layout, Plan, Sighting, Side, HasLink, side_of, number_of, source_of, wide_of, same_side, is_link, is_of, seen_at}
 use Rattle.check_watch.specs.Plan.Side.{AtMasters, AtPorts}
-use Rattle.check_watch.specs.Scene.{Scene, ask_by, begins_reply, serving, takes_effect, under_after, effect, answering, flight_after, crossing_after, given_by, captured}
-use Rattle.check_watch.specs.View.{View, is_accepted_in, is_late_in, IsSized, wides_in, Keeps, AreSame, IsPlace, state_in, side_in, own_side, crossing_at, under_in, flight_in, scene_in, slaves_with, crossings_taken, crossings_asked, crossings_given, crossings_replied, effect_in, late_in, late_answer, asked_flight, with_side, with_ask, with_late, with_part, with_end, with_reply}
+use Rattle.check_watch.specs.Scene.{Scene, ask_by, ask_if, serving, takes_effect, under_after, accepted, once_answered, flight_after, crossing_after, given_by, captured}
+use Rattle.check_watch.specs.View.{View, is_answering_in, is_served_late_in, IsSized, wides_in, Keeps, AreSame, IsPlace, state_in, side_in, own_side, crossing_at, under_in, flight_in, scene_in, slaves_accepting, slaves_answering, crossings_taken, crossings_asked, crossings_given, crossings_replied, accepted_in, served_in, answered_in, late_answer, asked_flight, with_side, with_ask, with_late, with_part, with_end, with_reply}
 use Rattle.check_watch.proofs.Judging.{wide_is, no_ask_reason}
 use Rattle.check_watch.proofs.Replying.{no_reply_reason}
 
@@ -56,11 +56,19 @@ stays {X} f k j = go (k == j) refl
     go true is = ap f (sym (eqb-true k j is))
     go false is = refl
 
-slaves_set : (slaves : List PortSlave) (port p : ℕ) (ask : Option Request) → port < length slaves
-    → slave_at (slaves_with slaves port ask) p ≡
-    (if port == p then slave_by (slave_at slaves port) ask else slave_at slaves p)
-slaves_set slaves port p None within = stays (λ k. slave_at slaves k) port p
-slaves_set slaves port p (Some ask) within = set_at no_slave slaves port p (served_by (slave_at slaves port) ask) within
+slaves_accept : (slaves : List PortSlave) (port wide p : ℕ) (ask : Option Request) → port < length slaves
+    → slave_at (slaves_accepting slaves port wide ask) p ≡
+    (if port == p then accepting (slave_at slaves port) wide ask else slave_at slaves p)
+slaves_accept slaves port wide p None within = stays (λ k. slave_at slaves k) port p
+slaves_accept slaves port wide p (Some ask) within =
+    set_at no_slave slaves port p (accepting (slave_at slaves port) wide (Some ask)) within
+
+slaves_answer : (slaves : List PortSlave) (port wide p : ℕ) (ask : Option Request) → port < length slaves
+    → slave_at (slaves_answering slaves port wide ask) p ≡
+    (if port == p then answering (slave_at slaves port) wide ask else slave_at slaves p)
+slaves_answer slaves port wide p None within = stays (λ k. slave_at slaves k) port p
+slaves_answer slaves port wide p (Some ask) within =
+    set_at no_slave slaves port p (answering (slave_at slaves port) wide (Some ask)) within
 
 taken_set : (crossings : List Crossing) (wide w : ℕ) (ends : Bool) → wide < length crossings
     → crossing_at (crossings_taken crossings wide ends) w ≡
@@ -179,6 +187,7 @@ module _ (view : View) (link : Link) (wide port : ℕ) (room : HasRoom view link
 abbrev found_at : View → Link → ℕ → ℕ → Scene
 found_at view link wide port = record {
   under = under_in view link;
+  wide = wide;
   flight = flight_in view link wide;
   sent = (flight_at view.masters.flights wide).turn;
   crossing = crossing_at view.crossings wide;
@@ -189,7 +198,7 @@ found_at view link wide port = record {
 -- what it leaves
 abbrev after_at : Layout → View → Sighting → ℕ → ℕ → State
 after_at layout view x wide port =
-    let here = answering layout x.link (found_at view x.link wide port) x.beat in
+    let here = once_answered layout x.link (found_at view x.link wide port) x.beat in
     record {
       links = λ side k. if is_link x.link side k
           then under_after here.under x.beat x.known x.lanes else under_at (side_in view side).links k;
@@ -198,7 +207,8 @@ after_at layout view x wide port =
       crossings = λ w. if wide == w
           then crossing_after x.link here x.beat x.known x.lanes else crossing_at view.crossings w;
       slaves = λ p. if here.port == p
-          then slave_by here.slave (effect layout x.link here x.beat x.lanes) else slave_at view.slaves p;
+          then accepting here.slave here.wide (accepted layout x.link here x.beat x.lanes)
+          else slave_at view.slaves p;
     }
 
 -- ---- how far requests have come across
@@ -244,7 +254,8 @@ module _ (view : View) (link : Link) (wide port : ℕ) (room : HasRoom view link
       flights = flights;
       crossings = λ w. asked_across link (found_at view link wide port) beat known lanes view.crossings wide w
           room.crossing refl;
-      slaves = λ p. slaves_set view.slaves port p (effect_in view link port (ask_by (under_in view link) beat lanes)) room.slave;
+      slaves = λ p. slaves_accept view.slaves port wide p
+          (accepted_in view link port (ask_by (under_in view link) beat lanes)) room.slave;
     }
       where
         links : (side : Side) (k : ℕ) → under_at (side_in (with_ask view link wide port beat lanes) side).links k
@@ -273,7 +284,7 @@ module _ (view : View) (link : Link) (wide port : ℕ) (room : HasRoom view link
 
     -- ---- a beat of a reply
 
-    -- what it finds in flight, once its request has taken effect
+    -- what it finds in flight, once the slave has answered
     abbrev flight_late : Flight
     flight_late = flight_due (flight_in view link wide) (late_answer view link wide port)
 
@@ -287,7 +298,7 @@ module _ (view : View) (link : Link) (wide port : ℕ) (room : HasRoom view link
       links = slice_set (own_side view link).links (number_of link)
           (reply_crossed (under_in view link) beat known lanes);
       flights = flights;
-    })) { crossings = crossings; slaves = slaves_with view.slaves port (late_in view link wide port) }
+    })) { crossings = crossings; slaves = slaves_answering view.slaves port wide (answered_in view link wide port) }
 
     after_reply : (beat : ReplyHead) (flights : List Flight) (crossings : List Crossing)
         → ((w : ℕ) → flight_at flights w
@@ -295,7 +306,7 @@ module _ (view : View) (link : Link) (wide port : ℕ) (room : HasRoom view link
         else flight_late) else flight_at (own_side view link).flights w))
         → ((w : ℕ) → crossing_at crossings w
         ≡ (if wide == w then crossing_after link
-        (answering view.layout link (found_at view link wide port) (D beat)) (D beat) known lanes
+        (once_answered view.layout link (found_at view link wide port) (D beat)) (D beat) known lanes
         else crossing_at view.crossings w))
         → AreSame (state_in (put_reply beat flights crossings))
         (after_at view.layout view (seen_at link (D beat) known lanes) wide port)
@@ -303,7 +314,7 @@ module _ (view : View) (link : Link) (wide port : ℕ) (room : HasRoom view link
       links = links_at;
       flights = flights_at;
       crossings = across;
-      slaves = λ p. slaves_set view.slaves port p (late_in view link wide port) room.slave;
+      slaves = λ p. slaves_answer view.slaves port wide p (answered_in view link wide port) room.slave;
     }
       where
         links_at : (side : Side) (k : ℕ) → under_at (side_in (put_reply beat flights crossings) side).links k
@@ -327,7 +338,7 @@ module _ (view : View) (link : Link) (wide port : ℕ) (room : HasRoom view link
     after_part beat goes_on =
         after_reply beat late_flights view.crossings
         (λ w. rw goes_on (due_set (own_side view link).flights wide w (late_answer view link wide port) room.in_flight))
-        (λ w. part_across link (answering view.layout link (found_at view link wide port) (D beat)) beat known lanes
+        (λ w. part_across link (once_answered view.layout link (found_at view link wide port) (D beat)) beat known lanes
         view.crossings wide w refl goes_on)
 
     after_end : (beat : ReplyHead) → ends_reply (under_in view link).bus (under_in view link).replying beat ≡ true
@@ -340,7 +351,7 @@ module _ (view : View) (link : Link) (wide port : ℕ) (room : HasRoom view link
         (crossings_replied view.crossings link wide flight_late.due
         (captured (under_in view link) flight_late.turn beat known lanes))
         (λ w. rw ends (ended (own_side view link).flights wide w (late_answer view link wide port) room.in_flight))
-        (λ w. end_across link (answering view.layout link (found_at view link wide port) (D beat)) beat known lanes
+        (λ w. end_across link (once_answered view.layout link (found_at view link wide port) (D beat)) beat known lanes
         view.crossings wide w room.crossing refl ends)
 
     -- ---- the steps of a judge are these
@@ -413,7 +424,7 @@ same_found plan a b link beat same =
 same_scene : (plan : Plan) (a b : State) (link : Link) (beat : Beat) → AreSame a b
     → scene_of plan a link beat ≡ scene_of plan b link beat
 same_scene plan a b link beat same =
-    ap (λ (s : Scene). answering plan.layout link s beat) (same_found plan a b link beat same)
+    ap (λ (s : Scene). once_answered plan.layout link s beat) (same_found plan a b link beat same)
 
 if_same : {X : Type 0} (c : Bool) (p q r s : X) → p ≡ q → r ≡ s → (if c then p else r) ≡ (if c then q else s)
 if_same true p q r s first second = first
@@ -430,8 +441,8 @@ same_after plan a b x same =
           (ap (λ (s : Scene). flight_after plan.layout x.link s x.beat x.lanes) here) (same.flights side wide);
       crossings = λ wide. if_same (wide_of plan x.link (source_of x.beat) == wide) _ _ _ _
           (ap (λ (s : Scene). crossing_after x.link s x.beat x.known x.lanes) here) (same.crossings wide);
-      slaves = λ port. ap (λ (s : Scene). if s.port == port then slave_by s.slave
-          (effect plan.layout x.link s x.beat x.lanes) else a.slaves port) here
+      slaves = λ port. ap (λ (s : Scene). if s.port == port then accepting s.slave s.wide
+          (accepted plan.layout x.link s x.beat x.lanes) else a.slaves port) here
           ∙ if_same ((scene_of plan b x.link x.beat).port == port) _ _ _ _ refl (same.slaves port);
     }
 
@@ -524,10 +535,10 @@ module _ (plan : Plan) (past : List Sighting) (view new : View) (link : Link) (k
       keeps_next plan past view x keeps new (ap (λ (v : View). v.layout) is ∙ layout_reply view link _ _ beat known lanes)
       (subst (λ (v : View). AreSame (state_in v) (state_after plan (state_in view) x)) (sym is) same) lawful
 
--- ---- which requests take effect
+-- ---- which requests a slave serves
 
 takes_both : (takes late : Bool) (ask : Option Request) → (takes && late) ≡ true
-    → effect_by takes (effect_by late ask) ≡ ask
+    → ask_if takes (ask_if late ask) ≡ ask
 takes_both true true ask is = refl
 takes_both true false ask is = absurd (cc)
 takes_both false late ask is = absurd (cc)
@@ -536,17 +547,6 @@ some_asked : (number : ℕ) (turn : Turn) (P : Request → Type 0) → OfAsked n
 some_asked number Idle P of = absurd of
 some_asked number (Asking at) P of = absurd of
 some_asked number (Asked at ask) P of = refl
-
--- a request that is accepted takes effect, if its beat ends it
-pub accepted_serves : (view : View) (link : Link) (port : ℕ) (beat : AskHead) (lanes : List ℕ)
-    → is_accepted_in view link port ≡ true
-    → ends_ask (under_in view link).bus (under_in view link).asking beat ≡ true
-    → IsSome (effect_in view link port (ask_by (under_in view link) beat lanes))
-accepted_serves view link port beat lanes accepted ends =
-    let ask = ask_by (under_in view link) beat lanes in
-    let some : IsSome ask = rw ends refl in
-    subst (λ (o : Option Request). IsSome o) (sym (takes_both (takes_effect view.layout link port)
-    (is_at_acceptance (slave_at view.slaves port).order) ask accepted)) some
 
 module _ (plan : Plan) (past : List Sighting) (view : View) (link : Link) (known : ℕ) (lanes : List ℕ)
     (place : Place) (keeps : Keeps plan past view) where
@@ -563,18 +563,18 @@ module _ (plan : Plan) (past : List Sighting) (view : View) (link : Link) (known
       (subst (λ (l : Layout). Q l (found_at view link place.wide place.port)) keeps.suits.layout here)))
 
   pub ask_served : (beat : AskHead) → IsPlace view link (A beat) place
-      → IsSome (effect_in view link place.port (ask_by (under_in view link) beat lanes))
+      → IsSome (served_in view link place.port (ask_by (under_in view link) beat lanes))
       → IsServed plan past (seen_at link (A beat) known lanes)
   ask_served beat at some = found_after (A beat) at (λ l s. IsSome (serving l link s (A beat) lanes)) some
 
   pub reply_served : (beat : ReplyHead) → IsPlace view link (D beat) place
-      → is_late_in view link place.port ≡ true → IsLawful plan (seen_at link (D beat) known lanes ∷ past)
+      → is_served_late_in view link place.port ≡ true → IsLawful plan (seen_at link (D beat) known lanes ∷ past)
       → IsServed plan past (seen_at link (D beat) known lanes)
   reply_served beat at late lawful =
       let turn = (found_in plan (state plan past) link (D beat)).flight.turn in
       let is = found_after (D beat) at (λ l s. serving l link s (D beat) lanes ≡ asked s.flight.turn)
-      (takes_both (takes_effect view.layout link place.port && begins_reply (under_in view link).replying)
-      (is_at_reply (slave_at view.slaves place.port).order) (asked (flight_in view link place.wide).turn) late) in
+      (takes_both (is_at_reply (slave_at view.slaves place.port).order)
+      (is_answering_in view link place.port) (asked (flight_in view link place.wide).turn) late) in
       subst (λ (o : Option Request). IsSome o) (sym is) (some_asked (number_of link) turn _ lawful.1.answers)
 
 -- ---- what a judge answers

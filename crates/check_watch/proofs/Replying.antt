@@ -1,8 +1,7 @@
 -- From what a judge finds of a beat of a reply to what it is after its past: the first reason, or that it is lawful.
-use Rattle.std.proofs.Common.{◌≡◌, ℕ, ◌<◌, ◌≤◌, ◌⊎◌, inl, inr, Bool, false, List, Option, Some, None, sym, subst, refl, arith}
+use Rattle.std.proofs.Common.{◌≡◌, ℕ, ◌<◌, ◌≤◌, ◌⊎◌, inl, inr, Bool, false, List, Option, Some, None, sym, subst, arith}
 use Rattle.std.specs.Prelude.{IsTrue, IsSome}
 use Rattle.tl_types.specs.Fault.{IsFirstOf}
-use Rattle.tl_types.specs.Request.{Request}
 use Rattle.tl_types.specs.declared.operation.ReplyOp.{ReplyOp}
 use Rattle.check_beats.specs.Form.{FitsReply, HasReplyFormFault, IsLawfulFlag}
 use Rattle.check_beats.specs.State.{ends_reply, first_reply}
@@ -12,9 +11,9 @@ use Rattle.check_beats.specs.declared.fault.FormFault.TheVariants.{Changed, Opco
 use Rattle.check_flight.specs.declared.answer.Answer.{Answer}
 use Rattle.check_flight.specs.Flight.{Turn}
 use Rattle.check_flight.specs.Flight.Turn.{Idle, Asking, Asked}
-use Rattle.check_flight.specs.PortSlave.{PortSlave, may_be_unknown, slave_by}
+use Rattle.check_flight.specs.PortSlave.{may_be_unknown}
 use Rattle.check_flight.specs.Side.{flight_at}
-use Rattle.check_flight.proofs.Known.{stays_as_it_is}
+use Rattle.check_flight.proofs.Known.{stays_answering}
 use Rattle.check_watch.specs.declared.beat.Beat.TheVariants.{D}
 use Rattle.check_watch.specs.declared.beat.Link.{Link}
 use Rattle.check_watch.specs.declared.fault.Reason.{Reason}
@@ -23,8 +22,8 @@ use Rattle.check_watch.specs.Allowed.{OfAsked, IsAnswer, IsMust, IsAllowedReply}
 use Rattle.check_watch.specs.Faults.{HasAnswerReason, HasEndReason, EndsWith, HasReplyReason, IsFirstReplyReason, reason_rank}
 use Rattle.check_watch.specs.Past.{port_of, slave_at}
 use Rattle.check_watch.specs.Plan.{Layout, Plan, HasSource, IsWideAt, number_of}
-use Rattle.check_watch.specs.Scene.{Scene, answering, is_given}
-use Rattle.check_watch.specs.View.{View, Suits, under_in, flight_in, crossing_at, scene_in, late_in, due_in, captured_in}
+use Rattle.check_watch.specs.Scene.{Scene, once_answered, is_given}
+use Rattle.check_watch.specs.View.{View, Suits, under_in, flight_in, crossing_at, scene_in, answered_in, due_in, captured_in}
 use Rattle.check_watch.proofs.Codes.{same_reply_op}
 use Rattle.check_watch.proofs.Judging.{wide_is}
 
@@ -244,18 +243,14 @@ none_or_due (Some answer) is some = absurd (cc)
 
 -- ---- at the wide source and the port that a judge finds
 
--- a slave that serves may leave lanes unknown exactly if it might before
-unknown_stays : (slave : PortSlave) (ask : Option Request) → may_be_unknown (slave_by slave ask) ≡ may_be_unknown slave
-unknown_stays slave None = refl
-unknown_stays slave (Some ask) = (stays_as_it_is slave ask).lanes
-
 module _ (plan : Plan) (view : View) (link : Link) (beat : ReplyHead) (known : ℕ) (lanes : List ℕ) (wide port : ℕ)
     (suits : Suits plan view) (found : IsWideAt view.layout link beat.source wide)
     (port_here : port ≡ port_of plan link (flight_in view link wide).turn (D beat))
     (fits : FitsReply (first_reply (under_in view link).replying) beat) where
   abbrev pub scene_at : Layout → ℕ → ℕ → Scene
-  scene_at layout w p = answering layout link (record {
+  scene_at layout w p = once_answered layout link (record {
     under = under_in view link;
+    wide = w;
     flight = flight_in view link w;
     sent = (flight_at view.masters.flights w).turn;
     crossing = crossing_at view.crossings w;
@@ -276,7 +271,7 @@ module _ (plan : Plan) (view : View) (link : Link) (beat : ReplyHead) (known : �
   found_here Q there = carried_here (λ s. Q s → Q (scene_at view.layout wide port)) (λ q. q) there
 
   unknown_here : may_be_unknown (scene_at view.layout wide port).slave ≡ may_be_unknown (slave_at view.slaves port)
-  unknown_here = unknown_stays (slave_at view.slaves port) (late_in view link wide port)
+  unknown_here = (stays_answering (slave_at view.slaves port) wide (answered_in view link wide port)).lanes
 
   abbrev AnswersFound : Type 0
   AnswersFound =

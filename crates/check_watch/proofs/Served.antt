@@ -4,15 +4,15 @@ use Rattle.std.proofs.Common.{◌≡◌, ◌∙◌, ◌<◌, ℕ, List, length, 
 use Rattle.std.proofs.lemmas.Option.{slice_get-get_or}
 use Rattle.std.specs.Prelude.{slice_set, unwrap_or}
 use Rattle.tl_types.specs.Request.{Request}
-use Rattle.check_flight.specs.PortSlave.{PortSlave, slave_by}
+use Rattle.check_flight.specs.PortSlave.{PortSlave, answering}
 use Rattle.check_flight.proofs.Served.{set_own}
 use Rattle.check_watch.specs.Past.{no_slave, slave_at}
-use Rattle.check_watch.specs.View.{slaves_with}
+use Rattle.check_watch.specs.View.{slaves_answering}
 
-pub slaves_served : (slaves : List PortSlave) (port : ℕ) (ask : Option Request)
-    → slice_set slaves port (slave_by (slave_at slaves port) ask) ≡ slaves_with slaves port ask
-slaves_served slaves port None = set_own no_slave slaves port
-slaves_served slaves port (Some ask) = refl
+pub slaves_answered : (slaves : List PortSlave) (port wide : ℕ) (ask : Option Request)
+    → slice_set slaves port (answering (slave_at slaves port) wide ask) ≡ slaves_answering slaves port wide ask
+slaves_answered slaves port wide None = set_own no_slave slaves port
+slaves_answered slaves port wide (Some ask) = refl
 
 -- what is found at a place within a list stands there
 pub slave_found : (slaves : List PortSlave) (port : ℕ) (d : PortSlave) → port < length slaves → d ≡ get_or slaves port d

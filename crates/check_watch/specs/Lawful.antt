@@ -55,7 +55,7 @@ OfFault Is Memory = Unit {0}
 
 -- ---- what a beat does
 
--- a request takes effect with a beat after this past
+-- a port's slave serves a request with a beat after this past
 abbrev pub IsServed : Plan → List Sighting → Sighting → Type 0
 IsServed plan past x =
     IsSome (serving plan.layout x.link (found_in plan (state plan past) x.link x.beat) x.beat x.lanes)

@@ -12,8 +12,8 @@ use Rattle.check_flight.specs.Crossing.{Crossing, given}
 use Rattle.check_flight.specs.Crossing.Crossing.{Waiting, Crossed, Given}
 use Rattle.check_flight.specs.Flight.{Turn, Flight, idle, asked, flight_due}
 use Rattle.check_flight.specs.Flight.Turn.{Idle, Asking, Asked}
-use Rattle.check_flight.specs.Order.{effect_by}
-use Rattle.check_flight.specs.PortSlave.{PortSlave, slave_by, answer_by, effect_at_acceptance, effect_at_reply}
+use Rattle.check_flight.specs.Order.{is_at_acceptance, is_at_reply}
+use Rattle.check_flight.specs.PortSlave.{PortSlave, answering, due_accepting, due_answering}
 use Rattle.check_flight.specs.Side.{ask_crossed, reply_crossed}
 use Rattle.check_watch.specs.declared.beat.Beat.{Beat}
 use Rattle.check_watch.specs.declared.beat.Beat.TheVariants.{A, D}
@@ -26,10 +26,11 @@ use Rattle.check_watch.specs.declared.seen.Ended.{Ended}
 use Rattle.check_watch.specs.declared.seen.Ended.TheVariants as ends
 use Rattle.check_watch.specs.Plan.{Layout, number_of, crosses}
 
--- the messages under way at its link, what is in flight of its source on its side and on the masters' side, how far
--- that has come across, and the port that its request goes to, with what the slave there holds
+-- the messages under way at its link, its wide source, what is in flight of that on its side and on the masters' side,
+-- how far it has come across, and the port that its request goes to, with what the slave there holds
 pub record Scene : Type 0 where
   pub under : Under
+  pub wide : ℕ
   pub flight : Flight
   pub sent : Turn
   pub crossing : Crossing
@@ -60,44 +61,50 @@ under_after under (D beat) known lanes = reply_crossed under beat known lanes
 
 -- ---- slaves
 
--- requests to this port take effect as they are seen at this link: a port's own if the ports' links are watched,
--- else, and for the error port, all masters'. (What a request leaves and what it is answered does not depend on its
--- source.)
+-- this port's slave accepts and answers requests as they are seen at this link: a port's own if the ports' links are
+-- watched, else, and for the error port, all masters'. (What a request leaves and what it is answered does not depend on
+-- its source.)
 abbrev pub takes_effect : Layout → Link → ℕ → Bool
 takes_effect layout (Port p) port = true
 takes_effect layout (Master m) port = if crosses layout port then false else true
 
--- the request that takes effect as it is accepted, with the beat that ends it
-abbrev pub effect : Layout → Link → Scene → Beat → List ℕ → Option Request
-effect layout link scene (A beat) lanes =
-    effect_by (takes_effect layout link scene.port) (effect_at_acceptance scene.slave (ask_by scene.under beat lanes))
-effect layout link scene (D beat) lanes = None
+-- the request, if there is one and this holds
+abbrev pub ask_if : Bool → Option Request → Option Request
+ask_if true ask = ask
+ask_if false ask = None
+
+-- the request that the slave accepts, with the beat that ends it
+abbrev pub accepted : Layout → Link → Scene → Beat → List ℕ → Option Request
+accepted layout link scene (A beat) lanes =
+    ask_if (takes_effect layout link scene.port) (ask_by scene.under beat lanes)
+accepted layout link scene (D beat) lanes = None
 
 -- no beat of a reply is under way
 abbrev pub begins_reply : Option ReplyBegun → Bool
 begins_reply None = true
 begins_reply (Some begun) = false
 
--- the request of this port that takes effect as it is answered, with the first beat of its reply
-abbrev pub late_effect : Layout → Link → ℕ → PortSlave → Option ReplyBegun → Turn → Option Request
-late_effect layout link port slave begun turn =
-    effect_by (takes_effect layout link port && begins_reply begun) (effect_at_reply slave (asked turn))
+-- the request of this port that the slave answers, with the first beat of its reply
+abbrev pub answered : Layout → Link → ℕ → Option ReplyBegun → Turn → Option Request
+answered layout link port begun turn = ask_if (takes_effect layout link port && begins_reply begun) (asked turn)
 
--- the request that takes effect with a beat, by what the beat finds
+-- the request that the slave serves with a beat, by what the beat finds
 abbrev pub serving : Layout → Link → Scene → Beat → List ℕ → Option Request
-serving layout link scene (A beat) lanes = effect layout link scene (A beat) lanes
+serving layout link scene (A beat) lanes =
+    ask_if (is_at_acceptance scene.slave.order) (accepted layout link scene (A beat) lanes)
 serving layout link scene (D beat) lanes =
-    late_effect layout link scene.port scene.slave scene.under.replying scene.flight.turn
+    ask_if (is_at_reply scene.slave.order)
+    (answered layout link scene.port scene.under.replying scene.flight.turn)
 
--- ---- what a beat finds, once the request that it answers has taken effect
+-- ---- what a beat finds, once the slave has answered the request whose reply begins with it
 
-abbrev pub answering : Layout → Link → Scene → Beat → Scene
-answering layout link scene (A beat) = scene
-answering layout link scene (D beat) =
-    let ask = late_effect layout link scene.port scene.slave scene.under.replying scene.flight.turn in
+abbrev pub once_answered : Layout → Link → Scene → Beat → Scene
+once_answered layout link scene (A beat) = scene
+once_answered layout link scene (D beat) =
+    let ask = answered layout link scene.port scene.under.replying scene.flight.turn in
     record scene {
-      flight = flight_due scene.flight (answer_by scene.port scene.slave ask);
-      slave = slave_by scene.slave ask;
+      flight = flight_due scene.flight (due_answering scene.port scene.slave scene.wide ask);
+      slave = answering scene.slave scene.wide ask;
     }
 
 -- ---- what is in flight
@@ -110,7 +117,7 @@ turn_by number (Some ask) = Asked number ask
 abbrev pub flight_after : Layout → Link → Scene → Beat → List ℕ → Flight
 flight_after layout link scene (A beat) lanes = record {
   turn = turn_by (number_of link) (ask_by scene.under beat lanes);
-  due = answer_by scene.port scene.slave (effect layout link scene (A beat) lanes);
+  due = due_accepting scene.port scene.slave (accepted layout link scene (A beat) lanes);
 }
 flight_after layout link scene (D beat) lanes =
     if ends_reply scene.under.bus scene.under.replying beat then idle else scene.flight

@@ -13,8 +13,8 @@ use Rattle.check_flight.specs.declared.place.Place.{Place}
 use Rattle.check_flight.specs.Crossing.{Crossing}
 use Rattle.check_flight.specs.Crossing.Crossing.{Waiting, Crossed, Given}
 use Rattle.check_flight.specs.Flight.{Flight, idle, due_by}
-use Rattle.check_flight.specs.Order.{effect_by, is_at_acceptance, is_at_reply}
-use Rattle.check_flight.specs.PortSlave.{PortSlave, served_by, answer_by, effect_at_acceptance}
+use Rattle.check_flight.specs.Order.{is_at_acceptance, is_at_reply}
+use Rattle.check_flight.specs.PortSlave.{PortSlave, accepting, answering, due_accepting, due_answering}
 use Rattle.check_flight.specs.Side.{SideView, bus_at, under_at, flight_at, side_with, side_under, side_due, ask_crossed, reply_crossed}
 use Rattle.check_watch.specs.declared.beat.Beat.{Beat}
 use Rattle.check_watch.specs.declared.beat.Beat.TheVariants.{A, D}
@@ -22,7 +22,7 @@ use Rattle.check_watch.specs.declared.beat.Link.{Link}
 use Rattle.check_watch.specs.declared.beat.Link.TheVariants.{Master, Port}
 use Rattle.check_watch.specs.Plan.{Layout, Plan, IsPlan, Sighting, IsWideAt, Side, side_of, number_of, source_of}
 use Rattle.check_watch.specs.Plan.Side.{AtMasters, AtPorts}
-use Rattle.check_watch.specs.Scene.{Scene, takes_effect, begins_reply, late_effect, ask_by, turn_by, captured}
+use Rattle.check_watch.specs.Scene.{Scene, ask_if, takes_effect, begins_reply, answered, ask_by, turn_by, captured}
 use Rattle.check_watch.specs.Past.{State, slave_at, port_of, scene_of, state}
 use Rattle.check_watch.specs.Lawful.{IsLawful}
 
@@ -85,30 +85,29 @@ state_in view = record {
 abbrev pub scene_in : Plan → View → Link → Beat → Scene
 scene_in plan view link beat = scene_of plan (state_in view) link beat
 
--- requests to a port take effect at a link as they are accepted
-abbrev pub is_accepted_in : View → Link → ℕ → Bool
-is_accepted_in view link port =
-    takes_effect view.layout link port && is_at_acceptance (slave_at view.slaves port).order
+-- the slave of a port answers as the next beat of channel D crosses at a link
+abbrev pub is_answering_in : View → Link → ℕ → Bool
+is_answering_in view link port =
+    takes_effect view.layout link port && begins_reply (under_in view link).replying
 
--- they do as the next beat of channel D crosses there
-abbrev pub is_late_in : View → Link → ℕ → Bool
-is_late_in view link port =
-    (takes_effect view.layout link port && begins_reply (under_in view link).replying)
-    && is_at_reply (slave_at view.slaves port).order
+-- the request in flight of a wide source that it answers then
+abbrev pub answered_in : View → Link → ℕ → ℕ → Option Request
+answered_in view link wide port =
+    answered view.layout link port (under_in view link).replying (flight_in view link wide).turn
 
--- the request in flight of a wide source that takes effect as its reply begins at a link
-abbrev pub late_in : View → Link → ℕ → ℕ → Option Request
-late_in view link wide port =
-    late_effect view.layout link port (slave_at view.slaves port) (under_in view link).replying
-    (flight_in view link wide).turn
-
--- its answer, if it takes effect now
+-- what its reply has to fit, if that is known then, and not before
 abbrev pub late_answer : View → Link → ℕ → ℕ → Option Answer
-late_answer view link wide port = answer_by port (slave_at view.slaves port) (late_in view link wide port)
+late_answer view link wide port =
+    due_answering port (slave_at view.slaves port) wide (answered_in view link wide port)
 
 -- the reply that the port's slave expects
 abbrev pub due_in : View → Link → ℕ → ℕ → Option Answer
 due_in view link wide port = due_by (flight_in view link wide).due (late_answer view link wide port)
+
+-- the port's slave serves what it answers with the next beat of channel D at a link
+abbrev pub is_served_late_in : View → Link → ℕ → Bool
+is_served_late_in view link port =
+    is_at_reply (slave_at view.slaves port).order && is_answering_in view link port
 
 -- the reply that a beat ends to what is in flight of a wide source, as it was captured
 abbrev pub captured_in : View → Link → ℕ → ReplyHead → ℕ → List ℕ → Pattern
@@ -156,10 +155,17 @@ abbrev pub with_side : View → Link → SideView → View
 with_side view (Master m) side = record view { masters = side }
 with_side view (Port p) side = record view { ports = side }
 
--- this request is served, if there is one
-abbrev pub slaves_with : List PortSlave → ℕ → Option Request → List PortSlave
-slaves_with slaves port None = slaves
-slaves_with slaves port (Some ask) = slice_set slaves port (served_by (slave_at slaves port) ask)
+-- the slave of a port accepts this request of a wide source, if there is one
+abbrev pub slaves_accepting : List PortSlave → ℕ → ℕ → Option Request → List PortSlave
+slaves_accepting slaves port wide None = slaves
+slaves_accepting slaves port wide (Some ask) =
+    slice_set slaves port (accepting (slave_at slaves port) wide (Some ask))
+
+-- it answers this one, if there is one
+abbrev pub slaves_answering : List PortSlave → ℕ → ℕ → Option Request → List PortSlave
+slaves_answering slaves port wide None = slaves
+slaves_answering slaves port wide (Some ask) =
+    slice_set slaves port (answering (slave_at slaves port) wide (Some ask))
 
 -- a port takes a request, if it ends
 abbrev pub crossings_taken : List Crossing → ℕ → Bool → List Crossing
@@ -181,22 +187,26 @@ abbrev pub crossings_replied : List Crossing → Link → ℕ → Option Answer 
 crossings_replied crossings (Master m) wide due reply = crossings
 crossings_replied crossings (Port p) wide due reply = crossings_given crossings wide due reply
 
--- the request that takes effect as it is accepted
-abbrev pub effect_in : View → Link → ℕ → Option Request → Option Request
-effect_in view link port ask =
-    effect_by (takes_effect view.layout link port) (effect_at_acceptance (slave_at view.slaves port) ask)
+-- of a request that ends at a link, the one that its port's slave accepts: it, or none
+abbrev pub accepted_in : View → Link → ℕ → Option Request → Option Request
+accepted_in view link port ask = ask_if (takes_effect view.layout link port) ask
+
+-- the one that the slave serves then
+abbrev pub served_in : View → Link → ℕ → Option Request → Option Request
+served_in view link port ask =
+    ask_if (is_at_acceptance (slave_at view.slaves port).order) (accepted_in view link port ask)
 
 abbrev pub asked_flight : View → Link → ℕ → Option Request → Flight
 asked_flight view link port ask = record {
   turn = turn_by (number_of link) ask;
-  due = answer_by port (slave_at view.slaves port) (effect_in view link port ask);
+  due = due_accepting port (slave_at view.slaves port) (accepted_in view link port ask);
 }
 
--- this is under way at a link, and this is in flight there, from then on, and this request has been served
+-- this is under way at a link, and this is in flight there, from then on, and the port's slave accepts this request
 abbrev pub with_message : View → Link → ℕ → ℕ → Under → Flight → Option Request → View
-with_message view link wide port under flight effect =
+with_message view link wide port under flight ask =
     record (with_side view link (side_with (own_side view link) (number_of link) under wide flight)) {
-      slaves = slaves_with view.slaves port effect;
+      slaves = slaves_accepting view.slaves port wide ask;
     }
 
 -- a beat of a request crosses
@@ -205,15 +215,15 @@ with_ask view link wide port beat lanes =
     let under = under_in view link in
     let ask = ask_by under beat lanes in
     record (with_message view link wide port (ask_crossed under beat lanes)
-    (asked_flight view link port ask) (effect_in view link port ask)) {
+    (asked_flight view link port ask) (accepted_in view link port ask)) {
       crossings = crossings_asked view.crossings link wide (ends_ask under.bus under.asking beat);
     }
 
--- the request in flight takes effect, if it does so as its reply begins
+-- the port's slave answers the request in flight, if its reply begins
 abbrev pub with_late : View → Link → ℕ → ℕ → View
 with_late view link wide port =
     record (with_side view link (side_due (own_side view link) wide (late_answer view link wide port))) {
-      slaves = slaves_with view.slaves port (late_in view link wide port);
+      slaves = slaves_answering view.slaves port wide (answered_in view link wide port);
     }
 
 -- a beat of a reply crosses that does not end it

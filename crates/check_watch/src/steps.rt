@@ -4,14 +4,15 @@ ghost use Rattle.check_beats.specs.Form.{FitsAsk, FitsReply};
 ghost use Rattle.check_beats.specs.State.{ask_of, ends_ask, ends_reply, first_ask, first_reply};
 ghost use Rattle.check_flight.specs.Flight.Turn.{Asking, Asked};
 ghost use Rattle.check_flight.specs.Flight.{asked, idle};
-ghost use Rattle.check_flight.specs.PortSlave.{answer_by, effect_at_acceptance, effect_at_reply};
+ghost use Rattle.check_flight.specs.Order.{is_at_acceptance, is_at_reply};
+ghost use Rattle.check_flight.specs.PortSlave.{due_accepting, due_answering};
 ghost use Rattle.check_flight.specs.Side.{ask_crossed, ask_ended, flight_at, reply_ended, side_due, side_with};
 ghost use Rattle.check_watch.specs.declared.beat.Beat.TheVariants.{A, D};
 ghost use Rattle.check_watch.specs.Lawful.{IsLawful, IsServed, IsFirstReason, IsFirstFault, OfFault, what_is_seen};
 ghost use Rattle.check_watch.specs.Past.{slave_at};
 ghost use Rattle.check_watch.specs.Plan.{Plan, Sighting, number_of, HasLink, IsWatched, bus_of, seen_at};
 ghost use Rattle.check_watch.specs.Scene.{ask_by, ended};
-ghost use Rattle.check_watch.specs.View.{IsPlace, wides_in, Keeps, own_side, under_in, flight_in, captured_in, crossings_asked, crossings_given, crossings_replied, effect_in, is_late_in, slaves_with, with_side, with_message, with_ask, with_late, with_part, with_end, with_reply};
+ghost use Rattle.check_watch.specs.View.{IsPlace, wides_in, Keeps, own_side, under_in, flight_in, captured_in, crossings_asked, crossings_given, crossings_replied, served_in, is_served_late_in, slaves_answering, with_side, with_message, with_ask, with_late, with_part, with_end, with_reply};
 
 use crate::asks::judge_ask;
 use crate::beat::{Beat, Link};
@@ -43,7 +44,7 @@ impl Watch {
         }
     }
 
-    /// A beat of a request crosses at a link that ends it, and it takes no effect there.
+    /// A beat of a request crosses at a link that ends it, and no slave accepts it there.
     fn end_ask(&mut self, link: Link, place: Place, beat: &AskHead, lanes: &[u8])
         requires known { HasLink self.old.layout link }
         requires at { place.link ≡ number_of link }
@@ -64,7 +65,7 @@ impl Watch {
     }
 
     /// A beat of a request crosses at a link that ends it, and the slave of its port accepts it there. Where there is no
-    /// memory for a page, nothing is changed.
+    /// memory, nothing is changed.
     fn accept(
         &mut self,
         alloc: Global,
@@ -83,11 +84,11 @@ impl Watch {
         ensures after { let under = under_in self.old link in
             let slave = slave_at self.old.slaves place.port in
             let ask = ask_of under.bus under.asking beat.now lanes.now in
-            let effect = effect_at_acceptance slave (Some ask) in
             OnOk result (self.new ≡ with_message self.old link place.wide place.port (ask_ended under) (record {
               turn = Asked (number_of link) ask;
-              due = answer_by place.port slave effect;
-            }) effect) }
+              due = due_accepting place.port slave (Some ask);
+            }) (Some ask)) }
+        ensures served { OnErr result (IsTrue (is_at_acceptance (slave_at self.old.slaves place.port).order)) }
         ensures err { OnErr result (self.new ≡ self.old) }
     {
         let slave = &mut self.slaves[place.port];
@@ -112,7 +113,7 @@ impl Watch {
         }
     }
 
-    /// Takes a beat of a request: whether it ends it. Where there is no memory for a page, nothing is changed.
+    /// Takes a beat of a request: whether it ends it. Where there is no memory, nothing is changed.
     fn admit_ask(
         &mut self,
         alloc: Global,
@@ -131,13 +132,13 @@ impl Watch {
         ensures ends { let under = under_in self.old link in
             IfOk result (λ ends. ends ≡ ends_ask under.bus under.asking beat.now) }
         ensures served { OnErr result
-            (IsSome (effect_in self.old link place.port (ask_by (under_in self.old link) beat.now lanes.now))) }
+            (IsSome (served_in self.old link place.port (ask_by (under_in self.old link) beat.now lanes.now))) }
         ensures err { OnErr result (self.new ≡ self.old) }
     {
         let ends = self.link(link).ends_ask(beat);
         if !ends {
             self.begin_ask(link, place, beat, lanes);
-        } else if self.is_accepted(link, place.port) {
+        } else if self.takes_effect(link, place.port) {
             self.accept(alloc, link, place, beat, lanes)?;
         } else {
             self.end_ask(link, place, beat, lanes);
@@ -151,11 +152,12 @@ impl Watch {
         requires wide { place.wide < wides_in self.old }
         requires port { place.port < length self.old.slaves }
         ensures after { let slave = slave_at self.old.slaves place.port in
-            let ask = effect_at_reply slave (asked (flight_in self.old link place.wide).turn) in
+            let ask = asked (flight_in self.old link place.wide).turn in
             OnOk result (self.new ≡ record (with_side self.old link
-            (side_due (own_side self.old link) place.wide (answer_by place.port slave ask))) {
-              slaves = slaves_with self.old.slaves place.port ask;
+            (side_due (own_side self.old link) place.wide (due_answering place.port slave place.wide ask))) {
+              slaves = slaves_answering self.old.slaves place.port place.wide ask;
             }) }
+        ensures served { OnErr result (IsTrue (is_at_reply (slave_at self.old.slaves place.port).order)) }
         ensures err { OnErr result (self.new ≡ self.old) }
     {
         self.sized();
@@ -166,9 +168,9 @@ impl Watch {
         }
     }
 
-    /// Serves the request in flight of a wide source, if it takes effect as its reply begins at a link. Where there is no
-    /// memory for a page, nothing is changed.
-    fn serve_late(&mut self, alloc: Global, link: Link, place: Place) -> Result<(), AllocError>
+    /// The slave of the port answers the request in flight of a wide source, if its reply begins at a link. Where there is
+    /// no memory, nothing is changed.
+    fn answer_first(&mut self, alloc: Global, link: Link, place: Place) -> Result<(), AllocError>
         requires known { HasLink self.old.layout link }
         requires wide { place.wide < wides_in self.old }
         requires port { place.port < length self.old.slaves }
@@ -176,10 +178,10 @@ impl Watch {
         ensures layout { self.new.layout ≡ self.old.layout }
         ensures under { under_in self.new link ≡ under_in self.old link }
         ensures wides { wides_in self.new ≡ wides_in self.old }
-        ensures served { OnErr result (IsTrue (is_late_in self.old link place.port)) }
+        ensures served { OnErr result (IsTrue (is_served_late_in self.old link place.port)) }
         ensures err { OnErr result (self.new ≡ self.old) }
     {
-        if self.is_late(link, place.port) {
+        if self.is_answering(link, place.port) {
             self.answer(alloc, link, place)?;
         }
         Ok(())
@@ -263,7 +265,7 @@ impl Watch {
         self.end_reply(link, place);
     }
 
-    /// Takes a beat of a reply: whether it ends it. Where there is no memory for a page, nothing is changed.
+    /// Takes a beat of a reply: whether it ends it. Where there is no memory, nothing is changed.
     fn admit_reply(
         &mut self,
         alloc: Global,
@@ -283,11 +285,11 @@ impl Watch {
             (self.new ≡ with_reply self.old link place.wide place.port beat.now known lanes.now) }
         ensures ends { let under = under_in self.old link in
             IfOk result (λ ends. ends ≡ ends_reply under.bus under.replying beat.now) }
-        ensures served { OnErr result (IsTrue (is_late_in self.old link place.port)) }
+        ensures served { OnErr result (IsTrue (is_served_late_in self.old link place.port)) }
         ensures err { OnErr result (self.new ≡ self.old) }
     {
         let ends = self.link(link).ends_reply(beat);
-        self.serve_late(alloc, link, place)?;
+        self.answer_first(alloc, link, place)?;
         if ends {
             self.take_end(link, place, beat, known, lanes);
         } else {
@@ -313,8 +315,7 @@ impl Watch {
         }
     }
 
-    /// Takes one beat more, which is lawful and has this place: what it ends. Where there is no memory for a page, nothing
-    /// is changed.
+    /// Takes one beat more, which is lawful and has this place: what it ends. Where there is no memory, nothing is changed.
     fn admit(
         &mut self,
         alloc: Global,
@@ -392,8 +393,8 @@ impl Watch {
     }
 
     /// Takes one beat more, at a link that is watched, if it is lawful: what it ends. `None` says that it is not. Then
-    /// nothing changes, nor if memory is refused to a lawful one, with which a request takes effect. There are as many lanes as the link's bus has, or more;
-    /// those past the bus are not looked at.
+    /// nothing changes, nor if memory is refused to a lawful one, with which a port's slave serves a request. There are as
+    /// many lanes as the link's bus has, or more; those past the bus are not looked at.
     ///
     /// It costs less than [`Watch::step`], which makes the fault or the reply that a beat ends, too.
     pub fn take(
@@ -431,8 +432,8 @@ impl Watch {
     }
 
     /// Judges one beat more, at a link that is watched: what it ends, or its first fault. An `Err` changes nothing, and
-    /// [`StepError::Memory`] says that the beat is lawful, and that a request takes effect with it. There are as many lanes as the link's bus has, or more; those
-    /// past the bus are not looked at.
+    /// [`StepError::Memory`] says that the beat is lawful, and that a port's slave serves a request with it. There are as
+    /// many lanes as the link's bus has, or more; those past the bus are not looked at.
     pub fn step(
         &mut self,
         alloc: Global,

@@ -14,7 +14,7 @@ ghost use Rattle.check_beats.specs.declared.beat.ReplyHead.{ReplyHead};
 ghost use Rattle.check_watch.specs.Past.{port_of, slave_at};
 ghost use Rattle.check_watch.specs.Plan.{Plan, IsPlan, HasLink, IsWideAt, IsWatched, are_both, bus_of, crosses};
 ghost use Rattle.check_watch.specs.Scene.{takes_effect, is_given, must_by};
-ghost use Rattle.check_watch.specs.View.{View, IsSized, IsPlace, wides_in, Suits, Keeps, own_side, under_in, flight_in, crossing_at, is_accepted_in, is_late_in, due_in, captured_in};
+ghost use Rattle.check_watch.specs.View.{View, IsSized, IsPlace, wides_in, Suits, Keeps, own_side, under_in, flight_in, crossing_at, is_answering_in, due_in, captured_in};
 
 use crate::beat::Link;
 use crate::links::Links;
@@ -331,8 +331,8 @@ impl Watch {
         }
     }
 
-    /// Whether requests to a port take effect at a link, as they are accepted or as they are answered.
-    fn takes_effect(&self, link: Link, port: usize) -> bool
+    /// Whether the slave of a port accepts and answers requests as they are seen at a link.
+    pub(crate) fn takes_effect(&self, link: Link, port: usize) -> bool
         ensures { result ≡ takes_effect self.now.layout link port }
     {
         match link {
@@ -341,27 +341,16 @@ impl Watch {
         }
     }
 
-    /// Whether requests to a port take effect at a link as they are accepted.
-    pub(crate) fn is_accepted(&self, link: Link, port: usize) -> bool
-        requires { port < length self.now.slaves }
-        ensures { result ≡ is_accepted_in self.now link port }
-    {
-        self.takes_effect(link, port) && self.slave(port).order().is_at_acceptance()
-    }
-
-    /// Whether requests to a port take effect as the next beat of channel D crosses at a link.
-    pub(crate) fn is_late(&self, link: Link, port: usize) -> bool
+    /// Whether the slave of a port answers as the next beat of channel D crosses at a link.
+    pub(crate) fn is_answering(&self, link: Link, port: usize) -> bool
         requires known { HasLink self.now.layout link }
-        requires port { port < length self.now.slaves }
-        ensures { result ≡ is_late_in self.now link port }
+        ensures { result ≡ is_answering_in self.now link port }
     {
-        self.takes_effect(link, port)
-            && self.link(link).begins_reply()
-            && self.slave(port).order().is_at_reply()
+        self.takes_effect(link, port) && self.link(link).begins_reply()
     }
 
-    /// What the reply has to fit to what is in flight of a wide source, which goes to this port. Where the request takes
-    /// effect as its reply begins, and that begins now, the answer is written into the room.
+    /// What the reply has to fit to what is in flight of a wide source, which goes to this port. Where that is known as the
+    /// reply begins, and not before, and it begins now, the answer is written into the room.
     pub(crate) fn due<'a>(
         &'a self,
         link: Link,
@@ -375,13 +364,16 @@ impl Watch {
         ensures { option_map (λ answer. answer.now) result ≡ due_in self.now link wide port }
     {
         let flight = self.flight(link, wide);
-        if !self.is_late(link, port) {
+        if !self.is_answering(link, port) {
             return flight.due();
         }
         match flight.asked() {
             Some(ask) => {
-                self.slave(port).answer_into(port, ask, room);
-                Some(room)
+                if self.slave(port).due_into(port, wide, ask, room) {
+                    Some(room)
+                } else {
+                    flight.due()
+                }
             }
             None => flight.due(),
         }

@@ -36,6 +36,7 @@ use Rattle.check_watch_laws.proofs.Fitting.{asks_fit}
 use Rattle.check_watch_laws.proofs.Flights.{in_step}
 use Rattle.check_watch_laws.proofs.Heads.{AskHeads, ask_heads}
 use Rattle.check_watch_laws.proofs.Links.{links_are, under_by}
+use Rattle.check_watch_laws.proofs.Orders.{due_by_rules}
 use Rattle.check_watch_laws.proofs.Replying.{replies_have_heads}
 use Rattle.check_watch_laws.proofs.Standing.{IsOut, Stands, is_out}
 use Rattle.check_watch_laws.proofs.Taking.{next_is}
@@ -158,7 +159,7 @@ module _ (plan : Plan) (is_plan : IsPlan plan) (past : List Sighting) (watched :
       go true given ends = given_so link beat rules ask in_flight ends given
       go false given ends =
           memory_back plan past watched lawful link known lanes has seen_here beat ask in_flight ends given
-          rules.memories
+          (λ port. due_by_rules plan (reply_at link known lanes beat ∷ past) port rules)
 
   pub reply_allowed : (beat : ReplyHead) → KeepsRules plan (reply_at link known lanes beat ∷ past)
       → IsSeenWhole plan past (reply_at link known lanes beat) (D beat)

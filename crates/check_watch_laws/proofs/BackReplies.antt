@@ -1,17 +1,15 @@
 -- Replies of slaves, and replies that cross, are those that must come: the way back from what lawful beats say of replies.
-use Rattle.std.proofs.Common.{◌≡◌, ◌∙◌, ℕ, suc, ◌%◌, ◌^◌, true, false, if◌then◌else◌, List, [], ◌∷◌, ◌++◌, zip, take, Option, Some, None, refl, ap, sym, subst, append-nil}
+use Rattle.std.proofs.Common.{◌≡◌, ◌∙◌, ℕ, ◌%◌, ◌^◌, true, false, if◌then◌else◌, List, [], ◌∷◌, ◌++◌, zip, take, Option, Some, None, refl, ap, sym, subst, append-nil}
 use Rattle.std.specs.Prelude.{◌==◌, ◌&&◌, IsSomeAnd}
 use Rattle.tl_types.specs.Request.{Request}
 use Rattle.check_cells.specs.Pattern.{Pattern, Fits}
 use Rattle.check_beats.specs.State.{ends_reply, reply_of}
 use Rattle.check_beats.specs.declared.beat.ReplyHead.{ReplyHead}
-use Rattle.check_memory.specs.Slave.{expected_of}
 use Rattle.check_flight.specs.declared.answer.Answer.{Answer}
 use Rattle.check_flight.specs.Crossing.{Crossing, given as given_in, IsSameReply}
 use Rattle.check_flight.specs.Crossing.Crossing.{Waiting, Crossed, Given}
 use Rattle.check_flight.specs.Flight.{Turn}
 use Rattle.check_flight.specs.Flight.Turn.{Asked}
-use Rattle.check_flight.specs.PortSlave.{PortSlave, served_by}
 use Rattle.check_watch.specs.declared.beat.Beat.TheVariants.{D}
 use Rattle.check_watch.specs.declared.beat.Link.{Link}
 use Rattle.check_watch.specs.declared.beat.Link.TheVariants.{Master, Port}
@@ -23,7 +21,8 @@ use Rattle.check_watch.specs.Scene.{takes_effect, is_given}
 use Rattle.check_watch.proofs.InFlight.{reply_at}
 use Rattle.check_watch_laws.specs.Crossed.{AskSeen, ReplySeen, AreWatched, reply_beat, replying_at, begun_replies_at, asks, replies, exchanges}
 use Rattle.check_watch_laws.specs.Crossings.{answered_from_outside, IsGiven, AreGiven, MessagesCross}
-use Rattle.check_watch_laws.specs.Memories.{side_for, port_for, is_for, reset_of, asks_in, IsEntry, AreEntries, exchanges_at, entries_of, IsDoneAt, IsSlaveHistory}
+use Rattle.check_watch_laws.specs.Memories.{side_for, port_for, is_for, IsEntry, AreEntries, exchanges_at, entries_of}
+use Rattle.check_watch_laws.specs.Moments.{IsDueAt}
 use Rattle.check_watch_laws.proofs.BackTurns.{asks_with_reply, replies_with_reply}
 use Rattle.check_watch_laws.proofs.Crossing.{story_at}
 use Rattle.check_watch_laws.proofs.Done.{port_own, are_replayed}
@@ -34,21 +33,10 @@ use Rattle.check_watch_laws.proofs.Memory.{owed}
 use Rattle.check_watch_laws.proofs.Standing.{Story, AllGiven, IsOut, is_out, outside_answered}
 use Rattle.check_watch_laws.proofs.Taking.{takes}
 use Rattle.check_watch_laws.proofs.Telling.{at_port, told_at, seen_more, put_last, sourced_late, goes_there, are_told}
-use Rattle.check_watch_laws.proofs.Told.{told, told_none, told_cons, AreMatched}
+use Rattle.check_watch_laws.proofs.Told.{AreMatched}
 use Rattle.check_watch_laws.proofs.Turns.{link_on, own_link, eqb_own, same_side-true}
 
 -- ---- lists
-
--- a lawful history is the one that the slave tells
-lawful_is_told : (slave : PortSlave) (history : List (Request × Pattern)) → IsSlaveHistory slave history
-    → history ≡ told slave (asks_in history)
-lawful_is_told slave [] lawful = sym (told_none slave)
-lawful_is_told slave (entry ∷ history) lawful =
-    let first : entry.1 ≡ expected_of slave.kept entry.0 = lawful 0 entry.0 entry.1 refl in
-    ap (λ r. (entry.0, r) ∷ history) first
-    ∙ ap (λ l. (entry.0, expected_of slave.kept entry.0) ∷ l)
-    (lawful_is_told (served_by slave entry.0) history (λ k ask response at. lawful (suc k) ask response at))
-    ∙ sym (told_cons slave entry.0 (asks_in history))
 
 -- the entry of the last exchange is the one after those of the others
 last_entry_of : (wide : ℕ) (seen : List (AskSeen × ReplySeen)) (last : AskSeen × ReplySeen)
@@ -77,7 +65,7 @@ last_given wide [] (g ∷ front) last one all are = absurd all
 last_given wide (x ∷ seen) [] last one all are = absurd all
 last_given wide (x ∷ seen) (g ∷ front) last one all are = last_given wide seen front last one all.1 are.1
 
--- if a reply is not given by a port, its request takes effect here
+-- if a reply is not given by a port, the slave answers here
 effect_of : (layout : Layout) (link : Link) (port : ℕ) → is_given layout link port ≡ false
     → takes_effect layout link port ≡ true
 effect_of layout (Port p) port is = refl
@@ -161,7 +149,7 @@ module _ (plan : Plan) (past : List Sighting) (watched : AreWatched plan.layout 
   -- the reply of a slave
   pub memory_back : is_given plan.layout link found ≡ false
       → ((port : ℕ) → (history : List (Request × Pattern))
-      × IsDoneAt plan (reply_at link known lanes beat ∷ past) port history)
+      × IsDueAt plan (reply_at link known lanes beat ∷ past) port history)
       → IsSomeAnd due (λ answer. Fits answer.reply (ended_now.reply ask.address))
   memory_back given memories =
       let linked = links_are plan past in
@@ -179,10 +167,9 @@ module _ (plan : Plan) (past : List Sighting) (watched : AreWatched plan.layout 
       let for_it : is_for plan found last.0 ≡ true = ap (λ b. b && (port_for plan link ask == found)) same ∙ goes_so in
       let was = told_at plan s past found own own (side_for plan.layout found) (side_of link) side refl
       (are_told plan past watched lawful found own) in
-      let done = memories found in
-      let history_is : entries_of own done.0 ≡ was.front ++ owed plan found own (side_of link) turn due =
-      ap (λ l. entries_of own l) (lawful_is_told (reset_of plan found) done.0 done.1.lawful
-      ∙ ap (λ l. told (reset_of plan found) l) done.1.order)
+      let told = memories found in
+      let history_is : entries_of own told.0 ≡ was.front ++ owed plan found own (side_of link) turn due =
+      ap (λ l. entries_of own l) told.1.dues
       ∙ put_last plan s past linked steps dues replayed link known lanes has seen_here beat ask in_flight found was.front
       was.entries_are in
       let seen_is : exchanges_at plan found own (reply_at link known lanes beat ∷ past) ≡ at_port plan found
@@ -200,7 +187,7 @@ module _ (plan : Plan) (past : List Sighting) (watched : AreWatched plan.layout 
       (was.front ++ owed plan found own (side_of link) turn due) =
       subst (λ l. AreEntries own l (was.front ++ owed plan found own (side_of link) turn due)) seen_is
       (subst (λ l. AreEntries own (exchanges_at plan found own (reply_at link known lanes beat ∷ past)) l) history_is
-      (done.1.captured own)) in
+      (told.1.captured own)) in
       let entry = last_entry_of own (at_port plan found (asks plan (side_of link) own past)
       (replies plan (side_of link) own past)) last was.front
       (owed plan found own (side_of link) turn due) was.matched entries in

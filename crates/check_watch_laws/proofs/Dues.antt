@@ -1,5 +1,5 @@
--- A reply that must come has the source of its request; and if requests take effect as they are answered, it is under
--- way.
+-- A reply that is due has the source of its request; and if it is due as its request is answered, and not before, it is
+-- under way.
 use Rattle.std.proofs.Common.{◌≡◌, ◌∙◌, ℕ, ◌+◌, Bool, true, false, if◌then◌else◌, List, [], ◌∷◌, ◌++◌, Option, Some, None, unwrap_or, refl, ap, sym, subst}
 use Rattle.std.specs.Prelude.{◌&&◌}
 use Rattle.tl_types.specs.Request.{Request}
@@ -7,13 +7,15 @@ use Rattle.check_beats.specs.Message.{seen_at as seen_bytes}
 use Rattle.check_beats.specs.State.{Under, ReplyBegun, first_reply, ends_reply, replied_beats, replied_bytes}
 use Rattle.check_beats.specs.declared.beat.AskHead.{AskHead}
 use Rattle.check_beats.specs.declared.beat.ReplyHead.{ReplyHead}
+use Rattle.check_contests.specs.declared.accepted.Accepted.{Accepted}
+use Rattle.check_contests.specs.Contests.{kept_of}
 use Rattle.check_flight.specs.declared.answer.Answer.{Answer}
 use Rattle.check_flight.specs.declared.order.Order.{Order}
-use Rattle.check_flight.specs.declared.order.Order.TheVariants.{Accept, Reply}
+use Rattle.check_flight.specs.declared.order.Order.TheVariants.{Accept, Reply, Any}
 use Rattle.check_flight.specs.Flight.{Turn, Flight, idle, asked, due_by}
 use Rattle.check_flight.specs.Flight.Turn.{Idle, Asking, Asked}
-use Rattle.check_flight.specs.Order.{is_at_acceptance, is_at_reply, effect_by}
-use Rattle.check_flight.specs.PortSlave.{PortSlave, answer_by}
+use Rattle.check_flight.specs.Order.{is_due_at_reply}
+use Rattle.check_flight.specs.PortSlave.{PortSlave, answer_of_kept, due_accepted_by, due_accepting, due_answered_by, due_answering}
 use Rattle.check_watch.specs.declared.beat.Beat.{Beat}
 use Rattle.check_watch.specs.declared.beat.Beat.TheVariants.{A, D}
 use Rattle.check_watch.specs.declared.beat.Link.{Link}
@@ -22,7 +24,7 @@ use Rattle.check_watch.specs.Lawful.{IsLawful, IsAllowed}
 use Rattle.check_watch.specs.Past.{State, found_in, scene_of, state, state_after}
 use Rattle.check_watch.specs.Plan.{Plan, Sighting, Side, side_of, number_of, wide_of, is_link, is_of}
 use Rattle.check_watch.specs.Plan.Side.{AtMasters, AtPorts}
-use Rattle.check_watch.specs.Scene.{ask_by, turn_by, takes_effect, begins_reply, flight_after, under_after}
+use Rattle.check_watch.specs.Scene.{ask_by, ask_if, turn_by, takes_effect, begins_reply, flight_after, under_after}
 use Rattle.check_watch.proofs.InFlight.{ask_at, reply_at, of_is, of_own}
 use Rattle.check_watch_laws.specs.Crossed.{AreWatched}
 use Rattle.check_watch_laws.specs.Memories.{port_for, order_at}
@@ -49,7 +51,7 @@ HasBegun plan s side wide Idle due = Unit {0}
 HasBegun plan s side wide (Asking n) due = Unit {0}
 HasBegun plan s side wide (Asked n ask) None = Unit {0}
 HasBegun plan s side wide (Asked n ask) (Some answer) =
-    is_at_reply (order_at plan (port_for plan (link_on side n) ask)) ≡ true
+    is_due_at_reply (order_at plan (port_for plan (link_on side n) ask)) ≡ true
     → IsReplying plan s wide (link_on side n)
 
 pub record IsDue (plan : Plan) (s : State) (side : Side) (wide : ℕ) (flight : Flight) : Type 0 where
@@ -61,34 +63,54 @@ AreDue plan s = (side : Side) (wide : ℕ) → IsDue plan s side wide (s.flights
 
 -- ---- as a request ends
 
-new_sourced : (n port : ℕ) (slave : PortSlave) (effect early : Bool) (ended : Option Request)
-    → IsSourced (turn_by n ended) (answer_by port slave (effect_by effect (effect_by early ended)))
-new_sourced n port slave effect early None = tt
-new_sourced n port slave true true (Some ask) = reply_source slave.kept ask
-new_sourced n port slave true false (Some ask) = tt
-new_sourced n port slave false early (Some ask) = tt
+accepted_sourced : (n port : ℕ) (slave : PortSlave) (ask : Request) (order : Order)
+    → IsSourced (Asked n ask) (due_accepted_by order port slave ask)
+accepted_sourced n port slave ask Accept = reply_source slave.kept ask
+accepted_sourced n port slave ask Reply = tt
+accepted_sourced n port slave ask Any = tt
+
+new_sourced : (n port : ℕ) (slave : PortSlave) (effect : Bool) (ended : Option Request)
+    → IsSourced (turn_by n ended) (due_accepting port slave (ask_if effect ended))
+new_sourced n port slave effect None = tt
+new_sourced n port slave true (Some ask) = accepted_sourced n port slave ask slave.order
+new_sourced n port slave false (Some ask) = tt
+
+-- if a reply is due as its request is accepted, it is so before the request is answered
+accepted_begun : (plan : Plan) (s : State) (side : Side) (wide n port : ℕ) (slave : PortSlave) (ask : Request)
+    (order : Order) → order ≡ order_at plan (port_for plan (link_on side n) ask)
+    → HasBegun plan s side wide (Asked n ask) (due_accepted_by order port slave ask)
+accepted_begun plan s side wide n port slave ask Accept is =
+    λ late. absurd (true_or_false (is_due_at_reply (order_at plan (port_for plan (link_on side n) ask))) late
+    (ap is_due_at_reply (sym is)))
+accepted_begun plan s side wide n port slave ask Reply is = tt
+accepted_begun plan s side wide n port slave ask Any is = tt
 
 new_begun : (plan : Plan) (s : State) (side : Side) (wide n port : ℕ) (slave : PortSlave) (effect : Bool)
-    (ended : Option Request) (order : Order)
-    → ((ask : Request) → ended ≡ Some ask → order ≡ order_at plan (port_for plan (link_on side n) ask))
-    → HasBegun plan s side wide (turn_by n ended)
-    (answer_by port slave (effect_by effect (effect_by (is_at_acceptance order) ended)))
-new_begun plan s side wide n port slave effect None order is = tt
-new_begun plan s side wide n port slave true (Some ask) Accept is =
-    λ late. absurd (true_or_false (is_at_reply (order_at plan (port_for plan (link_on side n) ask))) late
-    (ap is_at_reply (sym (is ask refl))))
-new_begun plan s side wide n port slave false (Some ask) Accept is = tt
-new_begun plan s side wide n port slave true (Some ask) Reply is = tt
-new_begun plan s side wide n port slave false (Some ask) Reply is = tt
+    (ended : Option Request)
+    → ((ask : Request) → ended ≡ Some ask → slave.order ≡ order_at plan (port_for plan (link_on side n) ask))
+    → HasBegun plan s side wide (turn_by n ended) (due_accepting port slave (ask_if effect ended))
+new_begun plan s side wide n port slave effect None is = tt
+new_begun plan s side wide n port slave true (Some ask) is =
+    accepted_begun plan s side wide n port slave ask slave.order (is ask refl)
+new_begun plan s side wide n port slave false (Some ask) is = tt
 
 -- ---- as a reply begins or goes on
 
-pub late_sourced : (port : ℕ) (slave : PortSlave) (effect late : Bool) (n : ℕ) (ask : Request) (due : Option Answer)
-    → IsSourced (Asked n ask) due → IsSourced (Asked n ask)
-    (due_by due (answer_by port slave (effect_by effect (effect_by late (Some ask)))))
-late_sourced port slave true true n ask due was = reply_source slave.kept ask
-late_sourced port slave true false n ask due was = was
-late_sourced port slave false late n ask due was = was
+answered_sourced : (port wide : ℕ) (slave : PortSlave) (n : ℕ) (ask : Request) (due : Option Answer) (order : Order)
+    → IsSourced (Asked n ask) due → IsSourced (Asked n ask) (due_by due (due_answered_by order port slave wide ask))
+answered_sourced port wide slave n ask due Accept was = was
+answered_sourced port wide slave n ask due Reply was = reply_source slave.kept ask
+answered_sourced port wide slave n ask due Any was = go (kept_of slave.contests wide)
+  where
+    go : (kept : Option Accepted) → IsSourced (Asked n ask) (due_by due (answer_of_kept port ask kept))
+    go None = was
+    go (Some entry) = refl
+
+pub late_sourced : (port wide : ℕ) (slave : PortSlave) (effect : Bool) (n : ℕ) (ask : Request) (due : Option Answer)
+    → IsSourced (Asked n ask) due
+    → IsSourced (Asked n ask) (due_by due (due_answering port slave wide (ask_if effect (Some ask))))
+late_sourced port wide slave true n ask due was = answered_sourced port wide slave n ask due slave.order was
+late_sourced port wide slave false n ask due was = was
 
 pub side_on : (side : Side) (n : ℕ) → side_of (link_on side n) ≡ side
 side_on AtMasters n = refl
@@ -146,9 +168,9 @@ module _ (plan : Plan) (s : State) (same_order : (port : ℕ) → order_at plan 
           so in
           record {
             sourced = new_sourced (number_of link) found.port found.slave
-                (takes_effect plan.layout link found.port) (is_at_acceptance found.slave.order) ended;
+                (takes_effect plan.layout link found.port) ended;
             begun = new_begun plan later side wide (number_of link) found.port found.slave
-                (takes_effect plan.layout link found.port) ended found.slave.order
+                (takes_effect plan.layout link found.port) ended
                 (λ ask so. sym (same_order found.port) ∙ ap (λ p. order_at plan p) (sym (goes_by ask so)));
           }
       go false is =
@@ -229,19 +251,18 @@ module _ (plan : Plan) (s : State) (same_order : (port : ℕ) → order_at plan 
             let asked_is = asked_at (number_of link) was.turn _ allowed.answers in
             let found = found_in plan s link (D beat) in
             let effect : Bool = takes_effect plan.layout link found.port && begins_reply found.under.replying in
-            let late : Bool = is_at_reply found.slave.order in
             let before : IsSourced (Asked (number_of link) asked_is.0) was.due =
             subst (λ t. IsSourced t was.due) asked_is.1
             (dues (side_of link) (wide_of plan link beat.source)).sourced in
             record {
               sourced = subst (λ t. IsSourced t (due_by was.due
-                  (answer_by found.port found.slave (effect_by effect (effect_by late (asked t)))))) (sym asked_is.1)
-                  (late_sourced found.port found.slave effect late (number_of link) asked_is.0 was.due before);
+                  (due_answering found.port found.slave found.wide (ask_if effect (asked t))))) (sym asked_is.1)
+                  (late_sourced found.port found.wide found.slave effect (number_of link) asked_is.0 was.due before);
               begun = subst (λ t. HasBegun plan after (side_of link)
                   (wide_of plan link beat.source) t (due_by was.due
-                  (answer_by found.port found.slave (effect_by effect (effect_by late (asked t)))))) (sym asked_is.1)
-                  (begun_here asked_is.0 (due_by was.due (answer_by found.port found.slave
-                  (effect_by effect (effect_by late (Some asked_is.0))))) is);
+                  (due_answering found.port found.slave found.wide (ask_if effect (asked t))))) (sym asked_is.1)
+                  (begun_here asked_is.0 (due_by was.due (due_answering found.port found.slave found.wide
+                  (ask_if effect (Some asked_is.0)))) is);
             }
 
         go : (of : Bool) → is_of plan (reply_at link known lanes beat) side wide ≡ of

@@ -7,6 +7,8 @@ pub mod Slaves
 pub mod Taking
 pub mod Done
 pub mod Told
+pub mod History
+pub mod Orders
 pub mod Memory
 pub mod Fitting
 pub mod Heads
@@ -28,3 +30,4 @@ pub mod BackTurns
 pub mod BackCross
 pub mod BackReplies
 pub mod Back
+pub mod Whenever

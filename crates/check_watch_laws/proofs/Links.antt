@@ -8,7 +8,7 @@ use Rattle.check_watch.specs.declared.beat.Link.{Link}
 use Rattle.check_watch.specs.declared.beat.Link.TheVariants.{Master, Port}
 use Rattle.check_watch.specs.Past.{State, found_in, state, scene}
 use Rattle.check_watch.specs.Plan.{Plan, Layout, Sighting, side_of, number_of, is_link, bus_of}
-use Rattle.check_watch.specs.Scene.{answering, under_after}
+use Rattle.check_watch.specs.Scene.{once_answered, under_after}
 use Rattle.check_watch_laws.specs.Crossed.{asks_over, replies_over, more_asks, more_replies, asking_at, replying_at}
 use Rattle.check_watch_laws.proofs.Buses.{ask_on_bus_after, reply_on_bus_after}
 
@@ -46,7 +46,7 @@ under_more layout link past x (D beat) =
     (sym (reply_on_bus_after layout link (replying_at layout link past) beat x.known x.lanes))
 
 under_found : (plan : Plan) (s : State) (link : Link) (beat : Beat)
-    → (answering plan.layout link (found_in plan s link beat) beat).under ≡ s.links (side_of link) (number_of link)
+    → (once_answered plan.layout link (found_in plan s link beat) beat).under ≡ s.links (side_of link) (number_of link)
 under_found plan s link (A beat) = refl
 under_found plan s link (D beat) = refl
 

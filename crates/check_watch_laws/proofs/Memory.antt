@@ -3,24 +3,24 @@ use Rattle.std.proofs.Common.{◌≡◌, ◌∙◌, ℕ, Bool, true, false, if�
 use Rattle.std.specs.Prelude.{◌==◌, ◌&&◌}
 use Rattle.tl_types.specs.Request.{Request}
 use Rattle.check_cells.specs.Pattern.{Pattern}
-use Rattle.check_memory.specs.Slave.{expected_of}
 use Rattle.check_flight.specs.declared.answer.Answer.{Answer}
 use Rattle.check_flight.specs.Flight.{Turn, Flight, asked, due_by}
 use Rattle.check_flight.specs.Flight.Turn.{Idle, Asking, Asked}
-use Rattle.check_flight.specs.Order.{effect_by}
-use Rattle.check_flight.specs.PortSlave.{PortSlave, answer_by}
+use Rattle.check_flight.specs.PortSlave.{PortSlave, due_accepting, due_answering}
 use Rattle.check_watch.specs.declared.beat.Link.{Link}
 use Rattle.check_watch.specs.declared.beat.Link.TheVariants.{Port}
 use Rattle.check_watch.specs.Past.{State}
 use Rattle.check_watch.specs.Plan.{Plan, Sighting, Side, side_of, number_of, same_side, HasLink, IsWatched}
-use Rattle.check_watch.specs.Scene.{turn_by, takes_effect}
+use Rattle.check_watch.specs.Scene.{ask_if, turn_by, takes_effect}
 use Rattle.check_watch_laws.specs.Crossed.{AskSeen, ReplySeen}
-use Rattle.check_watch_laws.specs.Memories.{side_for, port_for, asks_done, reset_of, exchanges_at, entries_of}
+use Rattle.check_watch_laws.specs.Memories.{side_for, port_for, reset_of, exchanges_at, entries_of}
+use Rattle.check_watch_laws.specs.Moments.{Act, moments, entry_due, dues_of}
+use Rattle.check_watch_laws.specs.Moments.Act.{Accepts, Answers}
 use Rattle.check_watch_laws.proofs.Turns.{link_on, own_link, true_or_false}
 use Rattle.check_watch_laws.proofs.Taking.{takes}
-use Rattle.check_watch_laws.proofs.Told.{told, entry_list, AreMatched}
+use Rattle.check_watch_laws.proofs.Told.{gains, AreMatched}
 
--- the entry of the request in flight, where this port's memory has done it
+-- the entry of the request in flight, if its reply is due at this port
 abbrev pub owed : Plan → ℕ → ℕ → Side → Turn → Option Answer → List (Request × Pattern)
 owed plan port wide side Idle due = []
 owed plan port wide side (Asking n) due = []
@@ -37,55 +37,55 @@ pub record IsTold (plan : Plan) (port wide : ℕ) (side : Side) (flight : Flight
   pub matched : AreMatched wide seen front
 
 abbrev pub history_at : Plan → ℕ → List Sighting → List (Request × Pattern)
-history_at plan port past = told (reset_of plan port) (asks_done plan port past)
+history_at plan port past = dues_of port (reset_of plan port) (moments plan port past)
 
 abbrev pub AreTold : Plan → State → List Sighting → Type 0
 AreTold plan s past =
     (port wide : ℕ) → IsTold plan port wide (side_for plan.layout port) (s.flights (side_for plan.layout port) wide)
     (exchanges_at plan port wide past) (entries_of wide (history_at plan port past))
 
--- ---- a request that is done
+-- ---- a request whose reply is due
 
 no_entry : (here : Bool) → ◌≡◌ {A = List (Request × Pattern)} [] (if here then [] else [])
 no_entry true = refl
 no_entry false = refl
 
--- the entry of a request that takes effect as it ends
-pub new_owed : (plan : Plan) (port wide found : ℕ) (link : Link) (slave : PortSlave) (effect early : Bool)
+-- what is owed of a request in flight is its entry
+owed_entry : (plan : Plan) (port wide found : ℕ) (link : Link) (ask : Request) (due : Option Answer)
+    → port_for plan link ask ≡ found → owed plan port wide (side_of link) (Asked (number_of link) ask) due
+    ≡ (if found == port then entry_due wide ask due else [])
+owed_entry plan port wide found link ask None goes = no_entry (found == port)
+owed_entry plan port wide found link ask (Some answer) goes =
+    ap (λ l. if port_for plan l ask == port then
+    (record ask { source = wide }, record answer.reply { source = wide }) ∷ [] else []) (own_link link)
+    ∙ ap (λ p. if p == port then (record ask { source = wide }, record answer.reply { source = wide }) ∷ [] else []) goes
+
+-- the entry of a request whose reply is due as it is accepted
+pub new_owed : (plan : Plan) (port wide found : ℕ) (link : Link) (slave : PortSlave) (effect : Bool)
     (ended : Option Request) → ((ask : Request) → ended ≡ Some ask → port_for plan link ask ≡ found)
     → owed plan port wide (side_of link) (turn_by (number_of link) ended)
-    (answer_by found slave (effect_by effect (effect_by early ended))) ≡
-    (if found == port then entry_list wide slave (effect_by effect (effect_by early ended)) else [])
-new_owed plan port wide found link slave effect early None goes = go (found == port) effect early
-  where
-    go : (here effect early : Bool) → ◌≡◌ {A = List (Request × Pattern)} []
-        (if here then entry_list wide slave (effect_by effect (effect_by early None)) else [])
-    go true true true = refl
-    go true true false = refl
-    go true false early = refl
-    go false effect early = refl
-new_owed plan port wide found link slave true true (Some ask) goes =
-    ap (λ l. if port_for plan l ask == port then
-    (record ask { source = wide }, record (expected_of slave.kept ask) { source = wide }) ∷ [] else []) (own_link link)
-    ∙ ap (λ p. if p == port then (record ask { source = wide }, record (expected_of slave.kept ask) { source = wide })
-    ∷ [] else []) (goes ask refl)
-new_owed plan port wide found link slave true false (Some ask) goes = no_entry (found == port)
-new_owed plan port wide found link slave false early (Some ask) goes = no_entry (found == port)
+    (due_accepting found slave (ask_if effect ended)) ≡
+    (if found == port then gains Accepts found slave wide (ask_if effect ended) else [])
+new_owed plan port wide found link slave true None goes = no_entry (found == port)
+new_owed plan port wide found link slave false None goes = no_entry (found == port)
+new_owed plan port wide found link slave true (Some ask) goes =
+    owed_entry plan port wide found link ask (due_accepting found slave (Some ask)) (goes ask refl)
+new_owed plan port wide found link slave false (Some ask) goes = no_entry (found == port)
 
--- the entry of a request that takes effect as its reply begins
-pub late_owed : (plan : Plan) (port wide found : ℕ) (link : Link) (slave : PortSlave) (effect late : Bool) (turn : Turn)
+-- the entry of a request whose reply is due as it is answered
+pub late_owed : (plan : Plan) (port wide found : ℕ) (link : Link) (slave : PortSlave) (effect : Bool) (turn : Turn)
     (ask : Request) (due : Option Answer) → turn ≡ Asked (number_of link) ask → port_for plan link ask ≡ found
-    → (effect ≡ true → late ≡ true → due ≡ None)
+    → ((answer : Answer) → due_answering found slave wide (ask_if effect (Some ask)) ≡ Some answer → due ≡ None)
     → owed plan port wide (side_of link) turn due
-    ++ (if found == port then entry_list wide slave (effect_by effect (effect_by late (asked turn))) else [])
+    ++ (if found == port then gains Answers found slave wide (ask_if effect (asked turn)) else [])
     ≡ owed plan port wide (side_of link) turn
-    (due_by due (answer_by found slave (effect_by effect (effect_by late (asked turn)))))
-late_owed plan port wide found link slave effect late turn ask due is goes fresh =
+    (due_by due (due_answering found slave wide (ask_if effect (asked turn))))
+late_owed plan port wide found link slave effect turn ask due is goes fresh =
     subst (λ t. owed plan port wide (side_of link) t due
-    ++ (if found == port then entry_list wide slave (effect_by effect (effect_by late (asked t))) else [])
+    ++ (if found == port then gains Answers found slave wide (ask_if effect (asked t)) else [])
     ≡ owed plan port wide (side_of link) t
-    (due_by due (answer_by found slave (effect_by effect (effect_by late (asked t))))))
-    (sym is) (go effect late refl refl)
+    (due_by due (due_answering found slave wide (ask_if effect (asked t)))))
+    (sym is) (go effect fresh)
   where
     stays : owed plan port wide (side_of link) (Asked (number_of link) ask) due
         ++ (if found == port then [] else []) ≡ owed plan port wide (side_of link) (Asked (number_of link) ask) due
@@ -93,20 +93,24 @@ late_owed plan port wide found link slave effect late turn ask due is goes fresh
         (sym (no_entry (found == port)))
         ∙ append-nil (owed plan port wide (side_of link) (Asked (number_of link) ask) due)
 
-    go : (e l : Bool) → effect ≡ e → late ≡ l → owed plan port wide (side_of link) (Asked (number_of link) ask) due
-        ++ (if found == port then entry_list wide slave (effect_by e (effect_by l (Some ask))) else [])
-        ≡ owed plan port wide (side_of link) (Asked (number_of link) ask)
-        (due_by due (answer_by found slave (effect_by e (effect_by l (Some ask)))))
-    go false l so too = stays
-    go true false so too = stays
-    go true true so too =
+    there : (later : Option Answer) → ((answer : Answer) → later ≡ Some answer → due ≡ None)
+        → owed plan port wide (side_of link) (Asked (number_of link) ask) due
+        ++ (if found == port then entry_due wide ask later else [])
+        ≡ owed plan port wide (side_of link) (Asked (number_of link) ask) (due_by due later)
+    there None new = stays
+    there (Some answer) new =
         ap (λ d. owed plan port wide (side_of link) (Asked (number_of link) ask) d
-        ++ (if found == port then entry_list wide slave (Some ask) else [])) (fresh so too)
-        ∙ sym (ap (λ l. if port_for plan l ask == port then
-        (record ask { source = wide }, record (expected_of slave.kept ask) { source = wide }) ∷ [] else [])
-        (own_link link)
-        ∙ ap (λ p. if p == port then (record ask { source = wide }, record (expected_of slave.kept ask) { source = wide })
-        ∷ [] else []) goes)
+        ++ (if found == port then entry_due wide ask (Some answer) else [])) (new answer refl)
+        ∙ sym (owed_entry plan port wide found link ask (Some answer) goes)
+
+    go : (e : Bool)
+        → ((answer : Answer) → due_answering found slave wide (ask_if e (Some ask)) ≡ Some answer → due ≡ None)
+        → owed plan port wide (side_of link) (Asked (number_of link) ask) due
+        ++ (if found == port then gains Answers found slave wide (ask_if e (Some ask)) else [])
+        ≡ owed plan port wide (side_of link) (Asked (number_of link) ask)
+        (due_by due (due_answering found slave wide (ask_if e (Some ask))))
+    go false new = stays
+    go true new = there (due_answering found slave wide (Some ask)) new
 
 -- ---- one beat more
 
@@ -114,19 +118,19 @@ module _ (plan : Plan) (link : Link) (has : HasLink plan.layout link) (watched :
     (found own : ℕ) (done : Option Request)
     (at_port : (p : ℕ) → link ≡ Port p → found ≡ p)
     (unseen : takes_effect plan.layout link found ≡ false → done ≡ None) where
-  -- what is done of another source is no entry of this one
-  pub other_entry : (port wide : ℕ) (there : PortSlave)
+  -- what is seen of another source is no entry of this one
+  pub other_entry : (act : Act) (port wide : ℕ) (there : PortSlave)
       → (same_side (side_of link) (side_for plan.layout port) && (own == wide)) ≡ false
-      → (if found == port then (if own == wide then entry_list own there done else []) else []) ≡ []
-  other_entry port wide there other =
+      → (if found == port then (if own == wide then gains act port there own done else []) else []) ≡ []
+  other_entry act port wide there other =
       go (found == port) (own == wide) (takes_effect plan.layout link found) refl refl refl
     where
-      none : (o : Option Request) → o ≡ None → entry_list own there o ≡ []
-      none o is = ap (λ e. entry_list own there e) is
+      none : (o : Option Request) → o ≡ None → gains act port there own o ≡ []
+      none o is = ap (λ e. gains act port there own e) is
 
       go : (here same seen : Bool) → (found == port) ≡ here → (own == wide) ≡ same
           → takes_effect plan.layout link found ≡ seen
-          → (if here then (if same then entry_list own there done else []) else []) ≡ []
+          → (if here then (if same then gains act port there own done else []) else []) ≡ []
       go false same seen here_is same_is seen_is = refl
       go true false seen here_is same_is seen_is = refl
       go true true false here_is same_is seen_is = none done (unseen seen_is)

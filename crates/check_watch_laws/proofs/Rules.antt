@@ -6,7 +6,7 @@ use Rattle.check_watch.proofs.Earlier.{earlier_is_lawful}
 use Rattle.check_watch_laws.specs.Crossed.{AreWatched}
 use Rattle.check_watch_laws.specs.Rules.{KeepsRules, AlwaysKeepsRules}
 use Rattle.check_watch_laws.proofs.Crossing.{crossing}
-use Rattle.check_watch_laws.proofs.Sequential.{done_at}
+use Rattle.check_watch_laws.proofs.Sequential.{done_at, due_at}
 use Rattle.check_watch_laws.proofs.Turned.{messages}
 
 earlier_watched : (layout : Layout) (later earlier : List Sighting) → AreWatched layout (later ++ earlier)
@@ -19,6 +19,7 @@ keeps : (plan : Plan) (past : List Sighting) → IsPlan plan → AreWatched plan
 keeps plan past is watched lawful = record {
   messages = messages plan past watched lawful;
   memories = done_at plan past watched lawful;
+  any_orders = λ port any. due_at plan past watched lawful port;
   crossings = λ both wide. crossing plan past is both watched lawful wide;
 }
 

@@ -1,19 +1,23 @@
 -- What lawful beats say of slaves.
-use Rattle.std.proofs.Common.{ℕ, ◌≤◌, Bool, true, false, if◌then◌else◌, List, [], ◌∷◌, length, Option, Some, None, sym, subst, arith}
+use Rattle.std.proofs.Common.{◌≡◌, ◌≢◌, ◌∙◌, ℕ, ◌≤◌, Bool, true, false, if◌then◌else◌, List, [], ◌∷◌, length, Option, Some, None, refl, sym, subst, arith}
 use Rattle.std.specs.Prelude.{◌==◌}
 use Rattle.tl_types.specs.Request.{Request}
 use Rattle.check_cells.specs.Pattern.{Pattern}
 use Rattle.check_flight.specs.declared.answer.Answer.{Answer}
+use Rattle.check_flight.specs.declared.order.Order.TheVariants.{Any}
 use Rattle.check_flight.specs.Flight.{Turn}
 use Rattle.check_flight.specs.Flight.Turn.{Idle, Asking, Asked}
 use Rattle.check_watch.specs.Lawful.{IsLawful}
 use Rattle.check_watch.specs.Past.{state}
 use Rattle.check_watch.specs.Plan.{Plan, Sighting, Side}
 use Rattle.check_watch_laws.specs.Crossed.{AreWatched}
-use Rattle.check_watch_laws.specs.Memories.{side_for, port_for, asks_done, reset_of, IsDoneAt, AreEntries, exchanges_at}
+use Rattle.check_watch_laws.specs.Memories.{side_for, port_for, order_at, asks_done, replay_slave, reset_of, IsDoneAt, AreEntries, exchanges_at}
+use Rattle.check_watch_laws.specs.Moments.{IsDueAt}
+use Rattle.check_watch_laws.proofs.Done.{are_replayed}
 use Rattle.check_watch_laws.proofs.Turns.{link_on}
-use Rattle.check_watch_laws.proofs.Told.{asks_told, told_lawful, matched_but_one}
+use Rattle.check_watch_laws.proofs.Told.{matched_but_one}
 use Rattle.check_watch_laws.proofs.Memory.{owed, history_at}
+use Rattle.check_watch_laws.proofs.Orders.{done_of_due, slave_is_replayed}
 use Rattle.check_watch_laws.proofs.Telling.{are_told}
 
 few_owed : (plan : Plan) (port wide : ℕ) (side : Side) (turn : Turn) (due : Option Answer)
@@ -28,13 +32,12 @@ few_owed plan port wide side (Asked n ask) (Some answer) = go (port_for plan (li
     go true = omega arith
     go false = omega arith
 
-pub done_at : (plan : Plan) (past : List Sighting) → AreWatched plan.layout past → IsLawful plan past → (port : ℕ)
-    → (history : List (Request × Pattern)) × IsDoneAt plan past port history
-done_at plan past watched lawful port = (
+pub due_at : (plan : Plan) (past : List Sighting) → AreWatched plan.layout past → IsLawful plan past → (port : ℕ)
+    → (history : List (Request × Pattern)) × IsDueAt plan past port history
+due_at plan past watched lawful port = (
   history_at plan port past,
   record {
-    order = asks_told (reset_of plan port) (asks_done plan port past);
-    lawful = told_lawful (reset_of plan port) (asks_done plan port past);
+    dues = refl;
     captured = λ wide.
         let side = side_for plan.layout port in
         let flight = (state plan past).flights side wide in
@@ -45,3 +48,16 @@ done_at plan past watched lawful port = (
         (few_owed plan port wide side flight.turn flight.due));
   },
 )
+
+pub done_at : (plan : Plan) (past : List Sighting) → AreWatched plan.layout past → IsLawful plan past → (port : ℕ)
+    → order_at plan port ≢ Any → (history : List (Request × Pattern)) × IsDoneAt plan past port history
+done_at plan past watched lawful port known =
+    let due = due_at plan past watched lawful port in
+    (due.0, done_of_due plan past port due.0 known due.1)
+
+-- what the judge keeps of the slave is what these requests leave
+pub kept_at : (plan : Plan) (past : List Sighting) → AreWatched plan.layout past → IsLawful plan past → (port : ℕ)
+    → order_at plan port ≢ Any
+    → (state plan past).slaves port ≡ replay_slave (reset_of plan port) (asks_done plan port past)
+kept_at plan past watched lawful port known =
+    are_replayed plan past watched lawful port ∙ slave_is_replayed plan port past known

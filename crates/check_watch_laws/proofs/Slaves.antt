@@ -1,22 +1,36 @@
--- A slave after some requests: what does not depend on the source of a request.
-use Rattle.std.proofs.Common.{◌≡◌, ℕ, ◌+◌, ◌%◌, ◌^◌, List, [], ◌∷◌, ◌++◌, refl, ap}
+-- A slave after some moments; and what does not depend on the source of a request.
+use Rattle.std.proofs.Common.{◌≡◌, ◌∙◌, ℕ, ◌+◌, ◌%◌, ◌^◌, List, [], ◌∷◌, ◌++◌, Option, Some, None, refl, ap}
 use Rattle.tl_types.specs.Request.{Request}
 use Rattle.check_memory.specs.declared.slave.Slave.{Slave}
 use Rattle.check_memory.specs.declared.slave.Slave.TheVariants.{Memory, Device}
 use Rattle.check_memory.specs.Slave.{slave_after, expected_of}
 use Rattle.check_flight.specs.PortSlave.{PortSlave, served_by}
-use Rattle.check_watch_laws.specs.Memories.{replay_slave}
+use Rattle.check_flight.specs.Laws.{StaysAsItIs}
+use Rattle.check_flight.proofs.Known.{stays_accepting, stays_answering}
+use Rattle.check_watch_laws.specs.Moments.{Act, Moment, acting, slave_then, slave_after_all}
+use Rattle.check_watch_laws.specs.Moments.Act.{Accepts, Answers}
 
--- one request more
-pub replay_more : (reset : PortSlave) (before : List Request) (ask : Request)
-    → replay_slave reset (before ++ ask ∷ []) ≡ served_by (replay_slave reset before) ask
-replay_more reset [] ask = refl
-replay_more reset (first ∷ before) ask = replay_more (served_by reset first) before ask
+-- a slave that accepts or answers no request stays as it is
+pub acting_none : (act : Act) (slave : PortSlave) (wide : ℕ) → acting act slave wide None ≡ slave
+acting_none Accepts slave wide = refl
+acting_none Answers slave wide = refl
 
--- when requests take effect stays as it is
-pub replay_order : (reset : PortSlave) (asks : List Request) → (replay_slave reset asks).order ≡ reset.order
-replay_order reset [] = refl
-replay_order reset (ask ∷ asks) = replay_order (served_by reset ask) asks
+-- one moment more
+pub after_more : (slave : PortSlave) (before : List Moment) (moment : Moment)
+    → slave_after_all slave (before ++ moment ∷ []) ≡ slave_then (slave_after_all slave before) moment
+after_more slave [] moment = refl
+after_more slave (first ∷ before) moment = after_more (slave_then slave first) before moment
+
+-- when requests take effect, and whether lanes may be unknown, stays as it is
+pub act_stays : (act : Act) (slave : PortSlave) (wide : ℕ) (ask : Option Request)
+    → StaysAsItIs slave (acting act slave wide ask)
+act_stays Accepts slave wide ask = stays_accepting slave wide ask
+act_stays Answers slave wide ask = stays_answering slave wide ask
+
+pub after_order : (slave : PortSlave) (moments : List Moment) → (slave_after_all slave moments).order ≡ slave.order
+after_order slave [] = refl
+after_order slave (moment ∷ moments) =
+    after_order (slave_then slave moment) moments ∙ (act_stays moment.act slave moment.wide (Some moment.ask)).order
 
 kept_after : (kept : Slave) (ask : Request) (wide : ℕ)
     → slave_after kept (record ask { source = wide }) ≡ slave_after kept ask

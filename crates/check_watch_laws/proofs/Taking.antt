@@ -1,30 +1,30 @@
--- The request that takes effect with a beat is the one that its port's slave does.
+-- The request that a port's slave accepts or answers with a beat is the one that it sees of its port.
 use Rattle.std.proofs.Common.{◌≡◌, ◌∙◌, ℕ, suc, ◌-◌, ◌<◌, Bool, true, false, if◌then◌else◌, List, [], ◌∷◌, length, map, filter, Option, Some, None, take, drop, refl, ap, sym, subst, arith, eqb-true, nltb→le, T, not}
 use Rattle.std.specs.Prelude.{◌==◌, ◌&&◌, nat_lt}
 use Rattle.tl_types.specs.Request.{Request}
 use Rattle.check_beats.specs.declared.beat.AskHead.{AskHead}
 use Rattle.check_beats.specs.declared.beat.ReplyHead.{ReplyHead}
-use Rattle.check_flight.specs.declared.order.Order.{Order}
-use Rattle.check_flight.specs.declared.order.Order.TheVariants.{Accept, Reply}
 use Rattle.check_flight.specs.Flight.{Turn}
 use Rattle.check_flight.specs.Flight.Turn.{Asked}
-use Rattle.check_flight.specs.Order.{is_at_acceptance, is_at_reply, effect_by}
+use Rattle.check_watch.specs.declared.beat.Beat.TheVariants.{A, D}
 use Rattle.check_watch.specs.declared.beat.Link.{Link}
 use Rattle.check_watch.specs.declared.beat.Link.TheVariants.{Master, Port}
 use Rattle.check_watch.specs.declared.links.Links.{Links}
 use Rattle.check_watch.specs.declared.links.Links.TheVariants.{Both, Masters, Ports}
 use Rattle.check_watch.specs.Plan.{Plan, Layout, Sighting, side_of, number_of, wide_of, same_side, are_both, HasLink, IsWatched}
 use Rattle.check_watch.specs.Plan.Side.{AtMasters, AtPorts}
-use Rattle.check_watch.specs.Scene.{ask_by, takes_effect, begins_reply}
+use Rattle.check_watch.specs.Scene.{ask_by, ask_if, takes_effect, begins_reply}
 use Rattle.check_watch.proofs.InFlight.{ask_at, reply_at}
-use Rattle.check_watch_laws.specs.Crossed.{asks, replies, next_answered, replying_at}
-use Rattle.check_watch_laws.specs.Memories.{side_by, side_for, port_for, is_for, ask_done, widened}
+use Rattle.check_watch_laws.specs.Crossed.{asks, replies, next_answered, replying_at, ask_ended}
+use Rattle.check_watch_laws.specs.Memories.{side_by, side_for, port_for, is_for, ask_answered}
+use Rattle.check_watch_laws.specs.Moments.{Act, Moment, moment_of}
+use Rattle.check_watch_laws.specs.Moments.Act.{Accepts, Answers}
 use Rattle.check_watch_laws.proofs.Flights.{pending, InStep, ask_list, ask_seen}
 use Rattle.check_watch_laws.proofs.Links.{under_by}
 use Rattle.check_watch_laws.proofs.Lists.{drop_front}
 use Rattle.check_watch_laws.proofs.Turns.{link_on, own_link}
 
--- ---- where a request to a port takes effect
+-- ---- where the slave of a port is seen
 
 pub less : (m n : ℕ) → m < n → nat_lt m n ≡ true
 less m n h = go (nat_lt m n) refl
@@ -47,7 +47,7 @@ at_ports Both false p watched is = cc
 at_ports Masters has_link p watched is = absurd watched
 at_ports Ports has_link p watched is = refl
 
--- it takes effect at a link that is watched just if its port's slave is seen there
+-- a port's slave accepts requests at a link that is watched just if it is seen there
 pub takes : (layout : Layout) (link : Link) (port : ℕ) → HasLink layout link → IsWatched layout.links link
     → ((p : ℕ) → link ≡ Port p → port ≡ p)
     → takes_effect layout link port ≡ same_side (side_of link) (side_for layout port)
@@ -58,32 +58,33 @@ takes layout (Port p) port has watched own =
 
 -- ---- the request of a port's slave
 
-abbrev pub list_of : ℕ → Option Request → List Request
-list_of wide None = []
-list_of wide (Some ask) = record ask { source = wide } ∷ []
+abbrev pub moment_if : Act → ℕ → Option Request → List Moment
+moment_if act wide None = []
+moment_if act wide (Some ask) = record { act = act; wide = wide; ask = ask } ∷ []
 
-none_taken : (wide : ℕ) (here seen : Bool) → [] ≡ (if here then list_of wide (effect_by seen None) else [])
-none_taken wide true true = refl
-none_taken wide true false = refl
-none_taken wide false seen = refl
+none_taken : (act : Act) (wide : ℕ) (here seen : Bool)
+    → [] ≡ (if here then moment_if act wide (ask_if seen None) else [])
+none_taken act wide true true = refl
+none_taken act wide true false = refl
+none_taken act wide false seen = refl
 
-none_here : (wide : ℕ) (here : Bool) → [] ≡ (if here then list_of wide None else [])
-none_here wide true = refl
-none_here wide false = refl
+none_here : (act : Act) (wide : ℕ) (here : Bool) → [] ≡ (if here then moment_if act wide None else [])
+none_here act wide true = refl
+none_here act wide false = refl
 
 module _ (plan : Plan) (link : Link) (wide port found : ℕ) (has : HasLink plan.layout link)
     (watched : IsWatched plan.layout.links link) (own : (p : ℕ) → link ≡ Port p → found ≡ p) where
-  -- a request that is done is one of this port, if it goes there
-  taken : (ask : Request) → port_for plan link ask ≡ found
-      → map (widened wide) (filter (is_for plan port) (record { link = link; ask = ask } ∷ [])) ≡
-      (if found == port then list_of wide (effect_by (takes_effect plan.layout link found) (Some ask)) else [])
-  taken ask goes = go (found == port) refl
+  -- a request that is seen is one of this port, if it goes there
+  taken : (act : Act) (ask : Request) → port_for plan link ask ≡ found
+      → map (moment_of act wide) (filter (is_for plan port) (record { link = link; ask = ask } ∷ [])) ≡
+      (if found == port then moment_if act wide (ask_if (takes_effect plan.layout link found) (Some ask)) else [])
+  taken act ask goes = go (found == port) refl
     where
       -- by where it is seen and where it goes
-      Done : Bool → Bool → List Request
-      Done seen here = map (widened wide) (if seen && here then record { link = link; ask = ask } ∷ [] else [])
+      Done : Bool → Bool → List Moment
+      Done seen here = map (moment_of act wide) (if seen && here then record { link = link; ask = ask } ∷ [] else [])
 
-      at : (seen : Bool) → Done seen true ≡ list_of wide (effect_by seen (Some ask))
+      at : (seen : Bool) → Done seen true ≡ moment_if act wide (ask_if seen (Some ask))
       at true = refl
       at false = refl
 
@@ -96,63 +97,61 @@ module _ (plan : Plan) (link : Link) (wide port found : ℕ) (has : HasLink plan
 
       go : (here : Bool) → (found == port) ≡ here
           → Done (same_side (side_of link) (side_for plan.layout port)) (port_for plan link ask == port) ≡
-          (if here then list_of wide (effect_by (takes_effect plan.layout link found) (Some ask)) else [])
+          (if here then moment_if act wide (ask_if (takes_effect plan.layout link found) (Some ask)) else [])
       go true is =
           let there : found ≡ port = eqb-true found port is in
           ap (λ h. Done (same_side (side_of link) (side_for plan.layout port)) h) (here_is ∙ is)
           ∙ at (same_side (side_of link) (side_for plan.layout port))
-          ∙ ap (λ p. list_of wide (effect_by (same_side (side_of link) (side_for plan.layout p)) (Some ask)))
+          ∙ ap (λ p. moment_if act wide (ask_if (same_side (side_of link) (side_for plan.layout p)) (Some ask)))
           (sym there)
-          ∙ ap (λ b. list_of wide (effect_by b (Some ask))) (sym (takes plan.layout link found has watched own))
+          ∙ ap (λ b. moment_if act wide (ask_if b (Some ask))) (sym (takes plan.layout link found has watched own))
       go false is = ap (λ h. Done (same_side (side_of link) (side_for plan.layout port)) h) (here_is ∙ is)
           ∙ past (same_side (side_of link) (side_for plan.layout port))
 
   -- with a beat of a request
-  pub ask_taken : (order : Order) (past : List Sighting) (known : ℕ) (lanes : List ℕ) (beat : AskHead)
+  pub ask_taken : (past : List Sighting) (known : ℕ) (lanes : List ℕ) (beat : AskHead)
       → ((ask : Request) → ask_by (under_by plan.layout link past) beat lanes ≡ Some ask
       → port_for plan link ask ≡ found)
-      → map (widened wide) (filter (is_for plan port) (ask_done plan order past (ask_at link known lanes beat)))
-      ≡ (if found == port then list_of wide (effect_by (takes_effect plan.layout link found)
-      (effect_by (is_at_acceptance order) (ask_by (under_by plan.layout link past) beat lanes))) else [])
-  ask_taken Reply past known lanes beat goes = none_taken wide (found == port) (takes_effect plan.layout link found)
-  ask_taken Accept past known lanes beat goes =
-      ap (λ l. map (widened wide) (filter (is_for plan port) l)) (ask_seen plan.layout past link known lanes beat)
+      → map (moment_of Accepts wide)
+      (filter (is_for plan port) (ask_ended plan.layout past (ask_at link known lanes beat) (A beat)))
+      ≡ (if found == port then moment_if Accepts wide (ask_if (takes_effect plan.layout link found)
+      (ask_by (under_by plan.layout link past) beat lanes)) else [])
+  ask_taken past known lanes beat goes =
+      ap (λ l. map (moment_of Accepts wide) (filter (is_for plan port) l)) (ask_seen plan.layout past link known lanes beat)
       ∙ go (ask_by (under_by plan.layout link past) beat lanes) goes
     where
       go : (o : Option Request) → ((ask : Request) → o ≡ Some ask → port_for plan link ask ≡ found)
-          → map (widened wide) (filter (is_for plan port) (ask_list link o))
-          ≡ (if found == port then list_of wide (effect_by (takes_effect plan.layout link found) o) else [])
-      go (Some ask) there = taken ask (there ask refl)
-      go None there = none_taken wide (found == port) (takes_effect plan.layout link found)
+          → map (moment_of Accepts wide) (filter (is_for plan port) (ask_list link o))
+          ≡ (if found == port then moment_if Accepts wide (ask_if (takes_effect plan.layout link found) o) else [])
+      go (Some ask) there = taken Accepts ask (there ask refl)
+      go None there = none_taken Accepts wide (found == port) (takes_effect plan.layout link found)
 
   -- with a beat of a reply
-  pub reply_taken : (order : Order) (past : List Sighting) (known : ℕ) (lanes : List ℕ) (beat : ReplyHead)
+  pub reply_taken : (past : List Sighting) (known : ℕ) (lanes : List ℕ) (beat : ReplyHead)
       (ask : Request) → port_for plan link ask ≡ found
       → next_answered plan (side_of link) (wide_of plan link beat.source) past ≡ record { link = link; ask = ask } ∷ []
-      → map (widened wide) (filter (is_for plan port) (ask_done plan order past (reply_at link known lanes beat)))
-      ≡ (if found == port then list_of wide (effect_by
-      (takes_effect plan.layout link found && begins_reply (replying_at plan.layout link past))
-      (effect_by (is_at_reply order) (Some ask))) else [])
-  reply_taken Accept past known lanes beat ask goes next =
-      none_taken wide (found == port)
-      (takes_effect plan.layout link found && begins_reply (replying_at plan.layout link past))
-  reply_taken Reply past known lanes beat ask goes next = go (begins_reply (replying_at plan.layout link past))
+      → map (moment_of Answers wide)
+      (filter (is_for plan port) (ask_answered plan past (reply_at link known lanes beat) (D beat)))
+      ≡ (if found == port then moment_if Answers wide (ask_if
+      (takes_effect plan.layout link found && begins_reply (replying_at plan.layout link past)) (Some ask)) else [])
+  reply_taken past known lanes beat ask goes next = go (begins_reply (replying_at plan.layout link past))
     where
-      off : (seen : Bool) → [] ≡ (if found == port then list_of wide (effect_by (seen && false) (Some ask)) else [])
-      off true = none_here wide (found == port)
-      off false = none_here wide (found == port)
+      off : (seen : Bool)
+          → [] ≡ (if found == port then moment_if Answers wide (ask_if (seen && false) (Some ask)) else [])
+      off true = none_here Answers wide (found == port)
+      off false = none_here Answers wide (found == port)
 
-      on : (seen : Bool) → (if found == port then list_of wide (effect_by seen (Some ask)) else []) ≡
-          (if found == port then list_of wide (effect_by (seen && true) (Some ask)) else [])
+      on : (seen : Bool) → (if found == port then moment_if Answers wide (ask_if seen (Some ask)) else []) ≡
+          (if found == port then moment_if Answers wide (ask_if (seen && true) (Some ask)) else [])
       on true = refl
       on false = refl
 
-      go : (begins : Bool) → map (widened wide)
+      go : (begins : Bool) → map (moment_of Answers wide)
           (filter (is_for plan port) (if begins then next_answered plan (side_of link)
           (wide_of plan link beat.source) past else []))
-          ≡ (if found == port then list_of wide (effect_by (takes_effect plan.layout link found && begins)
+          ≡ (if found == port then moment_if Answers wide (ask_if (takes_effect plan.layout link found && begins)
           (Some ask)) else [])
-      go true = ap (λ l. map (widened wide) (filter (is_for plan port) l)) next ∙ taken ask goes
+      go true = ap (λ l. map (moment_of Answers wide) (filter (is_for plan port) l)) next ∙ taken Answers ask goes
           ∙ on (takes_effect plan.layout link found)
       go false = off (takes_effect plan.layout link found)
 

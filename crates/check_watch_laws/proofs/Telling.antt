@@ -11,8 +11,10 @@ use Rattle.check_beats.specs.declared.beat.ReplyHead.{ReplyHead}
 use Rattle.check_flight.specs.declared.answer.Answer.{Answer}
 use Rattle.check_flight.specs.Flight.{Turn, Flight, idle, asked, due_by}
 use Rattle.check_flight.specs.Flight.Turn.{Idle, Asking, Asked}
-use Rattle.check_flight.specs.Order.{is_at_acceptance, is_at_reply, effect_by}
-use Rattle.check_flight.specs.PortSlave.{answer_by}
+use Rattle.check_flight.specs.declared.order.Order.{Order}
+use Rattle.check_flight.specs.declared.order.Order.TheVariants.{Accept, Reply, Any}
+use Rattle.check_flight.specs.Order.{is_due_at_reply}
+use Rattle.check_flight.specs.PortSlave.{PortSlave, due_answered_by, due_answering}
 use Rattle.check_watch.specs.declared.beat.Beat.{Beat}
 use Rattle.check_watch.specs.declared.beat.Beat.TheVariants.{A, D}
 use Rattle.check_watch.specs.declared.beat.Link.{Link}
@@ -21,19 +23,21 @@ use Rattle.check_watch.specs.Allowed.{IsMust, IsAllowedAsk, IsAllowedReply}
 use Rattle.check_watch.specs.Lawful.{IsLawful, IsAllowed}
 use Rattle.check_watch.specs.Past.{State, found_in, scene_of, state, state_after}
 use Rattle.check_watch.specs.Plan.{Plan, Layout, Sighting, Side, side_of, number_of, wide_of, same_side, crosses, is_of, bus_of, HasLink, IsWatched}
-use Rattle.check_watch.specs.Scene.{ask_by, takes_effect, begins_reply, is_given, captured, flight_after}
+use Rattle.check_watch.specs.Scene.{ask_by, ask_if, takes_effect, begins_reply, is_given, captured, flight_after}
 use Rattle.check_watch.proofs.InFlight.{ask_at, reply_at, of_is}
 use Rattle.check_watch_laws.specs.Crossed.{AskSeen, ReplySeen, AreWatched, reply_beat, replying_at, begun_replies_at, ask_ended, reply_ended, asks, replies}
-use Rattle.check_watch_laws.specs.Memories.{side_for, port_for, is_for, order_at, asks_done, reset_of, IsEntry, entries_of, replay_slave}
+use Rattle.check_watch_laws.specs.Memories.{side_for, port_for, is_for, order_at, reset_of, IsEntry, entries_of}
+use Rattle.check_watch_laws.specs.Moments.{moments, slave_after_all, dues_of}
+use Rattle.check_watch_laws.specs.Moments.Act.{Accepts, Answers}
 use Rattle.check_watch_laws.proofs.Buses.{reply_on_bus}
-use Rattle.check_watch_laws.proofs.Done.{AreReplayed, ask_effect, reply_effect, port_own, ended_goes, ask_does, reply_does, reply_goes, orders, are_replayed}
+use Rattle.check_watch_laws.proofs.Done.{AreReplayed, accepts_now, answers_now, port_own, ended_goes, ask_does, reply_does, reply_goes, orders, are_replayed}
 use Rattle.check_watch_laws.proofs.Dues.{IsSourced, IsReplying, HasBegun, AreDue, late_sourced, are_due}
 use Rattle.check_watch_laws.proofs.Flights.{pending, AreInStep, nothing_pending, in_step}
 use Rattle.check_watch_laws.proofs.Links.{LinksAre, links_are}
 use Rattle.check_watch_laws.proofs.Lists.{zip_past, zip_more}
 use Rattle.check_watch_laws.proofs.Memory.{owed, IsTold, history_at, AreTold, new_owed, late_owed, other_entry}
 use Rattle.check_watch_laws.proofs.Taking.{takes}
-use Rattle.check_watch_laws.proofs.Told.{told, told_none, entry_list, entries_more, AreMatched, matched_more}
+use Rattle.check_watch_laws.proofs.Told.{dues_none, gains, entries_more, AreMatched, matched_more}
 use Rattle.check_watch_laws.proofs.Turns.{AsksFly, asks_fly, asked_at, link_on, own_link, eqb_own, same_side-refl}
 
 -- the exchanges with a port among these requests and replies
@@ -55,15 +59,13 @@ told_at plan s past port wide own side mine side_is wide_is was =
     (at_port plan port (asks plan sd w past) (replies plan sd w past)) (entries_of w (history_at plan port past)) in
     subst (λ sd. P sd own) (sym side_is) (subst (λ w. P side w) (sym wide_is) was)
 
-unseen_by : (seen early : Bool) (ended : Option Request) → seen ≡ false
-    → effect_by seen (effect_by early ended) ≡ None
-unseen_by true early ended is = cc
-unseen_by false early ended is = refl
+unseen_by : (seen : Bool) (ended : Option Request) → seen ≡ false → ask_if seen ended ≡ None
+unseen_by true ended is = cc
+unseen_by false ended is = refl
 
-unseen_late : (seen begins late : Bool) (ended : Option Request) → seen ≡ false
-    → effect_by (seen && begins) (effect_by late ended) ≡ None
-unseen_late true begins late ended is = cc
-unseen_late false begins late ended is = refl
+unseen_late : (seen begins : Bool) (ended : Option Request) → seen ≡ false → ask_if (seen && begins) ended ≡ None
+unseen_late true begins ended is = cc
+unseen_late false begins ended is = refl
 
 -- ---- a beat of a request
 
@@ -86,33 +88,33 @@ module _ (plan : Plan) (s : State) (past : List Sighting) (linked : LinksAre pla
   found = (found_in plan s link (A beat)).port
 
   abbrev done : Option Request
-  done = ask_effect plan s link lanes beat
+  done = accepts_now plan s link lanes beat
 
   -- what the entries of a source gain
   gained : (port wide : ℕ) → entries_of wide (history_at plan port (ask_at link known lanes beat ∷ past))
       ≡ entries_of wide (history_at plan port past)
-      ++ (if found == port then (if own == wide then entry_list own
-      (replay_slave (reset_of plan port) (asks_done plan port past)) done else []) else [])
+      ++ (if found == port then (if own == wide then gains Accepts port
+      (slave_after_all (reset_of plan port) (moments plan port past)) own done else []) else [])
   gained port wide =
-      ap (λ l. entries_of wide (told (reset_of plan port) (asks_done plan port past ++ l)))
-      (ask_does plan s past linked replayed link known lanes has watched beat port)
-      ∙ entries_more (reset_of plan port) (asks_done plan port past) wide own (found == port) done
+      ap (λ l. entries_of wide (dues_of port (reset_of plan port) (moments plan port past ++ l)))
+      (ask_does plan s past linked link known lanes has watched beat port)
+      ∙ entries_more port (reset_of plan port) (moments plan port past) wide own Accepts (found == port) done
 
   -- of the source of this beat: what the slave gives
-  gained_own : (port : ℕ) → (if found == port then
-      (if own == own then entry_list own (replay_slave (reset_of plan port) (asks_done plan port past)) done else []) else [])
-      ≡ (if found == port then entry_list own (s.slaves found) done else [])
+  gained_own : (port : ℕ) → (if found == port then (if own == own then gains Accepts port
+      (slave_after_all (reset_of plan port) (moments plan port past)) own done else []) else [])
+      ≡ (if found == port then gains Accepts found (s.slaves found) own done else [])
   gained_own port = go (found == port) refl
     where
       go : (here : Bool) → (found == port) ≡ here
-          → (if here then (if own == own then entry_list own
-          (replay_slave (reset_of plan port) (asks_done plan port past)) done else []) else []) ≡
-          (if here then entry_list own (s.slaves found) done else [])
+          → (if here then (if own == own then gains Accepts port
+          (slave_after_all (reset_of plan port) (moments plan port past)) own done else []) else []) ≡
+          (if here then gains Accepts found (s.slaves found) own done else [])
       go false is = refl
-      go true is = ap (λ b. if b then entry_list own
-          (replay_slave (reset_of plan port) (asks_done plan port past)) done else []) (eqb_own own)
-          ∙ ap (λ b. entry_list own b done) (sym (replayed port)
-          ∙ ap (λ p. s.slaves p) (sym (eqb-true found port is)))
+      go true is = ap (λ b. if b then gains Accepts port
+          (slave_after_all (reset_of plan port) (moments plan port past)) own done else []) (eqb_own own)
+          ∙ ap (λ b. gains Accepts port b own done) (sym (replayed port))
+          ∙ ap (λ p. gains Accepts p (s.slaves p) own done) (sym (eqb-true found port is))
 
   told_own : (port : ℕ) → IsTold plan port own (side_of link) (s.flights (side_of link) own)
       (at_port plan port (asks plan (side_of link) own past) (replies plan (side_of link) own past))
@@ -145,11 +147,11 @@ module _ (plan : Plan) (s : State) (past : List Sighting) (linked : LinksAre pla
       record {
         front = was.front;
         entries_are = gained port own ∙ ap (λ l. l
-            ++ (if found == port then (if own == own then entry_list own
-            (replay_slave (reset_of plan port) (asks_done plan port past)) done else []) else [])) before
+            ++ (if found == port then (if own == own then gains Accepts port
+            (slave_after_all (reset_of plan port) (moments plan port past)) own done else []) else [])) before
             ∙ ap (λ l. was.front ++ l) (gained_own port
             ∙ sym (new_owed plan port own found link (s.slaves found)
-            (takes_effect plan.layout link found) (is_at_acceptance (s.slaves found).order) ended
+            (takes_effect plan.layout link found) ended
             (ended_goes plan link flight.turn under lanes beat)));
         matched = subst (λ l. AreMatched own l was.front) seen was.matched;
       }
@@ -182,9 +184,8 @@ module _ (plan : Plan) (s : State) (past : List Sighting) (linked : LinksAre pla
           let was = told_so port wide in
           let none = other_entry plan link has watched found own done
           (port_own plan link (s.flights (side_of link) own).turn (A beat))
-          (unseen_by (takes_effect plan.layout link found) (is_at_acceptance (s.slaves found).order)
-          (ask_by (s.links (side_of link) (number_of link)) beat lanes))
-          port wide (replay_slave (reset_of plan port) (asks_done plan port past)) is in
+          (unseen_by (takes_effect plan.layout link found) (ask_by (s.links (side_of link) (number_of link)) beat lanes))
+          Accepts port wide (slave_after_all (reset_of plan port) (moments plan port past)) is in
           record {
             front = was.front;
             entries_are = gained port wide ∙ ap (λ l. entries_of wide (history_at plan port past) ++ l) none
@@ -207,7 +208,7 @@ not_given layout (Master m) port is = go (crosses layout port) is
 fresh_due : (plan : Plan) (s : State) (side : Side) (wide n : ℕ) (turn : Turn) (ask : Request)
     (due : Option Answer) (seen : Bool) → turn ≡ Asked n ask → HasBegun plan s side wide turn due
     → (seen && begins_reply (s.links (side_of (link_on side n)) (number_of (link_on side n))).replying) ≡ true
-    → is_at_reply (order_at plan (port_for plan (link_on side n) ask)) ≡ true
+    → is_due_at_reply (order_at plan (port_for plan (link_on side n) ask)) ≡ true
     → due ≡ None
 fresh_due plan s side wide n turn ask None seen is begun effect late = refl
 fresh_due plan s side wide n turn ask (Some answer) seen is begun effect late =
@@ -222,6 +223,19 @@ fresh_due plan s side wide n turn ask (Some answer) seen is begun effect late =
     go true None none all = let under_way : None ≡ Some here.0 = sym none ∙ here.1 in absurd (cc)
     go true (Some b) none all = cc
     go false kept none all = cc
+
+-- a reply that is due as its request is answered is so by the order of the slave, and as it begins
+late_by : (order : Order) (port : ℕ) (slave : PortSlave) (wide : ℕ) (ask : Request) (answer : Answer)
+    → due_answered_by order port slave wide ask ≡ Some answer → is_due_at_reply order ≡ true
+late_by Accept port slave wide ask answer is = cc
+late_by Reply port slave wide ask answer is = refl
+late_by Any port slave wide ask answer is = refl
+
+late_if : (effect : Bool) (port : ℕ) (slave : PortSlave) (wide : ℕ) (ask : Request) (answer : Answer)
+    → due_answering port slave wide (ask_if effect (Some ask)) ≡ Some answer
+    → (effect ≡ true) × (is_due_at_reply slave.order ≡ true)
+late_if true port slave wide ask answer is = (refl, late_by slave.order port slave wide ask answer is)
+late_if false port slave wide ask answer is = cc
 
 owed_off : (plan : Plan) (port wide n : ℕ) (link : Link) (ask : Request) (due : Option Answer)
     → (port_for plan link ask == port) ≡ false → n ≡ number_of link
@@ -287,39 +301,38 @@ module _ (plan : Plan) (s : State) (past : List Sighting) (linked : LinksAre pla
   to_port = (found_in plan s link (D beat)).port
 
   abbrev effect_now : Option Request
-  effect_now = reply_effect plan s link beat
+  effect_now = answers_now plan s link beat
 
   -- what is in flight, and what must come
   abbrev flying : Flight
   flying = s.flights (side_of link) key
 
   abbrev due_now : Option Answer
-  due_now = due_by flying.due (answer_by to_port (s.slaves to_port) effect_now)
+  due_now = due_by flying.due (due_answering to_port (s.slaves to_port) key effect_now)
 
   pub gain : (port wide : ℕ) → entries_of wide (history_at plan port (reply_at link known lanes beat ∷ past))
       ≡ entries_of wide (history_at plan port past)
-      ++ (if to_port == port then (if key == wide then entry_list key
-      (replay_slave (reset_of plan port) (asks_done plan port past)) effect_now else []) else [])
+      ++ (if to_port == port then (if key == wide then gains Answers port
+      (slave_after_all (reset_of plan port) (moments plan port past)) key effect_now else []) else [])
   gain port wide =
-      ap (λ l. entries_of wide (told (reset_of plan port) (asks_done plan port past ++ l)))
-      (reply_does plan s past linked replayed link known lanes has watched steps beat ask in_flight port)
-      ∙ entries_more (reset_of plan port) (asks_done plan port past) wide key (to_port == port) effect_now
+      ap (λ l. entries_of wide (dues_of port (reset_of plan port) (moments plan port past ++ l)))
+      (reply_does plan s past linked link known lanes has watched steps beat ask in_flight port)
+      ∙ entries_more port (reset_of plan port) (moments plan port past) wide key Answers (to_port == port) effect_now
 
-  gain_own : (port : ℕ) → (if to_port == port then
-      (if key == key then entry_list key
-      (replay_slave (reset_of plan port) (asks_done plan port past)) effect_now else []) else [])
-      ≡ (if to_port == port then entry_list key (s.slaves to_port) effect_now else [])
+  gain_own : (port : ℕ) → (if to_port == port then (if key == key then gains Answers port
+      (slave_after_all (reset_of plan port) (moments plan port past)) key effect_now else []) else [])
+      ≡ (if to_port == port then gains Answers to_port (s.slaves to_port) key effect_now else [])
   gain_own port = go (to_port == port) refl
     where
       go : (at : Bool) → (to_port == port) ≡ at
-          → (if at then (if key == key then entry_list key
-          (replay_slave (reset_of plan port) (asks_done plan port past)) effect_now else []) else []) ≡
-          (if at then entry_list key (s.slaves to_port) effect_now else [])
+          → (if at then (if key == key then gains Answers port
+          (slave_after_all (reset_of plan port) (moments plan port past)) key effect_now else []) else []) ≡
+          (if at then gains Answers to_port (s.slaves to_port) key effect_now else [])
       go false is = refl
-      go true is = ap (λ b. if b then entry_list key
-          (replay_slave (reset_of plan port) (asks_done plan port past)) effect_now else []) (eqb_own key)
-          ∙ ap (λ b. entry_list key b effect_now) (sym (replayed port)
-          ∙ ap (λ p. s.slaves p) (sym (eqb-true to_port port is)))
+      go true is = ap (λ b. if b then gains Answers port
+          (slave_after_all (reset_of plan port) (moments plan port past)) key effect_now else []) (eqb_own key)
+          ∙ ap (λ b. gains Answers port b key effect_now) (sym (replayed port))
+          ∙ ap (λ p. gains Answers p (s.slaves p) key effect_now) (sym (eqb-true to_port port is))
 
   pub goes_there : port_for plan link ask ≡ to_port
   goes_there = reply_goes plan link flying.turn (number_of link) beat ask in_flight
@@ -328,10 +341,7 @@ module _ (plan : Plan) (s : State) (past : List Sighting) (linked : LinksAre pla
   effects = takes_effect plan.layout link to_port
       && begins_reply (s.links (side_of link) (number_of link)).replying
 
-  abbrev late : Bool
-  late = is_at_reply (s.slaves to_port).order
-
-  -- its entry stands last, once it has taken effect
+  -- its entry stands last, once its reply is due
   pub put_last : (port : ℕ) (front : List (Request × Pattern))
       → entries_of key (history_at plan port past) ≡ front ++ owed plan port key (side_of link) flying.turn flying.due
       → entries_of key (history_at plan port (reply_at link known lanes beat ∷ past)) ≡ front
@@ -339,32 +349,33 @@ module _ (plan : Plan) (s : State) (past : List Sighting) (linked : LinksAre pla
   put_last port front is =
       let order_is : port_for plan (link_on (side_of link) (number_of link)) ask ≡ to_port =
       ap (λ l. port_for plan l ask) (own_link link) ∙ goes_there in
-      let fresh : effects ≡ true → late ≡ true → flying.due ≡ None =
-      λ so too. fresh_due plan s (side_of link) key (number_of link) flying.turn ask flying.due
+      let fresh : (answer : Answer)
+      → due_answering to_port (s.slaves to_port) key (ask_if effects (Some ask)) ≡ Some answer → flying.due ≡ None =
+      λ answer due. let so = late_if effects to_port (s.slaves to_port) key ask answer due in
+      fresh_due plan s (side_of link) key (number_of link) flying.turn ask flying.due
       (takes_effect plan.layout link to_port) in_flight (dues (side_of link) key).begun
       (ap (λ (l : Link). takes_effect plan.layout link to_port
-      && begins_reply (s.links (side_of l) (number_of l)).replying) (own_link link) ∙ so)
-      (ap (λ p. is_at_reply (order_at plan p)) order_is
-      ∙ ap is_at_reply (orders plan s past replayed to_port) ∙ too) in
+      && begins_reply (s.links (side_of l) (number_of l)).replying) (own_link link) ∙ so.0)
+      (ap (λ p. is_due_at_reply (order_at plan p)) order_is
+      ∙ ap is_due_at_reply (orders plan s past replayed to_port) ∙ so.1) in
       gain port key
-      ∙ ap (λ l. l ++ (if to_port == port then
-      (if key == key then entry_list key
-      (replay_slave (reset_of plan port) (asks_done plan port past)) effect_now else []) else [])) is
+      ∙ ap (λ l. l ++ (if to_port == port then (if key == key then gains Answers port
+      (slave_after_all (reset_of plan port) (moments plan port past)) key effect_now else []) else [])) is
       ∙ append_assoc front (owed plan port key (side_of link) flying.turn flying.due)
-      (if to_port == port then (if key == key then entry_list key
-      (replay_slave (reset_of plan port) (asks_done plan port past)) effect_now else []) else [])
+      (if to_port == port then (if key == key then gains Answers port
+      (slave_after_all (reset_of plan port) (moments plan port past)) key effect_now else []) else [])
       ∙ ap (λ l. front ++ (owed plan port key (side_of link) flying.turn flying.due ++ l)) (gain_own port)
       ∙ ap (λ l. front ++ l) (late_owed plan port key to_port link
-      (s.slaves to_port) effects late flying.turn ask flying.due in_flight goes_there fresh)
+      (s.slaves to_port) effects flying.turn ask flying.due in_flight goes_there fresh)
 
   pub sourced_late : IsSourced (Asked (number_of link) ask) due_now
   sourced_late =
       let before : IsSourced (Asked (number_of link) ask) flying.due =
       subst (λ t. IsSourced t flying.due) in_flight (dues (side_of link) key).sourced in
       subst (λ t. IsSourced (Asked (number_of link) ask)
-      (due_by flying.due (answer_by to_port (s.slaves to_port) (effect_by effects (effect_by late (asked t))))))
+      (due_by flying.due (due_answering to_port (s.slaves to_port) key (ask_if effects (asked t)))))
       (sym in_flight)
-      (late_sourced to_port (s.slaves to_port) effects late (number_of link) ask flying.due before)
+      (late_sourced to_port key (s.slaves to_port) effects (number_of link) ask flying.due before)
 
 module _ (plan : Plan) (s : State) (past : List Sighting) (linked : LinksAre plan s past) (steps : AreInStep plan s past)
     (dues : AreDue plan s) (replayed : AreReplayed plan s past) (told_so : AreTold plan s past) (link : Link)
@@ -378,14 +389,14 @@ module _ (plan : Plan) (s : State) (past : List Sighting) (linked : LinksAre pla
   goes_to = (found_in plan s link (D beat)).port
 
   abbrev does : Option Request
-  does = reply_effect plan s link beat
+  does = answers_now plan s link beat
 
   -- what is in flight, and what must come
   abbrev here : Flight
   here = s.flights (side_of link) mine
 
   abbrev late_due : Option Answer
-  late_due = due_by here.due (answer_by goes_to (s.slaves goes_to) does)
+  late_due = due_by here.due (due_answering goes_to (s.slaves goes_to) mine does)
 
   -- the request that is answered
   answers : (ask : Request) × (here.turn ≡ Asked (number_of link) ask)
@@ -398,8 +409,8 @@ module _ (plan : Plan) (s : State) (past : List Sighting) (linked : LinksAre pla
 
   reply_gained : (port wide : ℕ) → entries_of wide (history_at plan port (reply_at link known lanes beat ∷ past))
       ≡ entries_of wide (history_at plan port past)
-      ++ (if goes_to == port then (if mine == wide then entry_list mine
-      (replay_slave (reset_of plan port) (asks_done plan port past)) does else []) else [])
+      ++ (if goes_to == port then (if mine == wide then gains Answers port
+      (slave_after_all (reset_of plan port) (moments plan port past)) mine does else []) else [])
   reply_gained = gain plan s past linked steps dues replayed link known lanes has watched beat answers.0 answers.1
 
   mid : (port : ℕ) (front : List (Request × Pattern))
@@ -566,9 +577,8 @@ module _ (plan : Plan) (s : State) (past : List Sighting) (linked : LinksAre pla
           let was = told_so port wide in
           let none = other_entry plan link has watched goes_to mine does (port_own plan link here.turn (D beat))
           (unseen_late (takes_effect plan.layout link goes_to)
-          (begins_reply (s.links (side_of link) (number_of link)).replying)
-          (is_at_reply (s.slaves goes_to).order) (asked here.turn))
-          port wide (replay_slave (reset_of plan port) (asks_done plan port past)) is in
+          (begins_reply (s.links (side_of link) (number_of link)).replying) (asked here.turn))
+          Answers port wide (slave_after_all (reset_of plan port) (moments plan port past)) is in
           record {
             front = was.front;
             entries_are = reply_gained port wide ∙ ap (λ l. entries_of wide (history_at plan port past) ++ l) none
@@ -583,7 +593,7 @@ pub are_told : (plan : Plan) (past : List Sighting) → AreWatched plan.layout p
 are_told plan [] watched lawful =
     λ port wide. record {
       front = [];
-      entries_are = ap (λ l. entries_of wide l) (told_none (reset_of plan port));
+      entries_are = ap (λ l. entries_of wide l) (dues_none port (reset_of plan port));
       matched = tt;
     }
 are_told plan (x ∷ past) watched lawful = go (are_told plan past watched.1 lawful.0) x.beat lawful.1

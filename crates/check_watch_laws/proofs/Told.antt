@@ -1,76 +1,83 @@
--- The history of a slave: each request with what is expected of the slave there.
-use Rattle.std.proofs.Common.{◌≡◌, ◌∙◌, ℕ, zero, suc, ◌≤◌, Bool, true, false, if◌then◌else◌, List, [], ◌∷◌, ◌++◌, length, Option, Some, None, refl, ap, sym, append-nil}
+-- What is due of a port's replies, moment by moment; and the entries of one source.
+use Rattle.std.proofs.Common.{◌≡◌, ◌∙◌, ℕ, ◌≤◌, Bool, true, false, if◌then◌else◌, List, [], ◌∷◌, ◌++◌, length, Option, Some, None, refl, ap, sym, append-nil, append_assoc}
 use Rattle.std.specs.Prelude.{◌==◌}
 use Rattle.std.proofs.lemmas.List.Elements.{filter-append}
 use Rattle.tl_types.specs.Request.{Request}
 use Rattle.check_cells.specs.Pattern.{Pattern}
-use Rattle.check_memory.specs.Slave.{expected_of}
-use Rattle.check_flight.specs.PortSlave.{PortSlave, served_by}
+use Rattle.check_flight.specs.declared.answer.Answer.{Answer}
+use Rattle.check_flight.specs.PortSlave.{PortSlave}
 use Rattle.check_watch_laws.specs.Crossed.{AskSeen, ReplySeen}
-use Rattle.check_watch_laws.specs.Memories.{IsEntry, asks_in, IsSlaveHistory, AreEntries, entries_of, replay_slave}
-use Rattle.check_watch_laws.proofs.Slaves.{reply_with}
-use Rattle.check_watch_laws.proofs.Taking.{list_of}
+use Rattle.check_watch_laws.specs.Memories.{IsEntry, AreEntries, entries_of}
+use Rattle.check_watch_laws.specs.Moments.{Act, Moment, due_acting, slave_then, slave_after_all, entry_due, dues_of}
+use Rattle.check_watch_laws.proofs.Taking.{moment_if}
 
-pub told : PortSlave → List Request → List (Request × Pattern)
-told slave [] = []
-told slave (ask ∷ asks) = (ask, expected_of slave.kept ask) ∷ told (served_by slave ask) asks
+pub dues_none : (port : ℕ) (slave : PortSlave) → dues_of port slave [] ≡ []
+unfolding dues_of
+dues_none port slave = refl
 
-pub asks_told : (slave : PortSlave) (asks : List Request) → asks_in (told slave asks) ≡ asks
-unfolding told
-asks_told slave [] = refl
-asks_told slave (ask ∷ asks) = ap (λ l. ask ∷ l) (asks_told (served_by slave ask) asks)
+pub dues_cons : (port : ℕ) (slave : PortSlave) (moment : Moment) (moments : List Moment)
+    → dues_of port slave (moment ∷ moments)
+    ≡ entry_due moment.wide moment.ask (due_acting moment.act port slave moment.wide (Some moment.ask))
+    ++ dues_of port (slave_then slave moment) moments
+unfolding dues_of
+dues_cons port slave moment moments = refl
 
-pub told_lawful : (slave : PortSlave) (asks : List Request) → IsSlaveHistory slave (told slave asks)
-unfolding told
-told_lawful slave [] k ask response at = cc
-told_lawful slave (first ∷ asks) zero ask response at =
-    let same : ◌≡◌ {A = Request × Pattern} (first, expected_of slave.kept first) (ask, response) = cc in
-    sym (ap (λ (e : Request × Pattern). e.1) same) ∙ ap (λ (e : Request × Pattern). expected_of slave.kept e.0) same
-told_lawful slave (first ∷ asks) (suc k) ask response at = told_lawful (served_by slave first) asks k ask response at
-
-pub told_more : (slave : PortSlave) (asks : List Request) (ask : Request)
-    → told slave (asks ++ ask ∷ []) ≡ told slave asks ++ (ask, expected_of (replay_slave slave asks).kept ask) ∷ []
-unfolding told
-told_more slave [] ask = refl
-told_more slave (first ∷ asks) ask = ap (λ l. (first, expected_of slave.kept first) ∷ l) (told_more (served_by slave first) asks ask)
-
-pub told_none : (slave : PortSlave) → told slave [] ≡ []
-unfolding told
-told_none slave = refl
-
-pub told_cons : (slave : PortSlave) (ask : Request) (asks : List Request)
-    → told slave (ask ∷ asks) ≡ (ask, expected_of slave.kept ask) ∷ told (served_by slave ask) asks
-unfolding told
-told_cons slave ask asks = refl
+-- one moment more
+dues_more : (port : ℕ) (slave : PortSlave) (moments : List Moment) (moment : Moment)
+    → dues_of port slave (moments ++ moment ∷ []) ≡ dues_of port slave moments
+    ++ entry_due moment.wide moment.ask
+    (due_acting moment.act port (slave_after_all slave moments) moment.wide (Some moment.ask))
+unfolding dues_of
+dues_more port slave [] moment =
+    append-nil (entry_due moment.wide moment.ask (due_acting moment.act port slave moment.wide (Some moment.ask)))
+dues_more port slave (first ∷ moments) moment =
+    let here = entry_due first.wide first.ask (due_acting first.act port slave first.wide (Some first.ask)) in
+    let later = slave_then slave first in
+    ap (λ l. here ++ l) (dues_more port later moments moment)
+    ∙ sym (append_assoc here (dues_of port later moments)
+    (entry_due moment.wide moment.ask
+    (due_acting moment.act port (slave_after_all later moments) moment.wide (Some moment.ask))))
 
 -- ---- the entries of one source
 
--- the entry of a request that a slave does
-abbrev pub entry_list : ℕ → PortSlave → Option Request → List (Request × Pattern)
-entry_list wide there None = []
-entry_list wide there (Some ask) = (record ask { source = wide }, record (expected_of there.kept ask) { source = wide }) ∷ []
+-- the entry that a request gains as it is accepted or answered, if its reply is due then
+abbrev pub gains : Act → ℕ → PortSlave → ℕ → Option Request → List (Request × Pattern)
+gains act port slave wide None = []
+gains act port slave wide (Some ask) = entry_due wide ask (due_acting act port slave wide (Some ask))
 
--- one more is done, or none
-pub entries_more : (slave : PortSlave) (asks : List Request) (wide other : ℕ) (here : Bool) (did : Option Request)
-    → entries_of wide (told slave (asks ++ (if here then list_of other did else [])))
-    ≡ entries_of wide (told slave asks) ++ (if here then
-    (if other == wide then entry_list other (replay_slave slave asks) did else []) else [])
-entries_more slave asks wide other false did =
-    ap (λ l. entries_of wide (told slave l)) (append-nil asks) ∙ sym (append-nil (entries_of wide (told slave asks)))
-entries_more slave asks wide other true None =
-    ap (λ l. entries_of wide (told slave l)) (append-nil asks) ∙ sym (append-nil (entries_of wide (told slave asks)))
-    ∙ ap (λ l. entries_of wide (told slave asks) ++ l) (both (other == wide))
+-- an entry is of its own source
+sorted : (wide other : ℕ) (ask : Request) (due : Option Answer)
+    → entries_of wide (entry_due other ask due) ≡ (if other == wide then entry_due other ask due else [])
+sorted wide other ask None = both (other == wide)
   where
     both : (b : Bool) → ◌≡◌ {A = List (Request × Pattern)} [] (if b then [] else [])
     both true = refl
     both false = refl
-entries_more slave asks wide other true (Some ask) =
-    let wide_ask : Request = record ask { source = other } in
-    ap (λ l. entries_of wide l) (told_more slave asks wide_ask)
-    ∙ filter-append (λ (entry : Request × Pattern). entry.0.source == wide) (told slave asks)
-    ((wide_ask, expected_of (replay_slave slave asks).kept wide_ask) ∷ [])
-    ∙ ap (λ (r : Pattern). entries_of wide (told slave asks) ++ (if other == wide then (wide_ask, r) ∷ [] else []))
-    (reply_with (replay_slave slave asks).kept ask other)
+sorted wide other ask (Some answer) = refl
+
+-- one moment more, or none
+pub entries_more : (port : ℕ) (slave : PortSlave) (moments : List Moment) (wide other : ℕ) (act : Act) (here : Bool)
+    (did : Option Request)
+    → entries_of wide (dues_of port slave (moments ++ (if here then moment_if act other did else [])))
+    ≡ entries_of wide (dues_of port slave moments) ++ (if here then
+    (if other == wide then gains act port (slave_after_all slave moments) other did else []) else [])
+entries_more port slave moments wide other act false did =
+    ap (λ l. entries_of wide (dues_of port slave l)) (append-nil moments)
+    ∙ sym (append-nil (entries_of wide (dues_of port slave moments)))
+entries_more port slave moments wide other act true None =
+    ap (λ l. entries_of wide (dues_of port slave l)) (append-nil moments)
+    ∙ sym (append-nil (entries_of wide (dues_of port slave moments)))
+    ∙ ap (λ l. entries_of wide (dues_of port slave moments) ++ l) (both (other == wide))
+  where
+    both : (b : Bool) → ◌≡◌ {A = List (Request × Pattern)} [] (if b then [] else [])
+    both true = refl
+    both false = refl
+entries_more port slave moments wide other act true (Some ask) =
+    let due = due_acting act port (slave_after_all slave moments) other (Some ask) in
+    ap (λ l. entries_of wide l) (dues_more port slave moments (record { act = act; wide = other; ask = ask }))
+    ∙ filter-append (λ (entry : Request × Pattern). entry.0.source == wide) (dues_of port slave moments)
+    (entry_due other ask due)
+    ∙ ap (λ l. entries_of wide (dues_of port slave moments) ++ l) (sorted wide other ask due)
 
 -- ---- captured entries, one by one
 

@@ -1,12 +1,10 @@
 -- Each lane of a lawful beat that carries a byte, and has to be known, was known.
-use Rattle.std.proofs.Common.{◌≡◌, ◌∙◌, ℕ, Bool, true, false, if◌then◌else◌, List, [], ◌∷◌, Option, Some, None, refl, ap, sym, subst, eqb-true}
-use Rattle.std.specs.Prelude.{◌==◌, ◌||◌}
+use Rattle.std.proofs.Common.{◌≡◌, ◌∙◌, ℕ, Bool, true, false, if◌then◌else◌, List, [], ◌∷◌, refl, ap, sym, subst, eqb-true}
+use Rattle.std.specs.Prelude.{◌==◌}
 use Rattle.tl_types.specs.Request.{Request}
 use Rattle.check_beats.specs.State.{Under}
-use Rattle.check_memory.specs.declared.slave.Slave.{Slave}
-use Rattle.check_memory.specs.declared.slave.Slave.TheVariants.{Memory, Device}
-use Rattle.check_memory.specs.Slave.{slave_after}
-use Rattle.check_flight.specs.PortSlave.{PortSlave, is_device, may_be_unknown, slave_by}
+use Rattle.check_flight.specs.PortSlave.{accepting, may_be_unknown}
+use Rattle.check_flight.proofs.Known.{stays_accepting, stays_answering}
 use Rattle.check_watch.specs.declared.beat.Beat.{Beat}
 use Rattle.check_watch.specs.declared.beat.Beat.TheVariants.{A, D}
 use Rattle.check_watch.specs.declared.beat.Link.{Link}
@@ -14,7 +12,7 @@ use Rattle.check_watch.specs.Allowed.{HasKnownLanes, IsAnswer}
 use Rattle.check_watch.specs.Lawful.{IsLawful, IsAllowed}
 use Rattle.check_watch.specs.Past.{State, found_in, scene_of, scene, state}
 use Rattle.check_watch.specs.Plan.{Plan, Sighting, side_of, number_of, wide_of, bus_of}
-use Rattle.check_watch.specs.Scene.{effect, late_effect}
+use Rattle.check_watch.specs.Scene.{accepted, answered}
 use Rattle.check_watch_laws.specs.Crossed.{AskSeen}
 use Rattle.check_watch_laws.specs.Memories.{port_for, reset_of}
 use Rattle.check_watch_laws.specs.Rules.{IsSeenWhole, AreSeenWhole}
@@ -26,22 +24,14 @@ use Rattle.check_watch_laws.proofs.Turns.{asked_at}
 
 -- ---- whether lanes may be unknown stays as it is at reset
 
-device_stays : (kept : Slave) (ask : Request) → is_device (slave_after kept ask) ≡ is_device kept
-device_stays (Memory memory) ask = refl
-device_stays Device ask = refl
-
-lanes_stay : (slave : PortSlave) (did : Option Request) → may_be_unknown (slave_by slave did) ≡ may_be_unknown slave
-lanes_stay slave None = refl
-lanes_stay slave (Some ask) = ap (λ b. b || slave.unknown) (device_stays slave.kept ask)
-
--- the slave that a beat finds, once the request that it answers has taken effect
+-- the slave that a beat finds, once the slave has answered
 pub slave_found : (plan : Plan) (s : State) (link : Link) (beat : Beat)
     → may_be_unknown (scene_of plan s link beat).slave ≡ may_be_unknown (s.slaves (scene_of plan s link beat).port)
 slave_found plan s link (A beat) = refl
 slave_found plan s link (D beat) =
     let found = found_in plan s link (D beat) in
-    lanes_stay found.slave
-    (late_effect plan.layout link found.port found.slave found.under.replying found.flight.turn)
+    (stays_answering found.slave found.wide
+    (answered plan.layout link found.port found.under.replying found.flight.turn)).lanes
 
 pub unknown_stays : (plan : Plan) (past : List Sighting) (port : ℕ)
     → may_be_unknown ((state plan past).slaves port) ≡ may_be_unknown (reset_of plan port)
@@ -50,11 +40,12 @@ unknown_stays plan (x ∷ past) port = go ((scene plan past x).port == port) ref
   where
     go : (here : Bool) → ((scene plan past x).port == port) ≡ here
         → may_be_unknown ((state plan past).slaves port) ≡ may_be_unknown (reset_of plan port)
-        → may_be_unknown (if here then slave_by (scene plan past x).slave
-        (effect plan.layout x.link (scene plan past x) x.beat x.lanes) else (state plan past).slaves port)
+        → may_be_unknown (if here then accepting (scene plan past x).slave (scene plan past x).wide
+        (accepted plan.layout x.link (scene plan past x) x.beat x.lanes) else (state plan past).slaves port)
         ≡ may_be_unknown (reset_of plan port)
     go true is before =
-        lanes_stay (scene plan past x).slave (effect plan.layout x.link (scene plan past x) x.beat x.lanes)
+        (stays_accepting (scene plan past x).slave (scene plan past x).wide
+        (accepted plan.layout x.link (scene plan past x) x.beat x.lanes)).lanes
         ∙ slave_found plan (state plan past) x.link x.beat
         ∙ ap (λ p. may_be_unknown ((state plan past).slaves p)) (eqb-true (scene plan past x).port port is) ∙ before
     go false is before = before

@@ -1,4 +1,5 @@
--- What lawful beats say of slaves: each port's replies fit what its slave may reply, which takes one request at a time.
+-- What lawful beats say of slaves whose order is known: each port's replies fit what its slave may reply, which takes one
+-- request at a time. (`Moments.antt` has the slaves whose order nobody knows.)
 -- What a memory does is the chapter "TL-UL and TL-UH operations" of the TileLink specification (`Slave.antt` of
 -- `check_memory`); unknown bytes, devices, in which order requests take effect, and where this is seen is this project's
 -- own.
@@ -7,7 +8,7 @@ use Rattle.tl_types.specs.Request.{Request}
 use Rattle.check_cells.specs.Pattern.{Pattern, Fits}
 use Rattle.check_memory.specs.Slave.{expected_of}
 use Rattle.check_flight.specs.declared.order.Order.{Order}
-use Rattle.check_flight.specs.declared.order.Order.TheVariants.{Accept, Reply}
+use Rattle.check_flight.specs.declared.order.Order.TheVariants.{Accept, Reply, Any}
 use Rattle.check_flight.specs.PortSlave.{PortSlave, served_by}
 use Rattle.check_watch.specs.declared.beat.Beat.{Beat}
 use Rattle.check_watch.specs.declared.beat.Beat.TheVariants.{A, D}
@@ -59,10 +60,12 @@ ask_answered plan past x (D beat) =
     if begins_reply (replying_at plan.layout x.link past)
     then next_answered plan (side_of x.link) (wide_of plan x.link beat.source) past else []
 
--- the request that is done as this beat crosses: the one that it ends, or the one whose reply it begins
+-- the request that is done as this beat crosses: the one that it ends, or the one whose reply it begins; if nobody knows
+-- when requests are done, none is told
 abbrev pub ask_done : Plan → Order → List Sighting → Sighting → List AskSeen
 ask_done plan Accept past x = ask_ended plan.layout past x x.beat
 ask_done plan Reply past x = ask_answered plan past x x.beat
+ask_done plan Any past x = []
 
 -- the request with its wide source, by which the port knows it
 abbrev pub widened : ℕ → AskSeen → Request

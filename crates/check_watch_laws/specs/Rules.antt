@@ -1,8 +1,9 @@
 -- What a lawful list of beats is, in three sentences.
-use Rattle.std.specs.Prelude.{◌≡◌, ℕ, List, [], ◌∷◌, ◌++◌}
+use Rattle.std.specs.Prelude.{◌≡◌, ◌≢◌, ℕ, List, [], ◌∷◌, ◌++◌}
 use Rattle.tl_types.specs.Request.{Request}
 use Rattle.check_cells.specs.Pattern.{Pattern}
 use Rattle.check_beats.specs.Form.{IsKnown}
+use Rattle.check_flight.specs.declared.order.Order.TheVariants.{Any}
 use Rattle.check_flight.specs.PortSlave.{may_be_unknown}
 use Rattle.check_watch.specs.declared.beat.Beat.{Beat}
 use Rattle.check_watch.specs.declared.beat.Beat.TheVariants.{A, D}
@@ -11,14 +12,19 @@ use Rattle.check_watch.specs.Allowed.{HasKnownLanes}
 use Rattle.check_watch.specs.Plan.{Plan, Sighting, side_of, wide_of, bus_of}
 use Rattle.check_watch_laws.specs.Crossed.{next_answered}
 use Rattle.check_watch_laws.specs.Crossings.{MessagesCross}
-use Rattle.check_watch_laws.specs.Memories.{IsDoneAt, port_for, reset_of}
+use Rattle.check_watch_laws.specs.Memories.{IsDoneAt, order_at, port_for, reset_of}
 use Rattle.check_watch_laws.specs.Messages.{AreMessages}
+use Rattle.check_watch_laws.specs.Moments.{IsDueAt}
 
 -- the beats are whole messages that come in turn; each port's replies fit what its slave may reply, which does one request
--- at a time; and if both sides are watched, what ports are asked and answer is what masters asked and are answered
+-- at a time, or if nobody knows when it does which, what is due then; and if both sides are watched, what ports are asked
+-- and answer is what masters asked and are answered
 pub record KeepsRules (plan : Plan) (past : List Sighting) : Type 0 where
   pub messages : AreMessages plan past
-  pub memories : (port : ℕ) → (history : List (Request × Pattern)) × IsDoneAt plan past port history
+  pub memories : (port : ℕ) → order_at plan port ≢ Any
+      → (history : List (Request × Pattern)) × IsDoneAt plan past port history
+  pub any_orders : (port : ℕ) → order_at plan port ≡ Any
+      → (history : List (Request × Pattern)) × IsDueAt plan past port history
   pub crossings : plan.layout.links ≡ Both → (wide : ℕ) → MessagesCross plan past wide
 
 -- so it is at each moment: lists of sightings have the latest first, so what crossed up to a moment is an end of the

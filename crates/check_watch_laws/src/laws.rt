@@ -1,16 +1,21 @@
 //! Laws of lawful lists of beats, each on a function that does nothing but carry it.
-ghost use Rattle.std.specs.Prelude.{List, ℕ, ◌≡◌};
+ghost use Rattle.std.specs.Prelude.{List, [], ℕ, ◌≡◌, ◌≢◌};
 ghost use Rattle.tl_types.specs.Request.{Request};
 ghost use Rattle.check_cells.specs.Pattern.{Pattern};
+ghost use Rattle.check_contests.specs.Moments.{Moment as SlaveMoment};
+ghost use Rattle.check_memory.specs.declared.slave.Slave.{Slave};
+ghost use Rattle.check_flight.specs.declared.order.Order.TheVariants.{Any};
 ghost use Rattle.check_watch.specs.declared.links.Links.TheVariants.{Both};
 ghost use Rattle.check_watch.specs.Lawful.{IsLawful};
 ghost use Rattle.check_watch.specs.Past.{state};
 ghost use Rattle.check_watch.specs.Plan.{Plan, IsPlan, Sighting};
 ghost use Rattle.check_watch_laws.specs.Crossed.{AreWatched};
 ghost use Rattle.check_watch_laws.specs.Crossings.{MessagesCross};
-ghost use Rattle.check_watch_laws.specs.Memories.{IsDoneAt, asks_done, replay_slave, reset_of};
+ghost use Rattle.check_watch_laws.specs.Memories.{IsDoneAt, asks_done, order_at, replay_slave, reset_of};
 ghost use Rattle.check_watch_laws.specs.Messages.{AreMessages};
+ghost use Rattle.check_watch_laws.specs.Moments.{IsDueAt, moments, slave_after_all};
 ghost use Rattle.check_watch_laws.specs.Rules.{AlwaysKeepsRules, AreSeenWhole};
+ghost use Rattle.check_watch_laws.specs.Whenever.{IsDoneWhenever};
 
 /// Each channel of a link carries whole messages one after the other, and a beginning of one more; each reply answers a
 /// request that had ended, no request is answered twice, and none of a source begins before the one before it is
@@ -20,13 +25,32 @@ pub fn beats_are_messages()
         → AreMessages plan past }
 {}
 
-/// Each port's replies fit what its slave may reply, which does one request at a time, in the order of the slave; and what
-/// the judge keeps of the slave is what these requests leave.
+/// If it is known when a port's slave does requests, the port's replies fit what the slave may reply, which does one request
+/// at a time; and what the judge keeps of the slave is what these requests leave.
 pub fn memories_are_sequential()
     ensures done { (plan : Plan) (past : List Sighting) → AreWatched plan.layout past → IsLawful plan past
-        → (port : ℕ) → (history : List (Request × Pattern)) × IsDoneAt plan past port history }
+        → (port : ℕ) → order_at plan port ≢ Any
+        → (history : List (Request × Pattern)) × IsDoneAt plan past port history }
     ensures kept { (plan : Plan) (past : List Sighting) → AreWatched plan.layout past → IsLawful plan past
-        → (port : ℕ) → (state plan past).slaves port ≡ replay_slave (reset_of plan port) (asks_done plan port past) }
+        → (port : ℕ) → order_at plan port ≢ Any
+        → (state plan past).slaves port ≡ replay_slave (reset_of plan port) (asks_done plan port past) }
+{}
+
+/// Whether it is known or not, each port's replies fit what is due of them, as requests are accepted and answered at the
+/// port; and what the judge keeps of the slave is what it is after these moments.
+pub fn replies_are_due()
+    ensures due { (plan : Plan) (past : List Sighting) → AreWatched plan.layout past → IsLawful plan past
+        → (port : ℕ) → (history : List (Request × Pattern)) × IsDueAt plan past port history }
+    ensures kept { (plan : Plan) (past : List Sighting) → AreWatched plan.layout past → IsLawful plan past
+        → (port : ℕ) → (state plan past).slaves port ≡ slave_after_all (reset_of plan port) (moments plan port past) }
+{}
+
+/// What is due of a port whose slave does requests in an order that nobody knows is no more than what it replies: whenever
+/// it did each, after it was accepted and before its reply began, what was captured fits what is due.
+pub fn requests_may_be_done_whenever()
+    ensures { (plan : Plan) (past : List Sighting) (port : ℕ) (slave : Slave) (all : List SlaveMoment)
+        → order_at plan port ≡ Any → (reset_of plan port).contests ≡ [] → IsDoneWhenever plan past port slave all
+        → (history : List (Request × Pattern)) × IsDueAt plan past port history }
 {}
 
 /// If both sides are watched, what a port is asked is what a master asked, each request once, and what a master is

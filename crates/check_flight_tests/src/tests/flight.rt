@@ -1,4 +1,5 @@
-//! What is in flight: both orders, devices, denied requests, replies that cross, and refused memory.
+//! What is in flight: all orders, devices, denied requests, replies that cross, and refused memory.
+mod contested;
 mod crossed;
 mod refused;
 mod scene;

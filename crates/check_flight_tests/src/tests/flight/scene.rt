@@ -16,7 +16,7 @@ pub fn ram(rt: &impl Abort, alloc: Global, order: Order) -> Result<PortSlave, Al
     })?;
     assert!(rt; are_within(&ranges));
     let memory = Memory::new(alloc, Kind::Ram, Sizes::of(Kind::Ram), ranges, false);
-    Ok(PortSlave::new(Slave::Memory(memory), order, true))
+    Ok(PortSlave::new(alloc, Slave::Memory(memory), order, true))
 }
 
 /// A side with one link of four bytes, and with eight wide sources.

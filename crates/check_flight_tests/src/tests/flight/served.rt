@@ -110,7 +110,7 @@ fn requests_outside_of_the_range_are_denied(rt: HostRuntime) {
 fn a_device_answers_as_it_likes(rt: HostRuntime) {
     let alloc = rt.alloc();
     let mut side = side_of_four(alloc).expect(&rt, "memory refused");
-    let mut slave = PortSlave::new(Slave::Device, Order::Accept, false);
+    let mut slave = PortSlave::new(alloc, Slave::Device, Order::Accept, false);
     assert!(&rt; slave.may_be_unknown());
     let get = head_of(GET, 2, 1, 0x2000);
     cross(&rt, alloc, &mut side, &mut slave, &get, &[0; 4]).expect(&rt, "memory refused");

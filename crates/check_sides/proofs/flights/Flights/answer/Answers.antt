@@ -3,7 +3,7 @@ use Rattle.std.specs.BTreeMap.{get}
 use Rattle.std.specs.Ordering.{nat_cmp}
 use Rattle.std.specs.Prelude.{OnOk}
 use Rattle.check_flight.specs.Flight.{Flight, asked, flight_due, idle}
-use Rattle.check_flight.specs.PortSlave.{answer_by, effect_at_reply, slave_by}
+use Rattle.check_flight.specs.PortSlave.{answering, due_answering}
 use Rattle.check_sides.specs.Flights.{flight_of, kept_of}
 use Rattle.check_sides.proofs.Outcomes.{on_err, on_ok}
 use Rattle.check_sides.proofs.Puts.{changed_some, put_through, written_same}
@@ -18,21 +18,22 @@ here c = ap (λ k. kept_of k c.args.source) (sym c.self.view_is) ∙ found c
 pub returns-clause-flight : goal.returns-clause-flight
 returns-clause-flight c =
     let due : Flight → Flight =
-    λ f. flight_due f (answer_by c.args.port c.args.slave.now (effect_at_reply c.args.slave.now (asked f.turn))) in
+    λ f. flight_due f (due_answering c.args.port c.args.slave.now c.args.source (asked f.turn)) in
     on_ok c.answer.result
     (λ is. changed_some c.args.self.now (c.get_mut.follows.lender c.answer.new.self).entries c.args.source due
     c.in-Some.flight.now c.answer.new.self (here c) is
     (put_through c.self.inside.kept (c.get_mut.follows.lender c.answer.new.self) c.args.self.now c.args.source
     c.answer.new.self _ c.self.view_is refl
     ((c.get_mut.follows.holds c.answer.new.self).3 (search rules))))
-    c.answer.ensures.flight
+    (rw c.place_at.ensures at c.answer.ensures.flight)
 
 pub returns-clause-slave : goal.returns-clause-slave
 returns-clause-slave c =
     let flight : c.in-Some.flight.now ≡ flight_of c.args.self.now c.args.source =
     ap (λ o. unwrap_or o idle) (sym (here c)) in
     subst (λ (f : Flight). OnOk c.answer.result (c.answer.new.slave
-    ≡ slave_by c.args.slave.now (effect_at_reply c.args.slave.now (asked f.turn)))) flight c.answer.ensures.slave
+    ≡ answering c.args.slave.now c.args.source (asked f.turn))) flight
+    (rw c.place_at.ensures at c.answer.ensures.slave)
 
 pub returns-clause-err : goal.returns-clause-err
 returns-clause-err c =

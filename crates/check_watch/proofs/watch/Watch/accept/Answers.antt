@@ -2,10 +2,10 @@
 use Rattle.std.proofs.Common.{rules, ◌≡◌, ◌<◌, length, Some, refl, length-set}
 use Rattle.check_beats.specs.State.{ask_of}
 use Rattle.check_flight.specs.Flight.Turn.{Asked}
-use Rattle.check_flight.specs.PortSlave.{answer_by, effect_at_acceptance, slave_by}
+use Rattle.check_flight.specs.PortSlave.{accepting, due_accepting}
 use Rattle.check_flight.specs.Side.{ask_ended, side_with, under_at}
 use Rattle.check_watch.specs.Past.{slave_at}
-use Rattle.check_watch.proofs.Served.{slaves_served, slave_found, on_both}
+use Rattle.check_watch.proofs.Served.{slave_found, on_both}
 use Rattle.check_watch.proofs.Sized.{same_shape, shape_tried, sized_by}
 use Rattle.check_watch.proofs.watch.Watch.accept.Goals as goal
 
@@ -32,12 +32,11 @@ returns-in-Master-clause-after c =
     let at : c.args.place.link ≡ m = rw c.in-Master.is at c.requires.at in
     let under = under_at c.self.inside.masters.links m in
     let ask = ask_of under.bus under.asking c.args.beat.now c.args.lanes.now in
-    let effect = effect_at_acceptance (slave_at slaves port) (Some ask) in
     on_both c.accept.result (λ side slave.
     let side_is : c.accept.new.self ≡ side_with c.self.inside.masters m (ask_ended under) c.args.place.wide
-    (record { turn = Asked m ask; due = answer_by port (slave_at slaves port) effect }) = rw (← found, ← at) side in
-    let slave_is : c.accept.new.slave ≡ slave_by (slave_at slaves port) effect = rw (← found, ← at) slave in
-    rw (← c.self.view_is, c.in-Master.is, side_is, slave_is, slaves_served slaves port effect) refl)
+    (record { turn = Asked m ask; due = due_accepting port (slave_at slaves port) (Some ask) }) = rw (← found, ← at) side in
+    let slave_is : c.accept.new.slave ≡ accepting (slave_at slaves port) c.args.place.wide (Some ask) = rw (← found, ← at) slave in
+    rw (← c.self.view_is, c.in-Master.is, side_is, slave_is) refl)
     c.accept.ensures.side c.accept.ensures.slave
 
 pub returns-in-Port-clause-after : goal.returns-in-Port-clause-after
@@ -51,10 +50,9 @@ returns-in-Port-clause-after c =
     let at : c.args.place.link ≡ m = rw c.in-Port.is at c.requires.at in
     let under = under_at c.self.inside.ports.links m in
     let ask = ask_of under.bus under.asking c.args.beat.now c.args.lanes.now in
-    let effect = effect_at_acceptance (slave_at slaves port) (Some ask) in
     on_both c.accept-in-Port.result (λ side slave.
     let side_is : c.accept-in-Port.new.self ≡ side_with c.self.inside.ports m (ask_ended under) c.args.place.wide
-    (record { turn = Asked m ask; due = answer_by port (slave_at slaves port) effect }) = rw (← found, ← at) side in
-    let slave_is : c.accept-in-Port.new.slave ≡ slave_by (slave_at slaves port) effect = rw (← found, ← at) slave in
-    rw (← c.self.view_is, c.in-Port.is, side_is, slave_is, slaves_served slaves port effect) refl)
+    (record { turn = Asked m ask; due = due_accepting port (slave_at slaves port) (Some ask) }) = rw (← found, ← at) side in
+    let slave_is : c.accept-in-Port.new.slave ≡ accepting (slave_at slaves port) c.args.place.wide (Some ask) = rw (← found, ← at) slave in
+    rw (← c.self.view_is, c.in-Port.is, side_is, slave_is) refl)
     c.accept-in-Port.ensures.side c.accept-in-Port.ensures.slave

@@ -1,0 +1,144 @@
+-- The laws, said on their own.
+use Rattle.std.specs.Prelude.{◌≡◌, ℕ, ◌+◌, ◌%◌, ◌^◌, ◌≤◌, true, false, List, [], ◌∷◌, ◌++◌, length, Some, All}
+use Rattle.tl_types.specs.Request.{Request}
+use Rattle.tl_ops.specs.declared.kind.Kind.TheVariants.{ClearRegs}
+use Rattle.check_memory.specs.Known.{IsBelow}
+use Rattle.check_memory.specs.Partial.{Partial, permits, AreWithin}
+use Rattle.check_memory.specs.Pattern.{Pattern, Fits}
+use Rattle.check_memory.specs.Slave.{slave_after, expected_of}
+use Rattle.check_memory.specs.declared.slave.Slave.{Slave}
+use Rattle.check_memory.specs.declared.slave.Slave.TheVariants.{Memory, Device}
+use Rattle.check_contests.specs.Writes.{in_window, may_write}
+use Rattle.check_contests.specs.Contests.{Accepted, due_of, slave_accepting, kept_accepting, kept_of, kept_answering}
+use Rattle.check_contests.specs.Moments.{Moment, Course, Truth, untouched, truth_accepting, truth_serving, truth_answering, truth_after, AreBytes, IsCarried, MayAllCome}
+use Rattle.check_contests.specs.Moments.Moment.{Accepts, TakesEffect, Answers}
+use Rattle.check_contests.specs.Moments.Course.{Idle, Waiting, Served}
+use Rattle.check_contests.specs.Below.{IsBelowTruth}
+
+-- ---- what is kept says no more than the truth
+
+-- at reset the memory that is kept is the true one, but for bytes that are unknown
+pub record IsMemoryAtReset (ours truth : Partial) : Type 0 where
+  pub same : ours ≡ record truth { cells = ours.cells }
+  pub below : IsBelow ours.cells truth.cells
+  pub within : AreWithin truth.ranges (length truth.cells)
+  pub bytes : truth.kind ≡ ClearRegs → AreBytes truth.cells
+
+abbrev pub IsBelowAtReset : Slave → Slave → Type 0
+IsBelowAtReset (Memory ours) (Memory truth) = IsMemoryAtReset ours truth
+IsBelowAtReset (Memory ours) Device = ⊥
+IsBelowAtReset Device (Memory truth) = ⊥
+IsBelowAtReset Device Device = Unit {0}
+
+abbrev pub ResetIsBelow : Type 0
+ResetIsBelow = (ours truth : Slave) → IsBelowAtReset ours truth → IsBelowTruth ours [] (untouched truth)
+
+-- it stays so, whichever request is accepted, takes effect or is answered
+abbrev pub AcceptingKeeps : Type 0
+AcceptingKeeps =
+    (ours : Slave) (kept : List Accepted) (truth : Truth) (wide index : ℕ) (ask : Request)
+    → IsBelowTruth ours kept truth → truth.course wide ≡ Idle → IsCarried truth.slave ask
+    → IsBelowTruth (slave_accepting ours kept ask) (kept_accepting ours kept wide index ask)
+    (truth_accepting truth wide ask)
+
+abbrev pub TakingEffectKeeps : Type 0
+TakingEffectKeeps =
+    (ours : Slave) (kept : List Accepted) (truth : Truth) (wide : ℕ) (ask : Request)
+    → IsBelowTruth ours kept truth → truth.course wide ≡ Waiting ask
+    → IsBelowTruth ours kept (truth_serving truth wide ask)
+
+abbrev pub AnsweringKeeps : Type 0
+AnsweringKeeps =
+    (ours : Slave) (kept : List Accepted) (truth : Truth) (wide : ℕ) (ask : Request) (reply : Pattern)
+    → IsBelowTruth ours kept truth → truth.course wide ≡ Served ask reply
+    → IsBelowTruth ours (kept_answering kept wide) (truth_answering truth wide)
+
+-- a request that is answered is kept, and what is due to it says no more than what was expected as it took effect
+pub record IsDueBelow (kept : List Accepted) (wide : ℕ) (ask : Request) (reply : Pattern) : Type 0 where
+  pub entry : Accepted
+  pub kept_as : kept_of kept wide ≡ Some entry
+  pub ask_is : entry.ask ≡ ask
+  pub fits : Fits entry.due reply
+
+abbrev pub AnswerIsDue : Type 0
+AnswerIsDue =
+    (ours : Slave) (kept : List Accepted) (truth : Truth) (wide : ℕ) (ask : Request) (reply : Pattern)
+    → IsBelowTruth ours kept truth → truth.course wide ≡ Served ask reply → IsDueBelow kept wide ask reply
+
+-- so each reply that fits what was expected of the true slave fits what is due
+abbrev pub FitsThrough : Type 0
+FitsThrough = (due reply captured : Pattern) → Fits due reply → Fits reply captured → Fits due captured
+
+-- ---- the same of whole runs
+
+-- what is kept of a port: its slave, the requests that are accepted and not answered, and how many were accepted
+pub record Judged : Type 0 where
+  pub slave : Slave
+  pub kept : List Accepted
+  pub served : ℕ
+
+abbrev pub judged_after : Judged → Moment → Judged
+judged_after judged (Accepts wide ask) = record {
+  slave = slave_accepting judged.slave judged.kept ask;
+  kept = kept_accepting judged.slave judged.kept wide judged.served ask;
+  served = (judged.served + 1) % 2 ^ 64;
+}
+judged_after judged (TakesEffect wide) = judged
+judged_after judged (Answers wide) = record judged { kept = kept_answering judged.kept wide }
+
+-- what is due to a request that is answered now says no more than what was expected of the true slave
+abbrev pub IsAnswerBelow : Judged → ℕ → Course → Type 0
+IsAnswerBelow judged wide Idle = ⊥
+IsAnswerBelow judged wide (Waiting ask) = ⊥
+IsAnswerBelow judged wide (Served ask reply) = IsDueBelow judged.kept wide ask reply
+
+abbrev pub IsMomentBelow : Judged → Truth → Moment → Type 0
+IsMomentBelow judged truth (Accepts wide ask) = Unit {0}
+IsMomentBelow judged truth (TakesEffect wide) = Unit {0}
+IsMomentBelow judged truth (Answers wide) = IsAnswerBelow judged wide (truth.course wide)
+
+abbrev pub AreAllBelow : Judged → Truth → List Moment → Type 0
+AreAllBelow judged truth [] = Unit {0}
+AreAllBelow judged truth (moment ∷ moments) =
+    IsMomentBelow judged truth moment × AreAllBelow (judged_after judged moment) (truth_after truth moment) moments
+
+-- whenever requests take effect at the true slave, each as it is between its acceptance and its answer, what is due to
+-- each that is answered says no more than what was expected of that slave
+abbrev pub AnyOrderIsBelow : Type 0
+AnyOrderIsBelow =
+    (ours truth : Slave) (moments : List Moment) → IsBelowAtReset ours truth → MayAllCome (untouched truth) moments
+    → AreAllBelow (record { slave = ours; kept = []; served = 0 }) (untouched truth) moments
+
+-- ---- nothing is lost without need
+
+-- a request is accepted as one that takes effect at once: nothing is made unknown
+pub record IsAsServed (slave : Slave) (kept : List Accepted) (wide index : ℕ) (ask : Request) : Type 0 where
+  pub due : due_of slave kept ask ≡ expected_of slave ask
+  pub leaves : slave_accepting slave kept ask ≡ slave_after slave ask
+  pub keeps : kept_accepting slave kept wide index ask
+      ≡ kept ++ record { wide = wide; ask = ask; due = expected_of slave ask; index = index } ∷ []
+
+-- two requests have no byte in common that one of them may write
+abbrev pub AreUncontested : Partial → Request → Request → Type 0
+AreUncontested memory ask other =
+    (address : ℕ) → in_window ask address ≡ true → in_window other address ≡ true
+    → (may_write memory ask address ≡ false) × (may_write memory other address ≡ false)
+
+-- what is due to one that is kept has no more bytes than its window
+pub record IsBeside (memory : Partial) (ask : Request) (entry : Accepted) : Type 0 where
+  pub uncontested : AreUncontested memory ask entry.ask
+  pub counted : length entry.due.bytes ≤ 2 ^ entry.ask.size
+
+abbrev pub UncontestedIsAsServed : Type 0
+UncontestedIsAsServed =
+    (memory : Partial) (kept : List Accepted) (wide index : ℕ) (ask : Request)
+    → All (λ (entry : Accepted). IsBeside memory ask entry) kept → IsAsServed (Memory memory) kept wide index ask
+
+-- a request that is denied makes nothing unknown, and of a device nothing is kept that could be
+abbrev pub DeniedIsAsServed : Type 0
+DeniedIsAsServed =
+    (memory : Partial) (kept : List Accepted) (wide index : ℕ) (ask : Request) → permits memory ask ≡ false
+    → IsAsServed (Memory memory) kept wide index ask
+
+abbrev pub DeviceIsAsServed : Type 0
+DeviceIsAsServed = (kept : List Accepted) (wide index : ℕ) (ask : Request) → IsAsServed Device kept wide index ask

@@ -1,0 +1,5 @@
+pub mod Writes
+pub mod Contests
+pub mod Moments
+pub mod Below
+pub mod Laws

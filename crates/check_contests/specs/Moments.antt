@@ -1,0 +1,106 @@
+-- The moments of a port, and a slave of which each request takes effect at one of them: after the request is accepted,
+-- and before its reply begins. It is this project's own.
+use Rattle.std.specs.Prelude.{◌≡◌, ℕ, ◌<◌, if◌then◌else◌, ◌==◌, List, [], ◌∷◌, Option, Some, None, slice_index_or}
+use Rattle.tl_types.specs.Request.{Request}
+use Rattle.tl_ops.specs.declared.kind.Kind.TheVariants.{ClearRegs}
+use Rattle.check_memory.specs.Laws.{IsLawful}
+use Rattle.check_memory.specs.Pattern.{Pattern}
+use Rattle.check_memory.specs.Slave.{slave_after, expected_of}
+use Rattle.check_memory.specs.declared.slave.Slave.{Slave}
+use Rattle.check_memory.specs.declared.slave.Slave.TheVariants.{Memory, Device}
+
+-- a request of a wide source is accepted, it takes effect, or its reply begins
+pub data Moment : Type 0 where
+  Accepts : ℕ → Request → Moment
+  TakesEffect : ℕ → Moment
+  Answers : ℕ → Moment
+
+-- ---- a slave with the requests that it has accepted
+
+-- the request of a wide source: there is none, it has not taken effect yet, or it has, and this was expected of the slave
+-- then
+pub data Course : Type 0 where
+  Idle : Course
+  Waiting : Request → Course
+  Served : Request → Pattern → Course
+
+-- the request, if there is one
+abbrev pub asked_of : Course → Option Request
+asked_of Idle = None
+asked_of (Waiting ask) = Some ask
+asked_of (Served ask reply) = Some ask
+
+-- a slave, and the request of each wide source
+pub record Truth : Type 0 where
+  pub slave : Slave
+  pub course : ℕ → Course
+
+-- a slave before any request
+abbrev pub untouched : Slave → Truth
+untouched slave = record { slave = slave; course = λ _. Idle }
+
+-- ---- what a moment makes of it
+
+-- the courses, with another one of a wide source
+abbrev pub course_with : (ℕ → Course) → ℕ → Course → ℕ → Course
+course_with course wide next other = if other == wide then next else course other
+
+abbrev pub truth_accepting : Truth → ℕ → Request → Truth
+truth_accepting truth wide ask = record truth { course = course_with truth.course wide (Waiting ask) }
+
+abbrev pub truth_serving : Truth → ℕ → Request → Truth
+truth_serving truth wide ask = record {
+  slave = slave_after truth.slave ask;
+  course = course_with truth.course wide (Served ask (expected_of truth.slave ask));
+}
+
+abbrev pub truth_answering : Truth → ℕ → Truth
+truth_answering truth wide = record truth { course = course_with truth.course wide Idle }
+
+-- the request of a wide source takes effect, if it waits
+abbrev pub truth_taking : Truth → ℕ → Course → Truth
+truth_taking truth wide Idle = truth
+truth_taking truth wide (Waiting ask) = truth_serving truth wide ask
+truth_taking truth wide (Served ask reply) = truth
+
+abbrev pub truth_after : Truth → Moment → Truth
+truth_after truth (Accepts wide ask) = truth_accepting truth wide ask
+truth_after truth (TakesEffect wide) = truth_taking truth wide (truth.course wide)
+truth_after truth (Answers wide) = truth_answering truth wide
+
+-- ---- which moments may come
+
+-- each byte that is known is below 256
+abbrev pub AreBytes : List (Option ℕ) → Type 0
+AreBytes cells = (place byte : ℕ) → slice_index_or cells place None ≡ Some byte → byte < 256
+
+-- the same where it matters: at a memory where writing a one clears
+abbrev pub AreBytesAt : Slave → List (Option ℕ) → Type 0
+AreBytesAt (Memory memory) cells = memory.kind ≡ ClearRegs → AreBytes cells
+AreBytesAt Device cells = Unit {0}
+
+-- a request as messages carry it to this slave
+pub record IsCarried (slave : Slave) (ask : Request) : Type 0 where
+  pub lawful : IsLawful ask
+  pub bytes : AreBytesAt slave ask.bytes
+
+abbrev pub IsWaiting : Course → Type 0
+IsWaiting Idle = ⊥
+IsWaiting (Waiting ask) = Unit {0}
+IsWaiting (Served ask reply) = ⊥
+
+abbrev pub IsServed : Course → Type 0
+IsServed Idle = ⊥
+IsServed (Waiting ask) = ⊥
+IsServed (Served ask reply) = Unit {0}
+
+-- a wide source has one request at a time, which takes effect once, between its acceptance and its answer
+abbrev pub MayCome : Truth → Moment → Type 0
+MayCome truth (Accepts wide ask) = (truth.course wide ≡ Idle) × IsCarried truth.slave ask
+MayCome truth (TakesEffect wide) = IsWaiting (truth.course wide)
+MayCome truth (Answers wide) = IsServed (truth.course wide)
+
+-- moments that may come one after the other
+abbrev pub MayAllCome : Truth → List Moment → Type 0
+MayAllCome truth [] = Unit {0}
+MayAllCome truth (moment ∷ moments) = MayCome truth moment × MayAllCome (truth_after truth moment) moments

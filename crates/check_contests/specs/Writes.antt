@@ -1,0 +1,67 @@
+-- Which bytes a request may write, and which bytes two requests leave unknown whose order nobody knows. What a request
+-- writes is the chapter "TL-UL and TL-UH operations" of the TileLink specification; what is unknown then is this
+-- project's own.
+use Rattle.std.specs.Prelude.{ℕ, suc, ◌+◌, ◌-◌, ◌^◌, ◌≤◌, Bool, false, ◌&&◌, ◌||◌, nat_le, nat_lt, if◌then◌else◌, List, [], ◌∷◌, Option, None, is_some, slice_index_or}
+use Rattle.std.specs.List.{list_any, range_with_len}
+use Rattle.tl_types.specs.Request.{Request}
+use Rattle.tl_types.specs.declared.limits.TheConstants.{MAX_BYTES}
+use Rattle.tl_types.specs.declared.operation.AskOp.{AskOp}
+use Rattle.tl_types.specs.declared.operation.AskOp.TheVariants.{PutFull, PutPartial, Arithmetic, Logical, Get, Intent}
+use Rattle.check_memory.specs.Cells.{is_atomic}
+use Rattle.check_memory.specs.Partial.{Partial, permits}
+
+-- ---- one request
+
+-- whether an address is one of a request's window
+abbrev pub in_window : Request → ℕ → Bool
+in_window ask address = nat_le ask.address address && nat_lt address (ask.address + 2 ^ ask.size)
+
+-- whether a request has a byte for an address
+abbrev pub gives : Request → ℕ → Bool
+gives ask address = in_window ask address && is_some (slice_index_or ask.bytes (address - ask.address) None)
+
+-- whether a request of this operation writes at an address where it is legal: a put where it gives a byte, and an atomic
+-- in all of its window
+abbrev pub writes : AskOp → Request → ℕ → Bool
+writes PutFull ask address = gives ask address
+writes PutPartial ask address = gives ask address
+writes (Arithmetic _) ask address = in_window ask address
+writes (Logical _) ask address = in_window ask address
+writes Get ask address = false
+writes (Intent _) ask address = false
+
+-- whether a request may write a byte of a memory
+abbrev pub may_write : Partial → Request → ℕ → Bool
+may_write memory ask address = permits memory ask && writes ask.op ask address
+
+-- the same of an atomic alone
+abbrev pub combines : Partial → Request → ℕ → Bool
+combines memory ask address = is_atomic ask.op && may_write memory ask address
+
+-- ---- two requests
+
+-- whether two requests meet: there is a byte that both may write
+abbrev pub meets : Partial → Request → Request → Bool
+meets memory ask other =
+    list_any (λ address. may_write memory ask address && may_write memory other address)
+    (range_with_len ask.address (2 ^ ask.size))
+
+-- whether two requests leave a byte unknown, since nobody knows which takes effect first: they meet, and both may write
+-- it, or an atomic of them may
+abbrev pub leave_unknown : Partial → Request → Request → ℕ → Bool
+leave_unknown memory ask other address =
+    meets memory ask other
+    && ((may_write memory ask address && may_write memory other address)
+    || combines memory ask address || combines memory other address)
+
+-- the window of a request lies in the block of this first address: as many bytes as the largest message has
+pub record LiesIn (ask : Request) (block : ℕ) : Type 0 where
+  pub from : block ≤ ask.address
+  pub to : ask.address + 2 ^ ask.size ≤ block + MAX_BYTES
+
+-- ---- what is unknown
+
+-- cells, of which those are unknown whose places a test names
+abbrev pub unknown_where : (ℕ → Bool) → List (Option ℕ) → List (Option ℕ)
+unknown_where test [] = []
+unknown_where test (cell ∷ cells) = (if test 0 then None else cell) ∷ unknown_where (λ place. test (suc place)) cells

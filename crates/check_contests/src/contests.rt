@@ -1,0 +1,193 @@
+//! The requests that a port has accepted and not yet answered, where nobody knows in which order they take effect.
+ghost use Rattle.std.specs.Prelude.{◌≡◌, ℕ, ◌<◌, [], length, slice_get, map, Some, None, true, IfOk, IfSome, OnOk, OnErr, option_map};
+ghost use Rattle.std.specs.List.{remove};
+ghost use Rattle.check_memory.specs.Pattern.{pattern};
+ghost use Rattle.check_memory.specs.declared.slave.Slave.TheVariants.{Memory as AMemory};
+ghost use Rattle.check_contests.specs.Contests.{due_beside, due_of, entry_accepting, kept_accepting, kept_answering, kept_of, memory_accepting, one_may_write, slave_accepting};
+
+use crate::accepted::Accepted;
+use crate::due::hide;
+use crate::flags::contested;
+use check_cells::Pattern;
+use check_memory::{Memory, Slave};
+use std::alloc::{AllocError, Global};
+use std::marker::Model;
+use tl_types::Ask;
+
+/// The requests that are accepted and not yet answered, in the order in which they were accepted.
+#[derive(Drop)]
+pub struct Contests {
+    kept: Vec<Accepted>,
+}
+
+impl Model for Contests {
+    ghost use Rattle.std.specs.Prelude.{List};
+    ghost use Rattle.check_contests.specs.declared.accepted.Accepted.{Accepted};
+
+    ghost Value = { List Accepted };
+
+    ghost view = { λ c. c.kept.items };
+}
+
+/// Makes each byte of what is due to a request unknown that one of those kept may write.
+fn hide_each(memory: &Memory, kept: &[Accepted], ask: &Ask, due: &mut Pattern)
+    ensures { due.new ≡ due_beside memory.now ask.now (one_may_write memory.now kept.now) due.old }
+{
+    for entry in kept {
+        hide(memory, ask, &entry.ask, due);
+    }
+}
+
+/// Serves a request beside those kept: the memory is the one after it, without the bytes that are contested, and what is
+/// expected of it stands in the place of another pattern. Where there is no memory for a page, nothing is changed.
+fn serve_contested(
+    alloc: Global,
+    memory: &mut Memory,
+    kept: &[Accepted],
+    ask: &Ask,
+    due: &mut Pattern,
+) -> Result<(), AllocError>
+    ensures after { IfOk result (λ _. memory.new ≡ memory_accepting memory.old kept.now ask.now) }
+    ensures pattern { IfOk result (λ _. due.new ≡ pattern memory.old ask.now) }
+    ensures unchanged { OnErr result (memory.new ≡ memory.old) }
+    ensures due_unchanged { OnErr result (due.new ≡ due.old) }
+{
+    if ask.op().carries_bytes() && memory.permits(ask) {
+        let flags = contested(memory, kept, ask);
+        memory.serve_and_forget(alloc, ask, &flags, due)
+    } else {
+        memory.serve_into(alloc, ask, due)
+    }
+}
+
+/// Serves a request beside those kept, as `serve_contested` does, and makes each byte of what is due unknown that one of
+/// those kept may write.
+fn serve_beside(
+    alloc: Global,
+    memory: &mut Memory,
+    kept: &[Accepted],
+    ask: &Ask,
+    due: &mut Pattern,
+) -> Result<(), AllocError>
+    ensures after { IfOk result (λ _. memory.new ≡ memory_accepting memory.old kept.now ask.now) }
+    ensures due { IfOk result (λ _. due.new ≡ due_of (AMemory memory.old) kept.now ask.now) }
+    ensures unchanged { OnErr result (memory.new ≡ memory.old) }
+{
+    serve_contested(alloc, memory, kept, ask, due)?;
+    hide_each(memory, kept, ask, due);
+    Ok(())
+}
+
+/// Serves a request beside those kept. Where there is no memory for a page, the slave is not changed.
+fn serve(
+    alloc: Global,
+    slave: &mut Slave,
+    kept: &[Accepted],
+    ask: &Ask,
+    due: &mut Pattern,
+) -> Result<(), AllocError>
+    ensures after { IfOk result (λ _. slave.new ≡ slave_accepting slave.old kept.now ask.now) }
+    ensures due { IfOk result (λ _. due.new ≡ due_of slave.old kept.now ask.now) }
+    ensures unchanged { OnErr result (slave.new ≡ slave.old) }
+{
+    match slave {
+        Slave::Memory(memory) => {
+            if kept.is_empty() {
+                memory.serve_into(alloc, ask, due)
+            } else {
+                serve_beside(alloc, memory, kept, ask, due)
+            }
+        }
+        Slave::Device => {
+            due.expect_any(ask);
+            Ok(())
+        }
+    }
+}
+
+/// Makes each byte unknown of what is due to those kept that a new request may write.
+fn hide_new(slave: &Slave, kept: &mut [Accepted], ask: &Ask)
+    ensures { kept.new ≡ map (entry_accepting slave.now ask.now) kept.old }
+{
+    if let Slave::Memory(memory) = slave {
+        for entry in kept.iter_mut() {
+            hide(memory, &entry.ask, ask, &mut entry.due);
+        }
+    }
+}
+
+/// The place of the one kept of a wide source.
+fn place_of(kept: &[Accepted], wide: usize) -> Option<usize>
+    ensures none { result ≡ None → kept_of kept.now wide ≡ None }
+    ensures rest_same { result ≡ None → kept_answering kept.now wide ≡ kept.now }
+    ensures here { IfSome result (λ place. place < length kept.now) }
+    ensures one { IfSome result (λ place. kept_of kept.now wide ≡ slice_get kept.now place) }
+    ensures rest { IfSome result (λ place. kept_answering kept.now wide ≡ remove kept.now place) }
+{
+    for (place, entry) in kept.iter().enumerate() {
+        if entry.wide == wide {
+            return Some(place);
+        }
+    }
+    None
+}
+
+impl Contests {
+    /// None.
+    pub fn new(alloc: Global) -> Contests
+        ensures { result ≡ [] }
+    {
+        Contests {
+            kept: Vec::new(alloc),
+        }
+    }
+
+    /// A slave accepts a request of a wide source, with its place in the port's list. Where memory is refused, nothing is
+    /// changed.
+    pub fn accept(
+        &mut self,
+        alloc: Global,
+        slave: &mut Slave,
+        wide: usize,
+        index: usize,
+        ask: &Ask,
+    ) -> Result<(), AllocError>
+        ensures kept { OnOk result (self.new ≡ kept_accepting slave.old self.old wide index ask.now) }
+        ensures slave { OnOk result (slave.new ≡ slave_accepting slave.old self.old ask.now) }
+        ensures unchanged { OnErr result (self.new ≡ self.old) }
+        ensures slave_unchanged { OnErr result (slave.new ≡ slave.old) }
+    {
+        self.kept.reserve(1)?;
+        let mut due = Pattern::blank();
+        serve(alloc, slave, self.kept.as_slice(), ask, &mut due)?;
+        hide_new(slave, self.kept.as_mut_slice(), ask);
+        self.kept.push_reserved(Accepted {
+            wide,
+            ask: ask.copy(),
+            due,
+            index,
+        });
+        Ok(())
+    }
+
+    /// The request of a wide source, with what its reply has to fit.
+    pub fn due(&self, wide: usize) -> Option<&Accepted>
+        ensures { option_map (λ entry. entry.now) result ≡ kept_of self.now wide }
+    {
+        match place_of(self.kept.as_slice(), wide) {
+            Some(place) => Some(&self.kept[place]),
+            None => None,
+        }
+    }
+
+    /// The request of a wide source is answered: it is taken out.
+    pub fn answer(&mut self, wide: usize) -> Option<Accepted>
+        ensures taken { result ≡ kept_of self.old wide }
+        ensures rest { self.new ≡ kept_answering self.old wide }
+    {
+        match place_of(self.kept.as_slice(), wide) {
+            Some(place) => Some(self.kept.remove(place)),
+            None => None,
+        }
+    }
+}

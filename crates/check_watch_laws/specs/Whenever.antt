@@ -1,0 +1,62 @@
+-- A port's slave that does requests in an order that nobody knows: each takes effect at some moment after it is accepted and
+-- before its reply begins (`Moments.antt` of `check_contests`). It is this project's own.
+use Rattle.std.specs.Prelude.{◌≡◌, ℕ, List, [], ◌∷◌, ◌++◌}
+use Rattle.tl_types.specs.Request.{Request}
+use Rattle.check_cells.specs.Pattern.{Pattern}
+use Rattle.check_contests.specs.Laws.{IsBelowAtReset}
+use Rattle.check_contests.specs.Moments.{Moment as SlaveMoment, Course, Truth, untouched, truth_after, MayAllCome}
+use Rattle.check_contests.specs.Moments.Moment.{Accepts as SlaveAccepts, TakesEffect, Answers as SlaveAnswers}
+use Rattle.check_contests.specs.Moments.Course.{Idle, Waiting, Served}
+use Rattle.check_memory.specs.declared.slave.Slave.{Slave}
+use Rattle.check_watch.specs.Plan.{Plan, Sighting}
+use Rattle.check_watch_laws.specs.Memories.{reset_of, AreEntries, exchanges_at, entries_of}
+use Rattle.check_watch_laws.specs.Moments.{Moment, moments}
+use Rattle.check_watch_laws.specs.Moments.Act.{Accepts, Answers}
+
+-- ---- what is seen of such a slave
+
+-- that a request is accepted, and that one is answered
+abbrev pub seen_answer : ℕ → Course → List Moment
+seen_answer wide Idle = []
+seen_answer wide (Waiting ask) = []
+seen_answer wide (Served ask reply) = record { act = Answers; wide = wide; ask = ask } ∷ []
+
+abbrev pub seen_then : Truth → SlaveMoment → List Moment
+seen_then truth (SlaveAccepts wide ask) = record { act = Accepts; wide = wide; ask = ask } ∷ []
+seen_then truth (TakesEffect wide) = []
+seen_then truth (SlaveAnswers wide) = seen_answer wide (truth.course wide)
+
+-- the moments that are seen among all of these
+abbrev pub seen_in : Truth → List SlaveMoment → List Moment
+seen_in truth [] = []
+seen_in truth (moment ∷ later) = seen_then truth moment ++ seen_in (truth_after truth moment) later
+
+-- ---- what it replies
+
+-- a request that is answered, with what was expected of the slave as it took effect
+abbrev pub answer_given : ℕ → Course → List (Request × Pattern)
+answer_given wide Idle = []
+answer_given wide (Waiting ask) = []
+answer_given wide (Served ask reply) = (record ask { source = wide }, record reply { source = wide }) ∷ []
+
+abbrev pub given_then : Truth → SlaveMoment → List (Request × Pattern)
+given_then truth (SlaveAccepts wide ask) = []
+given_then truth (TakesEffect wide) = []
+given_then truth (SlaveAnswers wide) = answer_given wide (truth.course wide)
+
+-- those that are answered among all of these moments, in order
+abbrev pub given_in : Truth → List SlaveMoment → List (Request × Pattern)
+given_in truth [] = []
+given_in truth (moment ∷ later) = given_then truth moment ++ given_in (truth_after truth moment) later
+
+-- ---- so it is at a port
+
+-- a slave, of which the judge knows no more at reset than what is so, did the port's requests at these moments; what is
+-- seen of them is what was seen at the port, and what was captured of each source fits its replies
+pub record IsDoneWhenever (plan : Plan) (past : List Sighting) (port : ℕ) (slave : Slave) (all : List SlaveMoment)
+    : Type 0 where
+  pub reset : IsBelowAtReset (reset_of plan port).kept slave
+  pub may_come : MayAllCome (untouched slave) all
+  pub seen : seen_in (untouched slave) all ≡ moments plan port past
+  pub captured : (wide : ℕ)
+      → AreEntries wide (exchanges_at plan port wide past) (entries_of wide (given_in (untouched slave) all))
