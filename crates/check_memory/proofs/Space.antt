@@ -3,7 +3,7 @@ use Rattle.std.proofs.Common.{◌≡◌, ◌∙◌, ◌⊎◌, inl, inr, ⊎_eli
 use Rattle.std.proofs.lemmas.List.{append_assoc, take_at, drop_at, drop-drop, ext_get_or, length-take-le, length-drop, length-append, get_or-take, get_or-drop, get_or_append_left, get_or-append_right, get_or-replicate}
 use Rattle.std.proofs.lemmas.List.FromFn.{length-map-range_with_len, get_or-map-range_with_len}
 use Rattle.std.proofs.lemmas.Bool.{cases_lt, cases_eq}
-use Rattle.check_memory.specs.declared.page.Slot.{Slot}
+use Rattle.check_memory.specs.Paged.{Slot}
 use Rattle.check_memory.specs.Known.{replaced}
 use Rattle.check_memory.specs.Place.{tabulate, fill_of}
 use Rattle.check_memory.specs.Paged.{content, IsAt}

@@ -7,18 +7,19 @@
 //! device, which keeps nothing. A table of sizes is within the rules, or makes no [`Sizes`].
 //!
 //! `laws` says that a memory that is wholly known is the sequential memory of `tl_ops`, and that the true reply fits
-//! whatever the unknown bytes are. The bytes stand in pages (`page`), which are made as they are written.
+//! whatever the unknown bytes are. The bytes stand in pages (`pages`), which are made as they are written.
 //!
 //! Read on in `docs/MODEL.md`, "The judge's memory".
 #![tactic(auto)]
 
 pub mod laws;
 mod memory;
-mod page;
 mod pages;
 mod range;
+mod sheet;
 mod sizes;
 mod slave;
+mod slots;
 
 pub use check_cells::{Cells, Pattern};
 pub use memory::Memory;

@@ -7,9 +7,9 @@ ghost use Rattle.check_memory.specs.Partial.{permits, takes_bytes, after_partial
 ghost use Rattle.check_memory.specs.Pattern.{pattern, shown_cells};
 ghost use Rattle.check_memory.specs.Place.{fill_of, tabulate};
 
-use crate::page::PAGE_BYTES;
 use crate::pages::Pages;
 use crate::range::Range;
+use crate::sheet::PAGE_BYTES;
 use crate::sizes::{SizeTable, Sizes};
 use check_cells::{Cells, Pattern};
 use std::alloc::{AllocError, Global};

@@ -7,7 +7,8 @@ ghost use Rattle.check_memory.specs.Cells.{new_cells, is_atomic, forgotten};
 ghost use Rattle.check_memory.specs.Pattern.{shown_cells};
 ghost use Rattle.check_memory.specs.Paged.{seen, IsAt};
 
-use crate::page::{PAGE_BYTES, Page, Slot};
+use crate::sheet::PAGE_BYTES;
+use crate::slots::Slots;
 use check_cells::Cells;
 use std::alloc::{AllocError, Global};
 use std::collections::HashMap;
@@ -21,11 +22,10 @@ use tl_types::{Ask, MAX_BYTES, WORD_BYTES};
 /// from the first as their numbers do; an index knows the places of all others.
 #[derive(Drop)]
 pub struct Pages {
-    slots: Vec<Slot>,
+    slots: Slots,
     first: u64,
     run: usize,
     index: HashMap<u64, usize>,
-    known: bool,
 }
 
 impl Model for Pages {
@@ -35,9 +35,9 @@ impl Model for Pages {
 
     ghost Value = { Paged };
 
-    ghost view = { λ p. record { slots = p.slots.items; known = p.known } };
+    ghost view = { λ p. p.slots };
 
-    ghost invariant = { λ p. AreIndexed p.slots.items p.first p.run (get nat_eq p.index) };
+    ghost invariant = { λ p. AreIndexed p.slots.slots p.first p.run (get nat_eq p.index) };
 }
 
 impl Pages {
@@ -46,11 +46,10 @@ impl Pages {
         ensures { result ≡ record { slots = []; known = known } }
     {
         Pages {
-            slots: Vec::new(alloc),
+            slots: Slots::new(alloc, known),
             first: 0,
             run: 0,
             index: HashMap::new(alloc),
-            known,
         }
     }
 
@@ -90,20 +89,21 @@ impl Pages {
         ensures same { seen self.new ≡ seen self.old }
         ensures at { IfOk result (λ at. IsAt self.new.slots number at) }
     {
-        let page = Page::new(alloc, self.known)?;
         let at = self.slots.len();
-        self.slots.push(Slot { number, page })?;
         if at == 0 {
+            self.slots.add(alloc, number)?;
             self.first = number;
             self.run = 1;
             return Ok(at);
         }
         if at == self.run && self.first <= number && number - self.first == at as u64 {
+            self.slots.add(alloc, number)?;
             self.run += 1;
             return Ok(at);
         }
-        if let Err(_) = self.index.insert(number, at) {
-            self.slots.pop();
+        self.index.insert(number, at)?;
+        if let Err(_) = self.slots.add(alloc, number) {
+            self.index.remove(&number);
             return Err(AllocError);
         }
         Ok(at)
@@ -118,11 +118,10 @@ impl Pages {
     {
         match self.find(address / PAGE_BYTES as u64) {
             Some(at) => {
-                let slot = &self.slots[at];
-                slot.page
-                    .read((address % PAGE_BYTES as u64) as usize, width, cells);
+                let start = (address % PAGE_BYTES as u64) as usize;
+                self.slots.read(at, start, width, cells);
             }
-            None => cells.fill(self.known, width),
+            None => cells.fill(self.slots.known(), width),
         }
     }
 
@@ -141,8 +140,7 @@ impl Pages {
         ensures at { IsAt self.new.slots (ask.now.address / PAGE_BYTES) at }
     {
         let start = (ask.address() % PAGE_BYTES as u64) as usize;
-        let slot = &mut self.slots[at];
-        slot.page.serve(kind, start, ask, cells);
+        self.slots.serve(at, kind, start, ask, cells);
     }
 
     /// Makes the bytes that are flagged unknown, from an address on, in the page at a place.
@@ -152,8 +150,7 @@ impl Pages {
         ensures { seen self.new ≡ forgotten flags.now address (seen self.old) }
     {
         let start = (address % PAGE_BYTES as u64) as usize;
-        let slot = &mut self.slots[at];
-        slot.page.forget(start, flags);
+        self.slots.forget(at, start, flags);
     }
 
     /// Writes bytes from an address on, in the page at a place.
@@ -163,7 +160,6 @@ impl Pages {
         ensures { seen self.new ≡ replaced (seen self.old) address (known bytes.now) }
     {
         let start = (address % PAGE_BYTES as u64) as usize;
-        let slot = &mut self.slots[at];
-        slot.page.load(start, bytes);
+        self.slots.load(at, start, bytes);
     }
 }

@@ -1,43 +1,48 @@
-use Rattle.std.proofs.Common.{◌≡◌, ◌∙◌, ◌+◌, ◌/◌, ◌%◌, ◌≤◌, ◌^◌, length, slice_get, Some, refl, ap, arith, nat_eq}
+use Rattle.std.proofs.Common.{◌≡◌, ◌∙◌, ◌+◌, ◌/◌, ◌%◌, ◌≤◌, ◌^◌, length, Some, get_or, refl, sym, ap, subst, arith, nat_eq}
 use Rattle.std.specs.HashMap.{get}
-use Rattle.check_memory.specs.declared.page.Slot.{Slot}
 use Rattle.std.proofs.lemmas.List.{length-map}
 use Rattle.check_memory.specs.Known.{known, replaced}
-use Rattle.check_memory.specs.Paged.{seen, IsAt}
-use Rattle.check_memory.proofs.Slots.{slot_at, paged_at, page_changed, indexed_kept}
+use Rattle.check_memory.specs.Paged.{Slot, Paged, blank_slot, seen, IsAt, AreIndexed}
+use Rattle.check_memory.proofs.PagePlaces.{slot_here, at_within, paged_at, page_changed, indexed_kept}
+use Rattle.check_memory.proofs.PageCells.{length-replaced}
 use Rattle.check_memory.proofs.pages.Pages.load.Goals as goal
 
--- the page that the address names
-here : (c : goal.After-self-1)
-    → (slice_get c.self.inside.slots.items c.args.at ≡ Some c.index_mut-slot.result.now)
-    × (c.index_mut-slot.result.now.number ≡ c.args.address / 256)
-here c =
-    let found : IsAt c.self.inside.slots.items (c.args.address / 256) c.args.at =
+pub load-requires-clause-at : goal.load-requires-clause-at
+load-requires-clause-at c =
+    let found : IsAt c.self.inside.slots.slots (c.args.address / 256) c.args.at =
     rw (← c.self.view_is) at c.requires.at in
-    slot_at c.self.inside.slots.items c.args.at
-    (c.args.address / 256) c.index_mut-slot.result.now found c.index_mut-slot.ensures.value
+    at_within c.self.inside.slots.slots c.args.at (c.args.address / 256) found
 
 pub invariant_of-self : goal.invariant_of-self
 invariant_of-self c =
-    let slots = c.self.inside.slots.items in
-    let slot = c.index_mut-slot.result.now in
+    let slots = c.self.inside.slots.slots in
+    let slot = get_or slots c.args.at blank_slot in
     let place = get nat_eq c.self.inside.index in
-    let whole : length slot.page ≡ 256 = paged_at slots c.args.at slot c.self.invariant.distinct.paged (here c).0 in
-    indexed_kept slots c.self.inside.first c.self.inside.run place c.args.at slot
-    (record { number = slot.number; page = c.load.new.self }) c.self.invariant (here c).0 refl
-    (c.load.ensures.len ∙ whole)
+    let start = c.args.address % 256 in
+    let cells = known c.args.bytes.now in
+    let found : IsAt slots (c.args.address / 256) c.args.at = rw (← c.self.view_is) at c.requires.at in
+    let here = slot_here slots c.args.at (c.args.address / 256) found in
+    let whole : length slot.page ≡ 256 = paged_at slots c.args.at slot c.self.invariant.distinct.paged here.0 in
+    let long : length cells ≡ length c.args.bytes.now = length-map c.args.bytes.now (λ byte. Some byte) in
+    let new : Slot = record { number = slot.number; page = replaced slot.page start cells } in
+    let P : Paged → Type 0 = λ p. AreIndexed p.slots c.self.inside.first c.self.inside.run place in
+    subst P (sym c.load.ensures) (indexed_kept slots c.self.inside.first c.self.inside.run place c.args.at slot new
+    c.self.invariant here.0 refl
+    (length-replaced slot.page cells start (omega (arith, whole, long, c.requires.inside)) ∙ whole))
 
 pub returns : goal.returns
 returns c =
-    let slots = c.self.inside.slots.items in
-    let slot = c.index_mut-slot.result.now in
-    let place = get nat_eq c.self.inside.index in
+    let slots = c.self.inside.slots.slots in
+    let slot = get_or slots c.args.at blank_slot in
     let start = c.args.address % 256 in
-    let new : Slot = record { number = slot.number; page = c.load.new.self } in
     let cells = known c.args.bytes.now in
+    let found : IsAt slots (c.args.address / 256) c.args.at = rw (← c.self.view_is) at c.requires.at in
+    let here = slot_here slots c.args.at (c.args.address / 256) found in
+    let new : Slot = record { number = slot.number; page = replaced slot.page start cells } in
     let long : length cells ≡ length c.args.bytes.now = length-map c.args.bytes.now (λ byte. Some byte) in
-    let room : c.args.address % 256 + length cells ≤ 256 = omega (arith, c.requires.inside, long) in
-    page_changed slots c.args.at (c.args.address / 256) slot new c.self.inside.known (2 ^ 64) c.args.address
-    cells c.self.invariant.distinct (here c).0 (here c).1 refl refl room
-    (omega (arith, room, c.ranges.address.fits)) c.load.ensures.after
+    let room : start + length cells ≤ 256 = omega (arith, c.requires.inside, long) in
+    ap seen c.load.ensures
+    ∙ page_changed slots c.args.at (c.args.address / 256) slot new c.self.inside.slots.known (2 ^ 64) c.args.address
+    cells c.self.invariant.distinct here.0 here.1 refl refl room
+    (omega (arith, room, c.ranges.address.fits)) refl
     ∙ ap (λ p. replaced (seen p) c.args.address cells) c.self.view_is

@@ -1,8 +1,0 @@
-use Rattle.std.proofs.Common.{replicate, refl, ap}
-use Rattle.check_memory.proofs.PageCells.{filled_page}
-use Rattle.check_memory.proofs.page.Page.new.Goals as goal
-
-pub returns : goal.returns
-returns c =
-    filled_page c.in_ok-lanes.lanes (replicate 32 c.mask_of-masks.result) c.args.known 256 32 c.in_ok-lanes.ensures
-    (ap (replicate 32) c.mask_of-masks.ensures) refl
