@@ -2,7 +2,6 @@
 ghost use Rattle.std.specs.Prelude.{◌≡◌, ℕ, ◌<◌, [], length, slice_get, map, Some, None, true, IfOk, IfSome, OnOk, OnErr, option_map};
 ghost use Rattle.std.specs.List.{remove};
 ghost use Rattle.check_memory.specs.Pattern.{pattern};
-ghost use Rattle.check_memory.specs.declared.slave.Slave.TheVariants.{Memory as AMemory};
 ghost use Rattle.check_contests.specs.Contests.{due_beside, due_of, entry_accepting, kept_accepting, kept_answering, kept_of, memory_accepting, one_may_write, slave_accepting};
 
 use crate::accepted::Accepted;
@@ -70,7 +69,7 @@ fn serve_beside(
     due: &mut Pattern,
 ) -> Result<(), AllocError>
     ensures after { IfOk result (λ _. memory.new ≡ memory_accepting memory.old kept.now ask.now) }
-    ensures due { IfOk result (λ _. due.new ≡ due_of (AMemory memory.old) kept.now ask.now) }
+    ensures due { IfOk result (λ _. due.new ≡ due_of (Slave.Memory memory.old) kept.now ask.now) }
     ensures unchanged { OnErr result (memory.new ≡ memory.old) }
 {
     serve_contested(alloc, memory, kept, ask, due)?;

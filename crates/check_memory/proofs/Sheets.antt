@@ -6,7 +6,6 @@ use Rattle.std.proofs.lemmas.List.Elements.{All-get_or, All-set, All-push}
 use Rattle.std.proofs.lemmas.Bool.{cases_eq, cases_lt}
 use Rattle.check_memory.specs.Known.{replaced}
 use Rattle.check_memory.specs.Place.{fill_of}
-use Rattle.tl_ops.specs.Cell.{FitsWords}
 use Rattle.check_memory.specs.Paged.{Slot, Paged, blank_slot, page_at, slots_of, AreFilled}
 use Rattle.check_memory.proofs.PageCells.{length-replaced}
 use Rattle.check_memory.proofs.Space.{get_or-replaced_in, get_or-replaced_out, replaced_by_places}
@@ -251,20 +250,7 @@ slots_more numbers sheets sheets' known number filled same room =
     (sym (get_or_push numbers number 0 i (sym last))))
     (cases_lt i (length numbers)))
 
-pub filled_more : (used : ℕ) (sheets : List (List (Option ℕ))) (known : Bool) → AreFilled used sheets known
-    → used < 8 * length sheets → AreFilled (used + 1) sheets known
-filled_more used sheets known filled room = record {
-  whole = filled.whole;
-  room = omega (arith, room);
-  fresh = λ i past small. filled.fresh i (omega (arith, past)) small;
-}
-
 -- ---- a sheet more
-
-pub page_kept : (sheets : List (List (Option ℕ))) (sheet : List (Option ℕ)) (at : ℕ) → at / 8 < length sheets
-    → page_at (sheets ++ sheet ∷ []) at ≡ page_at sheets at
-page_kept sheets sheet at below =
-    ap (λ s. take 256 (drop (256 * (at % 8)) s)) (get_or_append_left sheets (sheet ∷ []) [] (at / 8) below)
 
 pub filled_sheet : (used : ℕ) (sheets : List (List (Option ℕ))) (sheet : List (Option ℕ)) (known : Bool)
     → AreFilled used sheets known → sheet ≡ replicate 2048 (fill_of known) → length sheets ≤ used / 8
@@ -331,15 +317,3 @@ pub made_in : (numbers : List ℕ) (sheets : List (List (Option ℕ))) (known : 
 made_in numbers sheets known at start place sheet new cells filled below read is made =
     made ∙ ap (λ p. replaced sheet p cells) is
     ∙ ap (λ s. replaced s (256 * (at % 8) + start) cells) (sheet_is numbers sheets known at sheet filled below read)
-
--- a place in a sheet holds whole words if that in its page does
-pub fits_in_sheet : (at start place width : ℕ) → place ≡ 256 * (at % 8) + start → FitsWords start width
-    → FitsWords place width
-fits_in_sheet at start place width is fits =
-    let lane : place % 8 ≡ start % 8 = omega (arith, is) in
-    record {
-      some = fits.some;
-      cell = λ narrow. omega (arith, lane, fits.cell narrow);
-      whole_start = λ wide. lane ∙ fits.whole_start wide;
-      whole_width = fits.whole_width;
-    }
