@@ -14,7 +14,7 @@ use Rattle.check_memory.specs.Cells.{put_at, put_cells, new_cells, is_atomic}
 use Rattle.check_memory.specs.Partial.{Partial, permits, after_partial, AreWithin}
 use Rattle.check_memory.specs.Laws.{IsLawful}
 use Rattle.check_memory.proofs.PageCells.{length-replaced}
-use Rattle.check_memory.proofs.Slots.{length-new_cells}
+use Rattle.check_memory.proofs.PagePlaces.{length-new_cells}
 use Rattle.check_memory.proofs.Soundness.{within_if_held, held_if_permitted}
 use Rattle.check_memory.proofs.Space.{get_or-replaced_in, get_or-replaced_out}
 use Rattle.check_contests.specs.Writes.{in_window, gives, writes, may_write}
