@@ -12,8 +12,8 @@ use Rattle.check_flight.specs.declared.order.Order.{Order}
 use Rattle.check_flight.specs.declared.order.Order.TheVariants.{Accept, Reply, Any}
 
 -- a memory or a device, when requests take effect there, whether its system says that its bytes may be unknown, and how
--- many requests have taken effect, modulo 2 ^ 64. If nobody knows when they do, those that are accepted and not yet
--- answered are kept, and those that were accepted are counted
+-- many requests have taken effect, modulo 2 ^ 64. If nobody knows when they do: how many were accepted, and those of them
+-- that are not answered yet
 pub record PortSlave : Type 0 where
   pub kept : Slave
   pub order : Order
@@ -52,7 +52,7 @@ served_by slave ask = record slave { kept = slave_after slave.kept ask; served =
 abbrev pub answer_of : ℕ → PortSlave → Request → Answer
 answer_of port slave ask = record { reply = expected_of slave.kept ask; port = port; index = slave.served }
 
--- the slave after a request is accepted that takes effect then or later
+-- the slave after a request is accepted of which nobody knows when it takes effect
 abbrev pub contested_by : PortSlave → ℕ → Request → PortSlave
 contested_by slave wide ask = record slave {
   kept = slave_accepting slave.kept slave.contests ask;
@@ -60,7 +60,7 @@ contested_by slave wide ask = record slave {
   contests = kept_accepting slave.kept slave.contests wide slave.served ask;
 }
 
--- what the reply has to fit to a request that is kept as this one: what is due to that, with the source of the request
+-- what the reply to a request has to fit that is kept as this one: what is due to that, with the source of the request
 abbrev pub answer_of_kept : ℕ → Request → Option Accepted → Option Answer
 answer_of_kept port ask None = None
 answer_of_kept port ask (Some entry) =

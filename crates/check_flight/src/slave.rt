@@ -13,7 +13,7 @@ use std::alloc::{AllocError, Global};
 use std::marker::Model;
 use tl_types::Ask;
 
-/// What stands at a port, and how many requests have taken effect there.
+/// What stands at a port, and how many requests have taken effect there, or were accepted if nobody knows when they do.
 #[derive(Drop)]
 pub struct PortSlave {
     kept: Slave,
@@ -21,7 +21,7 @@ pub struct PortSlave {
     unknown: bool,
     /// Modulo 2^64.
     served: usize,
-    /// The requests that are accepted and not yet answered, if nobody knows when they take effect.
+    /// The requests that are accepted and not answered yet, if nobody knows when they take effect.
     contests: Contests,
 }
 
@@ -111,7 +111,7 @@ impl PortSlave {
         answer.index = self.served;
     }
 
-    /// Accepts a request that takes effect then or later. Where there is no memory, nothing is changed.
+    /// Accepts a request of which nobody knows when it takes effect. Where there is no memory, nothing is changed.
     fn contest(&mut self, alloc: Global, wide: usize, ask: &Ask) -> Result<(), AllocError>
         ensures contested { OnOk result (self.new ≡ contested_by self.old wide ask.now) }
         ensures unchanged { OnErr result (self.new ≡ self.old) }

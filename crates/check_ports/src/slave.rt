@@ -91,12 +91,7 @@ pub fn slave_of(
     }
     let kept = kept_of(alloc, port, image)?;
     let order = port.order.unwrap_or(order);
-    Ok(PortSlave::new(
-        alloc,
-        kept,
-        order,
-        port.contents.unknown,
-    ))
+    Ok(PortSlave::new(alloc, kept, order, port.contents.unknown))
 }
 
 /// The slave of the error port: a memory with no range, which denies every request.

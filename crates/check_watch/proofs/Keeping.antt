@@ -31,7 +31,7 @@ use Rattle.check_watch.specs.Lawful.{IsLawful, IsServed, IsAllowedBeat, IsFirstR
 use Rattle.check_watch.specs.Past.{State, no_slave, slave_at, port_of, found_in, scene_of, state_after, state, scene}
 use Rattle.check_watch.specs.Plan.{Layout, Plan, Sighting, Side, HasLink, side_of, number_of, source_of, wide_of, same_side, is_link, is_of, seen_at}
 use Rattle.check_watch.specs.Plan.Side.{AtMasters, AtPorts}
-use Rattle.check_watch.specs.Scene.{Scene, ask_by, ask_if, serving, takes_effect, under_after, accepted, once_answered, flight_after, crossing_after, given_by, captured}
+use Rattle.check_watch.specs.Scene.{Scene, ask_by, ask_if, serving, under_after, accepted, once_answered, flight_after, crossing_after, given_by, captured}
 use Rattle.check_watch.specs.View.{View, is_answering_in, is_served_late_in, IsSized, wides_in, Keeps, AreSame, IsPlace, state_in, side_in, own_side, crossing_at, under_in, flight_in, scene_in, slaves_accepting, slaves_answering, crossings_taken, crossings_asked, crossings_given, crossings_replied, accepted_in, served_in, answered_in, late_answer, asked_flight, with_side, with_ask, with_late, with_part, with_end, with_reply}
 use Rattle.check_watch.proofs.Judging.{wide_is, no_ask_reason}
 use Rattle.check_watch.proofs.Replying.{no_reply_reason}

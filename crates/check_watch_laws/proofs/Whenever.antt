@@ -1,6 +1,6 @@
 -- What is due of a port's replies is no more than what a slave replies that does each request at some moment after it is
 -- accepted and before its reply begins.
-use Rattle.std.proofs.Common.{◌≡◌, ◌∙◌, ℕ, ◌≤◌, Bool, true, false, if◌then◌else◌, List, [], ◌∷◌, ◌++◌, length, Option, Some, refl, ap, sym, subst, arith}
+use Rattle.std.proofs.Common.{◌≡◌, ◌∙◌, ℕ, ◌≤◌, Bool, true, false, if◌then◌else◌, List, [], ◌∷◌, ◌++◌, length, Option, refl, ap, sym, subst, arith}
 use Rattle.std.specs.Prelude.{◌==◌}
 use Rattle.tl_types.specs.Request.{Request}
 use Rattle.check_cells.specs.Pattern.{Pattern, Fits}
@@ -19,12 +19,15 @@ use Rattle.check_contests.proofs.Serving.{serving_keeps}
 use Rattle.check_memory.specs.declared.slave.Slave.{Slave}
 use Rattle.check_flight.specs.declared.order.Order.TheVariants.{Any}
 use Rattle.check_flight.specs.PortSlave.{PortSlave, accepted_by, answered_by, answer_of_kept, contested_by, due_accepted_by, due_answered_by}
-use Rattle.check_watch.specs.Plan.{Plan, Sighting}
-use Rattle.check_watch_laws.specs.Crossed.{AskSeen, ReplySeen}
-use Rattle.check_watch_laws.specs.Memories.{IsEntry, AreEntries, entries_of, exchanges_at, order_at, reset_of}
+use Rattle.check_watch.specs.Lawful.{IsLawful}
+use Rattle.check_watch.specs.Plan.{Plan, IsPlan, Sighting}
+use Rattle.check_watch_laws.specs.Crossed.{AskSeen, ReplySeen, AreWatched}
+use Rattle.check_watch_laws.specs.Memories.{AreEntries, entries_of, exchanges_at, order_at, reset_of}
 use Rattle.check_watch_laws.specs.Moments.{IsDueAt, Moment, dues_of, entry_due, moments, slave_then}
 use Rattle.check_watch_laws.specs.Moments.Act.{Accepts, Answers}
-use Rattle.check_watch_laws.specs.Whenever.{IsDoneWhenever, answer_given, given_in, seen_answer, seen_in}
+use Rattle.check_watch_laws.specs.Whenever.{AlwaysKeepsRulesWhenever, AreFresh, IsDoneWhenever, answer_given, given_in, seen_answer, seen_in}
+use Rattle.check_watch_laws.specs.Rules.{AreSeenWhole}
+use Rattle.check_watch_laws.proofs.Back.{rules_make_lawful}
 use Rattle.check_watch_laws.proofs.Told.{dues_none, dues_cons}
 
 -- ---- entries, one by one
@@ -196,3 +199,19 @@ whenever_is_due plan past port slave all any fresh done =
             (done.captured wide);
       },
     )
+
+-- ---- all beats
+
+pub whenever_is_lawful : (plan : Plan) (past : List Sighting) → IsPlan plan → AreFresh plan
+    → AreWatched plan.layout past → AreSeenWhole plan past → AlwaysKeepsRulesWhenever plan past → IsLawful plan past
+whenever_is_lawful plan past is fresh watched seen always =
+    rules_make_lawful plan past is watched seen (λ later earlier so.
+    let rules = always later earlier so in
+    record {
+      messages = rules.messages;
+      memories = rules.memories;
+      any_orders = λ port any.
+          let done = rules.any_orders port any in
+          whenever_is_due plan earlier port done.0 done.1 any (fresh port) done.2;
+      crossings = rules.crossings;
+    })

@@ -1,6 +1,6 @@
 -- A port's slave that does requests in an order that nobody knows: each takes effect at some moment after it is accepted and
 -- before its reply begins (`Moments.antt` of `check_contests`). It is this project's own.
-use Rattle.std.specs.Prelude.{◌≡◌, ℕ, List, [], ◌∷◌, ◌++◌}
+use Rattle.std.specs.Prelude.{◌≡◌, ◌≢◌, ℕ, List, [], ◌∷◌, ◌++◌}
 use Rattle.tl_types.specs.Request.{Request}
 use Rattle.check_cells.specs.Pattern.{Pattern}
 use Rattle.check_contests.specs.Laws.{IsBelowAtReset}
@@ -8,8 +8,12 @@ use Rattle.check_contests.specs.Moments.{Moment as SlaveMoment, Course, Truth, u
 use Rattle.check_contests.specs.Moments.Moment.{Accepts as SlaveAccepts, TakesEffect, Answers as SlaveAnswers}
 use Rattle.check_contests.specs.Moments.Course.{Idle, Waiting, Served}
 use Rattle.check_memory.specs.declared.slave.Slave.{Slave}
+use Rattle.check_flight.specs.declared.order.Order.TheVariants.{Any}
+use Rattle.check_watch.specs.declared.links.Links.TheVariants.{Both}
 use Rattle.check_watch.specs.Plan.{Plan, Sighting}
-use Rattle.check_watch_laws.specs.Memories.{reset_of, AreEntries, exchanges_at, entries_of}
+use Rattle.check_watch_laws.specs.Crossings.{MessagesCross}
+use Rattle.check_watch_laws.specs.Memories.{IsDoneAt, order_at, reset_of, AreEntries, exchanges_at, entries_of}
+use Rattle.check_watch_laws.specs.Messages.{AreMessages}
 use Rattle.check_watch_laws.specs.Moments.{Moment, moments}
 use Rattle.check_watch_laws.specs.Moments.Act.{Accepts, Answers}
 
@@ -60,3 +64,23 @@ pub record IsDoneWhenever (plan : Plan) (past : List Sighting) (port : ℕ) (sla
   pub seen : seen_in (untouched slave) all ≡ moments plan port past
   pub captured : (wide : ℕ)
       → AreEntries wide (exchanges_at plan port wide past) (entries_of wide (given_in (untouched slave) all))
+
+-- ---- the rules, of such slaves
+
+-- what `KeepsRules` says, but that each slave whose order nobody knows did its requests at such moments
+pub record KeepsRulesWhenever (plan : Plan) (past : List Sighting) : Type 0 where
+  pub messages : AreMessages plan past
+  pub memories : (port : ℕ) → order_at plan port ≢ Any
+      → (history : List (Request × Pattern)) × IsDoneAt plan past port history
+  pub any_orders : (port : ℕ) → order_at plan port ≡ Any
+      → (slave : Slave) × (all : List SlaveMoment) × IsDoneWhenever plan past port slave all
+  pub crossings : plan.layout.links ≡ Both → (wide : ℕ) → MessagesCross plan past wide
+
+-- so it is at each moment
+abbrev pub AlwaysKeepsRulesWhenever : Plan → List Sighting → Type 0
+AlwaysKeepsRulesWhenever plan past =
+    (later earlier : List Sighting) → later ++ earlier ≡ past → KeepsRulesWhenever plan earlier
+
+-- no slave has accepted a request at reset
+abbrev pub AreFresh : Plan → Type 0
+AreFresh plan = (port : ℕ) → (reset_of plan port).contests ≡ []

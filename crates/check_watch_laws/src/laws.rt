@@ -15,7 +15,7 @@ ghost use Rattle.check_watch_laws.specs.Memories.{IsDoneAt, asks_done, order_at,
 ghost use Rattle.check_watch_laws.specs.Messages.{AreMessages};
 ghost use Rattle.check_watch_laws.specs.Moments.{IsDueAt, moments, slave_after_all};
 ghost use Rattle.check_watch_laws.specs.Rules.{AlwaysKeepsRules, AreSeenWhole};
-ghost use Rattle.check_watch_laws.specs.Whenever.{IsDoneWhenever};
+ghost use Rattle.check_watch_laws.specs.Whenever.{AlwaysKeepsRulesWhenever, AreFresh, IsDoneWhenever};
 
 /// Each channel of a link carries whole messages one after the other, and a beginning of one more; each reply answers a
 /// request that had ended, no request is answered twice, and none of a source begins before the one before it is
@@ -46,11 +46,15 @@ pub fn replies_are_due()
 {}
 
 /// What is due of a port whose slave does requests in an order that nobody knows is no more than what it replies: whenever
-/// it did each, after it was accepted and before its reply began, what was captured fits what is due.
+/// it did each, after it was accepted and before its reply began, what was captured fits what is due. So beats that keep
+/// the rules are lawful whenever such slaves do their requests.
 pub fn requests_may_be_done_whenever()
-    ensures { (plan : Plan) (past : List Sighting) (port : ℕ) (slave : Slave) (all : List SlaveMoment)
+    ensures due { (plan : Plan) (past : List Sighting) (port : ℕ) (slave : Slave) (all : List SlaveMoment)
         → order_at plan port ≡ Any → (reset_of plan port).contests ≡ [] → IsDoneWhenever plan past port slave all
         → (history : List (Request × Pattern)) × IsDueAt plan past port history }
+    ensures lawful { (plan : Plan) (past : List Sighting) → IsPlan plan → AreFresh plan
+        → AreWatched plan.layout past → AreSeenWhole plan past → AlwaysKeepsRulesWhenever plan past
+        → IsLawful plan past }
 {}
 
 /// If both sides are watched, what a port is asked is what a master asked, each request once, and what a master is

@@ -85,7 +85,12 @@ pub fn slaves_of(rt: &impl Abort, alloc: Global, known: bool) -> Vec<PortSlave>
         base: 0x1000,
         length: 64,
     };
-    let memory = PortSlave::new(alloc, ram(rt, alloc, &[piece], known), Order::Accept, !known);
+    let memory = PortSlave::new(
+        alloc,
+        ram(rt, alloc, &[piece], known),
+        Order::Accept,
+        !known,
+    );
     let device = PortSlave::new(alloc, Slave::Device, Order::Reply, false);
     let none = PortSlave::new(alloc, ram(rt, alloc, &[], true), Order::Accept, false);
     Vec::from_array(alloc, [memory, device, none]).expect(rt, "memory")

@@ -11,16 +11,7 @@ const PUT_FULL: u8 = 0;
 const GET: u8 = 4;
 
 /// What a get of the eight bytes from 0x1000 on is due, of which four are known.
-const HALF_KNOWN: [Option<u8>; 8] = [
-    None,
-    None,
-    None,
-    None,
-    Some(5),
-    Some(6),
-    Some(7),
-    Some(8),
-];
+const HALF_KNOWN: [Option<u8>; 8] = [None, None, None, None, Some(5), Some(6), Some(7), Some(8)];
 
 /// A put of four bytes at 0x1004 crosses.
 fn put(

@@ -181,6 +181,7 @@ fn an_image_goes_over_pages(rt: HostRuntime) {
     memory
         .load(rt.alloc(), 0x1ffa, &bytes)
         .expect(&rt, "memory refused");
-    assert!(rt; memory.pages() == 4);
+    // those of 256 bytes from 0x1f00 to 0x4700
+    assert!(rt; memory.pages() == 41);
     serve_all(&rt, rt.alloc(), &mut memory, &SEAMS);
 }
