@@ -7,12 +7,12 @@ use Rattle.check_options.proofs.laws.lines_are_refused.Goals as goal
 pub returns : goal.returns
 unfolding clap_on_literals
 returns c = record {
-  help = wherever (Refuses _ _) (λ l a b c f o d e. refl);
-  version = wherever (Refuses _ _) (λ l a b c f o d e. refl);
-  nothing = wherever (Refuses _ _) (λ l a b c f o d e. refl);
-  links = wherever (Refuses _ _) (λ l a b c f o d e. refl);
-  order = wherever (Refuses _ _) (λ l a b c f o d e. refl);
-  stray = wherever (Refuses _ _) (λ l a b c f o d e. refl);
-  trace = wherever (Refuses _ _) (λ l a b c f o d e. refl);
-  unknown = wherever (Refuses _ _) (λ l a b c f o d e. refl);
+  help = wherever (Refuses _ _) (λ l a b c f o d e g. refl);
+  version = wherever (Refuses _ _) (λ l a b c f o d e g. refl);
+  nothing = wherever (Refuses _ _) (λ l a b c f o d e g. refl);
+  links = wherever (Refuses _ _) (λ l a b c f o d e g. refl);
+  order = wherever (Refuses _ _) (λ l a b c f o d e g. refl);
+  stray = wherever (Refuses _ _) (λ l a b c f o d e g. refl);
+  trace = wherever (Refuses _ _) (λ l a b c f o d e g. refl);
+  unknown = wherever (Refuses _ _) (λ l a b c f o d e g. refl);
 }

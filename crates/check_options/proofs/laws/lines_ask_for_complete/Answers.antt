@@ -7,6 +7,6 @@ use Rattle.check_options.proofs.laws.lines_ask_for_complete.Goals as goal
 pub returns : goal.returns
 unfolding clap_on_literals
 returns c = record {
-  complete = wherever (Asks _ _) (λ l a b c f o d e. (refl, refl));
-  complete_behind = wherever (Asks _ _) (λ l a b c f o d e. (refl, refl));
+  complete = wherever (Asks _ _) (λ l a b c f o d e g. (refl, refl));
+  complete_behind = wherever (Asks _ _) (λ l a b c f o d e g. (refl, refl));
 }

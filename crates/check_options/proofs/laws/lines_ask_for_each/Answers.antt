@@ -7,5 +7,6 @@ use Rattle.check_options.proofs.laws.lines_ask_for_each.Goals as goal
 pub returns : goal.returns
 unfolding clap_on_literals
 returns c = record {
-  each = wherever (Asks _ _) (λ l a b c f o d e. (refl, refl));
+  each = wherever (Asks _ _) (λ l a b c f o d e g. (refl, refl));
+  any = wherever (Asks _ _) (λ l a b c f o d e g. (refl, refl));
 }

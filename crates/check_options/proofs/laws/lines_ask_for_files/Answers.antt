@@ -7,6 +7,6 @@ use Rattle.check_options.proofs.laws.lines_ask_for_files.Goals as goal
 pub returns : goal.returns
 unfolding clap_on_literals
 returns c = record {
-  alone = wherever (Asks _ _) (λ l a b c f o d e. (refl, refl));
-  file = wherever (Asks _ _) (λ l a b c f o d e. (refl, refl));
+  alone = wherever (Asks _ _) (λ l a b c f o d e g. (refl, refl));
+  file = wherever (Asks _ _) (λ l a b c f o d e g. (refl, refl));
 }

@@ -7,6 +7,6 @@ use Rattle.check_options.proofs.laws.lines_ask_for_trace.Goals as goal
 pub returns : goal.returns
 unfolding clap_on_literals
 returns c = record {
-  trace = wherever (Asks _ _) (λ l a b c f o d e. (refl, refl));
-  trace_behind = wherever (Asks _ _) (λ l a b c f o d e. (refl, refl));
+  trace = wherever (Asks _ _) (λ l a b c f o d e g. (refl, refl));
+  trace_behind = wherever (Asks _ _) (λ l a b c f o d e g. (refl, refl));
 }
