@@ -13,7 +13,7 @@ type Line = (
     Option<&'static str>,
 );
 
-const LINES: [Line; 9] = [
+const LINES: [Line; 10] = [
     (
         &["tlcheck", "s"],
         Links::Both,
