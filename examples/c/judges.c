@@ -120,7 +120,7 @@ void check_images(void) {
   tell("a judge without its second image", make(&judge, &system, text, sizeof text) == TLX_IMAGE_UNREADABLE &&
        !strcmp(text, "system: port 2: image can't be read"));
   check_handing_in(&system);
-  tell("wrong words", tlx_judge_make(&judge, &system, 4, 0, 0, 0) == TLX_BAD_ARGUMENT && tlx_judge_make(&judge, &system, 0, 2, 0, 0) == TLX_BAD_ARGUMENT &&
+  tell("wrong words", tlx_judge_make(&judge, &system, 4, 0, 0, 0) == TLX_BAD_ARGUMENT && tlx_judge_make(&judge, &system, 0, 3, 0, 0) == TLX_BAD_ARGUMENT &&
        tlx_judge_make(0, &system, 0, 0, text, sizeof text) == TLX_NULL && tlx_judge_make(&judge, 0, 0, 0, 0, 9) == TLX_NULL);
   tell("a judge with images", make(&judge, &system, text, sizeof text) == TLX_OK && !text[0] && tlx_system_ports(&system) == 0);
   tell("a judge of what was taken", make(&judge, &system, 0, 0) == TLX_FULL && make(&second, &system, 0, 0) == TLX_EMPTY);

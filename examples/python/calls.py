@@ -420,7 +420,7 @@ def check_want(tally):
     limits = resource.getrlimit(resource.RLIMIT_AS)
     with open("/proc/self/statm", encoding="ascii") as file:
         in_use = int(file.read().split()[0]) * resource.getpagesize()
-    resource.setrlimit(resource.RLIMIT_AS, (in_use + (32 << 20), limits[1]))
+    resource.setrlimit(resource.RLIMIT_AS, (in_use + (4 << 20), limits[1]))
     try:
         found = tally.raises("want of memory", MemoryError, judge.steps, beats)
     finally:
