@@ -414,13 +414,14 @@ def check_memory(tally):
 
 def check_want(tally):
     """A judge of which each put takes a page, until there is no memory: that beat is lawful, and is taken once there is."""
-    judge = tlx.Judge(tlx.System('port = [{kind = "ram", base = 0, length = 0x100000000}]\nmaster = [{sources = 1}]'), "masters")
+    pages = 160_000
+    judge = tlx.Judge(tlx.System('port = [{kind = "ram", base = 0, length = 0x1000000000}]\nmaster = [{sources = 1}]'), "masters")
     put, done = tlx.Beat.ask("m0", tlx.Ask.PUT_FULL, 0, 0, 0, 1, 0x5A), tlx.Beat.reply("m0", tlx.Reply.ACCESS_ACK, 0, 0)
-    beats = tlx.Beats(beat for page in range(40000) for beat in (changed(put, address=page << 16), done))
+    beats = tlx.Beats(beat for page in range(pages) for beat in (changed(put, address=page << 16), done))
     limits = resource.getrlimit(resource.RLIMIT_AS)
     with open("/proc/self/statm", encoding="ascii") as file:
         in_use = int(file.read().split()[0]) * resource.getpagesize()
-    resource.setrlimit(resource.RLIMIT_AS, (in_use + (4 << 20), limits[1]))
+    resource.setrlimit(resource.RLIMIT_AS, (in_use + (8 << 20), limits[1]))
     try:
         found = tally.raises("want of memory", MemoryError, judge.steps, beats)
     finally:
@@ -428,7 +429,7 @@ def check_want(tally):
     place = found.index
     tally.tell(f"its place, {place}", str(found) == "memory refused" and (2 * judge.requests, judge.in_flight) == (place, 0))
     judge.steps(memoryview(beats.memory)[place * beats.ITEM:])
-    tally.tell("the same beat again, and those after it", (judge.requests, judge.in_flight) == (40000, 0))
+    tally.tell("the same beat again, and those after it", (judge.requests, judge.in_flight) == (pages, 0))
 
 
 def main():
