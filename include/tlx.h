@@ -8,9 +8,9 @@
  * handler.
  *
  * Memory is taken by malloc, realloc and free. The calls that fill a handle take it, and tlx_system_image. Of the others only tlx_judge_step
- * does, if the beat is lawful: with one by which a request takes effect, for the bytes that are written, and with TLX_EACH_LINK also with
- * the first beat of a source at a port's link. If that is refused the call answers TLX_MEMORY and has changed nothing. The same beat may
- * be given again.
+ * does, if the beat is lawful: with one by which a request takes effect, for the bytes that are written; with the last beat of a request
+ * to a port of TLX_ANY_ORDER, for the request; and with TLX_EACH_LINK also with the first beat of a source at a port's link. If that is
+ * refused the call answers TLX_MEMORY and has changed nothing. The same beat may be given again.
  *
  * Each call that reads, makes, serves or judges answers a fault, TLX_OK (0) where there is none; its faults are listed in the order in
  * which they are tried. A call that answers another fault has changed nothing of what a handle holds, unless it says so. A null pointer is
@@ -97,6 +97,7 @@ enum tlx_fault {
 enum tlx_side { TLX_MASTER = 0, TLX_PORT = 1 };
 enum tlx_channel { TLX_A = 0, TLX_D = 1 };
 enum tlx_links { TLX_BOTH_LINKS = 0, TLX_MASTER_LINKS = 1, TLX_PORT_LINKS = 2, TLX_EACH_LINK = 3 };
+/* When a request takes effect: with its last beat, with its reply's first beat, or at some moment between these. */
 enum tlx_order { TLX_ACCEPT_ORDER = 0, TLX_REPLY_ORDER = 1, TLX_ANY_ORDER = 2 };
 
 /* The handles. That of a system holds one for a model (tlx_system_read) or one for a judge (tlx_system_describe). */
