@@ -3,7 +3,7 @@
 /// The most bytes of a message.
 pub const MAX_BYTES: usize = 256;
 
-/// A bit for each byte of a message, set where the byte is given.
+/// A bit for each byte of a message, set if the byte is given.
 #[derive(Clone, Copy, PartialEq)]
 pub struct Given([u64; MAX_BYTES / 64]);
 

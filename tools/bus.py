@@ -15,7 +15,7 @@ def bus_of(system, table=None):
 
 
 class Bus:
-    """A data bus of so many bytes."""
+    """A data bus of this number of bytes."""
 
     def __init__(self, width):
         self.width = width

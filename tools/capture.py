@@ -2,8 +2,8 @@
 """The capture of a script's serial run, as tlcheck reads it: tools/capture.py SCRIPT >CAPTURE.
 
 Each request crosses its master's link, then its port's with the wide source, and its reply comes back the same way; a request of the
-error port has no link there. A script may say how wide the data bus of each link is, as a system file does (docs/FORMATS.md); tlx does not
-look at these keys. It needs the built program (./tlx builds it; TLX=path takes another).
+error port has no link there. A script may say how wide the data bus of each link is, as a system file does (docs/FORMATS.md); tlx ignores
+these keys. It needs the built program (./tlx builds it; TLX=path takes another).
 """
 
 import os
@@ -21,7 +21,7 @@ LINE = re.compile(r"m(\d+) s(\d+) (\w+) 0x([0-9a-f]+) (\d)(?: ([0-9a-f-]+))? -> 
 
 
 def widths(counts):
-    """The first wide source of each master: blocks of powers of two, one behind the other, each at a multiple of its length."""
+    """The first wide source of each master: blocks of powers of two, one after the other, each at a multiple of its length."""
     firsts, end = [], 0
     for count in counts:
         block = 1 << (count - 1).bit_length()

@@ -69,7 +69,7 @@ def changed(rng, text):
 
 
 def changed_capture(rng, capture):
-    """A capture with bytes and lines changed, mostly behind its header; or with random rows; or one that ends early."""
+    """A capture with bytes and lines changed, mostly after its header; or with random rows; or one that ends early."""
     header, rows = capture.split(b"\n", 1)
     way = rng.random()
     if way < 0.6:

@@ -167,7 +167,7 @@ class Judge:
         return self.view == "both" and (link.side == "p" or flight.port < len(self.ports))
 
     def slave_of(self, link, flight):
-        """The slave that a request is served by, as this link shows it; none where the port's link shows it."""
+        """The slave that a request is served by, as this link shows it; none if the port's link shows it."""
         return None if link.side == "m" and self.crosses(link, flight) else self.slaves[link.side][flight.port]
 
     def serve(self, link, flight, moment):

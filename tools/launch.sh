@@ -11,7 +11,7 @@ fail() {
   exit "$2"
 }
 
-# What is built, a program or the library, is up to date where no source is newer.
+# What is built, a program or the library, is up to date if no source is newer.
 is_fresh() {
   [ -f "$1" ] && [ -z "$(find "$top"/crates/*/src "$top"/crates/*/specs "$top"/crates/*/proofs "$top/crates.txt" -type f -newer "$1" -print -quit)" ]
 }

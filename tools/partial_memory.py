@@ -6,7 +6,7 @@ import collections
 from bus import reply_of
 from common import GROUP_OF, MAX_SIZE
 
-# A request: its operation, and its bytes where it carries some. A reply: whether it is denied, and its bytes where it carries some.
+# A request: its operation, and its bytes if it carries some. A reply: whether it is denied, and its bytes if it carries some.
 Ask = collections.namedtuple("Ask", ["name", "address", "size", "data"])
 Reply = collections.namedtuple("Reply", ["denied", "data"])
 

@@ -35,7 +35,7 @@ def port_of_system(rng, number, images):
     else:
         port["ranges"] = ranges
     if number == 0 and rng.random() < 0.2:
-        # memory as large as a file can name, behind all others
+        # memory as large as a file can name, after all others
         port = {"kind": "ram", "base": 0x80000000, "length": rng.choice([2**30, 2**40, 2**62])}
         ranges = [[port["base"], port["length"]]]
     most = min(ranges[0][1], 64)

@@ -3,7 +3,7 @@ the head and the part has. An empty line is that of a file without fault."""
 
 import os
 
-# One byte of a port and one master, where a row is about something else.
+# One byte of a port and one master, if a row is about something else.
 MASTER = "[[master]]\nsources = 1\n"
 PORT = "[[port]]\nkind = 'ram'\nbase = 0\nlength = 2\n"
 # As many ports as a system may have.
@@ -103,7 +103,7 @@ CONTENTS = ("[[port]]\nkind = 'ram'\nranges = [[0, 2], [8, 8]]\n", {
     "unknown = 1": "wrong type of unknown",
     "unknown = 'true'": "wrong type of unknown",
     "unknown = true": "missing master",
-    # of two faults that of the earlier key is told
+    # of two faults that of the earlier key is reported
     "image = 1\nreset = 1": "wrong type of reset",
     "unknown = 1\nimage = 1": "wrong type of image",
     "sizes = 1\nunknown = 1": "wrong type of unknown",

@@ -21,7 +21,7 @@ class Fault(Exception):
 
 
 class Place:
-    """A value of the document with its line: its items by number where it is an array, and by name where it is a table."""
+    """A value of the document with its line: its items by number if it is an array, and by name if it is a table."""
 
     def __init__(self, line):
         self.line, self.items, self.depth = line, {}, 0
@@ -238,7 +238,7 @@ def unknown_keys(table, places, keys, whole):
 
 
 def asked(command, text):
-    """A program's own line of a fault, empty for a good text, and none where the program is not built."""
+    """A program's own line of a fault, empty for a good text, and none if the program is not built."""
     if not os.access(command[0], os.X_OK):
         return None
     ran = subprocess.run(command, input=text, stdout=subprocess.DEVNULL, stderr=subprocess.PIPE, check=False)

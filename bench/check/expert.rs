@@ -46,7 +46,7 @@ fn stop_of(text: &[u8]) -> Option<usize> {
     rest.iter().position(|byte| matches!(byte, b'\n' | b'\r' | b'"')).map(|more| place + more)
 }
 
-/// A line that is parsed from the left. Each call answers `None` where the line is unusual.
+/// A line that is parsed from the left. Each call answers `None` if the line is unusual.
 struct Cursor<'a> {
     line: &'a [u8],
     at: usize,

@@ -457,7 +457,7 @@ enum Verdict {
     ReadFailed,
 }
 
-/// Puts a row among those of its time, which are judged first where it is of a later one.
+/// Puts a row among those of its time, which are judged first if it is of a later one.
 fn take_row(judge: &mut Judge, moment: &mut Vec<Row>, last: &mut u64, row: Row) -> Result<(), Verdict> {
     if row.time < *last {
         return Err(Verdict::NoCapture(row.line, "time falls"));

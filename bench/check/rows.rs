@@ -328,7 +328,7 @@ impl<R: Read> Records<R> {
         }
     }
 
-    /// Takes a line of so many bytes, and the byte that ends it.
+    /// Takes a line of this number of bytes, and the byte that ends it.
     pub fn take_line(&mut self, length: usize) {
         self.line = 1 + self.feeds;
         self.next += length + 1;

@@ -1,5 +1,5 @@
 
-// ---- the judge alone, timed; this stands behind bench/check/peer.rs, whose own main is another function then
+// ---- the judge alone, timed; this is appended to bench/check/peer.rs, whose own main is another function then
 
 /// A beat as `struct tlx_beat` of include/tlx.h has it.
 #[repr(C)]
@@ -44,8 +44,8 @@ fn beat_of(row: &Row) -> Beat {
     }
 }
 
-/// Reads the rows of a capture, which has one beat at a time, and writes them as beats of C behind one another; then prints how many
-/// nanoseconds a beat takes to judge, in each of so many rounds.
+/// Reads the rows of a capture, which has one beat at a time, and writes them as beats of C one after another; then prints how many
+/// nanoseconds a beat takes to judge, in each of a number of rounds.
 fn main() {
     let files: Vec<String> = env::args().skip(1).collect();
     let script = std::fs::read_to_string(&files[0]).unwrap();

@@ -1,5 +1,5 @@
 /* Prints how many nanoseconds the library takes to judge a beat, and to serve a request: `library SYSTEM BEATS ROUNDS`, where BEATS has
- * structs of tlx.h behind one another. The requests are those of bench/serve. */
+ * structs of tlx.h one after another. The requests are those of bench/serve. */
 #include <stdio.h>
 #include <stdlib.h>
 #include <string.h>

@@ -21,7 +21,7 @@ unsafe extern "C" {
     fn wait4(pid: i32, status: *mut i32, options: i32, usage: *mut Usage) -> i32;
 }
 
-/// Seconds and peak memory of one run. Only the first program is told to run on one thread: its peer has no other way.
+/// Seconds and peak memory of one run. Only the first program gets the option to run on one thread: its peer has no other way.
 fn run(script: &str, place: usize, program: &str) -> io::Result<(f64, i64)> {
     let mut command = Command::new(program);
     if place == 0 {

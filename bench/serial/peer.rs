@@ -134,7 +134,7 @@ pub fn window_of(bank: &Bank, op: Op, size: u32, address: u64) -> Option<usize> 
     legal.then(|| (address - bank.base) as usize)
 }
 
-/// What an operation makes of its window; the operand is zero where a byte is not given.
+/// What an operation makes of its window; the operand is zero if a byte is not given.
 pub fn change(kind: Kind, op: Op, window: &mut [u8], operand: &[u8], is_given: impl Fn(usize) -> bool) {
     match op {
         Op::Get | Op::Hint(_) => {}
@@ -205,7 +205,7 @@ pub fn reply_name(op: Op) -> &'static str {
     }
 }
 
-/// The port that holds all bytes of a request, else the error port behind the banks.
+/// The port that holds all bytes of a request, else the error port after the banks.
 pub fn port_of(banks: &[Bank], size: u32, address: u64) -> usize {
     let width = 1u64 << size;
     let holds = |bank: &Bank| {

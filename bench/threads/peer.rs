@@ -1,6 +1,6 @@
 //! The yardstick of runs by threads: a plain Rust program, std alone and nothing proved, of the design of `tlx`. Each
 //! master and each port is a thread; requests go through a table of slots with one atomic word each; a port's memory
-//! and journal are behind one lock; bells are bounded channels, and who waits for one looks and yields some times
+//! and journal are under one lock; bells are bounded channels, and who waits for one looks and yields some times
 //! before it sleeps. It reads a script from standard input and writes the traces and the account. It keeps journals,
 //! and does not audit them. Its arguments: none.
 use std::cell::UnsafeCell;
@@ -240,7 +240,7 @@ impl Master<'_> {
         Some(port)
     }
 
-    /// Collects the reply to what is out for a source, where it is there.
+    /// Collects the reply to what is out for a source, if it is there.
     fn poll(&mut self, source: usize) {
         let Some((slot, port)) = self.out[source] else {
             return;

@@ -1,4 +1,4 @@
-//! Writes a dump of so many bytes at least: a clock, a reset, the links of two masters and two ports, and other signals up to so many in
+//! Writes a dump of at least BYTES bytes: a clock, a reset, the links of two masters and two ports, and other signals up to SIGNALS in
 //! all. `make BYTES SIGNALS`; which values change at an edge comes of a generator of random numbers. SYSTEM is in `system.toml`.
 use std::env;
 use std::io::{self, BufWriter, Write};

@@ -209,7 +209,7 @@ fn number(name: &str, bits: &[u8]) -> Outcome<u64> {
     })
 }
 
-/// Appends the hexadecimal digits of bits; the first has fewer where they are no multiple of four.
+/// Appends the hexadecimal digits of bits; the first has fewer if they are no multiple of four.
 fn push_hex(text: &mut String, bits: &[u8]) {
     let (first, rest) = bits.split_at(bits.len() % 4);
     for bits in std::iter::once(first).filter(|bits| !bits.is_empty()).chain(rest.chunks(4)) {

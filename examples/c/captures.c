@@ -104,7 +104,7 @@ static size_t read_rows(char *text, struct row *rows) {
 
 static uint64_t met; /* the faults of a beat that a capture had: a bit each, by its number */
 
-/* The line of a beat's fault has the words of that fault, behind the channel; unknown data is another fault on each channel. */
+/* The line of a beat's fault has the words of that fault, after the channel; unknown data is another fault on each channel. */
 static int has_words(const char *line, const struct tlx_beat *beat, uint32_t fault) {
   char words[128];
   int is_request = beat->channel == TLX_A;

@@ -42,7 +42,7 @@ static uint8_t place_of(const char *word, const char *const *words, uint8_t coun
   return place;
 }
 
-/* A file's bytes, to its end or to more than so many; null if there are none to read. */
+/* A file's bytes, to its end or to more than this number; null if there are none to read. */
 static char *read_file(const char *path, size_t most, size_t *length) {
   FILE *file = fopen(path, "rb");
   char *bytes = NULL;
@@ -199,7 +199,7 @@ static int compare(const void *one, const void *other) {
   return a->number < b->number ? -1 : a->number > b->number;
 }
 
-/* Judges a beat. Its line is the one that it has in a capture whose rows stand in the order of turns, behind the header. */
+/* Judges a beat. Its line is the one that it has in a capture whose rows stand in the order of turns, after the header. */
 static void step(struct watch *watch, struct tlx_beat *beat) {
   char why[MAX_TEXT / 2];
   beat->line = ++watch->count + 1;

@@ -1,5 +1,5 @@
 #!/usr/bin/env python3
-"""Writes behind the end of memory, as no call of the package does: overrun.py loop|copy. The check wants AddressSanitizer to see both.
+"""Writes past the end of memory, as no call of the package does: overrun.py loop|copy. The check wants AddressSanitizer to see both.
 
 `loop` is a store by python/steps.c, `copy` one by the library, which copies the words of a fault.
 """

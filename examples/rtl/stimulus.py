@@ -20,7 +20,7 @@ from common import HEADER, OPERATIONS, REPLIES  # noqa: E402, F401
 NAMES = {codes: name for name, codes in OPERATIONS.items()}
 ANSWERS = {code: name for name, code in REPLIES.items()}
 CARRIES = 4
-# the kinds of lines of operations_N.hex but operations; an end stands behind the last
+# the kinds of lines of operations_N.hex but operations; an end stands after the last
 WAIT, END = 1, 2
 
 

@@ -110,7 +110,7 @@ tlm::tlm_response_status spoil(request &made, chance &pick) {
   }
 }
 
-// Two digits a byte; `--` where a byte is not enabled.
+// Two digits a byte; `--` if a byte is not enabled.
 std::string digits(const bytes &data, const bytes &enables = {}) {
   std::string text;
   char pair[3];
@@ -127,7 +127,7 @@ const char *name_of(const request &sent) {
   return NAMES[static_cast<int>(sent.rest->asked)];
 }
 
-// A request as a script spells it behind its source.
+// A request as a script spells it after its source.
 std::string message_of(const request &sent) {
   std::ostringstream text;
   text << name_of(sent) << " 0x" << std::hex << sent.payload.get_address() << " " << sent.size;

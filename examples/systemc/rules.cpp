@@ -22,7 +22,7 @@ const char SYSTEM[] =
     "[[master]]\nsources = 2\nops = []\n"
     "[[master]]\nsources = 1\nops = []\n";
 
-// Ports by number; the error port stands behind those of the system.
+// Ports by number; the error port stands after those of the system.
 enum { RAM, ROM, REGS, W1C, SHORT_RAM, NOBODY, PORTS, UNSERVED = -1 };
 
 const tlm::tlm_command READ = tlm::TLM_READ_COMMAND, WRITE = tlm::TLM_WRITE_COMMAND, IGNORE = tlm::TLM_IGNORE_COMMAND;
@@ -295,7 +295,7 @@ class bench : public sc_core::sc_module {
     tell("bytes at reset", debug(READ, 0x1000, data) == 18 && data == bytes_of("00112233445566778899aabbccddeeff0000"));
   }
 
-  // Debugging reads what lies there, of any length, and changes nothing: the next request has the place behind the last one's.
+  // Debugging reads what lies there, of any length, and changes nothing: the next request has the place after the last one's.
   void check_debug() {
     bytes three(3, 0xee), four(4, 0xee), none;
     tell("three bytes", debug(READ, 0x1001, three) == 3 && three == bytes_of("11cc33"));

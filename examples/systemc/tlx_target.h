@@ -28,7 +28,7 @@ struct extension : tlm::tlm_extension<extension> {
   std::vector<unsigned char> operand;  // of an atomic: as many bytes as the payload has, little-endian
   std::uint16_t source = 0;            // which of its sources the master sends from
   bool served = false;                 // set by the target: a port served the request, even if it denied it
-  std::uint64_t port = 0;              // which one, where served
+  std::uint64_t port = 0;              // which one, if served
   std::uint64_t place = 0;             // how many requests that port had served before
 
   tlm::tlm_extension_base *clone() const override { return new extension(*this); }
@@ -160,7 +160,7 @@ class target : public sc_core::sc_module {
                        [](unsigned char enable) { return enable == TLM_BYTE_ENABLED || enable == TLM_BYTE_DISABLED; });
   }
 
-  // The byte enables of a payload repeat where they are fewer than its bytes.
+  // The byte enables of a payload repeat if they are fewer than its bytes.
   static bool is_enabled(const payload &trans, unsigned k) {
     const unsigned char *enables = trans.get_byte_enable_ptr();
     return !enables || enables[k % trans.get_byte_enable_length()] == TLM_BYTE_ENABLED;
