@@ -42,7 +42,7 @@ static uint8_t place_of(const char *word, const char *const *words, uint8_t coun
   return place;
 }
 
-/* A file's bytes, to its end or to more than this number; null if there are none to read. */
+/* A file's bytes, to its end or to more than `most`; null if there are none to read. */
 static char *read_file(const char *path, size_t most, size_t *length) {
   FILE *file = fopen(path, "rb");
   char *bytes = NULL;
