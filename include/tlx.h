@@ -12,7 +12,7 @@
  * to a port of TLX_ANY_ORDER, for the request; and with TLX_EACH_LINK also with the first beat of a source at a port's link. If that is
  * refused the call answers TLX_MEMORY and has changed nothing. The same beat may be given again.
  *
- * Each call that reads, makes, serves or judges answers a fault, TLX_OK (0) where there is none; its faults are listed in the order in
+ * Each call that reads, makes, serves or judges answers a fault, TLX_OK (0) if there is none; its faults are listed in the order in
  * which they are tried. A call that answers another fault has changed nothing of what a handle holds, unless it says so. A null pointer is
  * TLX_NULL, found by the inline functions below.
  *
@@ -106,7 +106,7 @@ struct tlx_model { void *at; uint8_t live; };
 struct tlx_judge { void *at; uint8_t live; };
 
 /* A request on channel A. `bytes[k]` goes to `address + k`, for k below 2^size; none is read of a get or a prefetch. `set[k]` is 0
- * where the byte is left unset, and any other number where it is set; it is read of a partial put (opcode 1) alone. */
+ * if the byte is left unset, and any other number if it is set; it is read of a partial put (opcode 1) alone. */
 struct tlx_request {
   uint64_t address;
   uint16_t source; /* the master's own */
@@ -198,7 +198,7 @@ static inline size_t tlx_fault_text(uint32_t fault, char *text, size_t room) {
 /* Reads the system that the bytes of a script describe into an empty handle, for a model, and writes the text of a fault of the script (which also
  * names the key, master or port) into `text`, an empty one if there is none, or no memory for it. `text` may be null.
  * Faults: TLX_NULL, TLX_OTHER_VERSION, TLX_FULL, TLX_TOO_LONG, TLX_NOT_TOML; then key by key, in the order that docs/FORMATS.md has, TLX_MISSING,
- * TLX_WRONG_TYPE, TLX_OUT_OF_RANGE; then TLX_BAD_PORTS, TLX_BAD_SOURCES, TLX_BAD_OPERATION. Behind TLX_TOO_LONG, TLX_MEMORY may come at
+ * TLX_WRONG_TYPE, TLX_OUT_OF_RANGE; then TLX_BAD_PORTS, TLX_BAD_SOURCES, TLX_BAD_OPERATION. After TLX_TOO_LONG, TLX_MEMORY may come at
  * any point. */
 static inline uint32_t tlx_system_read(struct tlx_system *system, const void *script, size_t length, char *text, size_t room) {
   char none;

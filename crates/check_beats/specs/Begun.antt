@@ -6,7 +6,7 @@ use Rattle.tl_types.specs.Operation.{may_leave_unset}
 use Rattle.check_beats.specs.State.{AskBegun, ReplyBegun}
 
 -- the first beat is lawful alone, there are beats to come, each that has crossed has filled the bus, and bytes are left
--- unset only where they may be
+-- unset only if they may be
 pub record IsAskBegun (bus : ℕ) (begun : AskBegun) : Type 0 where
   pub formed : IsFormed bus begun.first
   pub some : 0 < begun.beats
@@ -17,7 +17,7 @@ pub record IsAskBegun (bus : ℕ) (begun : AskBegun) : Type 0 where
 pub record IsAskKept (bus : ℕ) (begun : Option AskBegun) : Type 0 where
   pub of : (b : AskBegun) → begun ≡ Some b → IsAskBegun bus b
 
--- the same of a reply, whose bytes are zeros where it is denied
+-- the same of a reply, whose bytes are zeros if it is denied
 pub record IsReplyBegun (bus : ℕ) (begun : ReplyBegun) : Type 0 where
   pub formed : IsFormedReply begun.first
   pub some : 0 < begun.beats

@@ -26,7 +26,7 @@ low address size = address - address % 2 ^ size
 abbrev pub lane_of : ℕ → ℕ → ℕ → ℕ → ℕ
 lane_of bus address size j = (low address size + j) % bus
 
--- how many beats a message has: one where it carries no bytes, whatever its size
+-- how many beats a message has: one if it carries no bytes, whatever its size
 abbrev pub beat_count : ℕ → Bool → ℕ → ℕ
 beat_count bus carries size = if carries then max 1 (2 ^ size / bus) else 1
 

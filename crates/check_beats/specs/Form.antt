@@ -20,7 +20,7 @@ Continues {B} Same begun beat = (first : B) → begun ≡ Some first → Same fi
 
 -- ---- requests
 
--- a mask is lawful where it sets just the active lanes, or some of them where bytes may be left unset
+-- a mask is lawful if it sets just the active lanes, or some of them if bytes may be left unset
 pub record IsLawfulMask (bus : ℕ) (op : AskOp) (size address mask : ℕ) : Type 0 where
   pub whole : may_leave_unset op ≡ false → mask ≡ active_mask bus address size
   pub part : may_leave_unset op ≡ true → bit_and mask (active_mask bus address size) ≡ mask
@@ -62,7 +62,7 @@ HasAskFormFault bus begun beat known UnknownData = (beat.opcode < 4) × (bit_and
 
 -- ---- replies
 
--- `corrupt` is lawful where it is set only in a beat that carries bytes of a denied reply
+-- `corrupt` is lawful if it is set only in a beat that carries bytes of a denied reply
 pub record IsLawfulFlag (op : ReplyOp) (denied corrupt : Bool) : Type 0 where
   pub carries : IsTrue corrupt → IsTrue (reply_carries_bytes op)
   pub of_denied : IsTrue corrupt → IsTrue denied

@@ -47,7 +47,7 @@ op_of opcode param =
 abbrev pub reply_op_of_number : ℕ → ReplyOp
 reply_op_of_number opcode = if opcode == 0 then AccessAck else if opcode == 1 then AccessAckData else HintAck
 
--- the byte at a lane, where its bit is set: that of the mask in a request, that of the known lanes in a reply
+-- the byte at a lane, if its bit is set: that of the mask in a request, that of the known lanes in a reply
 abbrev pub byte_at : ℕ → List ℕ → ℕ → Option ℕ
 byte_at mask lanes lane = if bit_at mask lane == 1 then Some (slice_index lanes lane) else None
 

@@ -23,7 +23,7 @@ pub fn same_fields(first: &AskHead, beat: &AskHead) -> bool
         && beat.address == first.address
 }
 
-/// Whether a mask sets just the active lanes, or some of them where bytes may be left unset.
+/// Whether a mask sets just the active lanes, or some of them if bytes may be left unset.
 fn sets_active(mask: u64, op: AskOp, active: u64) -> bool
     ensures { (bus size address : ℕ) → active ≡ active_mask bus address size
         → (IsTrue result ↔ IsLawfulMask bus op size address mask) }

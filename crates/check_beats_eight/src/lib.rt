@@ -1,8 +1,8 @@
 //! On a bus of 8 bytes the links of any width are those of `tl_beats`, the codec of tlx: laws, each on a function that does
 //! nothing but carry it.
 //!
-//! They say it of where bytes stand, and of which beats spell a request or a reply. What `check_beats` gathers of beats is
-//! what they spell there. Read on in `docs/MODEL.md`, "Links of any width".
+//! They say it of the lanes of bytes, and of the beats that spell a message. The message that `check_beats` gathers is
+//! the one that the beats spell in `tl_beats`. Read on in `docs/MODEL.md`, "Links of any width".
 #![tactic(auto)]
 
 ghost use Rattle.check_beats_eight.specs.Laws.{AskSpelledAlike, BusIsThatOfEight, MaskIsThatOfEight, ReplySpelledAlike};

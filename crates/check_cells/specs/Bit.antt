@@ -6,7 +6,7 @@ abbrev pub known_bit : Bool → ℕ
 known_bit false = 0
 known_bit true = 1
 
--- the bit of a byte after a put: it is known where it is given, or was known
+-- the bit of a byte after a put: it is known if it is given, or was known
 abbrev pub given_bit : ℕ → Option ℕ → ℕ
 given_bit bit None = bit
 given_bit bit (Some _) = 1

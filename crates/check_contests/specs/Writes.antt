@@ -20,7 +20,7 @@ in_window ask address = nat_le ask.address address && nat_lt address (ask.addres
 abbrev pub gives : Request → ℕ → Bool
 gives ask address = in_window ask address && is_some (slice_index_or ask.bytes (address - ask.address) None)
 
--- whether a request of this operation writes at an address where it is legal: a put where it gives a byte, and an atomic
+-- whether a request of this operation writes at an address if it is legal: a put if it gives a byte there, and an atomic
 -- in all of its window
 abbrev pub writes : AskOp → Request → ℕ → Bool
 writes PutFull ask address = gives ask address

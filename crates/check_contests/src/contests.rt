@@ -1,4 +1,4 @@
-//! The requests that a port has accepted and not yet answered, where nobody knows in which order they take effect.
+//! The requests that a port has accepted and not yet answered, if nobody knows in which order they take effect.
 ghost use Rattle.std.specs.Prelude.{◌≡◌, ℕ, ◌<◌, [], length, slice_get, map, Some, None, true, IfOk, IfSome, OnOk, OnErr, option_map};
 ghost use Rattle.std.specs.List.{remove};
 ghost use Rattle.check_memory.specs.Pattern.{pattern};
@@ -38,7 +38,7 @@ fn hide_each(memory: &Memory, kept: &[Accepted], ask: &Ask, due: &mut Pattern)
 }
 
 /// Serves a request beside those kept: the memory is the one after it, without the bytes that are contested, and what is
-/// expected of it stands in the place of another pattern. Where there is no memory for a page, nothing is changed.
+/// expected of it stands in the place of another pattern. If there is no memory for a page, nothing is changed.
 fn serve_contested(
     alloc: Global,
     memory: &mut Memory,
@@ -77,7 +77,7 @@ fn serve_beside(
     Ok(())
 }
 
-/// Serves a request beside those kept. Where there is no memory for a page, the slave is not changed.
+/// Serves a request beside those kept. If there is no memory for a page, the slave is not changed.
 fn serve(
     alloc: Global,
     slave: &mut Slave,
@@ -141,7 +141,7 @@ impl Contests {
         }
     }
 
-    /// A slave accepts a request of a wide source, with its place in the port's list. Where memory is refused, nothing is
+    /// A slave accepts a request of a wide source, with its place in the port's list. If memory is refused, nothing is
     /// changed.
     pub fn accept(
         &mut self,

@@ -8,7 +8,7 @@
 //!
 //! `laws` says that this is right: whenever each request takes effect at the true slave, what is due to its reply says no
 //! more than what was expected of that slave then (`specs/Moments.antt`, `specs/Below.antt`, `specs/Laws.antt`). It also
-//! says that nothing is made unknown where no two requests have a byte in common that one of them may write.
+//! says that nothing is made unknown if no two requests have a byte in common that one of them may write.
 #![tactic(auto)]
 
 mod accepted;

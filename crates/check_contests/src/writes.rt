@@ -23,7 +23,7 @@ fn place_in(ask: &Ask, address: u64, after: usize) -> Option<usize>
     if place < width { Some(place) } else { None }
 }
 
-/// Whether a request writes at a place of its window, where it is legal.
+/// Whether a request writes at a place of its window, if it is legal.
 pub fn writes_at(ask: &Ask, place: usize) -> bool
     requires { place < 2 ^ ask.now.size }
     ensures { result ≡ writes ask.now.op ask.now (ask.now.address + place) }
@@ -35,7 +35,7 @@ pub fn writes_at(ask: &Ask, place: usize) -> bool
     }
 }
 
-/// Whether a request writes at the address so far after another one, where it is legal.
+/// Whether a request writes at the address so far after another one, if it is legal.
 pub fn writes_after(ask: &Ask, address: u64, after: usize) -> bool
     requires { after ≤ MAX_BYTES }
     ensures { result ≡ writes ask.now.op ask.now (address + after) }

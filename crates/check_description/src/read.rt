@@ -36,7 +36,7 @@ fn read_document(alloc: Global, bytes: &[u8]) -> Result<Table, SystemFault>
     }
 }
 
-/// The parts that a file's table names. Where it says no bus, its links have eight bytes.
+/// The parts that a file's table names. If it says no bus, its links have eight bytes.
 #[tactic(auto, unfolding(crate::specs::File::parts_in))]
 fn read_tables(alloc: Global, table: &Table) -> Result<Parts, SystemFault>
     ensures { Gives parts_view result (parts_in (table_view table.now)) }

@@ -1,4 +1,4 @@
--- How far the request in flight of a source has come across, where both sides of a crossbar are watched. It is this
+-- How far the request in flight of a source has come across, if both sides of a crossbar are watched. It is this
 -- project's own.
 use Rattle.std.specs.Prelude.{◌≡◌, Option, Some, None}
 use Rattle.check_cells.specs.Pattern.{Pattern}

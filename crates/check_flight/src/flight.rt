@@ -1,7 +1,7 @@
 //! What is in flight.
 //!
 //! A message is some 300 bytes long, and most beats need but a few of them. So what is in flight is kept in one place
-//! and written there: where it is nothing, what stands of a message is left as it is, and says nothing.
+//! and written there: if it is nothing, what stands of a message is left as it is, and says nothing.
 ghost use Rattle.std.specs.Prelude.{◌≡◌, ◌≤◌, ◌↔◌, length, IsTrue, OnOk, OnErr, Some, None, option_map};
 ghost use Rattle.check_beats.specs.Form.{FitsAsk};
 ghost use Rattle.check_beats.specs.State.{ask_of, ends_ask, first_ask};
@@ -116,7 +116,7 @@ impl Flight {
         self.is_due = false;
     }
 
-    /// The request has ended, by a beat after those under way, and the slave of its port accepts it. Where there is no
+    /// The request has ended, by a beat after those under way, and the slave of its port accepts it. If there is no
     /// memory, nothing is changed.
     pub fn accept(
         &mut self,
@@ -148,7 +148,7 @@ impl Flight {
         Ok(())
     }
 
-    /// The same where a request has ended before, as it has at no lawful beat: that one stays if memory is refused.
+    /// The same if a request has ended before, as it has at no lawful beat: that one stays if memory is refused.
     #[inline(never)]
     fn accept_apart(
         &mut self,
@@ -179,7 +179,7 @@ impl Flight {
         Ok(())
     }
 
-    /// The reply begins to the request in flight, if that has ended: the slave of its port answers it. Where there is no
+    /// The reply begins to the request in flight, if that has ended: the slave of its port answers it. If there is no
     /// memory, nothing is changed.
     pub fn answer(
         &mut self,

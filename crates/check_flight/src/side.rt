@@ -138,7 +138,7 @@ impl Side {
         self.links[place.link].take_ask_end();
     }
 
-    /// A beat crosses that ends its request, which the slave of its port accepts. Where there is no memory, nothing is
+    /// A beat crosses that ends its request, which the slave of its port accepts. If there is no memory, nothing is
     /// changed.
     pub fn accept(
         &mut self,
@@ -175,7 +175,7 @@ impl Side {
     }
 
     /// The reply begins to the request in flight of a wide source, if that has ended: the slave of its port answers it.
-    /// Where there is no memory, nothing is changed.
+    /// If there is no memory, nothing is changed.
     pub fn answer(
         &mut self,
         alloc: Global,

@@ -81,7 +81,7 @@ impl PortSlave {
         matches!(self.kept, Slave::Device) || self.unknown
     }
 
-    /// Serves a request, as the slave of this port, and puts the answer in the place of another. Where there is no memory
+    /// Serves a request, as the slave of this port, and puts the answer in the place of another. If there is no memory
     /// for a page, nothing is changed.
     fn serve_into(
         &mut self,
@@ -111,7 +111,7 @@ impl PortSlave {
         answer.index = self.served;
     }
 
-    /// Accepts a request of which nobody knows when it takes effect. Where there is no memory, nothing is changed.
+    /// Accepts a request of which nobody knows when it takes effect. If there is no memory, nothing is changed.
     fn contest(&mut self, alloc: Global, wide: usize, ask: &Ask) -> Result<(), AllocError>
         ensures contested { OnOk result (self.new ≡ contested_by self.old wide ask.now) }
         ensures unchanged { OnErr result (self.new ≡ self.old) }
@@ -124,7 +124,7 @@ impl PortSlave {
     }
 
     /// A request is accepted: whether it is known now what its reply has to fit. If it is, that is put in the place of
-    /// another answer. Where there is no memory, nothing is changed.
+    /// another answer. If there is no memory, nothing is changed.
     pub fn accept(
         &mut self,
         alloc: Global,
@@ -153,7 +153,7 @@ impl PortSlave {
     }
 
     /// The reply begins to a request that was accepted: whether it is known now, and not before, what the reply has to
-    /// fit. If it is, that is put in the place of another answer. Where there is no memory, nothing is changed.
+    /// fit. If it is, that is put in the place of another answer. If there is no memory, nothing is changed.
     pub fn answer(
         &mut self,
         alloc: Global,

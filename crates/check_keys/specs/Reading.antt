@@ -26,7 +26,7 @@ abbrev pub each : {A B F : Type 0} → (A → Result B F) → List A → Result 
 each f [] = Ok []
 each f (x ∷ xs) = f x >>= (λ y. each f xs >>= (λ ys. Ok (y ∷ ys)))
 
--- the value that is there, read; none where none is there
+-- the value that is there, read; none if none is there
 abbrev pub if_any : {A B F : Type 0} → (A → Result B F) → Option A → Result (Option B) F
 if_any f None = Ok None
 if_any f (Some x) = f x >>= (λ y. Ok (Some y))

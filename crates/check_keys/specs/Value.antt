@@ -43,7 +43,7 @@ number_if_any key low high members = if_any (number_of key low high) (get_member
 abbrev pub flag_of : Key → Data → Result Bool SystemFault
 flag_of key value = ok_or (as_bool value) (WrongType key)
 
--- the boolean at a key, which is false where it is absent
+-- the boolean at a key, which is false if it is absent
 unfoldable pub flag_at : Key → Members → Result Bool SystemFault
 flag_at key members = if_any (flag_of key) (get_member (key_name key) members) >>= (λ flag. Ok (unwrap_or flag false))
 

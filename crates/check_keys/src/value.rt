@@ -97,7 +97,7 @@ pub fn number_if_any(
     }
 }
 
-/// The boolean at a key, which is false where it is absent.
+/// The boolean at a key, which is false if it is absent.
 #[tactic(auto, unfolding(crate::specs::Value::flag_at))]
 pub fn flag_at(table: &Table, key: Key) -> Result<bool, SystemFault>
     ensures { Gives (λ flag. flag) result (flag_of_key key (table_view table.now)) }

@@ -1,8 +1,8 @@
-//! The sources and the addresses of a crossbar that a judge is told of: which wide source is which master's, and which
+//! The sources and the addresses of a crossbar that a judge judges: which wide source is which master's, and which
 //! port serves which addresses.
 //!
 //! [`Sources`] is a list of [`Owner`]s, one a master: a source s of it has the wide source `first + stride * s`. So
-//! masters can be told apart by high bits, by low bits, or by blocks at any place. [`blocks`] gives the owners of
+//! masters can differ in high bits or in low bits, or have blocks at any place. [`blocks`] gives the owners of
 //! masters that say only how many sources they have. [`Map`] is a list of ranges for each port. A request goes to the
 //! port one of whose ranges holds all its bytes, and else to the error port.
 //!

@@ -1,4 +1,4 @@
-//! The limits of systems that a judge can be told. Code and contracts name them; `laws` says them in numbers.
+//! The limits of systems that a judge takes. Code and contracts name them; `laws` says them in numbers.
 
 /// The most masters.
 pub const MAX_MASTERS: usize = 64;

@@ -14,7 +14,7 @@ pub record FitsDevice (ask : Request) (captured : Pattern) : Type 0 where
   pub source_is : captured.source ≡ ask.source
   pub counted : length captured.bytes ≡ reply_byte_count (reply_op_of ask.op) ask.size
 
--- the answer of a memory: the window before the request, or as many zero bytes where it is denied
+-- the answer of a memory: the window before the request, or as many zero bytes if it is denied
 abbrev pub pattern : Partial → Request → Pattern
 pattern memory ask = record {
   op = reply_op_of ask.op;

@@ -64,7 +64,7 @@ any_size = Some (record { least = 0; greatest = MAX_SIZE })
 abbrev pub word_size : Option Span
 word_size = Some (record { least = 2; greatest = 3 })
 
--- the row of a kind: what a port of this kind supports where no table is given
+-- the row of a kind: what a port of this kind supports if no table is given
 abbrev pub row_of : Kind → SizeTable
 row_of Ram = record {
   get = any_size;

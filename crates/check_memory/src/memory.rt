@@ -83,7 +83,7 @@ impl Memory {
     }
 
     /// Serves a request: the memory is the one after it, and what its answer has to fit stands in the place of another.
-    /// Where there is no memory for a page, nothing is changed.
+    /// If there is no memory for a page, nothing is changed.
     pub fn serve_into(
         &mut self,
         alloc: Global,
@@ -181,7 +181,7 @@ impl Memory {
         }
     }
 
-    /// Writes bytes from an address on, as those of an image are. Where there is no memory for a page, the bytes before
+    /// Writes bytes from an address on, as those of an image are. If there is no memory for a page, the bytes before
     /// those of that page are written.
     pub fn load(&mut self, alloc: Global, address: u64, bytes: &[u8]) -> Result<(), AllocError>
         requires { address + length bytes.now ≤ 2 ^ 64 }

@@ -71,7 +71,7 @@ impl Pages {
         self.index.get(&number).copied()
     }
 
-    /// The place of a page, which is made where there is none.
+    /// The place of a page, which is made if there is none.
     pub fn page_for(&mut self, alloc: Global, number: u64) -> Result<usize, AllocError>
         ensures same { seen self.new ≡ seen self.old }
         ensures at { IfOk result (λ at. IsAt self.new.slots number at) }

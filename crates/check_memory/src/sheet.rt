@@ -251,7 +251,7 @@ fn part(masks: &[u8], first: usize, count: usize) -> &[u8]
     &masks[first..first + count]
 }
 
-/// The bits that a byte gives as ones, which are none where it is not given.
+/// The bits that a byte gives as ones, which are none if it is not given.
 fn ones_of(given: &Bytes, k: usize) -> u8
     requires { k < length given.now }
     ensures { result ≡ unwrap_or (slice_index_or given.now k None) 0 }

@@ -18,7 +18,7 @@ pub enum Slave {
 
 impl Slave {
     /// Serves a request: the slave is the one after it, and what its answer has to fit stands in the place of another.
-    /// Where there is no memory for a page, nothing is changed.
+    /// If there is no memory for a page, nothing is changed.
     pub fn serve_into(
         &mut self,
         alloc: Global,

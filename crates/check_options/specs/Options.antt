@@ -1,5 +1,5 @@
 -- The command line of tlcheck: the options and words that there are, what the words ask for, and the status that the
--- program ends with where they ask for nothing. This project's own.
+-- program ends with if they ask for nothing. This project's own.
 use Rattle.std.specs.Prelude.{◌≡◌, ℕ, List, [], ◌∷◌, Bool, true, Option, Some, None, Result, IfOk, codes, map, option_map, if◌then◌else◌, unwrap_or}
 use Rattle.std.specs.Borrow.{Bor}
 use Rattle.std.specs.Str.{bytes_eq}
@@ -30,7 +30,7 @@ links_words = codes "both" ∷ codes "masters" ∷ codes "ports" ∷ codes "each
 abbrev pub order_words : List Text
 order_words = codes "accept" ∷ codes "reply" ∷ codes "any" ∷ []
 
--- `--links`, one of its words, and `both` where it is not given
+-- `--links`, one of its words, and `both` if it is not given
 abbrev pub links_rule : Names → Rule
 links_rule names = record (new_rule (codes "links")) {
   long = Some (codes "links");
@@ -40,7 +40,7 @@ links_rule names = record (new_rule (codes "links")) {
   defaults = codes "both" ∷ [];
 }
 
--- `--order`, one of its words, and `accept` where it is not given
+-- `--order`, one of its words, and `accept` if it is not given
 abbrev pub order_rule : Names → Rule
 order_rule names = record (new_rule (codes "order")) {
   long = Some (codes "order");
@@ -143,7 +143,7 @@ abbrev pub file_of : Option Text → Option Text
 file_of None = None
 file_of (Some word) = if bytes_eq word (codes "-") then None else Some word
 
--- the value that the words give an option, or its own where they give none
+-- the value that the words give an option, or its own if they give none
 abbrev pub value_in : App → List Text → Text → Text
 value_in app words id = unwrap_or (first_of id (matches_of app words)) []
 
@@ -158,7 +158,7 @@ asked_in app words = record {
   capture = file_of (first_of (codes "capture") (matches_of app words));
 }
 
--- the words are taken or refused as the command line says, and where they are taken the options are those that they
+-- the words are taken or refused as the command line says, and if they are taken the options are those that they
 -- ask for
 pub record Answers (words : List Text) (result : Result Options Error) : Type 0 where
   pub app : App

@@ -32,7 +32,7 @@ pub struct Options<'a> {
     pub complete: bool,
     /// The file with the system.
     pub system: &'a str,
-    /// The file with the capture; where there is none it comes on standard input.
+    /// The file with the capture; if there is none it comes on standard input.
     pub capture: Option<&'a str>,
 }
 

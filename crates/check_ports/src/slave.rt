@@ -75,7 +75,7 @@ fn kept_of(alloc: Global, port: &Port, image: &[u8]) -> Result<Slave, AllocError
 }
 
 /// The slave that the port of this number is before any request, or that its image is longer than its first range. The
-/// bytes of the image are handed in, none where it names no image, and the order for a port that says none.
+/// bytes of the image are handed in, none if it names no image, and the order for a port that says none.
 pub fn slave_of(
     alloc: Global,
     number: usize,

@@ -66,7 +66,7 @@ fn count_line_ends(text: &[u8]) -> LineEnds
     }
 }
 
-/// Reads once, and again where that is interrupted.
+/// Reads once, and again if that is interrupted.
 fn read_some<R: Read>(reader: &mut R, buffer: &mut [u8]) -> Result<usize, RecordFault>
     ensures inside { IfOk result (λ count. count ≤ length buffer.new) }
     ensures taken { IfOk result (λ count. Consumes (R.remaining reader.old) (R.remaining reader.new)

@@ -12,7 +12,7 @@ use Rattle.check_sides.specs.Plan.{Plan}
 use Rattle.check_watch.specs.Scene.{ended}
 use Rattle.check_sides.specs.Lawful.{what_is_seen}
 
--- messages are counted at the masters' links where these are watched, else at the ports'
+-- messages are counted at the masters' links if these are watched, else at the ports'
 abbrev pub is_counted : Links → Link → Bool
 is_counted Both (Master m) = true
 is_counted Both (Port p) = false
@@ -39,7 +39,7 @@ is_whole_ask seen = ends_an_ask (ended seen)
 abbrev pub is_whole_reply : Seen → Bool
 is_whole_reply seen = ends_a_reply (ended seen)
 
--- one more where the test holds
+-- one more if the test holds
 abbrev pub one_more : Bool → ℕ → ℕ
 one_more true count = (count + 1) % 2 ^ 64
 one_more false count = count

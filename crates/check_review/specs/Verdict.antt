@@ -90,7 +90,7 @@ pub record IsToldEarlier (trace : Bool) (plan : Plan) (file : List SeenRow) (tex
   pub earlier : AllByRecursion (λ row. row.time < time) part.before
   pub none : part.after ≡ [] → part.before ≡ []
 
--- what is said of the unlawful row, where rows are refused for one
+-- what is said of the unlawful row, if rows are refused for one
 abbrev pub OfUnlawful : (Unlawful → Type 0) → Refusal → Type 0
 OfUnlawful P (refusal.Unlawful found) = P found
 OfUnlawful P refusal.Memory = Unit {0}
@@ -140,7 +140,7 @@ IsStop plan file row (stop.Row fault) = HasRowFault file row fault
 IsStop plan file row (stop.Beat found) = IsLater file row × IsFirstUnlawful plan file found
 IsStop plan file row stop.Memory = IsLater file row
 
--- what becomes of a row where those before it are refused
+-- what becomes of a row if those before it are refused
 abbrev pub stop_of : Refusal → Stop
 stop_of (refusal.Unlawful found) = stop.Beat found
 stop_of refusal.Memory = stop.Memory

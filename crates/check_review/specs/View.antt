@@ -73,7 +73,7 @@ pub record TellsOn (plan : Plan) (file : List SeenRow) (judge : JudgeView) (so_f
   pub grown : new ≡ old ++ more
   pub told : HasTold plan file judge (so_far ++ more)
 
--- what is told where a row is not taken: nothing where it may not stand there; where the rows before it are not lawful,
+-- what is reported if a row is not taken: nothing if it may not stand there; if the rows before it are not lawful,
 -- what crosses before the first that is not
 abbrev pub TellsStop : Bool → Plan → List SeenRow → List ℕ → List ℕ → List ℕ → Stop → Type 0
 TellsStop trace plan file so_far old new (stop.Row fault) = new ≡ old

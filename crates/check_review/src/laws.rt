@@ -10,7 +10,7 @@ pub fn one_text_is_told()
         → IsPlan plan → IsTold trace plan past text → IsTold trace plan past other → text ≡ other }
 {}
 
-/// Where replies are not traced nothing is told.
+/// If replies are not traced, nothing is reported.
 pub fn nothing_is_told_untraced()
     ensures { (plan : Plan) (past : List Sighting) (text : List ℕ) → IsTold false plan past text
         → text ≡ [] }

@@ -40,7 +40,7 @@ pub enum Stop {
     Memory,
 }
 
-/// What becomes of a row where those before it are refused.
+/// What becomes of a row if those before it are refused.
 pub(crate) fn stop_of(refusal: Refusal) -> Stop
     ensures { result ≡ stop_of refusal }
 {

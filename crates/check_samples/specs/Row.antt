@@ -23,7 +23,7 @@ abbrev pub ◌>>=◌ : {A B : Type 0} → Result A Signal → (A → Result B Si
 abbrev pub known : Signal → List ℕ → Result ℕ Signal
 known which bits = ok_or (number_of 2 MAX_BITS bits) which
 
--- the hexadecimal digit of at most four bits; x where one is unknown
+-- the hexadecimal digit of at most four bits; x if one is unknown
 abbrev pub digit_by : Option ℕ → ℕ
 digit_by None = 120
 digit_by (Some number) = digit_glyph false (number % 16)
@@ -36,7 +36,7 @@ abbrev pub hexes : List ℕ → List ℕ
 hexes (a ∷ b ∷ c ∷ d ∷ bits) = digit_of (a ∷ b ∷ c ∷ d ∷ []) ∷ hexes bits
 hexes bits = []
 
--- the digits of bits; where they are no multiple of four, the first has fewer
+-- the digits of bits; if they are no multiple of four, the first has fewer
 abbrev pub hex_text : List ℕ → List ℕ
 hex_text bits =
     let over = length bits % 4 in

@@ -64,7 +64,7 @@ fn known(signal: Signal, bits: &[u8]) -> Result<u64, Signal>
     }
 }
 
-/// The hexadecimal digit of at most four bits; `x` where one is unknown.
+/// The hexadecimal digit of at most four bits; `x` if one is unknown.
 fn digit_of(bits: &[u8]) -> u8
     ensures { result ≡ digit_of bits.now }
 {
@@ -111,7 +111,7 @@ fn push_hexes(text: &mut Vec<u8>, bits: &[u8]) -> Result<(), AllocError>
     Ok(())
 }
 
-/// Appends the hexadecimal digits of bits; where they are no multiple of four, the first digit has fewer.
+/// Appends the hexadecimal digits of bits; if they are no multiple of four, the first digit has fewer.
 fn push_bits(text: &mut Vec<u8>, bits: &[u8]) -> Result<(), AllocError>
     ensures { OnOk result (text.new.items ≡ text.old.items ++ hex_text bits.now) }
 {

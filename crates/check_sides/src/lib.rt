@@ -3,8 +3,8 @@
 //!
 //! A *group* is links that are judged together, by `check_watch`. With `Links::Both`, `Masters` and `Ports` all links
 //! that are watched are one group. With `Links::Each` the masters' links are one, as with `Masters`, and each port's
-//! link is one by itself: its sources are its own, nobody has to have them, and so are the slaves on the ports' side.
-//! So a crossbar may renumber sources, and split or combine messages, and each side is still judged (`specs/Groups.antt`).
+//! link is one by itself: its sources are its own, and no master has to own them. Its slave is its own too. So a crossbar
+//! may renumber sources, and split or combine messages, and each side is still judged (`specs/Groups.antt`).
 //!
 //! [`Watch::step`] takes one beat more. It answers `Ok` exactly if the list with this beat is lawful, if memory is not
 //! refused, and keeps that list then; an `Err` changes nothing, and is the first fault that the beat has in its group, or

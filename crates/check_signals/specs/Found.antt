@@ -43,7 +43,7 @@ abbrev pub each : {A B : Type 0} → (A → Result B Fault) → List A → Resul
 each f [] = Ok []
 each f (x ∷ xs) = f x >>= (λ y. each f xs >>= (λ ys. Ok (y ∷ ys)))
 
--- the value that is there, looked for; none where none is there
+-- the value that is there, looked for; none if none is there
 abbrev pub if_any : {A B : Type 0} → (A → Result B Fault) → Option A → Result (Option B) Fault
 if_any f None = Ok None
 if_any f (Some x) = f x >>= (λ y. Ok (Some y))
@@ -87,7 +87,7 @@ pub record NamedLink : Type 0 where
   pub bus : Bus
   pub names : List (List ℕ)
 
--- the names of each port or of each master, where it has any
+-- the names of each port or of each master, if it has any
 abbrev pub NamesOf : Type 0
 NamesOf = List (Option (List (List ℕ)))
 

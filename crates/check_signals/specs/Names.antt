@@ -28,7 +28,7 @@ abbrev pub each : {A B : Type 0} → (A → Result B KeyFault) → List A → Re
 each f [] = Ok []
 each f (x ∷ xs) = f x >>= (λ y. each f xs >>= (λ ys. Ok (y ∷ ys)))
 
--- the value that is there, read; none where none is there
+-- the value that is there, read; none if none is there
 abbrev pub if_any : {A B : Type 0} → (A → Result B KeyFault) → Option A → Result (Option B) KeyFault
 if_any f None = Ok None
 if_any f (Some x) = f x >>= (λ y. Ok (Some y))

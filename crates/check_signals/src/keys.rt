@@ -35,7 +35,7 @@ pub const SIGNALS: [Signal; 17] = [
 /// The names of the signals of a link, in that order.
 pub type LinkNames = Vec<Vec<u8>>;
 
-/// The names that a system file gives: of the clock and the reset, and of each link's signals where it has any.
+/// The names that a system file gives: of the clock and the reset, and of each link's signals if it has any.
 #[derive(Debug, Drop)]
 pub struct Names {
     pub clock: Vec<u8>,

@@ -99,7 +99,7 @@ IsToldBy trace plan (NotLawful found) rows text = IsToldBefore trace plan rows t
 
 -- what is written of the rows that were taken, if this is answered: all that is told with a verdict; before a fault
 -- of the text, or a read that failed, all that is told of those of an earlier time than the last; where memory was
--- refused a front of what is told of those that cross first; where a write failed such a front, and not all of it
+-- refused a front of what is told of those that cross first; if a write failed such a front, and not all of it
 abbrev pub IsOut : Bool → Plan → Result Verdict CaptureFault → List SeenRow → Option (List ℕ) → Option (List ℕ) → Type 0
 IsOut trace plan (Ok verdict) rows old new = WritesAll (IsToldBy trace plan verdict rows) old new
 IsOut trace plan (Err (fault.Header line)) rows old new = ⊥

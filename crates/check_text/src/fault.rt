@@ -34,7 +34,7 @@ pub enum CaptureFault {
     Read,
     #[error("memory refused")]
     Memory,
-    /// What is told was not written whole.
+    /// What is reported was not written whole.
     #[error("write failed")]
     Write,
 }

@@ -4,10 +4,10 @@
 //! [`Verdict`]: the rows that the text spells are lawful, with their counts; or those to the end of some time have a
 //! first row that makes them unlawful, with its first fault; or they are lawful and requests are left at their end, if the
 //! judge was to say so. A text that is no capture is a [`CaptureFault`]: the first record that is no row, or none that may
-//! stand there, by its line (`specs/Capture.antt`). What the judge tells of the rows by then goes to a writer: in parts, as
+//! stand there, by its line (`specs/Capture.antt`). What the judge reports of the rows by then goes to a writer: in parts, as
 //! it grows long, and the rest before the answer (`specs/Out.antt`).
 //!
-//! Nothing here keeps a row: memory is that of the judge, of one record, and of what is told of one time. Read on in
+//! Nothing here keeps a row: memory is that of the judge, of one record, and of what is reported of one time. Read on in
 //! `docs/CAPTURE.md`.
 #![tactic(auto)]
 

@@ -17,7 +17,7 @@ use Rattle.check_vcd.specs.declared.header.TheConstants.{MAX_ARGS, WIDTH_DIGITS}
 use Rattle.check_vcd.specs.declared.header.Var as code_var
 use Rattle.check_vcd.specs.declared.range.Span.{Span}
 
--- a signal: its hierarchical name, its identifier, how many bits it has, and their indices where they are given
+-- a signal: its hierarchical name, its identifier, how many bits it has, and their indices if they are given
 pub record Var : Type 0 where
   pub name : List ℕ
   pub code : List ℕ

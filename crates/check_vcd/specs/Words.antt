@@ -21,7 +21,7 @@ pub record Front : Type 0 where
 abbrev pub nothing : Front
 nothing = record { bytes = []; size = 0 }
 
--- where it has no bytes, none are kept
+-- if it has no bytes, none are kept
 abbrev pub IsFront : Front → Type 0
 IsFront front = front.size ≡ 0 → front.bytes ≡ []
 

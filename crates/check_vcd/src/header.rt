@@ -16,7 +16,7 @@ pub const MAX_ARGS: usize = 8;
 pub const WIDTH_DIGITS: usize = 10;
 
 /// A signal that a dump declares: its hierarchical name, its identifier, how many bits it has, and the indices of these
-/// where they are given.
+/// if they are given.
 #[derive(Debug, Drop)]
 pub struct Var {
     pub name: Vec<u8>,

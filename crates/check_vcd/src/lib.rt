@@ -1,4 +1,4 @@
-//! The value change dumps of IEEE 1364, read from a stream in memory that goes by the signals that a dump declares.
+//! The value change dumps of IEEE 1364, read from a stream in memory that depends on the signals that a dump declares.
 //!
 //! [`Words`] answers the words of a text one after the other, each with its line (`specs/Words.antt`); of a longer word
 //! it keeps [`MAX_WORD`] bytes. [`Dump::open`] reads a header, and answers the [`Var`]s that it declares
@@ -6,7 +6,7 @@
 //! time, or a change of a value that is wanted (`specs/Body.antt`). Each answer, and each fault with its line, is that
 //! of the definitions over the words of the whole text (`specs/Dump.antt`).
 //!
-//! Nothing is allocated after the header, save room for the longest value. Read on in `docs/CAPTURE.md`, "Your own
+//! Nothing is allocated after the header, except room for the longest value. Read on in `docs/CAPTURE.md`, "Your own
 //! design".
 #![tactic(auto)]
 

@@ -25,7 +25,7 @@ fn is_blank(byte: u8) -> bool
     byte <= b' '
 }
 
-/// Reads once, and again where that is interrupted.
+/// Reads once, and again if that is interrupted.
 fn read_some<R: Read>(reader: &mut R, buffer: &mut [u8]) -> Result<usize, DumpFault>
     ensures inside { IfOk result (λ count. count ≤ length buffer.new) }
     ensures taken { IfOk result (λ count. Consumes (R.remaining reader.old) (R.remaining reader.new)

@@ -8,7 +8,7 @@ use check_beats::FormFault;
 use check_cells::Pattern;
 use thiserror::Error;
 
-/// Why a beat is not lawful after those before it, in the order in which reasons are tried. It tells no reply: a judge
+/// Why a beat is not lawful after those before it, in the order in which reasons are tried. It carries no reply: a judge
 /// hands it on, and a [`Fault`] is made of it if it is asked for.
 #[derive(Debug, Clone, Copy, PartialEq, Eq)]
 pub enum Reason {
@@ -26,7 +26,7 @@ pub enum Reason {
     WrongReply,
 }
 
-/// The first reason why a beat is not lawful, told in full.
+/// The first reason why a beat is not lawful, with its replies.
 #[derive(Debug, Drop, Error)]
 pub enum Fault {
     #[error("{0}")]
@@ -67,7 +67,7 @@ pub enum StepError {
     Memory,
 }
 
-/// The fault that this reason is, if it tells no reply.
+/// The fault that this reason is, if it carries no reply.
 pub fn fault_of(reason: Reason) -> Fault
     ensures { (reason ≡ reasons.WrongReply → ⊥) → reason_of result ≡ reason }
 {

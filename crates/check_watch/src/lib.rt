@@ -11,7 +11,7 @@
 //! What is lawful is said beat by beat (`specs/Allowed.antt`) by what the beat finds: the messages under way at its
 //! link, what is in flight of its source, how far that has come across, and its port's slave (`specs/Scene.antt`,
 //! `specs/Past.antt`); what is kept of these is `check_flight`'s. A request takes effect as its port's slave says. A beat
-//! with which one does can need a page of memory: [`StepError::Memory`] says that a lawful beat was refused one.
+//! with which a request takes effect can need a page of memory: [`StepError::Memory`] says that a lawful beat was refused one.
 //!
 //! Read on in `docs/MODEL.md`, "The judge over links of any width".
 #![tactic(auto)]

@@ -64,7 +64,7 @@ impl Watch {
         }
     }
 
-    /// A beat of a request crosses at a link that ends it, and the slave of its port accepts it there. Where there is no
+    /// A beat of a request crosses at a link that ends it, and the slave of its port accepts it there. If there is no
     /// memory, nothing is changed.
     fn accept(
         &mut self,
@@ -113,7 +113,7 @@ impl Watch {
         }
     }
 
-    /// Takes a beat of a request: whether it ends it. Where there is no memory, nothing is changed.
+    /// Takes a beat of a request: whether it ends it. If there is no memory, nothing is changed.
     fn admit_ask(
         &mut self,
         alloc: Global,
@@ -265,7 +265,7 @@ impl Watch {
         self.end_reply(link, place);
     }
 
-    /// Takes a beat of a reply: whether it ends it. Where there is no memory, nothing is changed.
+    /// Takes a beat of a reply: whether it ends it. If there is no memory, nothing is changed.
     fn admit_reply(
         &mut self,
         alloc: Global,
@@ -315,7 +315,7 @@ impl Watch {
         }
     }
 
-    /// Takes one beat more, which is lawful and has this place: what it ends. Where there is no memory, nothing is changed.
+    /// Takes one beat more, which is lawful and has this place: what it ends. If there is no memory, nothing is changed.
     fn admit(
         &mut self,
         alloc: Global,

@@ -15,7 +15,7 @@ not be opened, read or written.";
 pub struct Options<'a> {
     /// The file with the system.
     pub system: &'a str,
-    /// The file with the dump; where there is none it comes on standard input.
+    /// The file with the dump; if there is none it comes on standard input.
     pub dump: Option<&'a str>,
 }
 

@@ -59,5 +59,5 @@ pub record IsClosing (about : About) (free : List ℕ) (held : List HeldSlot) (l
   pub apart : (h : HeldSlot) → Contains held h → Contains free h.slot → ⊥
   -- no held slot's master has left
   pub present : (h : HeldSlot) → Contains held h → Contains left h.master → ⊥
-  -- so where all have left nothing is held
+  -- so if all have left nothing is held
   pub all_free : ((m : ℕ) → m < about.masters → Contains left m) → held ≡ []

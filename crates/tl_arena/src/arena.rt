@@ -138,7 +138,7 @@ impl Arena {
         Arena::make(alloc, slots, sources, banks).map_err(|_refused| ArenaFault::Memory)
     }
 
-    /// The same, where the counts are in their limits.
+    /// The same, if the counts are in their limits.
     fn make(
         alloc: Global,
         slots: usize,

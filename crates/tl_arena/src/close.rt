@@ -41,7 +41,7 @@ fn give_up(mut closed: Closed<Berth, Global>, slots: usize)
 }
 
 impl Arena {
-    /// Ends the arena, and gives the account of its words. Where memory is refused there is no account.
+    /// Ends the arena, and gives the account of its words. If memory is refused there is no account.
     pub fn close(self, alloc: Global) -> Result<Account, Memory>
         ensures account { IfOk result
             (λ a. IsClosing self.about a.free.items a.held.items a.left.items) }

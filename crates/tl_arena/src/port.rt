@@ -69,7 +69,7 @@ impl Arena {
         }
     }
 
-    /// Accepts the request in a slot, where this master has posted it for this port.
+    /// Accepts the request in a slot, if this master has posted it for this port.
     fn accept_from(&self, port: &mut PortSeat, slot: usize, owner: usize) -> Option<Accepted>
         requires arena { port.old.arena ≡ self.now }
         requires slot { slot < self.now.about.slots }

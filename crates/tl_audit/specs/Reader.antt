@@ -1,4 +1,4 @@
--- What a reader of the traces gets where they agree with the histories of lawful books: the replies of one thread. What
+-- What a reader of the traces gets if they agree with the histories of lawful books: the replies of one thread. What
 -- a reply is stands in the chapter "TL-UL and TL-UH operations" of the TileLink specification; the rest is this
 -- project's own.
 use Rattle.std.specs.Prelude.{◌≡◌, ℕ, ◌<◌, List, [], ◌∷◌, map, Some, slice_get}

@@ -35,7 +35,7 @@ pub fn audit(
     ensures fault { IfErr result
         (HasAuditFault sources.now (entries_in traces.now) (histories_of books.now)) }
 
-    // Where they agree nothing but want of memory is answered beside Ok.
+    // If they agree nothing but want of memory is answered beside Ok.
     ensures agreed { Agrees sources.now (entries_in traces.now) (histories_of books.now)
         → IfErr result (λ fault. fault ≡ Memory) }
 {

@@ -1,11 +1,11 @@
 //! The audit of a finished run: whether the traces of its masters and the histories of its ports hold the same entries,
 //! each once.
 //!
-//! [`audit`] answers Ok exactly where they agree (`Agrees`, `specs/Agrees.antt`); a fault names an entry of a trace, or
+//! [`audit`] answers Ok exactly if they agree (`Agrees`, `specs/Agrees.antt`); a fault names an entry of a trace, or
 //! a place of a history, at which that fails. [`audit_lists`] takes histories from anywhere in place of books. Both
 //! take one mark for each place of each history, and time in proportion to the entries.
 //!
-//! What that tells who reads the traces is a law ([`laws`], `specs/Reader.antt`): they are those of one thread that
+//! What follows for a reader of the traces is a law ([`laws`], `specs/Reader.antt`): they are those of one thread that
 //! serves each port's history from reset.
 //!
 //! Read on in `docs/MODEL.md`, "The audit".

@@ -129,7 +129,7 @@ fn check_order(
 ///
 /// A history carries wide sources, a trace the master's own. Errors, the first kind that applies, and of a kind the one
 /// of the lowest master or port and there of the lowest place: [`AuditFault::Missing`], [`AuditFault::Twice`],
-/// [`AuditFault::Order`], [`AuditFault::Untraced`]; and [`AuditFault::Memory`] where memory is refused.
+/// [`AuditFault::Order`], [`AuditFault::Untraced`]; and [`AuditFault::Memory`] if memory is refused.
 pub fn audit_lists(
     alloc: Global,
     sources: &Sources,
@@ -141,7 +141,7 @@ pub fn audit_lists(
     ensures fault { IfErr result
         (HasAuditFault sources.now (entries_in traces.now) (journals_in histories.now)) }
 
-    // Where they agree nothing but want of memory is answered beside Ok.
+    // If they agree nothing but want of memory is answered beside Ok.
     ensures agreed { Agrees sources.now (entries_in traces.now) (journals_in histories.now)
         → IfErr result (λ fault. fault ≡ Memory) }
 {

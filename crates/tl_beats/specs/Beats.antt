@@ -17,7 +17,7 @@ low address size = address - address % 2 ^ size
 abbrev pub lane_of : ℕ → ℕ → ℕ → ℕ
 lane_of address size j = (low address size + j) % BUS_BYTES
 
--- how many beats a message has: one where it carries no bytes, whatever its size
+-- how many beats a message has: one if it carries no bytes, whatever its size
 abbrev pub beat_count : Bool → ℕ → ℕ
 beat_count carries size = if carries then max 1 (2 ^ size / BUS_BYTES) else 1
 
@@ -32,7 +32,7 @@ abbrev pub active_mask : ℕ → ℕ → ℕ
 active_mask address size =
     let first = low address size % BUS_BYTES in 2 ^ (first + min BUS_BYTES (2 ^ size)) - 2 ^ first
 
--- a mask is lawful where it sets just the active lanes, or some of them where bytes may be left unset
+-- a mask is lawful if it sets just the active lanes, or some of them if bytes may be left unset
 pub record IsLawfulMask (op : AskOp) (size address mask : ℕ) : Type 0 where
   pub whole : may_leave_unset op ≡ false → mask ≡ active_mask address size
   pub part : may_leave_unset op ≡ true → bit_and mask (active_mask address size) ≡ mask

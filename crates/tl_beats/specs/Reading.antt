@@ -74,7 +74,7 @@ pub record IsReplyBegun (beats : List DBeat) (first : DBeat) (op : ReplyOp) : Ty
   pub in_limit : first.size ≤ MAX_SIZE
   pub count : length beats ≡ beat_count (reply_carries_bytes op) first.size
 
--- a byte of a reply stands at a lane, or is zero where the reply is denied
+-- a byte of a reply stands at a lane, or is zero if the reply is denied
 pub record StandsInReply (denied : Bool) (lanes : List ℕ) (lane byte : ℕ) : Type 0 where
   pub given : denied ≡ false → slice_index lanes lane ≡ byte
   pub zero_of_denied : IsTrue denied → byte ≡ 0

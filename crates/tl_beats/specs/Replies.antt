@@ -10,7 +10,7 @@ use Rattle.tl_beats.specs.Beats.{lane_of, beat_count, IsActive}
 use Rattle.tl_beats.specs.declared.beat.DBeat.{DBeat}
 use Rattle.tl_types.specs.declared.limits.TheConstants.{BUS_BYTES}
 
--- `corrupt` is lawful where it is set only in a beat that carries bytes of a denied reply
+-- `corrupt` is lawful if it is set only in a beat that carries bytes of a denied reply
 pub record IsLawfulFlag (op : ReplyOp) (denied corrupt : Bool) : Type 0 where
   pub carries : IsTrue corrupt → IsTrue (reply_carries_bytes op)
   pub of_denied : IsTrue corrupt → IsTrue denied
@@ -34,7 +34,7 @@ pub record SpellsReply (reply : Response) (address : ℕ) (beats : List DBeat) :
   pub count : length beats ≡ beat_count (reply_carries_bytes reply.op) reply.size
   pub each : (b : ℕ) (beat : DBeat) → slice_get beats b ≡ Some beat → IsReplyBeatOf reply address b beat
 
--- a beat has zeros on the lanes that carry nothing, and is marked corrupt just where it carries a denied reply's bytes:
+-- a beat has zeros on the lanes that carry nothing, and is marked corrupt just if it carries a denied reply's bytes:
 -- this project's own rule
 pub record IsCleanReply (reply : Response) (address : ℕ) (beat : DBeat) : Type 0 where
   pub without_bytes : reply_carries_bytes reply.op ≡ false → (k : ℕ) → k < BUS_BYTES → slice_index beat.lanes k ≡ 0

@@ -30,7 +30,7 @@ pub fn is_lawful_mask(mask: u8, op: AskOp, size: u8, address: u64) -> bool
     sets_active(mask, op, active_mask(address, size))
 }
 
-/// Whether a mask sets just the active lanes, or some of them where bytes may be left unset.
+/// Whether a mask sets just the active lanes, or some of them if bytes may be left unset.
 fn sets_active(mask: u8, op: AskOp, active: u8) -> bool
     ensures { (size address : ℕ) → active ≡ active_mask address size
         → (IsTrue result ↔ IsLawfulMask op size address mask) }

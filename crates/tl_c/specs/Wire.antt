@@ -16,7 +16,7 @@ use Rattle.tl_c.specs.declared.wire.WireAsk.{WireAsk}
 use Rattle.tl_c.specs.declared.wire.WireAnswer.{WireAnswer}
 use Rattle.tl_c.specs.declared.wire.WireBeat.{WireBeat}
 
--- the byte of a request at a place: none where a partial put leaves it unset
+-- the byte of a request at a place: none if a partial put leaves it unset
 abbrev pub byte_at : WireAsk → Bool → ℕ → Option ℕ
 byte_at wire partial place =
     if partial && (get_or wire.set place 0 == 0) then None else Some (get_or wire.bytes place 0)

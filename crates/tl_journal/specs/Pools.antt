@@ -33,7 +33,7 @@ abbrev pub pool_room : PoolsView → Bool → ℕ
 pool_room pools true = pools.partial_room
 pool_room pools false = pools.whole_room
 
--- a request's bytes are in its pool, as many as it carries and unset only where they may be
+-- a request's bytes are in its pool, as many as it carries and unset only if they may be
 pub record AreIn (pools : PoolsView) (op : AskOp) (size start : ℕ) : Type 0 where
   pub within : start + byte_count op size ≤ pool_len pools (may_leave_unset op)
   pub lawful : IsLawfulRequest op size (bytes_in pools (may_leave_unset op) start (byte_count op size))

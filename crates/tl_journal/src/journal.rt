@@ -109,7 +109,7 @@ impl Journal {
         Ok(())
     }
 
-    /// Appends a request and its reply, each with this source, and makes room for them first where there is none: it
+    /// Appends a request and its reply, each with this source, and makes room for them first if there is none: it
     /// fails only then.
     pub fn push(&mut self, source: u16, ask: &Ask, reply: &Reply) -> Result<(), AllocError>
         ensures ok { OnOk result (self.new.items ≡ self.old.items

@@ -4,8 +4,8 @@
 //! requests with their replies, of which each takes a header and the bytes that it has. These stand in [`Pools`], those
 //! of one message after those of the other, which also keep the operations of a script.
 //!
-//! Each call's contract says which list it leaves; what was appended is read back as it was. Where room for so many
-//! entries was made before, appending takes no memory.
+//! Each call's contract says which list it leaves; what was appended is read back as it was. If room for an entry
+//! was made before, appending it takes no memory.
 //!
 //! Read on in `docs/MODEL.md`, "Journals".
 #![tactic(auto)]

@@ -80,7 +80,7 @@ impl Model for Master {
 
 impl Master {
     /// A master with nothing out and an empty trace, with room for `limit` entries and for one request out a source.
-    /// Where memory is refused the seat comes back.
+    /// If memory is refused the seat comes back.
     pub fn new(
         alloc: Global,
         seat: MasterSeat,

@@ -55,7 +55,7 @@ after store ask =
 abbrev pub shown : ReplyOp → List ℕ → List ℕ
 shown op bytes = if reply_carries_bytes op then bytes else []
 
--- the reply to a request: the window before it, or as many zero bytes where it is denied
+-- the reply to a request: the window before it, or as many zero bytes if it is denied
 abbrev pub reply : Store → Request → Response
 reply store ask = record {
   op = reply_op_of ask.op;

@@ -12,7 +12,7 @@ use Rattle.tl_ops.specs.declared.kind.Kind.{Kind}
 use Rattle.tl_ops.specs.declared.kind.Kind.TheVariants.{Ram, Rom, Regs, ClearRegs, NoDevice}
 use Rattle.tl_ops.specs.Number.{number, signed, low_bytes}
 
--- the given bytes, and the old ones where none is given
+-- the given bytes, and the old ones if none is given
 abbrev pub merged : List ℕ → List (Option ℕ) → List ℕ
 merged old given = map (λ pair. unwrap_or pair.1 pair.0) (zip old given)
 

@@ -39,7 +39,7 @@ pub fn with_cell(word: u64, lane: usize, width: usize, cell: u64) -> u64
     word & !lanes | cell << shift
 }
 
-/// What a request gives of a cell: the bytes, zero where none is given, and a mask of the lanes that keep theirs.
+/// What a request gives of a cell: the bytes, zero if none is given, and a mask of the lanes that keep theirs.
 pub struct Given {
     pub bytes: u64,
     pub keep: u64,

@@ -1,5 +1,5 @@
 -- The command line: the options that there are, which of them the words ask for, and the status that the program ends
--- with where they ask for none. This project's own.
+-- with if they ask for none. This project's own.
 use Rattle.std.specs.Prelude.{◌≡◌, ℕ, List, [], ◌∷◌, true, Some, codes, unwrap_or}
 use Rattle.std.specs.Str.{bytes_eq}
 use Rattle.std.specs.Str.Parse.{digits_value, without_leading_plus}
@@ -26,7 +26,7 @@ history_rule = record (new_rule (codes "history")) {
   parser = Some values.Bool;
 }
 
--- `--workers N`, a number from 1 to the most that there may be, and 1 where it is not given
+-- `--workers N`, a number from 1 to the most that there may be, and 1 if it is not given
 abbrev pub workers_rule : Rule
 workers_rule = record (new_rule (codes "workers")) {
   long = Some (codes "workers");
@@ -44,7 +44,7 @@ program = let plain = new_app (codes "tlx") in record plain { top = record plain
 abbrev pub command_line : App
 command_line = with_rule (with_rule (with_rule program serial_rule) history_rule) workers_rule
 
--- the value that the words give an option, or its own where they give none
+-- the value that the words give an option, or its own if they give none
 abbrev pub value_in : List Text → Text → Text
 value_in words option = unwrap_or (one_of option (matches_of command_line words)) []
 

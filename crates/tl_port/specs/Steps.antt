@@ -83,8 +83,8 @@ pub record TakesAndServes (b : BookView) (step : Step) (c : BookView) : Type 0 w
 
 -- ---- what a step answers
 
--- whatever the book, the answer of a step agrees with itself: it names a source just where it served a request, and
--- where it took one it served one
+-- whatever the book, the answer of a step agrees with itself: it names a source just if it served a request, and
+-- if it took one it served one
 pub record IsStepAnswer (step : Step) : Type 0 where
   pub named : is_some step.source ≡ is_some step.index
   pub served : (source : ℕ) → step.intake ≡ Taken source → IsSome step.index

@@ -112,7 +112,7 @@ impl Book {
         })
     }
 
-    /// Takes one request that is posted to this port, by one pass over the slots. Where the journal is full it looks at
+    /// Takes one request that is posted to this port, by one pass over the slots. If the journal is full it looks at
     /// none.
     pub fn intake(&mut self, arena: &Arena) -> Intake
         requires arena { self.old.seat.arena ≡ arena.now }

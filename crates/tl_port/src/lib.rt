@@ -8,8 +8,8 @@
 //! A [`Port`] is a book behind a lock, of the arena that its parameter names. Whoever gets the lock finds a lawful
 //! book of that arena, whatever the number of threads; of one call under the lock nothing more is said.
 //!
-//! A port finds what is posted by itself: an intake passes over the words of the slots. So whoever posts takes no
-//! port's lock.
+//! A port finds by itself what is posted for it: an intake passes over the words of the slots. So no master takes a
+//! port's lock to post.
 #![tactic(auto)]
 
 mod book;

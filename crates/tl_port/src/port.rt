@@ -81,8 +81,8 @@ impl<N: ArenaName> Port<N> {
         self.lock.lock(rt).serve(arena)
     }
 
-    /// An intake and then a service, under one lock. The answer names the source of a request just where one was
-    /// served, and where one was taken one was served.
+    /// An intake and then a service, under one lock. The answer names the source of a request just if one was
+    /// served, and if one was taken one was served.
     pub fn step(&self, rt: &impl Wait, arena: &Arena) -> Step
         requires { arena.now ≡ N.arena }
         ensures { IsStepAnswer result }

@@ -71,7 +71,7 @@ pub record FailsAudit (HasFault : System → AuditFault → Type 0) (read_old re
   pub given : GivesSystem read_old read_new system
   pub has : HasFault system fault
 
--- what an engine promises of its result, where these are the texts of the runs of a system, and the faults that a run
+-- what an engine promises of its result, if these are the texts of the runs of a system, and the faults that a run
 -- may have: what the reader had before and has after, and what the writer held before and holds after
 pub record IsAnswered (IsText : System → List ℕ → Type 0) (HasFault : System → AuditFault → Type 0)
     (read_old read_new written_old written_new : Option (List ℕ)) (result : Result Unit RunFault) : Type 0 where

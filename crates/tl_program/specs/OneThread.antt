@@ -55,7 +55,7 @@ pub record IsOneThreadsRun (s : System) (traces : List (List Entry))
   pub order : (m : ℕ) (trace : List Entry) → slice_get traces m ≡ Some trace → IsServedInOrder trace
 
 -- the text is that of such a run: its traces, its histories where they are asked for, and how many slots are free and
--- how many held, which are all slots; where all masters have left none is held
+-- how many held, which are all slots; if all masters have left none is held
 pub record IsOneThreadsText (history : Bool) (s : System) (text : List ℕ) : Type 0 where
   pub traces : List (List Entry)
   pub histories : List (List (Request × Response))

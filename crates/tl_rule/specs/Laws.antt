@@ -236,7 +236,7 @@ WordsFit = (a : About) (s : Table) → Fits a s → AreArenaWords a s.words
 abbrev pub HaveAllLeft : About → List ℕ → Type 0
 HaveAllLeft a words = (m : ℕ) → m < a.masters → slice_index words (a.slots + m) ≡ 1
 
--- where all have left, every slot is free
+-- if all have left, every slot is free
 abbrev pub AllFreeAfterAllLeft : Type 0
 AllFreeAfterAllLeft =
     (a : About) (words : List ℕ) → AreArenaWords a words → HaveAllLeft a words

@@ -87,7 +87,7 @@ Play = Step Berth → Seat → ℕ → Seat → Type 0
 abbrev pub Won : Type 1
 Won = Step Berth → Seat → Seat → Type 0
 
--- a compare-exchange, which changes the seat only where it found the word that it looked for
+-- a compare-exchange, which changes the seat only if it found the word that it looked for
 abbrev pub Tried : Won → Play
 Tried won st m r n = (r ≡ st.first → won st m n) × (r ≢ st.first → n ≡ m)
 

@@ -172,7 +172,7 @@ module _ (a : About) (c : Parts) where
     pub shape : HasShape
     -- a leave word is set just where that master's view has left: else no one could tell from the words who has gone
     pub leaving : (m : ℕ) → slice_index_or c.left m false ≡ (hands c.masters m).left
-    -- who has left holds nothing: so where all have left every slot is free
+    -- who has left holds nothing: so if all have left every slot is free
     pub gone : (m i : ℕ) → (hands c.masters m).left ≡ true → held c.masters m i ≡ Nothing
     -- each slot is as its word says: so who steps on a slot knows from the word found what it has before it
     pub slots : (i : ℕ) → i < a.slots → InPhase i (phase c i)

@@ -93,7 +93,7 @@ pub fn words_fit()
     ensures { WordsFit }
 {}
 
-/// Where all masters have left, every slot is free.
+/// If all masters have left, every slot is free.
 pub fn all_free_after_all_left()
     ensures { AllFreeAfterAllLeft }
 {}

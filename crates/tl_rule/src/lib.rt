@@ -6,7 +6,7 @@
 //! dealing of the seats, keeps it, and that each step is one event that the core of `tl_slots` accepts; and what the
 //! rule says of a master's view and a port's list, which is what a collected reply promises.
 //!
-//! There is no thread and no atomic here, and but for types of views, of which no value is ever made, no code: the
+//! There is no thread and no atomic here. There is no code, except types of views, of which no value is ever made: the
 //! calls are in `tl_arena`.
 //!
 //! Read on in `docs/MODEL.md`, "The running arena".

@@ -35,7 +35,7 @@ size_of word = number_of 10 1 word >>= (λ size. if nat_le size MAX_SIZE then So
 unfoldable pub counted_data_of : ℕ → List ℕ → Option (List (Option ℕ))
 counted_data_of count word = if length word == 2 * count then data_of word else None
 
--- the bytes that the words after SIZE spell: one word where the operation carries bytes, and none elsewhere;
+-- the bytes that the words after SIZE spell: one word if the operation carries bytes, and none elsewhere;
 -- only a partial put has unset bytes
 unfoldable pub bytes_of : AskOp → ℕ → List (List ℕ) → Option (List (Option ℕ))
 bytes_of op size [] = if carries_bytes op then None else Some []
@@ -78,7 +78,7 @@ job_of SpelledWait bytes = Wait
 job_of (SpelledSend op size source address) bytes =
     Send (record { op = op; size = size; source = source; address = address; bytes = bytes })
 
--- where it sends a request, these are bytes of one
+-- if it sends a request, these are bytes of one
 abbrev pub IsLawfulJob : Spelled → List (Option ℕ) → Type 0
 IsLawfulJob SpelledWait bytes = Unit {0}
 IsLawfulJob (SpelledSend op size source address) bytes = IsLawfulRequest op size bytes

@@ -42,7 +42,7 @@ filled count text =
     if nat_lt (2 * count) (length text) then Err (OutOfRange Reset)
     else ok_or (pairs_of text) (OutOfRange Reset) >>= (λ bytes. Ok (bytes ++ replicate (count - length bytes) 0))
 
--- the text of a reset, which is empty where there is none
+-- the text of a reset, which is empty if there is none
 abbrev pub reset_text : Option Data → Result (List ℕ) ScriptFault
 reset_text None = Ok []
 reset_text (Some value) = text_of Reset value

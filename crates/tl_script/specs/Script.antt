@@ -75,8 +75,8 @@ pub record Makes (parts : Parts) (system : System) : Type 0 where
   pub counts : AreLawfulCounts (counts_of parts)
   pub made : system_of parts ≡ Ok system
 
--- the first fault of parts that make no system: that of the ranges; where these make a map, that of the counts; and
--- where these are lawful, the lowest operation that is none
+-- the first fault of parts that make no system: that of the ranges; if these make a map, that of the counts; and
+-- if these are lawful, the lowest operation that is none
 abbrev pub IsFirstFaultOf : Parts → ScriptFault → Type 0
 IsFirstFaultOf parts (Map fault) = (fault ≢ MapMemory) × IsFirstMapFault (ranges_of parts) fault
 IsFirstFaultOf parts (Sources fault) =

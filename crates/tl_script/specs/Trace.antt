@@ -7,7 +7,7 @@ use Rattle.tl_types.specs.declared.trace.Entry.{Entry}
 use Rattle.tl_script.specs.Data.{data_text}
 use Rattle.tl_text.specs.Name.{word_of, reply_word_of}
 
--- the word after a reply's name where it is denied
+-- the word after a reply's name if it is denied
 abbrev pub denied_text : Bool → List ℕ
 denied_text true = codes " denied"
 denied_text false = []

@@ -24,7 +24,7 @@ fn push_byte(text: &mut Vec<u8>, byte: Option<u8>) -> Result<(), AllocError>
     text.extend_from_slice(&digits)
 }
 
-/// A space and the bytes of a request, where it carries any.
+/// A space and the bytes of a request, if it carries any.
 #[tactic(auto, using(tl_text::proofs::TextLemmas::begins))]
 fn push_data(text: &mut Vec<u8>, bytes: &Bytes) -> Result<(), AllocError>
     ensures ok { OnOk result (text.new.items ≡ text.old.items ++ bytes_part bytes.now) }
@@ -53,7 +53,7 @@ fn push_given(text: &mut Vec<u8>, bytes: &[u8])
     }
 }
 
-/// A space and the bytes of a reply, where it carries any. Room for all of them is made first.
+/// A space and the bytes of a reply, if it carries any. Room for all of them is made first.
 #[tactic(auto, using(crate::proofs::Plain::plain))]
 fn push_plain(text: &mut Vec<u8>, bytes: &[u8]) -> Result<(), AllocError>
     ensures ok { OnOk result

@@ -21,11 +21,11 @@ bank_of slave = slave.counted.bank
 abbrev pub count_of : Slave → ℕ
 count_of slave = slave.counted.served
 
--- what a slave port has served, where it keeps that
+-- what a slave port has served, if it keeps that
 abbrev pub kept_by : Slave → Option (List (Request × Response))
 kept_by slave = option_map (λ history. history.items) slave.history
 
--- what a slave port has served, or nothing where it does not keep that
+-- what a slave port has served, or nothing if it does not keep that
 abbrev pub history_of : Slave → List (Request × Response)
 history_of slave = unwrap_or (kept_by slave) []
 

@@ -26,7 +26,7 @@ pub struct SerialRun {
 #[derive(Drop)]
 pub(crate) struct Slave {
     counted: CountedBank,
-    /// The requests that it has served, where histories are kept.
+    /// The requests that it has served, if histories are kept.
     history: Option<Journal>,
 }
 

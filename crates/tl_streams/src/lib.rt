@@ -2,7 +2,7 @@
 //!
 //! [`read_whole_system`] reads a script to its end: the answer is the system that all of it spells, or its first fault;
 //! [`read_up_to`] gives the bytes of any file.
-//! [`write_all`] writes a text whole, or a front of it and says so. All are handed a [`LimitedReader`] or a
+//! [`write_all`] writes a text whole, or a prefix of it and says so. All are handed a [`LimitedReader`] or a
 //! [`LimitedWriter`] alone, which let a stream be called a bounded number of times ([`READS`] reads, [`RETRIES`] writes
 //! that are tried again since they were interrupted): so whatever a stream does, they end. [`NamedFile`] is a file that is
 //! opened when it is read.

@@ -93,7 +93,7 @@ impl Ringer {
         Ok(Ringer { sender, pass })
     }
 
-    /// Rings. A ring is lost where nobody listens any more.
+    /// Rings. A ring is lost if nobody listens any more.
     pub(crate) fn ring(&mut self, rt: &impl Wait, ring: Ring) {
         let _ = self.sender.send_as::<Free, _>(rt, &mut self.pass, ring);
     }

@@ -1,10 +1,10 @@
 //! The run of a system by threads: each master is a thread, each port has one or more, and all share one arena.
 //!
-//! [`run_threads`] carries the theorem (`IsThreadedRun`, `specs/Run.antt`): where it answers Ok, there is one arena of
+//! [`run_threads`] carries the theorem (`IsThreadedRun`, `specs/Run.antt`): if it answers Ok, there is one arena of
 //! the system such that each master's trace has, for each source, the requests of its operations in order, each once,
 //! and of what it collected at a port one lawful history has just the master's own; book p is port p's and lawful; and
-//! the account is that of an arena at its end. That threads run at once no clause says: the tests of
-//! `tl_run_tests` do, through a [`Gate`].
+//! the account is that of an arena at its end. No clause says that threads run in parallel: the tests
+//! of `tl_run_tests` do, through a [`Gate`].
 //!
 //! `master_thread` is what a master's thread does, `worker_thread` what one of a port's does, `context` what all of
 //! them share, `bell` how they wake each other; `setup` makes what a run needs, `start` and `run` start, join and stop

@@ -71,7 +71,7 @@ fn collect_all<N: ArenaName, R: Wait, G: Gate>(
     unreachable!()
 }
 
-/// Waits for a reply to one of the master's own requests. Where none is out, other masters have the slots: nobody rings
+/// Waits for a reply to one of the master's own requests. If none is out, other masters have the slots: nobody rings
 /// this one when they give them back, so it lets other threads run, and looks again.
 fn wait_for_turn<R: Wait>(rt: &R, master: &Master, bell: &mut Listener) {
     if master.out() > 0 {

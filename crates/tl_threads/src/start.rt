@@ -33,7 +33,7 @@ impl Promise<Trace> for TraceOf {
     ghost kept_by = { λ p r. IsTrace p.arena.value p.map.value p.number p.jobs.value r.items };
 }
 
-/// Starts a master's thread. None where there is no thread to be had.
+/// Starts a master's thread. None if there is no thread to be had.
 pub(crate) fn start_master<'s, 'e: 's, N: ArenaName + Send + Sync, R: Wait + Sync, G: Gate + Sync>(
     scope: &'s Scope<'s, &'e ()>,
     rt: &'e R,
@@ -82,7 +82,7 @@ pub(crate) fn start_master<'s, 'e: 's, N: ArenaName + Send + Sync, R: Wait + Syn
     scope.spawn_with(promise, run).ok()
 }
 
-/// Starts one of a port's threads. None where there is no thread to be had.
+/// Starts one of a port's threads. None if there is no thread to be had.
 pub(crate) fn start_worker<'s, 'e: 's, N: ArenaName + Send + Sync, R: Wait + Sync, G: Gate + Sync>(
     scope: &'s Scope<'s, &'e ()>,
     rt: &'e R,

@@ -40,13 +40,13 @@ fn arena_of(alloc: Global, system: &System, banks: &[Bank]) -> Result<Made, Memo
 
 /// Runs a system: each master is a thread, each port has so many of them, and the masters and ports share one arena.
 ///
-/// A master sends its operations in order. Where the source of a request is busy, or no slot is free, it waits for a
+/// A master sends its operations in order. If the source of a request is busy, or no slot is free, it waits for a
 /// reply of its own and tries again; at a wait and at the end it collects all that is out. It returns when all threads
 /// have ended.
 ///
-/// Errors, the first that applies: [`ThreadFault::Memory`] where memory is refused; [`ThreadFault::NoThread`] where a
-/// thread is; [`ThreadFault::StrayBook`] where a lock gave back another port's book; and [`ThreadFault::GateHeld`]
-/// where the gate let a worker wait for ever.
+/// Errors, the first that applies: [`ThreadFault::Memory`] if memory is refused; [`ThreadFault::NoThread`] if a
+/// thread is; [`ThreadFault::StrayBook`] if a lock gave back another port's book; and [`ThreadFault::GateHeld`]
+/// if the gate let a worker wait for ever.
 pub fn run_threads<R: Threads + Wait + Sync, G: Gate + Sync>(
     rt: &R,
     alloc: Global,

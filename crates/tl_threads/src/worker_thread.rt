@@ -27,7 +27,7 @@ fn ring_owed<R: Wait>(rt: &R, masters: &mut [Ringer], owed: &mut Owed)
     owed.clear();
 }
 
-/// The next ring of a port's bell. Where there is none it first gives the rings that it owes, and then waits for one.
+/// The next ring of a port's bell. If there is none it first gives the rings that it owes, and then waits for one.
 /// So it wakes a master once for several replies: waking a thread costs more than serving a request.
 fn next_ring<R: Wait>(rt: &R, bells: &mut Bells, owed: &mut Owed) -> Ring
     requires { All (λ master. master < vec_len bells.old.others) owed.old.items }

@@ -11,7 +11,7 @@ abbrev pub mask_bit : Option ℕ → ℕ
 mask_bit None = 0
 mask_bit (Some byte) = 1
 
--- a byte, given where a bit is set
+-- a byte, given if a bit is set
 abbrev pub given_byte : ℕ → ℕ → Option ℕ
 given_byte zero byte = None
 given_byte (suc _) byte = Some byte
@@ -26,7 +26,7 @@ abbrev pub given_in : (ℕ → ℕ) → List ℕ → List (Option ℕ)
 given_in bits [] = []
 given_in bits (byte ∷ bytes) = given_byte (bits 0) byte ∷ given_in (λ k. bits (suc k)) bytes
 
--- the bytes, zero where none is given
+-- the bytes, zero if none is given
 abbrev pub plain_of : List (Option ℕ) → List ℕ
 plain_of given = map (λ byte. unwrap_or byte 0) given
 

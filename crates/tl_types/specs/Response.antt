@@ -17,7 +17,7 @@ pub record Response : Type 0 where
   pub denied : Bool
   pub bytes : List ℕ
 
--- the rule of replies: as many bytes as the opcode carries, all of them zero where it is denied
+-- the rule of replies: as many bytes as the opcode carries, all of them zero if it is denied
 pub record IsLawfulResponse (op : ReplyOp) (size : ℕ) (denied : Bool) (bytes : List ℕ) : Type 0 where
   pub in_limit : size ≤ MAX_SIZE
   pub counted : length bytes ≡ reply_byte_count op size

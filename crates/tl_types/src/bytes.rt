@@ -14,7 +14,7 @@ const MAX_WORDS: usize = MAX_BYTES / WORD_BYTES;
 
 /// The bytes of a request, of which some may be left unset.
 ///
-/// They are plain bytes, zero where one is left unset, and a mask for each word of the bus.
+/// They are plain bytes, zero if one is left unset, and a mask for each word of the bus.
 #[derive(Debug, Drop)]
 pub struct Bytes {
     plain: ArrayVec<u8, MAX_BYTES>,
@@ -128,7 +128,7 @@ impl Bytes {
         self.masks = other.masks;
     }
 
-    /// Puts these bytes in the place of those that there were: one is left unset where its flag is zero.
+    /// Puts these bytes in the place of those that there were: one is left unset if its flag is zero.
     pub fn refill_flagged(&mut self, plain: &[u8], flags: &[u8])
         requires limit { length plain.now ≤ MAX_BYTES }
         requires flags { length plain.now ≤ length flags.now }
@@ -167,7 +167,7 @@ impl Bytes {
         }
     }
 
-    /// The bytes, zero where one is left unset.
+    /// The bytes, zero if one is left unset.
     pub fn plain(&self) -> &[u8]
         ensures { result.now ≡ plain_of self.now }
     {
@@ -267,7 +267,7 @@ fn clear_word(bytes: &mut [u8], flags: &[u8])
         .copy_to_slice(bytes);
 }
 
-/// Puts the masks of as many bytes as there are flags in the place of others: one is left unset where its flag is zero.
+/// Puts the masks of as many bytes as there are flags in the place of others: one is left unset if its flag is zero.
 fn put_flagged_masks(masks: &mut [u8; MAX_WORDS], flags: &[u8])
     requires { length flags.now ≤ MAX_BYTES }
     ensures counted { length masks.new ≡ MAX_WORDS }
@@ -299,7 +299,7 @@ fn flagged_words(flags: &[u8]) -> [u8; MAX_WORDS]
     masks
 }
 
-/// The mask of a word, or of the front of one: a bit is set where its flag is not zero.
+/// The mask of a word, or of the front of one: a bit is set if its flag is not zero.
 // the flags of a whole word are looked at side by side
 fn flag_mask(flags: &[u8]) -> u8
     requires { length flags.now ≤ WORD_BYTES }

@@ -2,11 +2,11 @@
 //!
 //! An [`Ask`] or a [`Reply`] that exists has a lawful size, the byte count of its operation, and no byte left unset
 //! but in a partial put; the bytes of a denied reply are zero. Contracts see them as the records `Request` and
-//! `Response` of `specs/`, so that two messages are equal where these fields are. The tables between operations and
+//! `Response` of `specs/`, so that two messages are equal if these fields are. The tables between operations and
 //! the opcodes and parameters of the wires are in `wire`, proved in both directions.
 //!
 //! This crate also has what all others share: the limits, the entries of traces, the fault [`Memory`], a copy of bytes
-//! that costs little where they are few ([`write_over`]), the pattern of "the first fault that applies"
+//! that costs little if they are few ([`write_over`]), the pattern of "the first fault that applies"
 //! (`specs/Fault.antt`), and lemmas on lists (`proofs/Lists.antt`).
 //!
 //! Read on in `docs/MODEL.md`, "Messages".

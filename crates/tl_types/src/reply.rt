@@ -14,7 +14,7 @@ use thiserror::Error;
 /// Room for the bytes of any message.
 const ZEROS: [u8; MAX_BYTES] = [0; MAX_BYTES];
 
-/// A reply, of lawful size and byte count, whose bytes are zero where it is denied.
+/// A reply, of lawful size and byte count, whose bytes are zero if it is denied.
 // The bytes stand first, as in a request.
 #[derive(Debug, Drop)]
 pub struct Reply {

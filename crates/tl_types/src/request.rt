@@ -181,7 +181,7 @@ impl Ask {
         self.address = address;
     }
 
-    /// As `refill`, with bytes of which one is left unset where its flag is zero.
+    /// As `refill`, with bytes of which one is left unset if its flag is zero.
     pub fn refill_flagged(
         &mut self,
         op: AskOp,
