@@ -57,8 +57,10 @@ carries_named op opcode param code = rw (← code.opcode_is) (carries-code op)
 pub length-given_at : (mask : ℕ) (lanes : List ℕ) (first count : ℕ) → length (given_at mask lanes first count) ≡ count
 length-given_at mask lanes first count = length-map-range_with_len (λ k. byte_at mask lanes (first + k)) 0 count
 
-pub given_at-get : (mask : ℕ) (lanes : List ℕ) (first count k : ℕ) → k < count → get_or (given_at mask lanes first count) k None ≡ byte_at mask lanes (first + k)
-given_at-get mask lanes first count k within = get_or-map-range_with_len (λ k. byte_at mask lanes (first + k)) 0 count k k None within (omega arith)
+pub given_at-get : (mask : ℕ) (lanes : List ℕ) (first count k : ℕ) → k < count
+    → get_or (given_at mask lanes first count) k None ≡ byte_at mask lanes (first + k)
+given_at-get mask lanes first count k within =
+    get_or-map-range_with_len (λ k. byte_at mask lanes (first + k)) 0 count k k None within (omega arith)
 
 byte_at-set : (mask : ℕ) (lanes : List ℕ) (lane : ℕ) → bit_at mask lane ≡ 1 → byte_at mask lanes lane ≡ Some (slice_index lanes lane)
 byte_at-set mask lanes lane set =
@@ -66,18 +68,21 @@ byte_at-set mask lanes lane set =
     ap (λ b. if b then Some (slice_index lanes lane) else None) yes
 
 -- a mask of all active lanes sets each lane of a beat
-pub active_set : (w address size k : ℕ) → k < min (2 ^ w) (2 ^ size) → bit_at (active_mask (2 ^ w) address size) (low address size % 2 ^ w + k) ≡ 1
+pub active_set : (w address size k : ℕ) → k < min (2 ^ w) (2 ^ size)
+    → bit_at (active_mask (2 ^ w) address size) (low address size % 2 ^ w + k) ≡ 1
 active_set w address size k within =
     let first = low address size % 2 ^ w in
     bit_at_mask_inside first (first + min (2 ^ w) (2 ^ size)) (first + k) (omega arith) (omega (arith, within))
 
 -- lanes that are all set are all given
-pub all_given : (mask : ℕ) (lanes : List ℕ) (first count : ℕ) → first + count ≤ length lanes → ((k : ℕ) → k < count → bit_at mask (first + k) ≡ 1)
+pub all_given : (mask : ℕ) (lanes : List ℕ) (first count : ℕ) → first + count ≤ length lanes
+    → ((k : ℕ) → k < count → bit_at mask (first + k) ≡ 1)
     → map (λ byte. Some byte) (take count (drop first lanes)) ≡ given_at mask lanes first count
 all_given mask lanes first count inside set =
     let plain = take count (drop first lanes) in
     let counted : length plain ≡ count = simp (length-take, length-drop) (omega (arith, inside)) in
-    fill_by_all (λ k. byte_at mask lanes (first + k)) (map (λ (byte : ℕ). Some byte) plain) count None (simp length-map counted) (λ k within.
+    fill_by_all (λ k. byte_at mask lanes (first + k)) (map (λ (byte : ℕ). Some byte) plain) count None
+        (simp length-map counted) (λ k within.
     get_or-map (λ (byte : ℕ). Some byte) plain k 0 None (omega (arith, counted, within))
     ∙ ap (λ (b : ℕ). Some b) (get_or-take count (drop first lanes) k 0 within ∙ get_or-drop first lanes k 0)
     ∙ sym (byte_at-set mask lanes (first + k) (set k within)))
@@ -85,7 +90,8 @@ all_given mask lanes first count inside set =
 is_some : (x : Option ℕ) (byte : ℕ) → x ≡ Some byte → IsSome x
 is_some x byte is = rw is refl
 
-pub all_some : (mask : ℕ) (lanes : List ℕ) (first count : ℕ) → ((k : ℕ) → k < count → bit_at mask (first + k) ≡ 1) → All (λ b. IsSome b) (given_at mask lanes first count)
+pub all_some : (mask : ℕ) (lanes : List ℕ) (first count : ℕ) → ((k : ℕ) → k < count → bit_at mask (first + k) ≡ 1)
+    → All (λ b. IsSome b) (given_at mask lanes first count)
 all_some mask lanes first count set =
     All-from_get_or (λ b. IsSome b) (given_at mask lanes first count) None (λ k within.
     let below : k < count = omega (arith, within, length-given_at mask lanes first count) in
@@ -95,14 +101,18 @@ all_some mask lanes first count set =
 
 -- a mask of all active lanes sets each lane that carries a byte
 pub part_set : (w : ℕ) (beat : AskHead) → beat.mask ≡ active_mask (2 ^ w) beat.address beat.size
-    → (k : ℕ) → k < min (2 ^ w) (byte_count (op_of beat.opcode beat.param) beat.size) → bit_at beat.mask (low beat.address beat.size % 2 ^ w + k) ≡ 1
+    → (k : ℕ) → k < min (2 ^ w) (byte_count (op_of beat.opcode beat.param) beat.size)
+    → bit_at beat.mask (low beat.address beat.size % 2 ^ w + k) ≡ 1
 part_set w beat set k within =
-    let below : k < min (2 ^ w) (2 ^ beat.size) = omega (arith, within, some_count beat.size (carries_bytes (op_of beat.opcode beat.param))) in
+    let below : k < min (2 ^ w) (2 ^ beat.size) =
+        omega (arith, within, some_count beat.size (carries_bytes (op_of beat.opcode beat.param))) in
     ap (λ m. bit_at m (low beat.address beat.size % 2 ^ w + k)) set ∙ active_set w beat.address beat.size k below
 
-pub part_some : (w : ℕ) (beat : AskHead) (lanes : List ℕ) → beat.mask ≡ active_mask (2 ^ w) beat.address beat.size → All (λ b. IsSome b) (ask_part (2 ^ w) beat lanes)
+pub part_some : (w : ℕ) (beat : AskHead) (lanes : List ℕ) → beat.mask ≡ active_mask (2 ^ w) beat.address beat.size
+    → All (λ b. IsSome b) (ask_part (2 ^ w) beat lanes)
 part_some w beat lanes set =
-    all_some beat.mask lanes (low beat.address beat.size % 2 ^ w) (min (2 ^ w) (byte_count (op_of beat.opcode beat.param) beat.size)) (part_set w beat set)
+    all_some beat.mask lanes (low beat.address beat.size % 2 ^ w)
+        (min (2 ^ w) (byte_count (op_of beat.opcode beat.param) beat.size)) (part_set w beat set)
 
 -- one beat that is lawful alone, and is all of its request, carries the bytes of a lawful one
 pub one_is_lawful : (w : ℕ) (beat : AskHead) (lanes : List ℕ) → IsFormed (2 ^ w) beat → ask_beats (2 ^ w) beat ≡ 1
@@ -110,34 +120,44 @@ pub one_is_lawful : (w : ℕ) (beat : AskHead) (lanes : List ℕ) → IsFormed (
 one_is_lawful w beat lanes formed alone =
     let op = op_of beat.opcode beat.param in
     let named : op_of beat.opcode beat.param ≡ formed.op = op_named formed.op beat.opcode beat.param formed.code in
-    let carries : nat_lt beat.opcode 4 ≡ carries_bytes op = carries_named formed.op beat.opcode beat.param formed.code ∙ ap carries_bytes (sym named) in
-    let fits : byte_count op beat.size ≤ 2 ^ w = small_count w beat.size (carries_bytes op) (ap (λ b. beat_count (2 ^ w) b beat.size) (sym carries) ∙ alone) in
+    let carries : nat_lt beat.opcode 4 ≡ carries_bytes op = carries_named formed.op beat.opcode beat.param formed.code
+        ∙ ap carries_bytes (sym named) in
+    let fits : byte_count op beat.size ≤ 2 ^ w =
+        small_count w beat.size (carries_bytes op) (ap (λ b. beat_count (2 ^ w) b beat.size) (sym carries) ∙ alone) in
     record {
       in_limit = formed.in_limit;
-      counted = length-given_at beat.mask lanes (low beat.address beat.size % 2 ^ w) (min (2 ^ w) (byte_count op beat.size)) ∙ omega (arith, fits);
+      counted =
+          length-given_at beat.mask lanes (low beat.address beat.size % 2 ^ w) (min (2 ^ w) (byte_count op beat.size))
+              ∙ omega (arith, fits);
       whole = λ no. part_some w beat lanes (formed.mask.whole (ap may_leave_unset (sym named) ∙ no));
     }
 
 -- one beat whose mask is that of all active lanes carries what stands there
 pub one_is_given : (w : ℕ) (beat : AskHead) (lanes : List ℕ) → length lanes ≡ 2 ^ w → beat.mask ≡ active_mask (2 ^ w) beat.address beat.size
-    → map (λ byte. Some byte) (take (min (2 ^ w) (byte_count (op_of beat.opcode beat.param) beat.size)) (drop (low beat.address beat.size % 2 ^ w) lanes)) ≡ ask_part (2 ^ w) beat lanes
+    → map (λ byte. Some byte)
+        (take (min (2 ^ w) (byte_count (op_of beat.opcode beat.param) beat.size))
+            (drop (low beat.address beat.size % 2 ^ w) lanes)) ≡ ask_part (2 ^ w) beat lanes
 one_is_given w beat lanes wide set =
     let few = some_count beat.size (carries_bytes (op_of beat.opcode beat.param)) in
     all_given beat.mask lanes (low beat.address beat.size % 2 ^ w) (min (2 ^ w) (byte_count (op_of beat.opcode beat.param) beat.size))
     (omega (arith, wide, few, window_fits w beat.address beat.size)) (part_set w beat set)
 
 -- a word whose bits are all set
-pub whole_word : (mask : ℕ) (lanes : List ℕ) → mask ≡ 255 → length lanes ≡ 8 → map (λ byte. Some byte) lanes ≡ given_at mask lanes 0 (length lanes)
+pub whole_word : (mask : ℕ) (lanes : List ℕ) → mask ≡ 255 → length lanes ≡ 8
+    → map (λ byte. Some byte) lanes ≡ given_at mask lanes 0 (length lanes)
 whole_word mask lanes set wide =
     let all : take 8 (drop 0 lanes) ≡ lanes = take_all 8 lanes (omega (arith, wide)) in
     ap (λ (bytes : List ℕ). map (λ byte. Some byte) bytes) (sym all)
-    ∙ all_given mask lanes 0 8 (omega (arith, wide)) (λ k within. ap (λ m. bit_at m (0 + k)) set ∙ bit_at_ones 8 (0 + k) (omega (arith, within)))
+    ∙ all_given mask lanes 0 8 (omega (arith, wide)) (λ k within. ap (λ m. bit_at m (0 + k)) set
+    ∙ bit_at_ones 8 (0 + k) (omega (arith, within)))
     ∙ ap (λ n. given_at mask lanes 0 n) (sym wide)
 
 -- lanes whose bits are all set
-pub whole_lanes : (mask : ℕ) (lanes : List ℕ) → length lanes ≤ 64 → mask ≡ (2 ^ 64 - 1) / 2 ^ (64 - length lanes) → map (λ byte. Some byte) lanes ≡ given_at mask lanes 0 (length lanes)
+pub whole_lanes : (mask : ℕ) (lanes : List ℕ) → length lanes ≤ 64 → mask ≡ (2 ^ 64 - 1) / 2 ^ (64 - length lanes)
+    → map (λ byte. Some byte) lanes ≡ given_at mask lanes 0 (length lanes)
 whole_lanes mask lanes few set =
     let all : take (length lanes) (drop 0 lanes) ≡ lanes = take_all (length lanes) lanes (omega arith) in
     let ones : mask ≡ 2 ^ length lanes - 1 = set ∙ ones_of (length lanes) few in
     ap (λ (bytes : List ℕ). map (λ byte. Some byte) bytes) (sym all)
-    ∙ all_given mask lanes 0 (length lanes) (omega arith) (λ k within. ap (λ m. bit_at m (0 + k)) ones ∙ bit_at_ones (length lanes) (0 + k) (omega (arith, within)))
+    ∙ all_given mask lanes 0 (length lanes) (omega arith) (λ k within. ap (λ m. bit_at m (0 + k)) ones
+    ∙ bit_at_ones (length lanes) (0 + k) (omega (arith, within)))

@@ -42,16 +42,19 @@ few w size false small = omega arith
 few w size true small =
     let most : 2 ^ size ≤ 2 ^ 8 = pow-le-pow_right (lit≤ tt) small in
     let part : 2 ^ size / 2 ^ w * 2 ^ w ≤ 2 ^ size = div-mul-le_self (2 ^ size) (2 ^ w) in
-    let no_less : 2 ^ size / 2 ^ w * 1 ≤ 2 ^ size / 2 ^ w * 2 ^ w = mul-le (2 ^ size / 2 ^ w) 1 (2 ^ size / 2 ^ w) (2 ^ w) (omega arith) (pow_pos w) in
+    let no_less : 2 ^ size / 2 ^ w * 1 ≤ 2 ^ size / 2 ^ w * 2 ^ w =
+        mul-le (2 ^ size / 2 ^ w) 1 (2 ^ size / 2 ^ w) (2 ^ w) (omega arith) (pow_pos w) in
     omega (arith, most, part, no_less)
 
 -- a beat of a long request carries what stands at all lanes
-pub part_of_long : (w : ℕ) (beat : AskHead) (lanes : List ℕ) → length lanes ≡ 2 ^ w → IsFormed (2 ^ w) beat → IsLong w (nat_lt beat.opcode 4) beat.size
+pub part_of_long : (w : ℕ) (beat : AskHead) (lanes : List ℕ) → length lanes ≡ 2 ^ w → IsFormed (2 ^ w) beat
+    → IsLong w (nat_lt beat.opcode 4) beat.size
     → given_at beat.mask lanes 0 (length lanes) ≡ ask_part (2 ^ w) beat lanes
 part_of_long w beat lanes wide formed is =
     let op = op_of beat.opcode beat.param in
     let named : op ≡ formed.op = op_named formed.op beat.opcode beat.param formed.code in
-    let carries : carries_bytes op ≡ true = ap carries_bytes named ∙ sym (carries_named formed.op beat.opcode beat.param formed.code) ∙ is.carries_is in
+    let carries : carries_bytes op ≡ true = ap carries_bytes named
+        ∙ sym (carries_named formed.op beat.opcode beat.param formed.code) ∙ is.carries_is in
     let bytes : byte_count op beat.size ≡ 2 ^ beat.size = ap (λ b. if b then 2 ^ beat.size else 0) carries in
     let fits : 2 ^ w ≤ 2 ^ beat.size = pow-le-pow_right (lit≤ tt) is.wide in
     let count : length lanes ≡ min (2 ^ w) (byte_count op beat.size) = omega (arith, wide, bytes, fits) in
@@ -59,9 +62,11 @@ part_of_long w beat lanes wide formed is =
     ap (λ n. given_at beat.mask lanes 0 n) count ∙ ap (λ n. given_at beat.mask lanes n (min (2 ^ w) (byte_count op beat.size))) first
 
 -- what is under way, field by field
-pub of_first : (bus : ℕ) (first : Option AskHead) (head : AskHead) (beats : ℕ) (bytes : List (Option ℕ)) → IsAskKept bus (ask_begun first beats bytes) → first ≡ Some head
+pub of_first : (bus : ℕ) (first : Option AskHead) (head : AskHead) (beats : ℕ) (bytes : List (Option ℕ))
+    → IsAskKept bus (ask_begun first beats bytes) → first ≡ Some head
     → IsAskBegun bus (record { first = head; beats = beats; bytes = bytes })
-of_first bus first head beats bytes kept is = kept.of (record { first = head; beats = beats; bytes = bytes }) (ap (λ o. ask_begun o beats bytes) is)
+of_first bus first head beats bytes kept is =
+    kept.of (record { first = head; beats = beats; bytes = bytes }) (ap (λ o. ask_begun o beats bytes) is)
 
 pub few_crossed : (w : ℕ) (begun : Option AskBegun) → IsAskKept (2 ^ w) begun → asked_beats begun ≤ 256
 few_crossed w None kept = omega arith
@@ -103,7 +108,8 @@ same_beats : (bus : ℕ) (head beat : AskHead) → SameFields head beat → ask_
 same_beats bus head beat same = rw (same.opcode, same.size) refl
 
 pub goes : (w : ℕ) (first : Option AskHead) (beats : ℕ) (bytes : List (Option ℕ)) (beat : AskHead) (lanes : List ℕ)
-    → IsAskKept (2 ^ w) (ask_begun first beats bytes) → FitsAsk (2 ^ w) (first_ask (ask_begun first beats bytes)) beat → length lanes ≡ 2 ^ w
+    → IsAskKept (2 ^ w) (ask_begun first beats bytes) → FitsAsk (2 ^ w) (first_ask (ask_begun first beats bytes)) beat
+    → length lanes ≡ 2 ^ w
     → (ask_begun first beats bytes ≡ None → ⊥) → Goes w beats bytes beat lanes
 goes w None beats bytes beat lanes kept fits wide some = absurd (some refl)
 goes w (Some head) beats bytes beat lanes kept fits wide some =
@@ -113,7 +119,8 @@ goes w (Some head) beats bytes beat lanes kept fits wide some =
     let within : beats + 1 ≤ ask_beats (2 ^ w) beat = omega (arith, is.unfinished, as_first) in
     let l = long w beat.size (nat_lt beat.opcode 4) (omega (arith, is.some, within)) in
     let most : 2 ^ beat.size ≤ 2 ^ 8 = pow-le-pow_right (lit≤ tt) fits.formed.in_limit in
-    let row : (beats + 1) * 2 ^ w ≤ ask_beats (2 ^ w) beat * 2 ^ w = mul-le (beats + 1) (2 ^ w) (ask_beats (2 ^ w) beat) (2 ^ w) within (omega arith) in
+    let row : (beats + 1) * 2 ^ w ≤ ask_beats (2 ^ w) beat * 2 ^ w =
+        mul-le (beats + 1) (2 ^ w) (ask_beats (2 ^ w) beat) (2 ^ w) within (omega arith) in
     let more : (beats + 1) * 2 ^ w ≡ beats * 2 ^ w + 2 ^ w = search arith in
     record {
       long_is = l;
@@ -128,7 +135,8 @@ goes w (Some head) beats bytes beat lanes kept fits wide some =
       whole = λ no. is.whole (ap may_leave_unset (sym (same_op head beat same)) ∙ no);
     }
 
-more_whole : (w beats : ℕ) (bytes : List (Option ℕ)) (beat : AskHead) (lanes : List ℕ) → IsFormed (2 ^ w) beat → Goes w beats bytes beat lanes
+more_whole : (w beats : ℕ) (bytes : List (Option ℕ)) (beat : AskHead) (lanes : List ℕ) → IsFormed (2 ^ w) beat
+    → Goes w beats bytes beat lanes
     → may_leave_unset (op_of beat.opcode beat.param) ≡ false → All (λ b. IsSome b) (bytes ++ given_at beat.mask lanes 0 (length lanes))
 more_whole w beats bytes beat lanes formed is never =
     let named : op_of beat.opcode beat.param ≡ formed.op = op_named formed.op beat.opcode beat.param formed.code in
@@ -150,7 +158,8 @@ kept_on w (Some head) beats bytes beat lanes kept fits some is goes_on =
       formed = was.formed;
       some = omega arith;
       unfinished = omega (arith, is.within, same_beats (2 ^ w) head beat same, eqb-false (beats + 1) (ask_beats (2 ^ w) beat) goes_on);
-      counted = length-append bytes (given_at beat.mask lanes 0 (length lanes)) ∙ ap (λ n. length bytes + n) (length-given_at beat.mask lanes 0 (length lanes)) ∙ is.total;
+      counted = length-append bytes (given_at beat.mask lanes 0 (length lanes))
+          ∙ ap (λ n. length bytes + n) (length-given_at beat.mask lanes 0 (length lanes)) ∙ is.total;
       whole = λ no. more_whole w beats bytes beat lanes fits.formed is (ap may_leave_unset (same_op head beat same) ∙ no);
     } in
     record { of = λ b at. let e : after ≡ b = cc in subst (λ (x : AskBegun). IsAskBegun (2 ^ w) x) e begun }
@@ -158,20 +167,25 @@ kept_on w (Some head) beats bytes beat lanes kept fits some is goes_on =
 -- it is what has crossed after the beat
 pub on_is : (w : ℕ) (first : Option AskHead) (beats : ℕ) (bytes : List (Option ℕ)) (beat : AskHead) (lanes : List ℕ)
     → (ask_begun first beats bytes ≡ None → ⊥) → Goes w beats bytes beat lanes → ends_ask (2 ^ w) (ask_begun first beats bytes) beat ≡ false
-    → ask_begun first (beats + 1) (bytes ++ given_at beat.mask lanes 0 (length lanes)) ≡ ask_after (2 ^ w) (ask_begun first beats bytes) beat lanes
+    → ask_begun first (beats + 1) (bytes ++ given_at beat.mask lanes 0 (length lanes))
+        ≡ ask_after (2 ^ w) (ask_begun first beats bytes) beat lanes
 on_is w None beats bytes beat lanes some is goes_on = absurd (some refl)
 on_is w (Some head) beats bytes beat lanes some is goes_on = rw (goes_on, is.part) refl
 
 -- the request that it ends is lawful
-pub ended_is_lawful : (w beats : ℕ) (bytes : List (Option ℕ)) (beat : AskHead) (lanes : List ℕ) → IsFormed (2 ^ w) beat → Goes w beats bytes beat lanes
-    → beats + 1 ≡ ask_beats (2 ^ w) beat → IsLawfulRequest (op_of beat.opcode beat.param) beat.size (bytes ++ given_at beat.mask lanes 0 (length lanes))
+pub ended_is_lawful : (w beats : ℕ) (bytes : List (Option ℕ)) (beat : AskHead) (lanes : List ℕ) → IsFormed (2 ^ w) beat
+    → Goes w beats bytes beat lanes
+    → beats + 1 ≡ ask_beats (2 ^ w) beat
+    → IsLawfulRequest (op_of beat.opcode beat.param) beat.size (bytes ++ given_at beat.mask lanes 0 (length lanes))
 ended_is_lawful w beats bytes beat lanes formed is ends =
     let op = op_of beat.opcode beat.param in
     let carries : carries_bytes op ≡ true =
-    ap carries_bytes (op_named formed.op beat.opcode beat.param formed.code) ∙ sym (carries_named formed.op beat.opcode beat.param formed.code) ∙ is.long_is.carries_is in
+    ap carries_bytes (op_named formed.op beat.opcode beat.param formed.code)
+        ∙ sym (carries_named formed.op beat.opcode beat.param formed.code) ∙ is.long_is.carries_is in
     record {
       in_limit = formed.in_limit;
-      counted = length-append bytes (given_at beat.mask lanes 0 (length lanes)) ∙ ap (λ n. length bytes + n) (length-given_at beat.mask lanes 0 (length lanes)) ∙ is.total
+      counted = length-append bytes (given_at beat.mask lanes 0 (length lanes))
+          ∙ ap (λ n. length bytes + n) (length-given_at beat.mask lanes 0 (length lanes)) ∙ is.total
           ∙ ap (λ n. n * 2 ^ w) ends ∙ is.long_is.counted ∙ sym (ap (λ b. if b then 2 ^ beat.size else 0) carries);
       whole = more_whole w beats bytes beat lanes formed is;
     }
@@ -180,13 +194,16 @@ ended_is_lawful w beats bytes beat lanes formed is ends =
 
 pub begins_long : (w : ℕ) (beat : AskHead) → ends_ask (2 ^ w) None beat ≡ false → IsLong w (nat_lt beat.opcode 4) beat.size
 begins_long w beat goes_on =
-    long w beat.size (nat_lt beat.opcode 4) (omega (arith, some_beat (2 ^ w) beat.size (nat_lt beat.opcode 4), eqb-false 1 (ask_beats (2 ^ w) beat) goes_on))
+    long w beat.size (nat_lt beat.opcode 4)
+        (omega (arith, some_beat (2 ^ w) beat.size (nat_lt beat.opcode 4),
+            eqb-false 1 (ask_beats (2 ^ w) beat) goes_on))
   where
     some_beat : (bus size : ℕ) (carries : Bool) → 0 < beat_count bus carries size
     some_beat bus size true = omega arith
     some_beat bus size false = omega arith
 
-pub kept_first : (w : ℕ) (beat : AskHead) (lanes : List ℕ) → FitsAsk (2 ^ w) None beat → length lanes ≡ 2 ^ w → ends_ask (2 ^ w) None beat ≡ false
+pub kept_first : (w : ℕ) (beat : AskHead) (lanes : List ℕ) → FitsAsk (2 ^ w) None beat → length lanes ≡ 2 ^ w
+    → ends_ask (2 ^ w) None beat ≡ false
     → IsAskKept (2 ^ w) (Some (record { first = beat; beats = 1; bytes = given_at beat.mask lanes 0 (length lanes) }))
 kept_first w beat lanes fits wide goes_on =
     let l = begins_long w beat goes_on in
@@ -198,7 +215,8 @@ kept_first w beat lanes fits wide goes_on =
       some = omega arith;
       unfinished = go l;
       counted = length-given_at beat.mask lanes 0 (length lanes) ∙ wide ∙ omega arith;
-      whole = λ no. rw (part_of_long w beat lanes wide formed l) (part_some w beat lanes (formed.mask.whole (ap may_leave_unset (sym named) ∙ no)));
+      whole = λ no. rw (part_of_long w beat lanes wide formed l)
+          (part_some w beat lanes (formed.mask.whole (ap may_leave_unset (sym named) ∙ no)));
     } in
     record { of = λ b at. let e : after ≡ b = cc in subst (λ (x : AskBegun). IsAskBegun (2 ^ w) x) e begun }
   where
@@ -209,18 +227,23 @@ kept_first w beat lanes fits wide goes_on =
     go : IsLong w (nat_lt beat.opcode 4) beat.size → 1 < ask_beats (2 ^ w) beat
     go l = omega (arith, some_beat (2 ^ w) beat.size (nat_lt beat.opcode 4), eqb-false 1 (ask_beats (2 ^ w) beat) goes_on)
 
-pub first_is : (w : ℕ) (beat : AskHead) (lanes : List ℕ) → FitsAsk (2 ^ w) None beat → length lanes ≡ 2 ^ w → (goes_on : ends_ask (2 ^ w) None beat ≡ false)
-    → ◌≡◌ {A = Option AskBegun} (Some (record { first = beat; beats = 1; bytes = given_at beat.mask lanes 0 (length lanes) })) (ask_after (2 ^ w) None beat lanes)
+pub first_is : (w : ℕ) (beat : AskHead) (lanes : List ℕ) → FitsAsk (2 ^ w) None beat → length lanes ≡ 2 ^ w
+    → (goes_on : ends_ask (2 ^ w) None beat ≡ false)
+    → ◌≡◌ {A =
+        Option AskBegun} (Some (record { first = beat; beats = 1; bytes = given_at beat.mask lanes 0 (length lanes) }))
+            (ask_after (2 ^ w) None beat lanes)
 first_is w beat lanes fits wide goes_on = rw (goes_on, part_of_long w beat lanes wide fits.formed (begins_long w beat goes_on)) refl
 
 -- ---- the last beat
 
-pub ends_after : (bus : ℕ) (first : Option AskHead) (beats : ℕ) (bytes : List (Option ℕ)) (beat : AskHead) → (ask_begun first beats bytes ≡ None → ⊥)
+pub ends_after : (bus : ℕ) (first : Option AskHead) (beats : ℕ) (bytes : List (Option ℕ)) (beat : AskHead)
+    → (ask_begun first beats bytes ≡ None → ⊥)
     → ends_ask bus (ask_begun first beats bytes) beat ≡ true → beats + 1 ≡ ask_beats bus beat
 ends_after bus None beats bytes beat some ends = absurd (some refl)
 ends_after bus (Some head) beats bytes beat some ends = eqb-true (beats + 1) (ask_beats bus beat) ends
 
-pub bytes_after : (first : Option AskHead) (beats : ℕ) (bytes : List (Option ℕ)) → (ask_begun first beats bytes ≡ None → ⊥) → asked_bytes (ask_begun first beats bytes) ≡ bytes
+pub bytes_after : (first : Option AskHead) (beats : ℕ) (bytes : List (Option ℕ))
+    → (ask_begun first beats bytes ≡ None → ⊥) → asked_bytes (ask_begun first beats bytes) ≡ bytes
 bytes_after None beats bytes some = absurd (some refl)
 bytes_after (Some head) beats bytes some = refl
 
@@ -234,7 +257,8 @@ formed_alike bus head beat formed same mask = record {
   mask = rw (same.size, same.address, mask) formed.mask;
 }
 
-pub fits_alike : (bus : ℕ) (first : Option AskHead) (head beat : AskHead) → first ≡ Some head → IsFormed bus head → SameFields head beat → beat.mask ≡ head.mask → FitsAsk bus first beat
+pub fits_alike : (bus : ℕ) (first : Option AskHead) (head beat : AskHead) → first ≡ Some head → IsFormed bus head
+    → SameFields head beat → beat.mask ≡ head.mask → FitsAsk bus first beat
 fits_alike bus first head beat is formed same mask = record {
   formed = formed_alike bus head beat formed same mask;
   same = λ h at. let e : head ≡ h = cc in subst (λ (x : AskHead). SameFields x beat) e same;

@@ -22,12 +22,14 @@ use Rattle.check_beats.proofs.Returning.{Returns, returns, reply_kept_on, reply_
 
 -- each byte is what stands in its beat, where all lanes carry one
 abbrev pub Stand : ℕ → List (Option ℕ) → List ReplyBeat → Type 0
-Stand w bytes beats = (j : ℕ) (given : Option ℕ) (x : ReplyBeat) → slice_get bytes j ≡ Some given → slice_get beats (j / 2 ^ w) ≡ Some x → given ≡ seen_in x.head.denied x.known x.lanes (j % 2 ^ w)
+Stand w bytes beats = (j : ℕ) (given : Option ℕ) (x : ReplyBeat) → slice_get bytes j ≡ Some given
+    → slice_get beats (j / 2 ^ w) ≡ Some x → given ≡ seen_in x.head.denied x.known x.lanes (j % 2 ^ w)
 
 none_stand : (w : ℕ) → Stand w [] []
 none_stand w j given x at found = absurd (cc)
 
-more_stand : (w : ℕ) (bytes : List (Option ℕ)) (beats : List ReplyBeat) (x : ReplyBeat) → length bytes ≡ length beats * 2 ^ w → length x.lanes ≡ 2 ^ w → Stand w bytes beats
+more_stand : (w : ℕ) (bytes : List (Option ℕ)) (beats : List ReplyBeat) (x : ReplyBeat)
+    → length bytes ≡ length beats * 2 ^ w → length x.lanes ≡ 2 ^ w → Stand w bytes beats
     → Stand w (bytes ++ seen_at x.head.denied x.known x.lanes 0 (length x.lanes)) (beats ++ x ∷ [])
 more_stand w bytes beats x counted wide stand j given y at found = go (slice_get-push beats x y (j / 2 ^ w) found)
   where
@@ -40,25 +42,32 @@ more_stand w bytes beats x counted wide stand j given y at found = go (slice_get
     whole : get_or (bytes ++ seen_at x.head.denied x.known x.lanes 0 (length x.lanes)) j None ≡ given
     whole = get_or_from_slice_get (bytes ++ seen_at x.head.denied x.known x.lanes 0 (length x.lanes)) j given None at
 
-    go : (slice_get beats (j / 2 ^ w) ≡ Some y) ⊎ ((j / 2 ^ w ≡ length beats) × (x ≡ y)) → given ≡ seen_in y.head.denied y.known y.lanes (j % 2 ^ w)
+    go : (slice_get beats (j / 2 ^ w) ≡ Some y) ⊎ ((j / 2 ^ w ≡ length beats) × (x ≡ y))
+        → given ≡ seen_in y.head.denied y.known y.lanes (j % 2 ^ w)
     go (inl before) =
         let k = j / 2 ^ w in
         let inside : k < length beats = slice_get_within beats k y before in
-        let row : (k + 1) * 2 ^ w ≤ length beats * 2 ^ w = mul-le (k + 1) (2 ^ w) (length beats) (2 ^ w) (omega (arith, inside)) (omega arith) in
+        let row : (k + 1) * 2 ^ w ≤ length beats * 2 ^ w =
+            mul-le (k + 1) (2 ^ w) (length beats) (2 ^ w) (omega (arith, inside)) (omega arith) in
         let more : (k + 1) * 2 ^ w ≡ k * 2 ^ w + 2 ^ w = search arith in
         let early : j < length bytes = omega (arith, counted, row, more, split, lane) in
-        let same : get_or bytes j None ≡ given = sym (get_or_append_left bytes (seen_at x.head.denied x.known x.lanes 0 (length x.lanes)) None j early) ∙ whole in
+        let same : get_or bytes j None ≡ given =
+            sym (get_or_append_left bytes (seen_at x.head.denied x.known x.lanes 0 (length x.lanes)) None j early)
+                ∙ whole in
         stand j given y (slice_get-get_or bytes j None early ∙ ap (λ (g : Option ℕ). Some g) same) before
     go (inr last) =
         let i = j % 2 ^ w in
         let at_row : j / 2 ^ w * 2 ^ w ≡ length beats * 2 ^ w = ap (λ n. n * 2 ^ w) last.0 in
         let place : j ≡ length bytes + i = omega (arith, counted, at_row, split) in
-        let here : get_or (bytes ++ seen_at x.head.denied x.known x.lanes 0 (length x.lanes)) j None ≡ get_or (seen_at x.head.denied x.known x.lanes 0 (length x.lanes)) i None =
-        ap (λ n. get_or (bytes ++ seen_at x.head.denied x.known x.lanes 0 (length x.lanes)) n None) place ∙ get_or-append-add bytes (seen_at x.head.denied x.known x.lanes 0 (length x.lanes)) i None in
+        let here : get_or (bytes ++ seen_at x.head.denied x.known x.lanes 0 (length x.lanes)) j None
+            ≡ get_or (seen_at x.head.denied x.known x.lanes 0 (length x.lanes)) i None =
+        ap (λ n. get_or (bytes ++ seen_at x.head.denied x.known x.lanes 0 (length x.lanes)) n None) place
+            ∙ get_or-append-add bytes (seen_at x.head.denied x.known x.lanes 0 (length x.lanes)) i None in
         let is : get_or (seen_at x.head.denied x.known x.lanes 0 (length x.lanes)) i None ≡ seen_in x.head.denied x.known x.lanes (0 + i) =
         seen_at-get x.head.denied x.known x.lanes 0 (length x.lanes) i (omega (arith, lane, wide)) in
         let none : 0 + i ≡ i = omega arith in
-        sym whole ∙ here ∙ is ∙ ap (λ n. seen_in x.head.denied x.known x.lanes n) none ∙ ap (λ (z : ReplyBeat). seen_in z.head.denied z.known z.lanes i) last.1
+        sym whole ∙ here ∙ is ∙ ap (λ n. seen_in x.head.denied x.known x.lanes n) none
+            ∙ ap (λ (z : ReplyBeat). seen_in z.head.denied z.known z.lanes i) last.1
 
 -- ---- what is kept is what the beats say
 
@@ -67,7 +76,8 @@ pub record GatheredReply (w : ℕ) (begun : Option ReplyBegun) (beats : List Rep
   pub empty : begun ≡ None → beats ≡ []
   pub counted : length beats ≡ replied_beats begun
   pub filled : length (replied_bytes begun) ≡ length beats * 2 ^ w
-  pub each : (k : ℕ) (x : ReplyBeat) → slice_get beats k ≡ Some x → IsFormedReply x.head × ((h : ReplyHead) → first_reply begun ≡ Some h → SameReplyFields h x.head)
+  pub each : (k : ℕ) (x : ReplyBeat) → slice_get beats k ≡ Some x
+      → IsFormedReply x.head × ((h : ReplyHead) → first_reply begun ≡ Some h → SameReplyFields h x.head)
   pub stand : Stand w (replied_bytes begun) beats
 
 pub itself : (a : ReplyHead) → SameReplyFields a a
@@ -92,7 +102,9 @@ nothing_gathered w = record {
 }
 
 first_gathered : (w : ℕ) (x : ReplyBeat) → FitsReply None x.head → length x.lanes ≡ 2 ^ w → ends_reply (2 ^ w) None x.head ≡ false
-    → GatheredReply w (Some (record { first = x.head; beats = 1; bytes = seen_at x.head.denied x.known x.lanes 0 (length x.lanes) })) ([] ++ x ∷ [])
+    → GatheredReply w
+        (Some (record { first = x.head; beats = 1; bytes = seen_at x.head.denied x.known x.lanes 0 (length x.lanes) }))
+            ([] ++ x ∷ [])
 first_gathered w x fits wide goes_on = record {
   kept = reply_kept_first w x.head x.known x.lanes fits wide goes_on;
   empty = λ e. absurd (cc);
@@ -102,15 +114,21 @@ first_gathered w x fits wide goes_on = record {
   stand = more_stand w [] [] x (omega arith) wide (none_stand w);
 }
   where
-    only : (k : ℕ) (y : ReplyBeat) → (slice_get [] k ≡ Some y) ⊎ ((k ≡ 0) × (x ≡ y)) → IsFormedReply y.head × ((h : ReplyHead) → Some x.head ≡ Some h → SameReplyFields h y.head)
+    only : (k : ℕ) (y : ReplyBeat) → (slice_get [] k ≡ Some y) ⊎ ((k ≡ 0) × (x ≡ y))
+        → IsFormedReply y.head × ((h : ReplyHead) → Some x.head ≡ Some h → SameReplyFields h y.head)
     only k y (inl never) = absurd (cc)
     only k y (inr last) =
         let P : ReplyBeat → Type 0 = λ z. IsFormedReply z.head × ((h : ReplyHead) → Some x.head ≡ Some h → SameReplyFields h z.head) in
-        subst P last.1 (fits.formed, (λ h e. let same : x.head ≡ h = cc in subst (λ (a : ReplyHead). SameReplyFields a x.head) same (itself x.head)))
+        subst P last.1 (fits.formed,
+            (λ h e. let same : x.head ≡ h = cc in
+                subst (λ (a : ReplyHead). SameReplyFields a x.head) same (itself x.head)))
 
-pub next_gathered : (w : ℕ) (b : ReplyBegun) (beats : List ReplyBeat) (x : ReplyBeat) → GatheredReply w (Some b) beats → FitsReply (Some b.first) x.head → length x.lanes ≡ 2 ^ w
+pub next_gathered : (w : ℕ) (b : ReplyBegun) (beats : List ReplyBeat) (x : ReplyBeat) → GatheredReply w (Some b) beats
+    → FitsReply (Some b.first) x.head → length x.lanes ≡ 2 ^ w
     → ends_reply (2 ^ w) (Some b) x.head ≡ false
-    → GatheredReply w (Some (record { first = b.first; beats = b.beats + 1; bytes = b.bytes ++ seen_at x.head.denied x.known x.lanes 0 (length x.lanes) })) (beats ++ x ∷ [])
+    → GatheredReply w
+        (Some (record { first = b.first; beats = b.beats + 1; bytes =
+            b.bytes ++ seen_at x.head.denied x.known x.lanes 0 (length x.lanes) })) (beats ++ x ∷ [])
 next_gathered w b beats x g fits wide goes_on =
     let some : reply_begun (Some b.first) b.beats b.bytes ≡ None → ⊥ = (λ e. absurd (cc)) in
     let is = returns w (Some b.first) b.beats b.bytes x.head x.known x.lanes g.kept fits wide some in
@@ -119,19 +137,22 @@ next_gathered w b beats x g fits wide goes_on =
       kept = reply_kept_on w (Some b.first) b.beats b.bytes x.head x.known x.lanes g.kept fits some is goes_on;
       empty = λ e. absurd (cc);
       counted = counted;
-      filled = length-append b.bytes (seen_at x.head.denied x.known x.lanes 0 (length x.lanes)) ∙ ap (λ n. length b.bytes + n) (length-seen_at x.head.denied x.known x.lanes 0 (length x.lanes))
+      filled = length-append b.bytes (seen_at x.head.denied x.known x.lanes 0 (length x.lanes))
+          ∙ ap (λ n. length b.bytes + n) (length-seen_at x.head.denied x.known x.lanes 0 (length x.lanes))
           ∙ is.total ∙ ap (λ n. n * 2 ^ w) (sym counted);
       each = λ k y at. any k y (slice_get-push beats x y k at);
       stand = more_stand w b.bytes beats x g.filled wide g.stand;
     }
   where
-    any : (k : ℕ) (y : ReplyBeat) → (slice_get beats k ≡ Some y) ⊎ ((k ≡ length beats) × (x ≡ y)) → IsFormedReply y.head × ((h : ReplyHead) → Some b.first ≡ Some h → SameReplyFields h y.head)
+    any : (k : ℕ) (y : ReplyBeat) → (slice_get beats k ≡ Some y) ⊎ ((k ≡ length beats) × (x ≡ y))
+        → IsFormedReply y.head × ((h : ReplyHead) → Some b.first ≡ Some h → SameReplyFields h y.head)
     any k y (inl before) = g.each k y before
     any k y (inr last) =
         let P : ReplyBeat → Type 0 = λ z. IsFormedReply z.head × ((h : ReplyHead) → Some b.first ≡ Some h → SameReplyFields h z.head) in
         subst P last.1 (fits.formed, fits.same)
 
-gathered_after : (w : ℕ) (begun : Option ReplyBegun) (beats : List ReplyBeat) (x : ReplyBeat) → GatheredReply w begun beats → FitsReply (first_reply begun) x.head → length x.lanes ≡ 2 ^ w
+gathered_after : (w : ℕ) (begun : Option ReplyBegun) (beats : List ReplyBeat) (x : ReplyBeat)
+    → GatheredReply w begun beats → FitsReply (first_reply begun) x.head → length x.lanes ≡ 2 ^ w
     → ends_reply (2 ^ w) begun x.head ≡ false → GatheredReply w (reply_after (2 ^ w) begun x.head x.known x.lanes) (beats ++ x ∷ [])
 gathered_after w None beats x g fits wide goes_on =
     let P : List ReplyBeat → Type 0 = λ bs. GatheredReply w (reply_after (2 ^ w) None x.head x.known x.lanes) (bs ++ x ∷ []) in
@@ -141,12 +162,15 @@ gathered_after w (Some b) beats x g fits wide goes_on =
     let some : reply_begun (Some b.first) b.beats b.bytes ≡ None → ⊥ = (λ e. absurd (cc)) in
     let is = returns w (Some b.first) b.beats b.bytes x.head x.known x.lanes g.kept fits wide some in
     let Q : Option ReplyBegun → Type 0 = λ o. GatheredReply w o (beats ++ x ∷ []) in
-    subst Q (reply_on_is w (Some b.first) b.beats b.bytes x.head x.known x.lanes wide some goes_on) (next_gathered w b beats x g fits wide goes_on)
+    subst Q (reply_on_is w (Some b.first) b.beats b.bytes x.head x.known x.lanes wide some goes_on)
+        (next_gathered w b beats x g fits wide goes_on)
 
 -- ---- the last beat
 
 fields_of : (x y : ReplyHead) (bytes : List (Option ℕ)) → IsFormedReply x → SameReplyFields x y
-    → HasReplyFieldsOf (record { op = reply_op_of_number x.opcode; size = x.size; source = x.source; denied = Some x.denied; bytes = bytes }) y
+    → HasReplyFieldsOf
+        (record { op = reply_op_of_number x.opcode; size = x.size; source = x.source; denied = Some x.denied; bytes =
+            bytes }) y
 fields_of x y bytes formed same =
     let named : reply_op_of_number x.opcode ≡ formed.op = reply_op_named formed.op x.opcode formed.code in
     record {
@@ -168,7 +192,8 @@ stands_so denied known lanes lane place byte given is at =
     subst (λ (l : ℕ). StandsAt known lanes l byte) (sym at)
     (subst (λ (b : Option ℕ). StandsAt known lanes place b) (sym here) (byte_stands known lanes place))
 
-carries_of : (bus : ℕ) (x : ReplyHead) → IsFormedReply x → reply_beats bus x ≡ beat_count bus (reply_carries_bytes (reply_op_of_number x.opcode)) x.size
+carries_of : (bus : ℕ) (x : ReplyHead) → IsFormedReply x
+    → reply_beats bus x ≡ beat_count bus (reply_carries_bytes (reply_op_of_number x.opcode)) x.size
 carries_of bus x formed =
     let named : reply_op_of_number x.opcode ≡ formed.op = reply_op_named formed.op x.opcode formed.code in
     ap (λ b. beat_count bus b x.size) (reply_carries_named formed.op x.opcode formed.code ∙ ap reply_carries_bytes (sym named))
@@ -180,7 +205,8 @@ one_spells w address x fits alone = record {
   each = λ b y at. only b y (slice_get-push [] x y b at);
 }
   where
-    only : (b : ℕ) (y : ReplyBeat) → (slice_get [] b ≡ Some y) ⊎ ((b ≡ 0) × (x ≡ y)) → IsReplyBeatOf (2 ^ w) (reply_of (2 ^ w) None address x.head x.known x.lanes) address b y
+    only : (b : ℕ) (y : ReplyBeat) → (slice_get [] b ≡ Some y) ⊎ ((b ≡ 0) × (x ≡ y))
+        → IsReplyBeatOf (2 ^ w) (reply_of (2 ^ w) None address x.head x.known x.lanes) address b y
     only b y (inl never) = absurd (cc)
     only b y (inr last) =
         let op = reply_op_of_number x.head.opcode in
@@ -190,16 +216,22 @@ one_spells w address x fits alone = record {
           fields = fields_of x.head x.head (reply_part (2 ^ w) address x.head x.known x.lanes) fits.formed (itself x.head);
           corrupt = flag_of x.head x.head fits.formed (itself x.head);
           bytes = λ plain j byte at row.
-              let within : j < count = rw (← length-seen_at x.head.denied x.known x.lanes first count) (slice_get_within (reply_part (2 ^ w) address x.head x.known x.lanes) j byte at) in
+              let within : j < count =
+                  rw (← length-seen_at x.head.denied x.known x.lanes first count)
+                      (slice_get_within (reply_part (2 ^ w) address x.head x.known x.lanes) j byte at) in
               let below : j < min (2 ^ w) (2 ^ x.head.size) = omega (arith, within, some_count x.head.size (reply_carries_bytes op)) in
               let is : byte ≡ seen_in x.head.denied x.known x.lanes (first + j) =
-              sym (get_or_from_slice_get (reply_part (2 ^ w) address x.head x.known x.lanes) j byte None at) ∙ seen_at-get x.head.denied x.known x.lanes first count j within in
-              stands_so x.head.denied x.known x.lanes (lane_of (2 ^ w) address x.head.size j) (first + j) byte plain is (lane_in_window w address x.head.size j below);
+              sym (get_or_from_slice_get (reply_part (2 ^ w) address x.head x.known x.lanes) j byte None at)
+                  ∙ seen_at-get x.head.denied x.known x.lanes first count j within in
+              stands_so x.head.denied x.known x.lanes (lane_of (2 ^ w) address x.head.size j) (first + j) byte plain is
+                  (lane_in_window w address x.head.size j below);
         } in
         subst (λ (z : ReplyBeat). IsReplyBeatOf (2 ^ w) (reply_of (2 ^ w) None address x.head x.known x.lanes) address b z) last.1 here
 
-long_spells : (w address : ℕ) (b : ReplyBegun) (beats : List ReplyBeat) (x : ReplyBeat) → GatheredReply w (Some b) beats → FitsReply (Some b.first) x.head → length x.lanes ≡ 2 ^ w
-    → Returns w b.beats b.bytes x.head x.known x.lanes → b.beats + 1 ≡ reply_beats (2 ^ w) x.head → SpellsReply (2 ^ w) (reply_of (2 ^ w) (Some b) address x.head x.known x.lanes) address (beats ++ x ∷ [])
+long_spells : (w address : ℕ) (b : ReplyBegun) (beats : List ReplyBeat) (x : ReplyBeat)
+    → GatheredReply w (Some b) beats → FitsReply (Some b.first) x.head → length x.lanes ≡ 2 ^ w
+    → Returns w b.beats b.bytes x.head x.known x.lanes → b.beats + 1 ≡ reply_beats (2 ^ w) x.head
+    → SpellsReply (2 ^ w) (reply_of (2 ^ w) (Some b) address x.head x.known x.lanes) address (beats ++ x ∷ [])
 long_spells w address b beats x g fits wide is ends = record {
   count = omega (arith, length-append beats (x ∷ []), g.counted, ends) ∙ carries_of (2 ^ w) x.head fits.formed;
   each = λ k y found.
@@ -207,23 +239,33 @@ long_spells w address b beats x g fits wide is ends = record {
         fields = fields_of x.head y.head (b.bytes ++ reply_part (2 ^ w) address x.head x.known x.lanes) fits.formed there.1;
         corrupt = flag_of x.head y.head there.0 there.1;
         bytes = λ plain j byte at row.
-            let at_lanes : slice_get (b.bytes ++ seen_at x.head.denied x.known x.lanes 0 (length x.lanes)) j ≡ Some byte = rw (is.part address) at in
+            let at_lanes : slice_get (b.bytes ++ seen_at x.head.denied x.known x.lanes 0 (length x.lanes)) j
+                ≡ Some byte = rw (is.part address) at in
             let in_row : slice_get (beats ++ x ∷ []) (j / 2 ^ w) ≡ Some y = rw row found in
-            stands_so y.head.denied y.known y.lanes (lane_of (2 ^ w) address x.head.size j) (j % 2 ^ w) byte plain (more_stand w b.bytes beats x g.filled wide g.stand j byte y at_lanes in_row)
+            stands_so y.head.denied y.known y.lanes (lane_of (2 ^ w) address x.head.size j) (j % 2 ^ w) byte plain
+                (more_stand w b.bytes beats x g.filled wide g.stand j byte y at_lanes in_row)
             (lane_wide w address x.head.size j is.long_is.wide);
       };
 }
   where
-    any : (k : ℕ) (y : ReplyBeat) → (slice_get beats k ≡ Some y) ⊎ ((k ≡ length beats) × (x ≡ y)) → IsFormedReply y.head × SameReplyFields x.head y.head
-    any k y (inl before) = let there = g.each k y before in (there.0, between b.first x.head y.head (fits.same b.first refl) (there.1 b.first refl))
+    any : (k : ℕ) (y : ReplyBeat) → (slice_get beats k ≡ Some y) ⊎ ((k ≡ length beats) × (x ≡ y))
+        → IsFormedReply y.head × SameReplyFields x.head y.head
+    any k y (inl before) = let there = g.each k y before in
+        (there.0, between b.first x.head y.head (fits.same b.first refl) (there.1 b.first refl))
     any k y (inr last) = subst (λ (z : ReplyBeat). IsFormedReply z.head × SameReplyFields x.head z.head) last.1 (fits.formed, itself x.head)
 
-pub spelled_end : (w : ℕ) (begun : Option ReplyBegun) (beats : List ReplyBeat) (x : ReplyBeat) → GatheredReply w begun beats → FitsReply (first_reply begun) x.head → length x.lanes ≡ 2 ^ w
-    → ends_reply (2 ^ w) begun x.head ≡ true → IsReplySpelled (2 ^ w) ((λ address. reply_of (2 ^ w) begun address x.head x.known x.lanes), beats ++ x ∷ [])
+pub spelled_end : (w : ℕ) (begun : Option ReplyBegun) (beats : List ReplyBeat) (x : ReplyBeat)
+    → GatheredReply w begun beats → FitsReply (first_reply begun) x.head → length x.lanes ≡ 2 ^ w
+    → ends_reply (2 ^ w) begun x.head ≡ true
+    → IsReplySpelled (2 ^ w) ((λ address. reply_of (2 ^ w) begun address x.head x.known x.lanes), beats ++ x ∷ [])
 spelled_end w None beats x g fits wide ends =
     let alone : reply_beats (2 ^ w) x.head ≡ 1 = sym (eqb-true 1 (reply_beats (2 ^ w) x.head) ends) in
-    let P : List ReplyBeat → Type 0 = λ bs. IsReplySpelled (2 ^ w) ((λ address. reply_of (2 ^ w) None address x.head x.known x.lanes), bs ++ x ∷ []) in
-    subst P (sym (g.empty refl)) (λ address. (one_reply_is_lawful w address x.head x.known x.lanes fits.formed alone, one_spells w address x fits alone))
+    let P : List ReplyBeat → Type 0 =
+        λ bs. IsReplySpelled (2 ^ w) ((λ address. reply_of (2 ^ w) None address x.head x.known x.lanes),
+            bs ++ x ∷ []) in
+    subst P (sym (g.empty refl))
+        (λ address. (one_reply_is_lawful w address x.head x.known x.lanes fits.formed alone,
+            one_spells w address x fits alone))
 spelled_end w (Some b) beats x g fits wide ends =
     let some : reply_begun (Some b.first) b.beats b.bytes ≡ None → ⊥ = (λ e. absurd (cc)) in
     let is = returns w (Some b.first) b.beats b.bytes x.head x.known x.lanes g.kept fits wide some in
@@ -235,12 +277,15 @@ spelled_end w (Some b) beats x g fits wide ends =
 
 -- ---- all beats of a channel
 
-pub gathered_past : (w : ℕ) (past : List ReplyBeat) → AreFittingReplies (2 ^ w) past → GatheredReply w (replying (2 ^ w) past) (begun_reply (2 ^ w) past)
+pub gathered_past : (w : ℕ) (past : List ReplyBeat) → AreFittingReplies (2 ^ w) past
+    → GatheredReply w (replying (2 ^ w) past) (begun_reply (2 ^ w) past)
 gathered_past w [] fitting = nothing_gathered w
 gathered_past w (x ∷ past) fitting = go (gathered_past w past fitting.0) (ends_reply (2 ^ w) (replying (2 ^ w) past) x.head) refl
   where
-    go : GatheredReply w (replying (2 ^ w) past) (begun_reply (2 ^ w) past) → (ends : Bool) → ends_reply (2 ^ w) (replying (2 ^ w) past) x.head ≡ ends
-        → GatheredReply w (reply_after (2 ^ w) (replying (2 ^ w) past) x.head x.known x.lanes) (if ends then [] else begun_reply (2 ^ w) past ++ x ∷ [])
+    go : GatheredReply w (replying (2 ^ w) past) (begun_reply (2 ^ w) past) → (ends : Bool)
+        → ends_reply (2 ^ w) (replying (2 ^ w) past) x.head ≡ ends
+        → GatheredReply w (reply_after (2 ^ w) (replying (2 ^ w) past) x.head x.known x.lanes)
+            (if ends then [] else begun_reply (2 ^ w) past ++ x ∷ [])
     go before true is = rw is (nothing_gathered w)
     go before false is = gathered_after w (replying (2 ^ w) past) (begun_reply (2 ^ w) past) x before fitting.1 fitting.2 is
 
@@ -248,14 +293,21 @@ all_more : {X : Type 0} (P : X → Type 0) (xs : List X) (x : X) → AllByRecurs
 all_more P [] x all last = (last, tt)
 all_more P (y ∷ xs) x all last = (all.0, all_more P xs x all.1 last)
 
-all_spelled : (w : ℕ) (past : List ReplyBeat) → AreFittingReplies (2 ^ w) past → AllByRecursion (IsReplySpelled (2 ^ w)) (ended_replies (2 ^ w) past)
+all_spelled : (w : ℕ) (past : List ReplyBeat) → AreFittingReplies (2 ^ w) past
+    → AllByRecursion (IsReplySpelled (2 ^ w)) (ended_replies (2 ^ w) past)
 all_spelled w [] fitting = tt
 all_spelled w (x ∷ past) fitting = go (all_spelled w past fitting.0) (ends_reply (2 ^ w) (replying (2 ^ w) past) x.head) refl
   where
-    go : AllByRecursion (IsReplySpelled (2 ^ w)) (ended_replies (2 ^ w) past) → (ends : Bool) → ends_reply (2 ^ w) (replying (2 ^ w) past) x.head ≡ ends
-        → AllByRecursion (IsReplySpelled (2 ^ w)) (if ends then ended_replies (2 ^ w) past ++ ((λ address. reply_of (2 ^ w) (replying (2 ^ w) past) address x.head x.known x.lanes), begun_reply (2 ^ w) past ++ x ∷ []) ∷ [] else ended_replies (2 ^ w) past)
+    go : AllByRecursion (IsReplySpelled (2 ^ w)) (ended_replies (2 ^ w) past) → (ends : Bool)
+        → ends_reply (2 ^ w) (replying (2 ^ w) past) x.head ≡ ends
+        → AllByRecursion (IsReplySpelled (2 ^ w))
+            (if ends then ended_replies (2 ^ w) past ++
+                ((λ address. reply_of (2 ^ w) (replying (2 ^ w) past) address x.head x.known x.lanes),
+                    begun_reply (2 ^ w) past ++ x ∷ []) ∷ [] else ended_replies (2 ^ w) past)
     go before true is =
-        all_more (IsReplySpelled (2 ^ w)) (ended_replies (2 ^ w) past) ((λ address. reply_of (2 ^ w) (replying (2 ^ w) past) address x.head x.known x.lanes), begun_reply (2 ^ w) past ++ x ∷ []) before
+        all_more (IsReplySpelled (2 ^ w)) (ended_replies (2 ^ w) past)
+            ((λ address. reply_of (2 ^ w) (replying (2 ^ w) past) address x.head x.known x.lanes),
+                begun_reply (2 ^ w) past ++ x ∷ []) before
         (spelled_end w (replying (2 ^ w) past) (begun_reply (2 ^ w) past) x (gathered_past w past fitting.0) fitting.1 fitting.2 is)
     go before false is = before
 

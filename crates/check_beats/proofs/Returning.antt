@@ -18,16 +18,20 @@ use Rattle.check_beats.proofs.Seen.{reply_op_named, reply_carries_named, length-
 use Rattle.check_beats.proofs.Going.{IsLong, long, few}
 
 -- a beat of a long reply carries the bytes at all lanes, whatever the address
-pub part_of_long_reply : (w address : ℕ) (beat : ReplyHead) (known : ℕ) (lanes : List ℕ) → length lanes ≡ 2 ^ w → IsFormedReply beat → IsLong w (beat.opcode == 1) beat.size
+pub part_of_long_reply : (w address : ℕ) (beat : ReplyHead) (known : ℕ) (lanes : List ℕ) → length lanes ≡ 2 ^ w
+    → IsFormedReply beat → IsLong w (beat.opcode == 1) beat.size
     → seen_at beat.denied known lanes 0 (length lanes) ≡ reply_part (2 ^ w) address beat known lanes
 part_of_long_reply w address beat known lanes wide formed is =
     let op = reply_op_of_number beat.opcode in
-    let carries : reply_carries_bytes op ≡ true = ap reply_carries_bytes (reply_op_named formed.op beat.opcode formed.code) ∙ sym (reply_carries_named formed.op beat.opcode formed.code) ∙ is.carries_is in
+    let carries : reply_carries_bytes op ≡ true =
+        ap reply_carries_bytes (reply_op_named formed.op beat.opcode formed.code)
+            ∙ sym (reply_carries_named formed.op beat.opcode formed.code) ∙ is.carries_is in
     let bytes : reply_byte_count op beat.size ≡ 2 ^ beat.size = ap (λ b. if b then 2 ^ beat.size else 0) carries in
     let fits : 2 ^ w ≤ 2 ^ beat.size = pow-le-pow_right (lit≤ tt) is.wide in
     let count : length lanes ≡ min (2 ^ w) (reply_byte_count op beat.size) = omega (arith, wide, bytes, fits) in
     let first : 0 ≡ low address beat.size % 2 ^ w = sym (low-wide w address beat.size is.wide) in
-    ap (λ n. seen_at beat.denied known lanes 0 n) count ∙ ap (λ n. seen_at beat.denied known lanes n (min (2 ^ w) (reply_byte_count op beat.size))) first
+    ap (λ n. seen_at beat.denied known lanes 0 n) count
+        ∙ ap (λ n. seen_at beat.denied known lanes n (min (2 ^ w) (reply_byte_count op beat.size))) first
 
 pub few_replied : (w : ℕ) (begun : Option ReplyBegun) → IsReplyKept (2 ^ w) begun → replied_beats begun ≤ 256
 few_replied w None kept = omega arith
@@ -54,7 +58,8 @@ same_count : (bus : ℕ) (head beat : ReplyHead) → SameReplyFields head beat �
 same_count bus head beat same = rw (same.opcode, same.size) refl
 
 pub returns : (w : ℕ) (first : Option ReplyHead) (beats : ℕ) (bytes : List (Option ℕ)) (beat : ReplyHead) (known : ℕ) (lanes : List ℕ)
-    → IsReplyKept (2 ^ w) (reply_begun first beats bytes) → FitsReply (first_reply (reply_begun first beats bytes)) beat → length lanes ≡ 2 ^ w
+    → IsReplyKept (2 ^ w) (reply_begun first beats bytes)
+    → FitsReply (first_reply (reply_begun first beats bytes)) beat → length lanes ≡ 2 ^ w
     → (reply_begun first beats bytes ≡ None → ⊥) → Returns w beats bytes beat known lanes
 returns w None beats bytes beat known lanes kept fits wide some = absurd (some refl)
 returns w (Some head) beats bytes beat known lanes kept fits wide some =
@@ -64,7 +69,8 @@ returns w (Some head) beats bytes beat known lanes kept fits wide some =
     let within : beats + 1 ≤ reply_beats (2 ^ w) beat = omega (arith, is.unfinished, as_first) in
     let l = long w beat.size (beat.opcode == 1) (omega (arith, is.some, within)) in
     let most : 2 ^ beat.size ≤ 2 ^ 8 = pow-le-pow_right (lit≤ tt) fits.formed.in_limit in
-    let row : (beats + 1) * 2 ^ w ≤ reply_beats (2 ^ w) beat * 2 ^ w = mul-le (beats + 1) (2 ^ w) (reply_beats (2 ^ w) beat) (2 ^ w) within (omega arith) in
+    let row : (beats + 1) * 2 ^ w ≤ reply_beats (2 ^ w) beat * 2 ^ w =
+        mul-le (beats + 1) (2 ^ w) (reply_beats (2 ^ w) beat) (2 ^ w) within (omega arith) in
     let more : (beats + 1) * 2 ^ w ≡ beats * 2 ^ w + 2 ^ w = search arith in
     record {
       long_is = l;
@@ -76,32 +82,39 @@ returns w (Some head) beats bytes beat known lanes kept fits wide some =
       clean = λ denied. is.clean (sym same.denied ∙ denied);
     }
 
-more_clean : (w beats : ℕ) (bytes : List (Option ℕ)) (beat : ReplyHead) (known : ℕ) (lanes : List ℕ) → Returns w beats bytes beat known lanes
+more_clean : (w beats : ℕ) (bytes : List (Option ℕ)) (beat : ReplyHead) (known : ℕ) (lanes : List ℕ)
+    → Returns w beats bytes beat known lanes
     → IsTrue beat.denied → All (λ b. b ≡ Some 0) (bytes ++ seen_at beat.denied known lanes 0 (length lanes))
 more_clean w beats bytes beat known lanes is denied =
-    All-append (λ (b : Option ℕ). b ≡ Some 0) bytes (seen_at beat.denied known lanes 0 (length lanes)) (is.clean denied) (seen_clean beat.denied known lanes 0 (length lanes) denied)
+    All-append (λ (b : Option ℕ). b ≡ Some 0) bytes (seen_at beat.denied known lanes 0 (length lanes))
+        (is.clean denied) (seen_clean beat.denied known lanes 0 (length lanes) denied)
 
 pub reply_kept_on : (w : ℕ) (first : Option ReplyHead) (beats : ℕ) (bytes : List (Option ℕ)) (beat : ReplyHead) (known : ℕ) (lanes : List ℕ)
     → IsReplyKept (2 ^ w) (reply_begun first beats bytes) → FitsReply (first_reply (reply_begun first beats bytes)) beat
-    → (reply_begun first beats bytes ≡ None → ⊥) → Returns w beats bytes beat known lanes → ends_reply (2 ^ w) (reply_begun first beats bytes) beat ≡ false
+    → (reply_begun first beats bytes ≡ None → ⊥) → Returns w beats bytes beat known lanes
+    → ends_reply (2 ^ w) (reply_begun first beats bytes) beat ≡ false
     → IsReplyKept (2 ^ w) (reply_begun first (beats + 1) (bytes ++ seen_at beat.denied known lanes 0 (length lanes)))
 reply_kept_on w None beats bytes beat known lanes kept fits some is goes_on = absurd (some refl)
 reply_kept_on w (Some head) beats bytes beat known lanes kept fits some is goes_on =
     let was = kept.of (record { first = head; beats = beats; bytes = bytes }) refl in
     let same : SameReplyFields head beat = fits.same head refl in
-    let after : ReplyBegun = record { first = head; beats = beats + 1; bytes = bytes ++ seen_at beat.denied known lanes 0 (length lanes) } in
+    let after : ReplyBegun =
+        record { first = head; beats = beats + 1; bytes = bytes ++ seen_at beat.denied known lanes 0 (length lanes) } in
     let begun : IsReplyBegun (2 ^ w) after = record {
       formed = was.formed;
       some = omega arith;
       unfinished = omega (arith, is.within, same_count (2 ^ w) head beat same, eqb-false (beats + 1) (reply_beats (2 ^ w) beat) goes_on);
-      counted = length-append bytes (seen_at beat.denied known lanes 0 (length lanes)) ∙ ap (λ n. length bytes + n) (length-seen_at beat.denied known lanes 0 (length lanes)) ∙ is.total;
+      counted = length-append bytes (seen_at beat.denied known lanes 0 (length lanes))
+          ∙ ap (λ n. length bytes + n) (length-seen_at beat.denied known lanes 0 (length lanes)) ∙ is.total;
       clean = λ denied. more_clean w beats bytes beat known lanes is (same.denied ∙ denied);
     } in
     record { of = λ b at. let e : after ≡ b = cc in subst (λ (x : ReplyBegun). IsReplyBegun (2 ^ w) x) e begun }
 
-pub reply_on_is : (w : ℕ) (first : Option ReplyHead) (beats : ℕ) (bytes : List (Option ℕ)) (beat : ReplyHead) (known : ℕ) (lanes : List ℕ) → length lanes ≡ 2 ^ w
+pub reply_on_is : (w : ℕ) (first : Option ReplyHead) (beats : ℕ) (bytes : List (Option ℕ)) (beat : ReplyHead)
+    (known : ℕ) (lanes : List ℕ) → length lanes ≡ 2 ^ w
     → (reply_begun first beats bytes ≡ None → ⊥) → ends_reply (2 ^ w) (reply_begun first beats bytes) beat ≡ false
-    → reply_begun first (beats + 1) (bytes ++ seen_at beat.denied known lanes 0 (length lanes)) ≡ reply_after (2 ^ w) (reply_begun first beats bytes) beat known lanes
+    → reply_begun first (beats + 1) (bytes ++ seen_at beat.denied known lanes 0 (length lanes))
+        ≡ reply_after (2 ^ w) (reply_begun first beats bytes) beat known lanes
 reply_on_is w None beats bytes beat known lanes wide some goes_on = absurd (some refl)
 reply_on_is w (Some head) beats bytes beat known lanes wide some goes_on = rw (goes_on, wide) refl
 
@@ -121,10 +134,13 @@ pub ended_reply_is_lawful : (w beats source : ℕ) (bytes : List (Option ℕ)) (
     })
 ended_reply_is_lawful w beats source bytes beat known lanes formed is ends =
     let op = reply_op_of_number beat.opcode in
-    let carries : reply_carries_bytes op ≡ true = ap reply_carries_bytes (reply_op_named formed.op beat.opcode formed.code) ∙ sym (reply_carries_named formed.op beat.opcode formed.code) ∙ is.long_is.carries_is in
+    let carries : reply_carries_bytes op ≡ true =
+        ap reply_carries_bytes (reply_op_named formed.op beat.opcode formed.code)
+            ∙ sym (reply_carries_named formed.op beat.opcode formed.code) ∙ is.long_is.carries_is in
     record {
       in_limit = formed.in_limit;
-      counted = length-append bytes (seen_at beat.denied known lanes 0 (length lanes)) ∙ ap (λ n. length bytes + n) (length-seen_at beat.denied known lanes 0 (length lanes)) ∙ is.total
+      counted = length-append bytes (seen_at beat.denied known lanes 0 (length lanes))
+          ∙ ap (λ n. length bytes + n) (length-seen_at beat.denied known lanes 0 (length lanes)) ∙ is.total
           ∙ ap (λ n. n * 2 ^ w) ends ∙ is.long_is.counted ∙ sym (ap (λ b. if b then 2 ^ beat.size else 0) carries);
       clean = λ denied. more_clean w beats bytes beat known lanes is (denied_if beat.denied denied);
     }
@@ -152,7 +168,8 @@ some_beat : (bus size : ℕ) (carries : Bool) → 0 < beat_count bus carries siz
 some_beat bus size true = omega arith
 some_beat bus size false = omega arith
 
-pub reply_kept_first : (w : ℕ) (beat : ReplyHead) (known : ℕ) (lanes : List ℕ) → FitsReply None beat → length lanes ≡ 2 ^ w → ends_reply (2 ^ w) None beat ≡ false
+pub reply_kept_first : (w : ℕ) (beat : ReplyHead) (known : ℕ) (lanes : List ℕ) → FitsReply None beat
+    → length lanes ≡ 2 ^ w → ends_reply (2 ^ w) None beat ≡ false
     → IsReplyKept (2 ^ w) (Some (record { first = beat; beats = 1; bytes = seen_at beat.denied known lanes 0 (length lanes) }))
 reply_kept_first w beat known lanes fits wide goes_on =
     let after : ReplyBegun = record { first = beat; beats = 1; bytes = seen_at beat.denied known lanes 0 (length lanes) } in
@@ -165,24 +182,31 @@ reply_kept_first w beat known lanes fits wide goes_on =
     } in
     record { of = λ b at. let e : after ≡ b = cc in subst (λ (x : ReplyBegun). IsReplyBegun (2 ^ w) x) e begun }
 
-pub reply_first_is : (w : ℕ) (beat : ReplyHead) (known : ℕ) (lanes : List ℕ) → length lanes ≡ 2 ^ w → (goes_on : ends_reply (2 ^ w) None beat ≡ false)
-    → ◌≡◌ {A = Option ReplyBegun} (Some (record { first = beat; beats = 1; bytes = seen_at beat.denied known lanes 0 (length lanes) })) (reply_after (2 ^ w) None beat known lanes)
+pub reply_first_is : (w : ℕ) (beat : ReplyHead) (known : ℕ) (lanes : List ℕ) → length lanes ≡ 2 ^ w
+    → (goes_on : ends_reply (2 ^ w) None beat ≡ false)
+    → ◌≡◌ {A =
+        Option ReplyBegun}
+            (Some (record { first = beat; beats = 1; bytes = seen_at beat.denied known lanes 0 (length lanes) }))
+                (reply_after (2 ^ w) None beat known lanes)
 reply_first_is w beat known lanes wide goes_on = rw (goes_on, wide) refl
 
 -- ---- the last beat
 
-pub reply_ends_after : (bus : ℕ) (first : Option ReplyHead) (beats : ℕ) (bytes : List (Option ℕ)) (beat : ReplyHead) → (reply_begun first beats bytes ≡ None → ⊥)
+pub reply_ends_after : (bus : ℕ) (first : Option ReplyHead) (beats : ℕ) (bytes : List (Option ℕ)) (beat : ReplyHead)
+    → (reply_begun first beats bytes ≡ None → ⊥)
     → ends_reply bus (reply_begun first beats bytes) beat ≡ true → beats + 1 ≡ reply_beats bus beat
 reply_ends_after bus None beats bytes beat some ends = absurd (some refl)
 reply_ends_after bus (Some head) beats bytes beat some ends = eqb-true (beats + 1) (reply_beats bus beat) ends
 
-pub reply_bytes_after : (first : Option ReplyHead) (beats : ℕ) (bytes : List (Option ℕ)) → (reply_begun first beats bytes ≡ None → ⊥) → replied_bytes (reply_begun first beats bytes) ≡ bytes
+pub reply_bytes_after : (first : Option ReplyHead) (beats : ℕ) (bytes : List (Option ℕ))
+    → (reply_begun first beats bytes ≡ None → ⊥) → replied_bytes (reply_begun first beats bytes) ≡ bytes
 reply_bytes_after None beats bytes some = absurd (some refl)
 reply_bytes_after (Some head) beats bytes some = refl
 
 -- ---- a beat with the fields and the flag of the first
 
-pub reply_fits_alike : (first : Option ReplyHead) (head beat : ReplyHead) → first ≡ Some head → IsFormedReply head → SameReplyFields head beat → beat.corrupt ≡ head.corrupt → FitsReply first beat
+pub reply_fits_alike : (first : Option ReplyHead) (head beat : ReplyHead) → first ≡ Some head → IsFormedReply head
+    → SameReplyFields head beat → beat.corrupt ≡ head.corrupt → FitsReply first beat
 reply_fits_alike first head beat is formed same flag = record {
   formed = record {
     op = formed.op;
@@ -193,6 +217,8 @@ reply_fits_alike first head beat is formed same flag = record {
   same = λ h at. let e : head ≡ h = cc in subst (λ (x : ReplyHead). SameReplyFields x beat) e same;
 }
 
-pub reply_of_first : (bus : ℕ) (first : Option ReplyHead) (head : ReplyHead) (beats : ℕ) (bytes : List (Option ℕ)) → IsReplyKept bus (reply_begun first beats bytes) → first ≡ Some head
+pub reply_of_first : (bus : ℕ) (first : Option ReplyHead) (head : ReplyHead) (beats : ℕ) (bytes : List (Option ℕ))
+    → IsReplyKept bus (reply_begun first beats bytes) → first ≡ Some head
     → IsReplyBegun bus (record { first = head; beats = beats; bytes = bytes })
-reply_of_first bus first head beats bytes kept is = kept.of (record { first = head; beats = beats; bytes = bytes }) (ap (λ o. reply_begun o beats bytes) is)
+reply_of_first bus first head beats bytes kept is =
+    kept.of (record { first = head; beats = beats; bytes = bytes }) (ap (λ o. reply_begun o beats bytes) is)

@@ -34,12 +34,14 @@ byte_stands mask lanes lane = go (bit_at mask lane == 1) refl
 
 -- each byte is what stands in its beat, where all lanes carry one
 abbrev pub Stand : ℕ → List (Option ℕ) → List AskBeat → Type 0
-Stand w bytes beats = (j : ℕ) (given : Option ℕ) (x : AskBeat) → slice_get bytes j ≡ Some given → slice_get beats (j / 2 ^ w) ≡ Some x → given ≡ byte_at x.head.mask x.lanes (j % 2 ^ w)
+Stand w bytes beats = (j : ℕ) (given : Option ℕ) (x : AskBeat) → slice_get bytes j ≡ Some given
+    → slice_get beats (j / 2 ^ w) ≡ Some x → given ≡ byte_at x.head.mask x.lanes (j % 2 ^ w)
 
 none_stand : (w : ℕ) → Stand w [] []
 none_stand w j given x at found = absurd (cc)
 
-more_stand : (w : ℕ) (bytes : List (Option ℕ)) (beats : List AskBeat) (x : AskBeat) → length bytes ≡ length beats * 2 ^ w → length x.lanes ≡ 2 ^ w → Stand w bytes beats
+more_stand : (w : ℕ) (bytes : List (Option ℕ)) (beats : List AskBeat) (x : AskBeat)
+    → length bytes ≡ length beats * 2 ^ w → length x.lanes ≡ 2 ^ w → Stand w bytes beats
     → Stand w (bytes ++ given_at x.head.mask x.lanes 0 (length x.lanes)) (beats ++ x ∷ [])
 more_stand w bytes beats x counted wide stand j given y at found = go (slice_get-push beats x y (j / 2 ^ w) found)
   where
@@ -56,17 +58,21 @@ more_stand w bytes beats x counted wide stand j given y at found = go (slice_get
     go (inl before) =
         let k = j / 2 ^ w in
         let inside : k < length beats = slice_get_within beats k y before in
-        let row : (k + 1) * 2 ^ w ≤ length beats * 2 ^ w = mul-le (k + 1) (2 ^ w) (length beats) (2 ^ w) (omega (arith, inside)) (omega arith) in
+        let row : (k + 1) * 2 ^ w ≤ length beats * 2 ^ w =
+            mul-le (k + 1) (2 ^ w) (length beats) (2 ^ w) (omega (arith, inside)) (omega arith) in
         let more : (k + 1) * 2 ^ w ≡ k * 2 ^ w + 2 ^ w = search arith in
         let early : j < length bytes = omega (arith, counted, row, more, split, lane) in
-        let same : get_or bytes j None ≡ given = sym (get_or_append_left bytes (given_at x.head.mask x.lanes 0 (length x.lanes)) None j early) ∙ whole in
+        let same : get_or bytes j None ≡ given =
+            sym (get_or_append_left bytes (given_at x.head.mask x.lanes 0 (length x.lanes)) None j early) ∙ whole in
         stand j given y (slice_get-get_or bytes j None early ∙ ap (λ (g : Option ℕ). Some g) same) before
     go (inr last) =
         let i = j % 2 ^ w in
         let at_row : j / 2 ^ w * 2 ^ w ≡ length beats * 2 ^ w = ap (λ n. n * 2 ^ w) last.0 in
         let place : j ≡ length bytes + i = omega (arith, counted, at_row, split) in
-        let here : get_or (bytes ++ given_at x.head.mask x.lanes 0 (length x.lanes)) j None ≡ get_or (given_at x.head.mask x.lanes 0 (length x.lanes)) i None =
-        ap (λ n. get_or (bytes ++ given_at x.head.mask x.lanes 0 (length x.lanes)) n None) place ∙ get_or-append-add bytes (given_at x.head.mask x.lanes 0 (length x.lanes)) i None in
+        let here : get_or (bytes ++ given_at x.head.mask x.lanes 0 (length x.lanes)) j None
+            ≡ get_or (given_at x.head.mask x.lanes 0 (length x.lanes)) i None =
+        ap (λ n. get_or (bytes ++ given_at x.head.mask x.lanes 0 (length x.lanes)) n None) place
+            ∙ get_or-append-add bytes (given_at x.head.mask x.lanes 0 (length x.lanes)) i None in
         let is : get_or (given_at x.head.mask x.lanes 0 (length x.lanes)) i None ≡ byte_at x.head.mask x.lanes (0 + i) =
         given_at-get x.head.mask x.lanes 0 (length x.lanes) i (omega (arith, lane, wide)) in
         let none : 0 + i ≡ i = omega arith in
@@ -79,7 +85,8 @@ pub record Gathered (w : ℕ) (begun : Option AskBegun) (beats : List AskBeat) :
   pub empty : begun ≡ None → beats ≡ []
   pub counted : length beats ≡ asked_beats begun
   pub filled : length (asked_bytes begun) ≡ length beats * 2 ^ w
-  pub each : (k : ℕ) (x : AskBeat) → slice_get beats k ≡ Some x → IsFormed (2 ^ w) x.head × ((h : AskHead) → first_ask begun ≡ Some h → SameFields h x.head)
+  pub each : (k : ℕ) (x : AskBeat) → slice_get beats k ≡ Some x
+      → IsFormed (2 ^ w) x.head × ((h : AskHead) → first_ask begun ≡ Some h → SameFields h x.head)
   pub stand : Stand w (asked_bytes begun) beats
 
 pub itself : (a : AskHead) → SameFields a a
@@ -115,15 +122,20 @@ first_gathered w x fits wide goes_on = record {
   stand = more_stand w [] [] x (omega arith) wide (none_stand w);
 }
   where
-    only : (k : ℕ) (y : AskBeat) → (slice_get [] k ≡ Some y) ⊎ ((k ≡ 0) × (x ≡ y)) → IsFormed (2 ^ w) y.head × ((h : AskHead) → Some x.head ≡ Some h → SameFields h y.head)
+    only : (k : ℕ) (y : AskBeat) → (slice_get [] k ≡ Some y) ⊎ ((k ≡ 0) × (x ≡ y))
+        → IsFormed (2 ^ w) y.head × ((h : AskHead) → Some x.head ≡ Some h → SameFields h y.head)
     only k y (inl never) = absurd (cc)
     only k y (inr last) =
         let P : AskBeat → Type 0 = λ z. IsFormed (2 ^ w) z.head × ((h : AskHead) → Some x.head ≡ Some h → SameFields h z.head) in
-        subst P last.1 (fits.formed, (λ h e. let same : x.head ≡ h = cc in subst (λ (a : AskHead). SameFields a x.head) same (itself x.head)))
+        subst P last.1 (fits.formed,
+            (λ h e. let same : x.head ≡ h = cc in subst (λ (a : AskHead). SameFields a x.head) same (itself x.head)))
 
-pub next_gathered : (w : ℕ) (b : AskBegun) (beats : List AskBeat) (x : AskBeat) → Gathered w (Some b) beats → FitsAsk (2 ^ w) (Some b.first) x.head → length x.lanes ≡ 2 ^ w
+pub next_gathered : (w : ℕ) (b : AskBegun) (beats : List AskBeat) (x : AskBeat) → Gathered w (Some b) beats
+    → FitsAsk (2 ^ w) (Some b.first) x.head → length x.lanes ≡ 2 ^ w
     → ends_ask (2 ^ w) (Some b) x.head ≡ false
-    → Gathered w (Some (record { first = b.first; beats = b.beats + 1; bytes = b.bytes ++ given_at x.head.mask x.lanes 0 (length x.lanes) })) (beats ++ x ∷ [])
+    → Gathered w
+        (Some (record { first = b.first; beats = b.beats + 1; bytes =
+            b.bytes ++ given_at x.head.mask x.lanes 0 (length x.lanes) })) (beats ++ x ∷ [])
 next_gathered w b beats x g fits wide goes_on =
     let some : ask_begun (Some b.first) b.beats b.bytes ≡ None → ⊥ = (λ e. absurd (cc)) in
     let is = goes w (Some b.first) b.beats b.bytes x.head x.lanes g.kept fits wide some in
@@ -132,19 +144,22 @@ next_gathered w b beats x g fits wide goes_on =
       kept = kept_on w (Some b.first) b.beats b.bytes x.head x.lanes g.kept fits some is goes_on;
       empty = λ e. absurd (cc);
       counted = counted;
-      filled = length-append b.bytes (given_at x.head.mask x.lanes 0 (length x.lanes)) ∙ ap (λ n. length b.bytes + n) (length-given_at x.head.mask x.lanes 0 (length x.lanes))
+      filled = length-append b.bytes (given_at x.head.mask x.lanes 0 (length x.lanes))
+          ∙ ap (λ n. length b.bytes + n) (length-given_at x.head.mask x.lanes 0 (length x.lanes))
           ∙ is.total ∙ ap (λ n. n * 2 ^ w) (sym counted);
       each = λ k y at. any k y (slice_get-push beats x y k at);
       stand = more_stand w b.bytes beats x g.filled wide g.stand;
     }
   where
-    any : (k : ℕ) (y : AskBeat) → (slice_get beats k ≡ Some y) ⊎ ((k ≡ length beats) × (x ≡ y)) → IsFormed (2 ^ w) y.head × ((h : AskHead) → Some b.first ≡ Some h → SameFields h y.head)
+    any : (k : ℕ) (y : AskBeat) → (slice_get beats k ≡ Some y) ⊎ ((k ≡ length beats) × (x ≡ y))
+        → IsFormed (2 ^ w) y.head × ((h : AskHead) → Some b.first ≡ Some h → SameFields h y.head)
     any k y (inl before) = g.each k y before
     any k y (inr last) =
         let P : AskBeat → Type 0 = λ z. IsFormed (2 ^ w) z.head × ((h : AskHead) → Some b.first ≡ Some h → SameFields h z.head) in
         subst P last.1 (fits.formed, fits.same)
 
-gathered_after : (w : ℕ) (begun : Option AskBegun) (beats : List AskBeat) (x : AskBeat) → Gathered w begun beats → FitsAsk (2 ^ w) (first_ask begun) x.head → length x.lanes ≡ 2 ^ w
+gathered_after : (w : ℕ) (begun : Option AskBegun) (beats : List AskBeat) (x : AskBeat) → Gathered w begun beats
+    → FitsAsk (2 ^ w) (first_ask begun) x.head → length x.lanes ≡ 2 ^ w
     → ends_ask (2 ^ w) begun x.head ≡ false → Gathered w (ask_after (2 ^ w) begun x.head x.lanes) (beats ++ x ∷ [])
 gathered_after w None beats x g fits wide goes_on =
     let P : List AskBeat → Type 0 = λ bs. Gathered w (ask_after (2 ^ w) None x.head x.lanes) (bs ++ x ∷ []) in
@@ -175,22 +190,26 @@ mask_of bus x y formed same =
     let named : op_of x.opcode x.param ≡ formed.op = rw (← same.opcode, ← same.param) (op_named formed.op y.opcode y.param formed.code) in
     rw (named, ← same.size, ← same.address) formed.mask
 
-stands_so : (mask : ℕ) (lanes : List ℕ) (lane place : ℕ) (given : Option ℕ) → given ≡ byte_at mask lanes place → lane ≡ place → StandsAt mask lanes lane given
+stands_so : (mask : ℕ) (lanes : List ℕ) (lane place : ℕ) (given : Option ℕ) → given ≡ byte_at mask lanes place
+    → lane ≡ place → StandsAt mask lanes lane given
 stands_so mask lanes lane place given is at =
-    subst (λ (l : ℕ). StandsAt mask lanes l given) (sym at) (subst (λ (g : Option ℕ). StandsAt mask lanes place g) (sym is) (byte_stands mask lanes place))
+    subst (λ (l : ℕ). StandsAt mask lanes l given) (sym at)
+        (subst (λ (g : Option ℕ). StandsAt mask lanes place g) (sym is) (byte_stands mask lanes place))
 
 carries_of : (bus : ℕ) (x : AskHead) → IsFormed bus x → ask_beats bus x ≡ beat_count bus (carries_bytes (op_of x.opcode x.param)) x.size
 carries_of bus x formed =
     let named : op_of x.opcode x.param ≡ formed.op = op_named formed.op x.opcode x.param formed.code in
     ap (λ b. beat_count bus b x.size) (carries_named formed.op x.opcode x.param formed.code ∙ ap carries_bytes (sym named))
 
-one_spells : (w : ℕ) (x : AskBeat) → FitsAsk (2 ^ w) None x.head → ask_beats (2 ^ w) x.head ≡ 1 → SpellsAsk (2 ^ w) (ask_of (2 ^ w) None x.head x.lanes) ([] ++ x ∷ [])
+one_spells : (w : ℕ) (x : AskBeat) → FitsAsk (2 ^ w) None x.head → ask_beats (2 ^ w) x.head ≡ 1
+    → SpellsAsk (2 ^ w) (ask_of (2 ^ w) None x.head x.lanes) ([] ++ x ∷ [])
 one_spells w x fits alone = record {
   count = sym alone ∙ carries_of (2 ^ w) x.head fits.formed;
   each = λ b y at. only b y (slice_get-push [] x y b at);
 }
   where
-    only : (b : ℕ) (y : AskBeat) → (slice_get [] b ≡ Some y) ⊎ ((b ≡ 0) × (x ≡ y)) → IsBeatOf (2 ^ w) (ask_of (2 ^ w) None x.head x.lanes) b y
+    only : (b : ℕ) (y : AskBeat) → (slice_get [] b ≡ Some y) ⊎ ((b ≡ 0) × (x ≡ y))
+        → IsBeatOf (2 ^ w) (ask_of (2 ^ w) None x.head x.lanes) b y
     only b y (inl never) = absurd (cc)
     only b y (inr last) =
         let op = op_of x.head.opcode x.head.param in
@@ -200,16 +219,22 @@ one_spells w x fits alone = record {
           fields = fields_of (2 ^ w) x.head x.head (ask_part (2 ^ w) x.head x.lanes) fits.formed (itself x.head);
           mask = mask_of (2 ^ w) x.head x.head fits.formed (itself x.head);
           bytes = λ j given at row.
-              let within : j < count = rw (← length-given_at x.head.mask x.lanes first count) (slice_get_within (ask_part (2 ^ w) x.head x.lanes) j given at) in
+              let within : j < count =
+                  rw (← length-given_at x.head.mask x.lanes first count)
+                      (slice_get_within (ask_part (2 ^ w) x.head x.lanes) j given at) in
               let below : j < min (2 ^ w) (2 ^ x.head.size) = omega (arith, within, some_count x.head.size (carries_bytes op)) in
               let is : given ≡ byte_at x.head.mask x.lanes (first + j) =
-              sym (get_or_from_slice_get (ask_part (2 ^ w) x.head x.lanes) j given None at) ∙ given_at-get x.head.mask x.lanes first count j within in
-              stands_so x.head.mask x.lanes (lane_of (2 ^ w) x.head.address x.head.size j) (first + j) given is (lane_in_window w x.head.address x.head.size j below);
+              sym (get_or_from_slice_get (ask_part (2 ^ w) x.head x.lanes) j given None at)
+                  ∙ given_at-get x.head.mask x.lanes first count j within in
+              stands_so x.head.mask x.lanes (lane_of (2 ^ w) x.head.address x.head.size j) (first + j) given is
+                  (lane_in_window w x.head.address x.head.size j below);
         } in
         subst (λ (z : AskBeat). IsBeatOf (2 ^ w) (ask_of (2 ^ w) None x.head x.lanes) b z) last.1 here
 
-long_spells : (w : ℕ) (b : AskBegun) (beats : List AskBeat) (x : AskBeat) → Gathered w (Some b) beats → FitsAsk (2 ^ w) (Some b.first) x.head → length x.lanes ≡ 2 ^ w
-    → Goes w b.beats b.bytes x.head x.lanes → b.beats + 1 ≡ ask_beats (2 ^ w) x.head → SpellsAsk (2 ^ w) (ask_of (2 ^ w) (Some b) x.head x.lanes) (beats ++ x ∷ [])
+long_spells : (w : ℕ) (b : AskBegun) (beats : List AskBeat) (x : AskBeat) → Gathered w (Some b) beats
+    → FitsAsk (2 ^ w) (Some b.first) x.head → length x.lanes ≡ 2 ^ w
+    → Goes w b.beats b.bytes x.head x.lanes → b.beats + 1 ≡ ask_beats (2 ^ w) x.head
+    → SpellsAsk (2 ^ w) (ask_of (2 ^ w) (Some b) x.head x.lanes) (beats ++ x ∷ [])
 long_spells w b beats x g fits wide is ends = record {
   count = omega (arith, length-append beats (x ∷ []), g.counted, ends) ∙ carries_of (2 ^ w) x.head fits.formed;
   each = λ k y found.
@@ -219,16 +244,20 @@ long_spells w b beats x g fits wide is ends = record {
         bytes = λ j given at row.
             let at_lanes : slice_get (b.bytes ++ given_at x.head.mask x.lanes 0 (length x.lanes)) j ≡ Some given = rw is.part at in
             let in_row : slice_get (beats ++ x ∷ []) (j / 2 ^ w) ≡ Some y = rw row found in
-            stands_so y.head.mask y.lanes (lane_of (2 ^ w) x.head.address x.head.size j) (j % 2 ^ w) given (more_stand w b.bytes beats x g.filled wide g.stand j given y at_lanes in_row)
+            stands_so y.head.mask y.lanes (lane_of (2 ^ w) x.head.address x.head.size j) (j % 2 ^ w) given
+                (more_stand w b.bytes beats x g.filled wide g.stand j given y at_lanes in_row)
             (lane_wide w x.head.address x.head.size j is.long_is.wide);
       };
 }
   where
-    any : (k : ℕ) (y : AskBeat) → (slice_get beats k ≡ Some y) ⊎ ((k ≡ length beats) × (x ≡ y)) → IsFormed (2 ^ w) y.head × SameFields x.head y.head
-    any k y (inl before) = let there = g.each k y before in (there.0, between b.first x.head y.head (fits.same b.first refl) (there.1 b.first refl))
+    any : (k : ℕ) (y : AskBeat) → (slice_get beats k ≡ Some y) ⊎ ((k ≡ length beats) × (x ≡ y))
+        → IsFormed (2 ^ w) y.head × SameFields x.head y.head
+    any k y (inl before) = let there = g.each k y before in
+        (there.0, between b.first x.head y.head (fits.same b.first refl) (there.1 b.first refl))
     any k y (inr last) = subst (λ (z : AskBeat). IsFormed (2 ^ w) z.head × SameFields x.head z.head) last.1 (fits.formed, itself x.head)
 
-pub spelled_end : (w : ℕ) (begun : Option AskBegun) (beats : List AskBeat) (x : AskBeat) → Gathered w begun beats → FitsAsk (2 ^ w) (first_ask begun) x.head → length x.lanes ≡ 2 ^ w
+pub spelled_end : (w : ℕ) (begun : Option AskBegun) (beats : List AskBeat) (x : AskBeat) → Gathered w begun beats
+    → FitsAsk (2 ^ w) (first_ask begun) x.head → length x.lanes ≡ 2 ^ w
     → ends_ask (2 ^ w) begun x.head ≡ true → IsSpelled (2 ^ w) (ask_of (2 ^ w) begun x.head x.lanes, beats ++ x ∷ [])
 spelled_end w None beats x g fits wide ends =
     let alone : ask_beats (2 ^ w) x.head ≡ 1 = sym (eqb-true 1 (ask_beats (2 ^ w) x.head) ends) in
@@ -262,9 +291,12 @@ all_spelled w [] fitting = tt
 all_spelled w (x ∷ past) fitting = go (all_spelled w past fitting.0) (ends_ask (2 ^ w) (asking (2 ^ w) past) x.head) refl
   where
     go : AllByRecursion (IsSpelled (2 ^ w)) (ended (2 ^ w) past) → (ends : Bool) → ends_ask (2 ^ w) (asking (2 ^ w) past) x.head ≡ ends
-        → AllByRecursion (IsSpelled (2 ^ w)) (if ends then ended (2 ^ w) past ++ (ask_of (2 ^ w) (asking (2 ^ w) past) x.head x.lanes, begun (2 ^ w) past ++ x ∷ []) ∷ [] else ended (2 ^ w) past)
+        → AllByRecursion (IsSpelled (2 ^ w))
+            (if ends then ended (2 ^ w) past ++ (ask_of (2 ^ w) (asking (2 ^ w) past) x.head x.lanes,
+                begun (2 ^ w) past ++ x ∷ []) ∷ [] else ended (2 ^ w) past)
     go before true is =
-        all_more (IsSpelled (2 ^ w)) (ended (2 ^ w) past) (ask_of (2 ^ w) (asking (2 ^ w) past) x.head x.lanes, begun (2 ^ w) past ++ x ∷ []) before
+        all_more (IsSpelled (2 ^ w)) (ended (2 ^ w) past) (ask_of (2 ^ w) (asking (2 ^ w) past) x.head x.lanes,
+            begun (2 ^ w) past ++ x ∷ []) before
         (spelled_end w (asking (2 ^ w) past) (begun (2 ^ w) past) x (gathered_past w past fitting.0) fitting.1 fitting.2 is)
     go before false is = before
 
