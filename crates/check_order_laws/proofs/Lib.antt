@@ -1,0 +1,16 @@
+pub mod InTurn
+pub mod Openings
+pub mod OpenAsks
+pub mod OpenReplies
+pub mod Turning
+pub mod Effects
+pub mod ReplyEffects
+pub mod AcceptEffects
+pub mod Bytes
+pub mod Carried
+pub mod DueSoon
+pub mod Same
+pub mod Fronts
+pub mod Asked
+pub mod Whenever
+pub mod Loosening
