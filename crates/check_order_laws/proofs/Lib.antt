@@ -14,3 +14,7 @@ pub mod Fronts
 pub mod Asked
 pub mod Whenever
 pub mod Loosening
+pub mod OpenSince
+pub mod Beside
+pub mod Uncontested
+pub mod Tightening
