@@ -1,5 +1,5 @@
-//! What the order `any` of a port costs, said of whole lists of beats: no false alarm, and no error that is lost where no
-//! two requests meet.
+//! What the order `any` of a port costs, said of whole lists of beats: no false alarm, and no error is lost if no two
+//! requests meet.
 //!
 //! The order of a port says when a request takes effect at its slave: as it is accepted, as it is answered, or at some moment
 //! between the two that nobody knows. [`laws::what_an_order_allows_any_allows`]: beats that are lawful by one of the first two
