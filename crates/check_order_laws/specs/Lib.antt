@@ -1,0 +1,2 @@
+pub mod Looser
+pub mod Open
