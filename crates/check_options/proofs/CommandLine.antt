@@ -1,10 +1,11 @@
 -- The command line, whose two lists of words may lie anywhere: what holds of it wherever they lie.
 use Rattle.std.proofs.Common.{◌≡◌, ◌∙◌, codes, true, ℕ, List, [], ◌∷◌, refl, sym, subst, ap, map}
 use Rattle.std.specs.Borrow.{Bor}
-use Rattle.clap.specs.Words.{App, HasMatchesOf, Text, first_of, first_value, found_of, is_simple, is_simple_and_free, matches_of}
+use Rattle.clap.specs.Words.{App, HasMatchesOf, Text, fault_of, first_of, first_value, found_of, is_simple, is_simple_and_free, matches_of}
+use Rattle.clap.specs.declared.error.ErrorKind.{ErrorKind}
 use Rattle.clap.proofs.WalkLemmas.{first_value-rows}
 use Rattle.clap.specs.declared.parser.matches.ArgMatches.{ArgMatches}
-use Rattle.check_options.specs.Options.{IsCommandLine, Names, texts_of, with_rules}
+use Rattle.check_options.specs.Options.{AreRefusedAs, AskFor, Asked, Asks, IsCommandLine, Names, Refuses, asked_in, texts_of, with_rules}
 
 -- a word that lies at a place
 abbrev pub at : ℕ × ℕ → Text → Bor Text
@@ -75,6 +76,19 @@ wherever P holds app line =
     (λ l a b c f. of_three (λ (orders : Names). P (with_rules (links_at l a b c f) orders)) _ _ _
     (holds l a b c f) line.orders line.orders_listed)
     line.links line.links_listed)
+
+-- what words ask for, and what they are refused as, if clap's rules say so at all places; both are computed
+pub asks : (asked : Asked) (words : List Text)
+    → ((l a b c f o d e g : ℕ × ℕ) → fault_of (with_rules (links_at l a b c f) (orders_at o d e g)) words ≡ [])
+    → ((l a b c f o d e g : ℕ × ℕ) → asked_in (with_rules (links_at l a b c f) (orders_at o d e g)) words ≡ asked)
+    → AskFor asked words
+asks asked words taken read =
+    wherever (Asks asked words) (λ l a b c f o d e g. (taken l a b c f o d e g, read l a b c f o d e g))
+
+pub refuses : (kind : ErrorKind) (words : List Text)
+    → ((l a b c f o d e g : ℕ × ℕ) → fault_of (with_rules (links_at l a b c f) (orders_at o d e g)) words ≡ kind ∷ [])
+    → AreRefusedAs kind words
+refuses kind words is = wherever (Refuses kind words) is
 
 -- it is one whose matches and faults clap tells
 pub is_simple_line : (app : App) → IsCommandLine app → is_simple app ≡ true

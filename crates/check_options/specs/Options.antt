@@ -1,9 +1,9 @@
 -- The command line of tlcheck: the options and words that there are, what the words ask for, and the status that the
 -- program ends with if they ask for nothing. This project's own.
-use Rattle.std.specs.Prelude.{◌≡◌, ℕ, List, [], ◌∷◌, Bool, true, Option, Some, None, Result, IfOk, codes, map, option_map, if◌then◌else◌, unwrap_or}
+use Rattle.std.specs.Prelude.{◌≡◌, ℕ, List, [], ◌∷◌, Bool, true, false, Option, Some, None, Result, IfOk, codes, map, option_map, if◌then◌else◌, unwrap_or}
 use Rattle.std.specs.Borrow.{Bor}
 use Rattle.std.specs.Str.{bytes_eq}
-use Rattle.clap.specs.Words.{App, FailsBy, Rule, Text, fault_of, first_of, matches_of, new_app, new_rule, with_rule}
+use Rattle.clap.specs.Words.{App, FailsBy, Row, Rule, Text, fault_of, first_of, matches_of, new_app, new_rule, with_rule}
 use Rattle.clap.specs.declared.builder.action.ArgAction.TheVariants.{Set, SetTrue}
 use Rattle.clap.specs.declared.builder.value_parser.ValueParser.TheVariants as values
 use Rattle.clap.specs.declared.error.Error.{Error}
@@ -50,7 +50,7 @@ order_rule names = record (new_rule (codes "order")) {
   defaults = codes "accept" ∷ [];
 }
 
--- `--trace` and `--complete`, flags
+-- `--trace`, `--complete` and `--quiet`, flags
 abbrev pub trace_rule : Rule
 trace_rule = record (new_rule (codes "trace")) {
   long = Some (codes "trace");
@@ -61,6 +61,13 @@ trace_rule = record (new_rule (codes "trace")) {
 abbrev pub complete_rule : Rule
 complete_rule = record (new_rule (codes "complete")) {
   long = Some (codes "complete");
+  action = Some SetTrue;
+  parser = Some values.Bool;
+}
+
+abbrev pub quiet_rule : Rule
+quiet_rule = record (new_rule (codes "quiet")) {
+  long = Some (codes "quiet");
   action = Some SetTrue;
   parser = Some values.Bool;
 }
@@ -77,11 +84,11 @@ capture_rule = record (new_rule (codes "capture")) { action = Some Set; value_na
 abbrev pub program : App
 program = let plain = new_app (codes "tlcheck") in record plain { top = record plain.top { has_version = true } }
 
--- these six, and `--help` and `--version`, which clap adds
+-- these seven, and `--help` and `--version`, which clap adds
 abbrev pub with_rules : Names → Names → App
 with_rules links orders =
-    let options = with_rule (with_rule (with_rule (with_rule program (links_rule links)) (order_rule orders)) trace_rule)
-    complete_rule in
+    let valued = with_rule (with_rule program (links_rule links)) (order_rule orders) in
+    let options = with_rule (with_rule (with_rule valued trace_rule) complete_rule) quiet_rule in
     with_rule (with_rule options system_rule) capture_rule
 
 -- the rule is that of `--links`, or of `--order`, wherever its list of words lies
@@ -111,6 +118,7 @@ pub record Asked : Type 0 where
   pub order : Order
   pub trace : Bool
   pub complete : Bool
+  pub quiet : Bool
   pub system : Text
   pub capture : Option Text
 
@@ -120,6 +128,7 @@ asked_of options = record {
   order = options.order;
   trace = options.trace;
   complete = options.complete;
+  quiet = options.quiet;
   system = options.system.now;
   capture = option_map (λ name. name.now) options.capture;
 }
@@ -143,20 +152,24 @@ abbrev pub file_of : Option Text → Option Text
 file_of None = None
 file_of (Some word) = if bytes_eq word (codes "-") then None else Some word
 
--- the value that the words give an option, or its own if they give none
-abbrev pub value_in : App → List Text → Text → Text
-value_in app words id = unwrap_or (first_of id (matches_of app words)) []
+-- the value that an option has among the matches, by clap's reading of words: the words give it, or it is its own
+abbrev pub value_of : List Row → Text → Text
+value_of rows id = unwrap_or (first_of id rows) []
 
--- the options that the words ask for
-abbrev pub asked_in : App → List Text → Asked
-asked_in app words = record {
-  links = links_of (value_in app words (codes "links"));
-  order = order_of (value_in app words (codes "order"));
-  trace = flag_of (value_in app words (codes "trace"));
-  complete = flag_of (value_in app words (codes "complete"));
-  system = value_in app words (codes "system");
-  capture = file_of (first_of (codes "capture") (matches_of app words));
+-- the options that matches ask for, and those that words ask for
+abbrev pub asked_from : List Row → Asked
+asked_from rows = record {
+  links = links_of (value_of rows (codes "links"));
+  order = order_of (value_of rows (codes "order"));
+  trace = flag_of (value_of rows (codes "trace"));
+  complete = flag_of (value_of rows (codes "complete"));
+  quiet = flag_of (value_of rows (codes "quiet"));
+  system = value_of rows (codes "system");
+  capture = file_of (first_of (codes "capture") rows);
 }
+
+abbrev pub asked_in : App → List Text → Asked
+asked_in app words = asked_from (matches_of app words)
 
 -- the words are taken or refused as the command line says, and if they are taken the options are those that they
 -- ask for
@@ -169,6 +182,18 @@ pub record Answers (words : List Text) (result : Result Options Error) : Type 0 
 -- the words are taken, and ask for these options
 abbrev pub Asks : Asked → List Text → App → Type 0
 Asks asked words app = (fault_of app words ≡ []) × (asked_in app words ≡ asked)
+
+-- what a line asks for that names SYSTEM alone
+abbrev pub plain : Asked
+plain = record {
+  links = Both;
+  order = Accept;
+  trace = false;
+  complete = false;
+  quiet = false;
+  system = codes "s.toml";
+  capture = None;
+}
 
 abbrev pub AskFor : Asked → List Text → Type 0
 AskFor asked words = (app : App) → IsCommandLine app → Asks asked words app

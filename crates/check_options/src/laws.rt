@@ -1,146 +1,68 @@
 //! Laws of the command line, each on a function that does nothing but carry it: what lines that the documents name ask
-//! for, or are refused as. A function has two lines at most: what clap's rules say of a line is computed.
+//! for, or are refused as. What clap's rules say of a line is computed.
 ghost use Rattle.std.specs.Prelude.{[], ◌∷◌, codes, true, false, Some, None};
 ghost use Rattle.clap.specs.declared.error.ErrorKind.TheVariants.{DisplayHelp, DisplayVersion, InvalidValue, MissingRequiredArgument, TooManyValues, UnknownArgument};
 ghost use Rattle.check_sides.specs.declared.links.Links.TheVariants.{Both, Masters, Ports, Each};
 ghost use Rattle.check_flight.specs.declared.order.Order.TheVariants.{Accept, Reply, Any};
-ghost use Rattle.check_options.specs.Options.{AskFor, AreRefusedAs};
+ghost use Rattle.check_options.specs.Options.{AskFor, AreRefusedAs, plain};
 
 /// The lines that name SYSTEM, and SYSTEM and CAPTURE. The first word is the program's name.
 pub fn lines_ask_for_files()
-    ensures alone { AskFor (record {
-      links = Both;
-      order = Accept;
-      trace = false;
-      complete = false;
-      system = codes "s.toml";
-      capture = None;
-    })
+    ensures alone { AskFor plain
         (codes "tlcheck" ∷ codes "s.toml" ∷ []) }
-    ensures file { AskFor (record {
-      links = Both;
-      order = Accept;
-      trace = false;
-      complete = false;
-      system = codes "s.toml";
-      capture = Some (codes "c.csv");
-    })
+    ensures file { AskFor (record plain { capture = Some (codes "c.csv") })
         (codes "tlcheck" ∷ codes "s.toml" ∷ codes "c.csv" ∷ []) }
 {}
 
 /// The lines that name standard input, and the defaults.
 pub fn lines_ask_for_defaults()
-    ensures input { AskFor (record {
-      links = Both;
-      order = Accept;
-      trace = false;
-      complete = false;
-      system = codes "s.toml";
-      capture = None;
-    })
+    ensures input { AskFor plain
         (codes "tlcheck" ∷ codes "s.toml" ∷ codes "-" ∷ []) }
-    ensures defaults { AskFor (record {
-      links = Both;
-      order = Accept;
-      trace = false;
-      complete = false;
-      system = codes "s.toml";
-      capture = None;
-    })
+    ensures defaults { AskFor plain
         (codes "tlcheck" ∷ codes "--links" ∷ codes "both" ∷ codes "--order=accept"
         ∷ codes "s.toml" ∷ []) }
 {}
 
 /// The lines with `--links`, alone and with `--order`.
 pub fn lines_ask_for_links()
-    ensures masters { AskFor (record {
-      links = Masters;
-      order = Accept;
-      trace = false;
-      complete = false;
-      system = codes "s.toml";
-      capture = None;
-    })
+    ensures masters { AskFor (record plain { links = Masters })
         (codes "tlcheck" ∷ codes "--links" ∷ codes "masters" ∷ codes "s.toml" ∷ []) }
-    ensures ports { AskFor (record {
-      links = Ports;
-      order = Reply;
-      trace = false;
-      complete = false;
-      system = codes "s.toml";
-      capture = Some (codes "c.csv");
-    })
+    ensures ports { AskFor (record plain { links = Ports; order = Reply; capture = Some (codes "c.csv") })
         (codes "tlcheck" ∷ codes "--links=ports" ∷ codes "s.toml" ∷ codes "c.csv"
         ∷ codes "--order" ∷ codes "reply" ∷ []) }
 {}
 
 /// A line with `--links=each` and `--order`, and one with the third order.
 pub fn lines_ask_for_each()
-    ensures each { AskFor (record {
-      links = Each;
-      order = Reply;
-      trace = false;
-      complete = false;
-      system = codes "s.toml";
-      capture = Some (codes "c.csv");
-    })
+    ensures each { AskFor (record plain { links = Each; order = Reply; capture = Some (codes "c.csv") })
         (codes "tlcheck" ∷ codes "--links=each" ∷ codes "s.toml" ∷ codes "c.csv"
         ∷ codes "--order" ∷ codes "reply" ∷ []) }
-    ensures any { AskFor (record {
-      links = Masters;
-      order = Any;
-      trace = false;
-      complete = false;
-      system = codes "s.toml";
-      capture = None;
-    })
+    ensures any { AskFor (record plain { links = Masters; order = Any })
         (codes "tlcheck" ∷ codes "--links=masters" ∷ codes "--order=any" ∷ codes "s.toml" ∷ []) }
 {}
 
 /// The lines with `--trace`, before SYSTEM and after CAPTURE.
 pub fn lines_ask_for_trace()
-    ensures trace { AskFor (record {
-      links = Masters;
-      order = Accept;
-      trace = true;
-      complete = false;
-      system = codes "s.toml";
-      capture = None;
-    })
+    ensures trace { AskFor (record plain { links = Masters; trace = true })
         (codes "tlcheck" ∷ codes "--links" ∷ codes "masters" ∷ codes "--trace"
         ∷ codes "s.toml" ∷ []) }
-    ensures trace_behind { AskFor (record {
-      links = Both;
-      order = Accept;
-      trace = true;
-      complete = false;
-      system = codes "s.toml";
-      capture = Some (codes "c.csv");
-    })
+    ensures trace_behind { AskFor (record plain { trace = true; capture = Some (codes "c.csv") })
         (codes "tlcheck" ∷ codes "s.toml" ∷ codes "c.csv" ∷ codes "--trace" ∷ []) }
 {}
 
 /// The lines with `--complete`, before SYSTEM, and after it with other options.
 pub fn lines_ask_for_complete()
-    ensures complete { AskFor (record {
-      links = Both;
-      order = Accept;
-      trace = false;
-      complete = true;
-      system = codes "s.toml";
-      capture = Some (codes "c.csv");
-    })
+    ensures complete { AskFor (record plain { complete = true; capture = Some (codes "c.csv") })
         (codes "tlcheck" ∷ codes "--complete" ∷ codes "s.toml" ∷ codes "c.csv" ∷ []) }
-    ensures complete_behind { AskFor (record {
-      links = Masters;
-      order = Accept;
-      trace = true;
-      complete = true;
-      system = codes "s.toml";
-      capture = None;
-    })
+    ensures complete_behind { AskFor (record plain { links = Masters; trace = true; complete = true })
         (codes "tlcheck" ∷ codes "--trace" ∷ codes "s.toml" ∷ codes "--complete" ∷ codes "--links"
         ∷ codes "masters" ∷ []) }
+{}
+
+/// A line with `--quiet`, after SYSTEM and CAPTURE and before other options.
+pub fn lines_ask_for_quiet()
+    ensures { AskFor (record plain { complete = true; quiet = true; capture = Some (codes "c.csv") })
+        (codes "tlcheck" ∷ codes "s.toml" ∷ codes "c.csv" ∷ codes "--quiet" ∷ codes "--complete" ∷ []) }
 {}
 
 /// The lines that ask for help or the version, and mistakes.

@@ -1,7 +1,7 @@
-//! The command line: `tlcheck [--links both|masters|ports|each] [--order accept|reply|any] [--trace] [--complete] SYSTEM [CAPTURE]`.
+//! The command line: `tlcheck [--links both|masters|ports|each] [--order accept|reply|any] [--trace] [--complete] [--quiet] SYSTEM [CAPTURE]`.
 ghost use Rattle.std.specs.Prelude.{◌≡◌, IfOk, [], map, false, option_map, unwrap_or};
 ghost use Rattle.clap.specs.Words.{app_of, first_value, found_of, rule_of};
-ghost use Rattle.check_options.specs.Options.{Answers, IsCommandLine, IsLinksRule, IsOrderRule, capture_rule, complete_rule, file_of, flag_of, links_of, order_of, program, system_rule, trace_rule};
+ghost use Rattle.check_options.specs.Options.{Answers, IsCommandLine, IsLinksRule, IsOrderRule, capture_rule, complete_rule, file_of, flag_of, links_of, order_of, program, quiet_rule, system_rule, trace_rule};
 
 use check_flight::Order;
 use check_sides::Links;
@@ -30,6 +30,8 @@ pub struct Options<'a> {
     pub trace: bool,
     /// Whether a capture at whose end requests are left is not lawful but incomplete.
     pub complete: bool,
+    /// Whether no progress is shown.
+    pub quiet: bool,
     /// The file with the system.
     pub system: &'a str,
     /// The file with the capture; if there is none it comes on standard input.
@@ -50,6 +52,7 @@ pub fn read_options<'a>(alloc: Global, words: &'a [&'a str]) -> Result<Options<'
         order: read_order(value(&matches, "order")),
         trace: read_flag(value(&matches, "trace")),
         complete: read_flag(value(&matches, "complete")),
+        quiet: read_flag(value(&matches, "quiet")),
         system: value(&matches, "system"),
         capture: read_file(matches.get_str("capture")),
     })
@@ -167,6 +170,18 @@ fn complete_flag<'a>(alloc: Global) -> Arg<'a>
         .help("Ask for a reply to each request: else the capture is incomplete")
 }
 
+/// `--quiet`.
+fn quiet_flag<'a>(alloc: Global) -> Arg<'a>
+    ensures rule { rule_of result ≡ quiet_rule }
+    ensures local { result.global ≡ false }
+{
+    Arg::new(alloc, "quiet")
+        .long("quiet")
+        .action(ArgAction::SetTrue)
+        .value_parser(value_parser!(bool))
+        .help("Show no progress; it is shown only on a terminal")
+}
+
 /// SYSTEM.
 fn system_word<'a>(alloc: Global) -> Arg<'a>
     ensures rule { rule_of result ≡ system_rule }
@@ -199,6 +214,7 @@ fn command<'a>(alloc: Global) -> Result<Command<'a>, AllocError>
         .arg(order_option(alloc))?
         .arg(trace_flag(alloc))?
         .arg(complete_flag(alloc))?
+        .arg(quiet_flag(alloc))?
         .arg(system_word(alloc))?
         .arg(capture_word(alloc))
 }

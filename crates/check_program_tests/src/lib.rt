@@ -2,6 +2,7 @@
 //! out by hand from the formats. Captures with their verdicts stand in `check_text_tests`.
 //!
 //! - `options`: the command line (`check_options`);
+//! - `progress`: the progress of a capture (`check_progress`);
 //! - `program`: a system, its images and a capture with the verdict, its lines and its faults; readers and writers that
 //!   are slow or fail (`check_engine`);
 //! - `dumps`: a system and a dump with the capture, and its faults (`check_waves`);

@@ -2,6 +2,7 @@ mod dumps;
 mod map;
 mod options;
 mod program;
+mod progress;
 mod records;
 mod refused;
 mod sources;

@@ -3,9 +3,10 @@
 //! SYSTEM is a system file, and says what the crossbar is, with the images that it names. CAPTURE has a row for each beat
 //! that crossed one of its links. Standard output ends with one line, the verdict: lawful, with counts, or the first row
 //! that makes the capture unlawful, and why. With `--complete` it can be incomplete too, if requests are left at its end.
-//! With `--trace` a line for each reply stands before the verdict. Nothing else is written. A fault is one line on standard
-//! error; then nothing was written but those replies, or a part of it if a write failed. A command line that is refused is
-//! told by clap's text.
+//! With `--trace` a line for each reply stands before the verdict. Nothing else is written to it. A fault is one line on
+//! standard error; then nothing was written but those replies, or a part of it if a write failed. A command line that is
+//! refused is answered by clap's text. If standard error is a terminal, it shows the progress of a capture that takes more
+//! than a second, unless `--quiet` is given.
 //!
 //! The crates `check_engine` and `check_program` carry the theorem: what is written, and the status. Here the program's
 //! words, files and memory are handed to them. It is a crate of its own, so that its proof is not done again for the tests.
@@ -14,8 +15,10 @@
 use check_engine::{CheckFault, read_system};
 use check_options::{Options, read_options};
 use check_program::{check_as_asked, ended, read_images};
-use std::env;
+use check_progress::{Meter, Shown};
+use std::io::IsTerminal;
 use std::process::ExitCode;
+use std::{env, fs};
 use tl_streams::{NamedFile, no_memory, refused, unread};
 
 fn main(rt: HostRuntime) -> ExitCode {
@@ -44,9 +47,26 @@ fn run(rt: &HostRuntime, options: &Options<'_>) -> Result<bool, CheckFault> {
     let mut writer = rt.stdout();
     match options.capture {
         Some(name) => {
-            let capture = NamedFile::new(rt, name);
+            let capture = Shown::new(NamedFile::new(rt, name), meter(rt, options));
             check_as_asked(rt.alloc(), parts, &images, capture, &mut writer, options)
         }
-        None => check_as_asked(rt.alloc(), parts, &images, rt.stdin(), &mut writer, options),
+        None => {
+            let capture = Shown::new(rt.stdin(), meter(rt, options));
+            check_as_asked(rt.alloc(), parts, &images, capture, &mut writer, options)
+        }
     }
+}
+
+/// What shows the progress of the capture, if it is shown.
+fn meter<'r>(rt: &'r HostRuntime, options: &Options<'_>) -> Option<Meter<'r, HostRuntime>> {
+    if options.quiet || !rt.stderr().is_terminal() {
+        return None;
+    }
+    Meter::new(rt, options.capture.and_then(|name| length_of(rt, name)))
+}
+
+/// The length of a file that is none of the system's devices or pipes.
+fn length_of(rt: &HostRuntime, name: &str) -> Option<u64> {
+    let metadata = fs::metadata(rt, name).ok()?;
+    if metadata.is_file() { Some(metadata.len()) } else { None }
 }

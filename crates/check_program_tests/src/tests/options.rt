@@ -4,91 +4,98 @@ use check_options::{Options, read_options};
 use check_sides::Links;
 use tl_streams::line_status;
 
-/// The words of a command line, and the options that they ask for: `--trace` and `--complete` stand together.
+/// The words of a command line, and the options that they ask for: `--trace`, `--complete` and `--quiet` stand together.
 type Line = (
     &'static [&'static str],
     Links,
     Order,
-    [bool; 2],
+    [bool; 3],
     Option<&'static str>,
 );
 
-const LINES: [Line; 10] = [
+const LINES: [Line; 11] = [
     (
         &["tlcheck", "s"],
         Links::Both,
         Order::Accept,
-        [false, false],
+        [false, false, false],
         None,
     ),
     (
         &["tlcheck", "s", "c"],
         Links::Both,
         Order::Accept,
-        [false, false],
+        [false, false, false],
         Some("c"),
     ),
     (
         &["tlcheck", "s", "-"],
         Links::Both,
         Order::Accept,
-        [false, false],
+        [false, false, false],
         None,
     ),
     (
         &["tlcheck", "--links", "masters", "s"],
         Links::Masters,
         Order::Accept,
-        [false, false],
+        [false, false, false],
         None,
     ),
     (
         &["tlcheck", "s", "--links=ports", "--order=reply", "c"],
         Links::Ports,
         Order::Reply,
-        [false, false],
+        [false, false, false],
         Some("c"),
     ),
     (
         &["tlcheck", "--order=any", "s"],
         Links::Both,
         Order::Any,
-        [false, false],
+        [false, false, false],
         None,
     ),
     (
         &["tlcheck", "--trace", "s", "c"],
         Links::Both,
         Order::Accept,
-        [true, false],
+        [true, false, false],
         Some("c"),
     ),
     (
         &["tlcheck", "--order", "accept", "--", "s", "--links"],
         Links::Both,
         Order::Accept,
-        [false, false],
+        [false, false, false],
         Some("--links"),
     ),
     (
         &["tlcheck", "--complete", "s", "c"],
         Links::Both,
         Order::Accept,
-        [false, true],
+        [false, true, false],
         Some("c"),
     ),
     (
         &["tlcheck", "--trace", "s", "--complete", "--links", "each"],
         Links::Each,
         Order::Accept,
-        [true, true],
+        [true, true, false],
         None,
+    ),
+    (
+        &["tlcheck", "s", "--quiet", "c", "--trace"],
+        Links::Both,
+        Order::Accept,
+        [true, false, true],
+        Some("c"),
     ),
 ];
 
 #[test]
 fn words_give_options(rt: HostRuntime) {
-    for (words, links, order, [trace, complete], capture) in LINES {
+    for (words, links, order, [trace, complete, quiet], capture) in LINES {
         let options = read_options(rt.alloc(), words).expect(&rt, "options");
         assert!(rt;
             options
@@ -97,6 +104,7 @@ fn words_give_options(rt: HostRuntime) {
                     order,
                     trace,
                     complete,
+                    quiet,
                     system: "s",
                     capture
                 }
@@ -106,7 +114,7 @@ fn words_give_options(rt: HostRuntime) {
 
 #[test]
 fn other_words_have_a_status(rt: HostRuntime) {
-    let rows: [(&[&str], u8); 13] = [
+    let rows: [(&[&str], u8); 14] = [
         (&["tlcheck"], 2),
         (&["tlcheck", "s", "c", "stray"], 2),
         (&["tlcheck", "--links", "all", "s"], 2),
@@ -117,6 +125,7 @@ fn other_words_have_a_status(rt: HostRuntime) {
         (&["tlcheck", "--trace", "--trace", "s"], 2),
         (&["tlcheck", "--complete=yes", "s"], 2),
         (&["tlcheck", "--complete", "s", "--complete"], 2),
+        (&["tlcheck", "--quiet=yes", "s"], 2),
         (&["tlcheck", "--verbose", "s"], 2),
         (&["tlcheck", "--version"], 0),
         (&["tlcheck", "--help"], 0),

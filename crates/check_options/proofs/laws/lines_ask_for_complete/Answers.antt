@@ -1,12 +1,17 @@
-use Rattle.std.proofs.Common.{refl}
+use Rattle.std.proofs.Common.{refl, codes, true, Some}
 use Rattle.clap.proofs.OnLiterals.{clap_on_literals}
-use Rattle.check_options.specs.Options.{Asks}
-use Rattle.check_options.proofs.CommandLine.{wherever}
+use Rattle.check_sides.specs.declared.links.Links.TheVariants.{Masters}
+use Rattle.check_options.specs.Options.{plain}
+use Rattle.check_options.proofs.CommandLine.{asks}
 use Rattle.check_options.proofs.laws.lines_ask_for_complete.Goals as goal
 
 pub returns : goal.returns
 unfolding clap_on_literals
 returns c = record {
-  complete = wherever (Asks _ _) (λ l a b c f o d e g. (refl, refl));
-  complete_behind = wherever (Asks _ _) (λ l a b c f o d e g. (refl, refl));
+  complete =
+      asks (record plain { complete = true; capture = Some (codes "c.csv") }) _
+      (λ l a b c f o d e g. refl) (λ l a b c f o d e g. refl);
+  complete_behind =
+      asks (record plain { links = Masters; trace = true; complete = true }) _
+      (λ l a b c f o d e g. refl) (λ l a b c f o d e g. refl);
 }

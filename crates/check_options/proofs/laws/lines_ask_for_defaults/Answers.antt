@@ -1,12 +1,16 @@
 use Rattle.std.proofs.Common.{refl}
 use Rattle.clap.proofs.OnLiterals.{clap_on_literals}
-use Rattle.check_options.specs.Options.{Asks}
-use Rattle.check_options.proofs.CommandLine.{wherever}
+use Rattle.check_options.specs.Options.{plain}
+use Rattle.check_options.proofs.CommandLine.{asks}
 use Rattle.check_options.proofs.laws.lines_ask_for_defaults.Goals as goal
 
 pub returns : goal.returns
 unfolding clap_on_literals
 returns c = record {
-  input = wherever (Asks _ _) (λ l a b c f o d e g. (refl, refl));
-  defaults = wherever (Asks _ _) (λ l a b c f o d e g. (refl, refl));
+  input =
+      asks plain _
+      (λ l a b c f o d e g. refl) (λ l a b c f o d e g. refl);
+  defaults =
+      asks plain _
+      (λ l a b c f o d e g. refl) (λ l a b c f o d e g. refl);
 }

@@ -1,12 +1,16 @@
-use Rattle.std.proofs.Common.{refl}
+use Rattle.std.proofs.Common.{refl, codes, Some}
 use Rattle.clap.proofs.OnLiterals.{clap_on_literals}
-use Rattle.check_options.specs.Options.{Asks}
-use Rattle.check_options.proofs.CommandLine.{wherever}
+use Rattle.check_options.specs.Options.{plain}
+use Rattle.check_options.proofs.CommandLine.{asks}
 use Rattle.check_options.proofs.laws.lines_ask_for_files.Goals as goal
 
 pub returns : goal.returns
 unfolding clap_on_literals
 returns c = record {
-  alone = wherever (Asks _ _) (λ l a b c f o d e g. (refl, refl));
-  file = wherever (Asks _ _) (λ l a b c f o d e g. (refl, refl));
+  alone =
+      asks plain _
+      (λ l a b c f o d e g. refl) (λ l a b c f o d e g. refl);
+  file =
+      asks (record plain { capture = Some (codes "c.csv") }) _
+      (λ l a b c f o d e g. refl) (λ l a b c f o d e g. refl);
 }

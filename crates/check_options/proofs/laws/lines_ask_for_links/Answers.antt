@@ -1,12 +1,18 @@
-use Rattle.std.proofs.Common.{refl}
+use Rattle.std.proofs.Common.{refl, codes, Some}
 use Rattle.clap.proofs.OnLiterals.{clap_on_literals}
-use Rattle.check_options.specs.Options.{Asks}
-use Rattle.check_options.proofs.CommandLine.{wherever}
+use Rattle.check_sides.specs.declared.links.Links.TheVariants.{Masters, Ports}
+use Rattle.check_flight.specs.declared.order.Order.TheVariants.{Reply}
+use Rattle.check_options.specs.Options.{plain}
+use Rattle.check_options.proofs.CommandLine.{asks}
 use Rattle.check_options.proofs.laws.lines_ask_for_links.Goals as goal
 
 pub returns : goal.returns
 unfolding clap_on_literals
 returns c = record {
-  masters = wherever (Asks _ _) (λ l a b c f o d e g. (refl, refl));
-  ports = wherever (Asks _ _) (λ l a b c f o d e g. (refl, refl));
+  masters =
+      asks (record plain { links = Masters }) _
+      (λ l a b c f o d e g. refl) (λ l a b c f o d e g. refl);
+  ports =
+      asks (record plain { links = Ports; order = Reply; capture = Some (codes "c.csv") }) _
+      (λ l a b c f o d e g. refl) (λ l a b c f o d e g. refl);
 }

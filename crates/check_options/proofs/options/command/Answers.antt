@@ -13,12 +13,14 @@ returns c =
     let three = c.in_ok-arg-3.ensures.shape c.trace_flag.ensures.local ∙ ap₂ with_rule two c.trace_flag.ensures.rule in
     let four = c.in_ok-arg-4.ensures.shape c.complete_flag.ensures.local
     ∙ ap₂ with_rule three c.complete_flag.ensures.rule in
-    let five = c.in_ok-arg-5.ensures.shape c.system_word.ensures.local
-    ∙ ap₂ with_rule four c.system_word.ensures.rule in
-    IfOk-weaker c.arg-6.result _ _ (λ r added. record {
+    let five = c.in_ok-arg-5.ensures.shape c.quiet_flag.ensures.local
+    ∙ ap₂ with_rule four c.quiet_flag.ensures.rule in
+    let six = c.in_ok-arg-6.ensures.shape c.system_word.ensures.local
+    ∙ ap₂ with_rule five c.system_word.ensures.rule in
+    IfOk-weaker c.arg-7.result _ _ (λ r added. record {
       links = links.names;
       orders = orders.names;
       links_listed = links.listed;
       orders_listed = orders.listed;
-      is = added.shape c.capture_word.ensures.local ∙ ap₂ with_rule five c.capture_word.ensures.rule;
-    }) c.arg-6.ensures
+      is = added.shape c.capture_word.ensures.local ∙ ap₂ with_rule six c.capture_word.ensures.rule;
+    }) c.arg-7.ensures

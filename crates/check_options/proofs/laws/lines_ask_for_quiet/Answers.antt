@@ -1,0 +1,11 @@
+use Rattle.std.proofs.Common.{refl, codes, true, Some}
+use Rattle.clap.proofs.OnLiterals.{clap_on_literals}
+use Rattle.check_options.specs.Options.{plain}
+use Rattle.check_options.proofs.CommandLine.{asks}
+use Rattle.check_options.proofs.laws.lines_ask_for_quiet.Goals as goal
+
+pub returns : goal.returns
+unfolding clap_on_literals
+returns c =
+    asks (record plain { complete = true; quiet = true; capture = Some (codes "c.csv") }) _
+    (λ l a b c f o d e g. refl) (λ l a b c f o d e g. refl)

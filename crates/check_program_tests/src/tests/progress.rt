@@ -1,0 +1,143 @@
+//! The progress of a capture: when its lines come, and what they are.
+use check_progress::{Line, Meter, Shown};
+use std::alloc::Global;
+use std::cell::{Cell, RefCell};
+use std::fmt::{Display, Write};
+use std::io;
+use std::io::{Eprint, ErrorKind, Read};
+use std::time::{Clock, Duration};
+
+/// A clock that is set by hand, and what was printed on standard error.
+#[derive(Drop)]
+struct Desk {
+    millis: Cell<u64>,
+    said: RefCell<String>,
+}
+
+impl Desk {
+    fn new(alloc: Global) -> Desk {
+        Desk {
+            millis: Cell::new(0),
+            said: RefCell::new(String::new(alloc)),
+        }
+    }
+
+    /// Whether this alone was printed since the last time.
+    fn has_said(&self, printed: &str) -> bool {
+        let Ok(mut said) = self.said.try_borrow_mut() else {
+            return false;
+        };
+        let is_so = said.as_str() == printed;
+        said.clear();
+        is_so
+    }
+}
+
+impl Clock for Desk {
+    fn monotonic(&self) -> io::Result<Duration> {
+        Ok(Duration::from_millis(self.millis.get()))
+    }
+
+    fn since_1970(&self) -> io::Result<Duration> {
+        Err(io::Error::from(ErrorKind::Unsupported))
+    }
+}
+
+impl Eprint for Desk {
+    fn eprint<D: Display + Drop>(&self, value: D) -> io::Result<()> {
+        let Ok(mut said) = self.said.try_borrow_mut() else {
+            return Err(io::Error::from(ErrorKind::Other));
+        };
+        match write!(said, "{value}") {
+            Ok(()) => Ok(()),
+            Err(_) => Err(io::Error::from(ErrorKind::OutOfMemory)),
+        }
+    }
+
+    fn eprintln<D: Display + Drop>(&self, value: D) -> io::Result<()> {
+        self.eprint(value)
+    }
+}
+
+/// At a time, in milliseconds, these bytes are read, and this alone is printed.
+type Moment = (u64, &'static [u8], &'static str);
+
+const LONG: [Moment; 5] = [
+    (999, b"time,link\n", ""),
+    (
+        1_000,
+        b"1\n2\n3\n",
+        "3 rows, 3 rows a second, 40 %\u{1b}[K\r",
+    ),
+    (1_499, b"4\n5\n", ""),
+    (1_500, b"6\n7\n", "7 rows, 4 rows a second, 60 %\u{1b}[K\r"),
+    (1_501, b"", "\u{1b}[K"),
+];
+
+/// Whether a capture of 40 bytes prints this at these moments.
+fn prints(alloc: Global, moments: &[Moment]) -> bool {
+    let desk = Desk::new(alloc);
+    let Some(mut meter) = Meter::new(&desk, Some(40)) else {
+        return false;
+    };
+    let mut is_so = true;
+    for (millis, read, printed) in moments {
+        desk.millis.set(*millis);
+        meter.count(read);
+        is_so &= desk.has_said(printed);
+    }
+    is_so
+}
+
+#[test]
+fn a_line_comes_after_a_second_and_then_every_half(rt: HostRuntime) {
+    assert!(rt; prints(rt.alloc(), &LONG));
+}
+
+#[test]
+fn nothing_is_printed_of_a_short_capture(rt: HostRuntime) {
+    assert!(rt; prints(rt.alloc(), &[(0, b"time,link\n1\n", ""), (5_000, b"", "")]));
+}
+
+#[test]
+fn lines_are_spelled(rt: HostRuntime) {
+    let lines: [(u64, u64, u64, Option<u64>, &str); 6] = [
+        (0, 0, 0, None, "0 rows, 0 rows a second"),
+        (
+            1_200_000,
+            2_000,
+            9,
+            None,
+            "1200000 rows, 600000 rows a second",
+        ),
+        (5, 2_000, 99, Some(100), "5 rows, 2 rows a second, 99 %"),
+        (5, 1_000, 100, Some(100), "5 rows, 5 rows a second, 100 %"),
+        // the file has grown, or had no length
+        (5, 1_000, 300, Some(100), "5 rows, 5 rows a second, 100 %"),
+        (5, 1_000, 7, Some(0), "5 rows, 5 rows a second, 100 %"),
+    ];
+    for (rows, millis, bytes, whole, spelled) in lines {
+        let line = Line {
+            rows,
+            millis,
+            bytes,
+            whole,
+        };
+        let text = line.to_string(rt.alloc()).expect(&rt, "memory");
+        assert!(rt; text.as_str() == spelled);
+    }
+}
+
+#[test]
+fn what_is_read_is_handed_on(rt: HostRuntime) {
+    let desk = Desk::new(rt.alloc());
+    let mut shown = Shown::new(b"12345".as_slice(), Meter::new(&desk, Some(5)));
+    let mut buffer = [0u8; 3];
+    desk.millis.set(2_000);
+    assert!(rt; shown.read(&mut buffer).expect(&rt, "bytes") == 3);
+    assert!(rt; buffer == *b"123");
+    assert!(rt; desk.has_said("0 rows, 0 rows a second, 60 %\u{1b}[K\r"));
+    assert!(rt; shown.read(&mut buffer).expect(&rt, "bytes") == 2);
+    assert!(rt; shown.read(&mut buffer).expect(&rt, "bytes") == 0);
+    assert!(rt; desk.has_said("\u{1b}[K"));
+}
