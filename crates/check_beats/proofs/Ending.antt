@@ -20,17 +20,21 @@ completed : (w more : ℕ) (b : AskBegun) (beats : List AskBeat) → asks.Gather
 completed w zero b beats g left =
     let x : AskBeat = record { head = b.first; lanes = replicate (2 ^ w) 0 } in
     let is : IsAskBegun (2 ^ w) b = g.kept.of b refl in
-    let fits : FitsAsk (2 ^ w) (Some b.first) b.first = record { formed = is.formed;
-        same = λ h at. let e : b.first ≡ h = cc in subst (λ h. SameFields h b.first) e (asks.itself b.first) } in
+    let fits : FitsAsk (2 ^ w) (Some b.first) b.first = record {
+      formed = is.formed;
+      same = λ h at. let e : b.first ≡ h = cc in subst (λ h. SameFields h b.first) e (asks.itself b.first);
+    } in
     let ends : ends_ask (2 ^ w) (Some b) b.first ≡ true = eq-eqb (b.beats + 1) (ask_beats (2 ^ w) b.first) (omega (arith, left)) in
     (ask_of (2 ^ w) (Some b) b.first x.lanes, x ∷ [], asks.spelled_end w (Some b) beats x g fits (length-replicate (2 ^ w) 0) ends)
 completed w (suc more) b beats g left =
     let x : AskBeat = record { head = b.first; lanes = replicate (2 ^ w) 0 } in
     let is : IsAskBegun (2 ^ w) b = g.kept.of b refl in
-    let fits : FitsAsk (2 ^ w) (Some b.first) b.first = record { formed = is.formed;
-        same = λ h at. let e : b.first ≡ h = cc in subst (λ h. SameFields h b.first) e (asks.itself b.first) } in
+    let fits : FitsAsk (2 ^ w) (Some b.first) b.first = record {
+      formed = is.formed;
+      same = λ h at. let e : b.first ≡ h = cc in subst (λ h. SameFields h b.first) e (asks.itself b.first);
+    } in
     let goes_on : ends_ask (2 ^ w) (Some b) b.first ≡ false =
-        ne_eqb (b.beats + 1) (ask_beats (2 ^ w) b.first) (λ e. omega (arith, left, e)) in
+    ne_eqb (b.beats + 1) (ask_beats (2 ^ w) b.first) (λ e. omega (arith, left, e)) in
     let next = asks.next_gathered w b beats x g fits (length-replicate (2 ^ w) 0) goes_on in
     let rest = completed w more _ (beats ++ x ∷ []) next (omega (arith, left)) in
     (rest.0, x ∷ rest.1, subst (λ (l : List AskBeat). IsSpelled (2 ^ w) (rest.0, l)) (append_assoc beats (x ∷ []) rest.1) rest.2)
@@ -44,7 +48,7 @@ some_begun w (Some b) beats g some =
 pub ask_can_end : AskCanEnd
 ask_can_end bus past fitting some =
     some_begun (bus_log bus) (asking (bus_bytes bus) past) (begun (bus_bytes bus) past)
-        (asks.gathered_past (bus_log bus) past fitting) some
+    (asks.gathered_past (bus_log bus) past fitting) some
 
 -- ---- replies
 
@@ -53,20 +57,26 @@ reply_completed : (w more : ℕ) (b : ReplyBegun) (beats : List ReplyBeat) → r
 reply_completed w zero b beats g left =
     let x : ReplyBeat = record { head = b.first; known = 0; lanes = replicate (2 ^ w) 0 } in
     let is : IsReplyBegun (2 ^ w) b = g.kept.of b refl in
-    let fits : FitsReply (Some b.first) b.first = record { formed = is.formed;
-        same = λ h at. let e : b.first ≡ h = cc in
-            subst (λ h. SameReplyFields h b.first) e (replies.itself b.first) } in
-    let ends : ends_reply (2 ^ w) (Some b) b.first ≡ true = eq-eqb (b.beats + 1) (reply_beats (2 ^ w) b.first) (omega (arith, left)) in
-    ((λ address. reply_of (2 ^ w) (Some b) address b.first x.known x.lanes), x ∷ [],
-        replies.spelled_end w (Some b) beats x g fits (length-replicate (2 ^ w) 0) ends)
+    let fits : FitsReply (Some b.first) b.first = record {
+      formed = is.formed;
+      same = λ h at. let e : b.first ≡ h = cc in
+          subst (λ h. SameReplyFields h b.first) e (replies.itself b.first);
+    } in
+    let ends : ends_reply (2 ^ w) (Some b) b.first ≡ true = eq-eqb (b.beats + 1) (reply_beats (2 ^ w) b.first) (omega (arith, left)) in (
+      (λ address. reply_of (2 ^ w) (Some b) address b.first x.known x.lanes),
+      x ∷ [],
+      replies.spelled_end w (Some b) beats x g fits (length-replicate (2 ^ w) 0) ends,
+    )
 reply_completed w (suc more) b beats g left =
     let x : ReplyBeat = record { head = b.first; known = 0; lanes = replicate (2 ^ w) 0 } in
     let is : IsReplyBegun (2 ^ w) b = g.kept.of b refl in
-    let fits : FitsReply (Some b.first) b.first = record { formed = is.formed;
-        same = λ h at. let e : b.first ≡ h = cc in
-            subst (λ h. SameReplyFields h b.first) e (replies.itself b.first) } in
+    let fits : FitsReply (Some b.first) b.first = record {
+      formed = is.formed;
+      same = λ h at. let e : b.first ≡ h = cc in
+          subst (λ h. SameReplyFields h b.first) e (replies.itself b.first);
+    } in
     let goes_on : ends_reply (2 ^ w) (Some b) b.first ≡ false =
-        ne_eqb (b.beats + 1) (reply_beats (2 ^ w) b.first) (λ e. omega (arith, left, e)) in
+    ne_eqb (b.beats + 1) (reply_beats (2 ^ w) b.first) (λ e. omega (arith, left, e)) in
     let next = replies.next_gathered w b beats x g fits (length-replicate (2 ^ w) 0) goes_on in
     let rest = reply_completed w more _ (beats ++ x ∷ []) next (omega (arith, left)) in
     (rest.0, x ∷ rest.1, subst (λ (l : List ReplyBeat). IsReplySpelled (2 ^ w) (rest.0, l)) (append_assoc beats (x ∷ []) rest.1) rest.2)
@@ -81,22 +91,23 @@ some_reply w (Some b) beats g some =
 pub reply_can_end : ReplyCanEnd
 reply_can_end bus past fitting some =
     some_reply (bus_log bus) (replying (bus_bytes bus) past) (begun_reply (bus_bytes bus) past)
-        (replies.gathered_past (bus_log bus) past fitting) some
+    (replies.gathered_past (bus_log bus) past fitting) some
 
 reply_cut_more : (bus : ℕ) (past : List ReplyBeat) (x : ReplyBeat) (ends : Bool)
     → reply_channel past ≡ flat_map (λ (entry : (ℕ → Pattern) × List ReplyBeat). entry.1) (ended_replies bus past) ++ begun_reply bus past
     → reply_channel past ++ x ∷ []
     ≡ flat_map (λ (entry : (ℕ → Pattern) × List ReplyBeat). entry.1)
-    (if ends then ended_replies bus past ++
-        ((λ address. reply_of bus (replying bus past) address x.head x.known x.lanes),
-            begun_reply bus past ++ x ∷ []) ∷ [] else ended_replies bus past)
+    (if ends then ended_replies bus past ++ (
+      (λ address. reply_of bus (replying bus past) address x.head x.known x.lanes),
+      begun_reply bus past ++ x ∷ [],
+    ) ∷ [] else ended_replies bus past)
     ++ (if ends then [] else begun_reply bus past ++ x ∷ [])
 reply_cut_more bus past x true before =
     let f : (ℕ → Pattern) × List ReplyBeat → List ReplyBeat = λ (entry : (ℕ → Pattern) × List ReplyBeat). entry.1 in
     ap (λ (c : List ReplyBeat). c ++ x ∷ []) before ∙ append_assoc (flat_map f (ended_replies bus past)) (begun_reply bus past) (x ∷ [])
     ∙ sym (asks.flat_more f (ended_replies bus past)
-        ((λ address. reply_of bus (replying bus past) address x.head x.known x.lanes), begun_reply bus past ++ x ∷ []))
-            ∙ sym (append-nil _)
+    ((λ address. reply_of bus (replying bus past) address x.head x.known x.lanes), begun_reply bus past ++ x ∷ []))
+    ∙ sym (append-nil _)
 reply_cut_more bus past x false before =
     let f : (ℕ → Pattern) × List ReplyBeat → List ReplyBeat = λ (entry : (ℕ → Pattern) × List ReplyBeat). entry.1 in
     ap (λ (c : List ReplyBeat). c ++ x ∷ []) before ∙ append_assoc (flat_map f (ended_replies bus past)) (begun_reply bus past) (x ∷ [])

@@ -82,7 +82,7 @@ all_given mask lanes first count inside set =
     let plain = take count (drop first lanes) in
     let counted : length plain ≡ count = simp (length-take, length-drop) (omega (arith, inside)) in
     fill_by_all (λ k. byte_at mask lanes (first + k)) (map (λ (byte : ℕ). Some byte) plain) count None
-        (simp length-map counted) (λ k within.
+    (simp length-map counted) (λ k within.
     get_or-map (λ (byte : ℕ). Some byte) plain k 0 None (omega (arith, counted, within))
     ∙ ap (λ (b : ℕ). Some b) (get_or-take count (drop first lanes) k 0 within ∙ get_or-drop first lanes k 0)
     ∙ sym (byte_at-set mask lanes (first + k) (set k within)))
@@ -105,14 +105,14 @@ pub part_set : (w : ℕ) (beat : AskHead) → beat.mask ≡ active_mask (2 ^ w) 
     → bit_at beat.mask (low beat.address beat.size % 2 ^ w + k) ≡ 1
 part_set w beat set k within =
     let below : k < min (2 ^ w) (2 ^ beat.size) =
-        omega (arith, within, some_count beat.size (carries_bytes (op_of beat.opcode beat.param))) in
+    omega (arith, within, some_count beat.size (carries_bytes (op_of beat.opcode beat.param))) in
     ap (λ m. bit_at m (low beat.address beat.size % 2 ^ w + k)) set ∙ active_set w beat.address beat.size k below
 
 pub part_some : (w : ℕ) (beat : AskHead) (lanes : List ℕ) → beat.mask ≡ active_mask (2 ^ w) beat.address beat.size
     → All (λ b. IsSome b) (ask_part (2 ^ w) beat lanes)
 part_some w beat lanes set =
     all_some beat.mask lanes (low beat.address beat.size % 2 ^ w)
-        (min (2 ^ w) (byte_count (op_of beat.opcode beat.param) beat.size)) (part_set w beat set)
+    (min (2 ^ w) (byte_count (op_of beat.opcode beat.param) beat.size)) (part_set w beat set)
 
 -- one beat that is lawful alone, and is all of its request, carries the bytes of a lawful one
 pub one_is_lawful : (w : ℕ) (beat : AskHead) (lanes : List ℕ) → IsFormed (2 ^ w) beat → ask_beats (2 ^ w) beat ≡ 1
@@ -121,22 +121,22 @@ one_is_lawful w beat lanes formed alone =
     let op = op_of beat.opcode beat.param in
     let named : op_of beat.opcode beat.param ≡ formed.op = op_named formed.op beat.opcode beat.param formed.code in
     let carries : nat_lt beat.opcode 4 ≡ carries_bytes op = carries_named formed.op beat.opcode beat.param formed.code
-        ∙ ap carries_bytes (sym named) in
+    ∙ ap carries_bytes (sym named) in
     let fits : byte_count op beat.size ≤ 2 ^ w =
-        small_count w beat.size (carries_bytes op) (ap (λ b. beat_count (2 ^ w) b beat.size) (sym carries) ∙ alone) in
+    small_count w beat.size (carries_bytes op) (ap (λ b. beat_count (2 ^ w) b beat.size) (sym carries) ∙ alone) in
     record {
       in_limit = formed.in_limit;
       counted =
           length-given_at beat.mask lanes (low beat.address beat.size % 2 ^ w) (min (2 ^ w) (byte_count op beat.size))
-              ∙ omega (arith, fits);
+          ∙ omega (arith, fits);
       whole = λ no. part_some w beat lanes (formed.mask.whole (ap may_leave_unset (sym named) ∙ no));
     }
 
 -- one beat whose mask is that of all active lanes carries what stands there
 pub one_is_given : (w : ℕ) (beat : AskHead) (lanes : List ℕ) → length lanes ≡ 2 ^ w → beat.mask ≡ active_mask (2 ^ w) beat.address beat.size
     → map (λ byte. Some byte)
-        (take (min (2 ^ w) (byte_count (op_of beat.opcode beat.param) beat.size))
-            (drop (low beat.address beat.size % 2 ^ w) lanes)) ≡ ask_part (2 ^ w) beat lanes
+    (take (min (2 ^ w) (byte_count (op_of beat.opcode beat.param) beat.size))
+    (drop (low beat.address beat.size % 2 ^ w) lanes)) ≡ ask_part (2 ^ w) beat lanes
 one_is_given w beat lanes wide set =
     let few = some_count beat.size (carries_bytes (op_of beat.opcode beat.param)) in
     all_given beat.mask lanes (low beat.address beat.size % 2 ^ w) (min (2 ^ w) (byte_count (op_of beat.opcode beat.param) beat.size))

@@ -43,7 +43,7 @@ few w size true small =
     let most : 2 ^ size ≤ 2 ^ 8 = pow-le-pow_right (lit≤ tt) small in
     let part : 2 ^ size / 2 ^ w * 2 ^ w ≤ 2 ^ size = div-mul-le_self (2 ^ size) (2 ^ w) in
     let no_less : 2 ^ size / 2 ^ w * 1 ≤ 2 ^ size / 2 ^ w * 2 ^ w =
-        mul-le (2 ^ size / 2 ^ w) 1 (2 ^ size / 2 ^ w) (2 ^ w) (omega arith) (pow_pos w) in
+    mul-le (2 ^ size / 2 ^ w) 1 (2 ^ size / 2 ^ w) (2 ^ w) (omega arith) (pow_pos w) in
     omega (arith, most, part, no_less)
 
 -- a beat of a long request carries what stands at all lanes
@@ -54,7 +54,7 @@ part_of_long w beat lanes wide formed is =
     let op = op_of beat.opcode beat.param in
     let named : op ≡ formed.op = op_named formed.op beat.opcode beat.param formed.code in
     let carries : carries_bytes op ≡ true = ap carries_bytes named
-        ∙ sym (carries_named formed.op beat.opcode beat.param formed.code) ∙ is.carries_is in
+    ∙ sym (carries_named formed.op beat.opcode beat.param formed.code) ∙ is.carries_is in
     let bytes : byte_count op beat.size ≡ 2 ^ beat.size = ap (λ b. if b then 2 ^ beat.size else 0) carries in
     let fits : 2 ^ w ≤ 2 ^ beat.size = pow-le-pow_right (lit≤ tt) is.wide in
     let count : length lanes ≡ min (2 ^ w) (byte_count op beat.size) = omega (arith, wide, bytes, fits) in
@@ -120,7 +120,7 @@ goes w (Some head) beats bytes beat lanes kept fits wide some =
     let l = long w beat.size (nat_lt beat.opcode 4) (omega (arith, is.some, within)) in
     let most : 2 ^ beat.size ≤ 2 ^ 8 = pow-le-pow_right (lit≤ tt) fits.formed.in_limit in
     let row : (beats + 1) * 2 ^ w ≤ ask_beats (2 ^ w) beat * 2 ^ w =
-        mul-le (beats + 1) (2 ^ w) (ask_beats (2 ^ w) beat) (2 ^ w) within (omega arith) in
+    mul-le (beats + 1) (2 ^ w) (ask_beats (2 ^ w) beat) (2 ^ w) within (omega arith) in
     let more : (beats + 1) * 2 ^ w ≡ beats * 2 ^ w + 2 ^ w = search arith in
     record {
       long_is = l;
@@ -168,7 +168,7 @@ kept_on w (Some head) beats bytes beat lanes kept fits some is goes_on =
 pub on_is : (w : ℕ) (first : Option AskHead) (beats : ℕ) (bytes : List (Option ℕ)) (beat : AskHead) (lanes : List ℕ)
     → (ask_begun first beats bytes ≡ None → ⊥) → Goes w beats bytes beat lanes → ends_ask (2 ^ w) (ask_begun first beats bytes) beat ≡ false
     → ask_begun first (beats + 1) (bytes ++ given_at beat.mask lanes 0 (length lanes))
-        ≡ ask_after (2 ^ w) (ask_begun first beats bytes) beat lanes
+    ≡ ask_after (2 ^ w) (ask_begun first beats bytes) beat lanes
 on_is w None beats bytes beat lanes some is goes_on = absurd (some refl)
 on_is w (Some head) beats bytes beat lanes some is goes_on = rw (goes_on, is.part) refl
 
@@ -181,7 +181,7 @@ ended_is_lawful w beats bytes beat lanes formed is ends =
     let op = op_of beat.opcode beat.param in
     let carries : carries_bytes op ≡ true =
     ap carries_bytes (op_named formed.op beat.opcode beat.param formed.code)
-        ∙ sym (carries_named formed.op beat.opcode beat.param formed.code) ∙ is.long_is.carries_is in
+    ∙ sym (carries_named formed.op beat.opcode beat.param formed.code) ∙ is.long_is.carries_is in
     record {
       in_limit = formed.in_limit;
       counted = length-append bytes (given_at beat.mask lanes 0 (length lanes))
@@ -195,8 +195,11 @@ ended_is_lawful w beats bytes beat lanes formed is ends =
 pub begins_long : (w : ℕ) (beat : AskHead) → ends_ask (2 ^ w) None beat ≡ false → IsLong w (nat_lt beat.opcode 4) beat.size
 begins_long w beat goes_on =
     long w beat.size (nat_lt beat.opcode 4)
-        (omega (arith, some_beat (2 ^ w) beat.size (nat_lt beat.opcode 4),
-            eqb-false 1 (ask_beats (2 ^ w) beat) goes_on))
+    (omega (
+      arith,
+      some_beat (2 ^ w) beat.size (nat_lt beat.opcode 4),
+      eqb-false 1 (ask_beats (2 ^ w) beat) goes_on,
+    ))
   where
     some_beat : (bus size : ℕ) (carries : Bool) → 0 < beat_count bus carries size
     some_beat bus size true = omega arith
@@ -230,8 +233,8 @@ kept_first w beat lanes fits wide goes_on =
 pub first_is : (w : ℕ) (beat : AskHead) (lanes : List ℕ) → FitsAsk (2 ^ w) None beat → length lanes ≡ 2 ^ w
     → (goes_on : ends_ask (2 ^ w) None beat ≡ false)
     → ◌≡◌ {A =
-        Option AskBegun} (Some (record { first = beat; beats = 1; bytes = given_at beat.mask lanes 0 (length lanes) }))
-            (ask_after (2 ^ w) None beat lanes)
+    Option AskBegun} (Some (record { first = beat; beats = 1; bytes = given_at beat.mask lanes 0 (length lanes) }))
+    (ask_after (2 ^ w) None beat lanes)
 first_is w beat lanes fits wide goes_on = rw (goes_on, part_of_long w beat lanes wide fits.formed (begins_long w beat goes_on)) refl
 
 -- ---- the last beat

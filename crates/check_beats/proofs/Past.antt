@@ -43,14 +43,14 @@ seen_at-take denied known lanes n first count inside =
 pub ask_part-take : (w : ℕ) (beat : AskHead) (lanes : List ℕ) → ask_part (2 ^ w) beat (take (2 ^ w) lanes) ≡ ask_part (2 ^ w) beat lanes
 ask_part-take w beat lanes =
     given_at-take beat.mask lanes (2 ^ w) (low beat.address beat.size % 2 ^ w)
-        (min (2 ^ w) (byte_count (op_of beat.opcode beat.param) beat.size))
+    (min (2 ^ w) (byte_count (op_of beat.opcode beat.param) beat.size))
     (omega (arith, window_fits w beat.address beat.size, some_count beat.size (carries_bytes (op_of beat.opcode beat.param))))
 
 pub reply_part-take : (w address : ℕ) (beat : ReplyHead) (known : ℕ) (lanes : List ℕ)
     → reply_part (2 ^ w) address beat known (take (2 ^ w) lanes) ≡ reply_part (2 ^ w) address beat known lanes
 reply_part-take w address beat known lanes =
     seen_at-take beat.denied known lanes (2 ^ w) (low address beat.size % 2 ^ w)
-        (min (2 ^ w) (reply_byte_count (reply_op_of_number beat.opcode) beat.size))
+    (min (2 ^ w) (reply_byte_count (reply_op_of_number beat.opcode) beat.size))
     (omega (arith, window_fits w address beat.size, some_count beat.size (reply_carries_bytes (reply_op_of_number beat.opcode))))
 
 -- what is spelled and kept

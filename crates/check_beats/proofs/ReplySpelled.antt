@@ -48,26 +48,26 @@ more_stand w bytes beats x counted wide stand j given y at found = go (slice_get
         let k = j / 2 ^ w in
         let inside : k < length beats = slice_get_within beats k y before in
         let row : (k + 1) * 2 ^ w ≤ length beats * 2 ^ w =
-            mul-le (k + 1) (2 ^ w) (length beats) (2 ^ w) (omega (arith, inside)) (omega arith) in
+        mul-le (k + 1) (2 ^ w) (length beats) (2 ^ w) (omega (arith, inside)) (omega arith) in
         let more : (k + 1) * 2 ^ w ≡ k * 2 ^ w + 2 ^ w = search arith in
         let early : j < length bytes = omega (arith, counted, row, more, split, lane) in
         let same : get_or bytes j None ≡ given =
-            sym (get_or_append_left bytes (seen_at x.head.denied x.known x.lanes 0 (length x.lanes)) None j early)
-                ∙ whole in
+        sym (get_or_append_left bytes (seen_at x.head.denied x.known x.lanes 0 (length x.lanes)) None j early)
+        ∙ whole in
         stand j given y (slice_get-get_or bytes j None early ∙ ap (λ (g : Option ℕ). Some g) same) before
     go (inr last) =
         let i = j % 2 ^ w in
         let at_row : j / 2 ^ w * 2 ^ w ≡ length beats * 2 ^ w = ap (λ n. n * 2 ^ w) last.0 in
         let place : j ≡ length bytes + i = omega (arith, counted, at_row, split) in
         let here : get_or (bytes ++ seen_at x.head.denied x.known x.lanes 0 (length x.lanes)) j None
-            ≡ get_or (seen_at x.head.denied x.known x.lanes 0 (length x.lanes)) i None =
+        ≡ get_or (seen_at x.head.denied x.known x.lanes 0 (length x.lanes)) i None =
         ap (λ n. get_or (bytes ++ seen_at x.head.denied x.known x.lanes 0 (length x.lanes)) n None) place
-            ∙ get_or-append-add bytes (seen_at x.head.denied x.known x.lanes 0 (length x.lanes)) i None in
+        ∙ get_or-append-add bytes (seen_at x.head.denied x.known x.lanes 0 (length x.lanes)) i None in
         let is : get_or (seen_at x.head.denied x.known x.lanes 0 (length x.lanes)) i None ≡ seen_in x.head.denied x.known x.lanes (0 + i) =
         seen_at-get x.head.denied x.known x.lanes 0 (length x.lanes) i (omega (arith, lane, wide)) in
         let none : 0 + i ≡ i = omega arith in
         sym whole ∙ here ∙ is ∙ ap (λ n. seen_in x.head.denied x.known x.lanes n) none
-            ∙ ap (λ (z : ReplyBeat). seen_in z.head.denied z.known z.lanes i) last.1
+        ∙ ap (λ (z : ReplyBeat). seen_in z.head.denied z.known z.lanes i) last.1
 
 -- ---- what is kept is what the beats say
 
@@ -103,8 +103,8 @@ nothing_gathered w = record {
 
 first_gathered : (w : ℕ) (x : ReplyBeat) → FitsReply None x.head → length x.lanes ≡ 2 ^ w → ends_reply (2 ^ w) None x.head ≡ false
     → GatheredReply w
-        (Some (record { first = x.head; beats = 1; bytes = seen_at x.head.denied x.known x.lanes 0 (length x.lanes) }))
-            ([] ++ x ∷ [])
+    (Some (record { first = x.head; beats = 1; bytes = seen_at x.head.denied x.known x.lanes 0 (length x.lanes) }))
+    ([] ++ x ∷ [])
 first_gathered w x fits wide goes_on = record {
   kept = reply_kept_first w x.head x.known x.lanes fits wide goes_on;
   empty = λ e. absurd (cc);
@@ -119,16 +119,22 @@ first_gathered w x fits wide goes_on = record {
     only k y (inl never) = absurd (cc)
     only k y (inr last) =
         let P : ReplyBeat → Type 0 = λ z. IsFormedReply z.head × ((h : ReplyHead) → Some x.head ≡ Some h → SameReplyFields h z.head) in
-        subst P last.1 (fits.formed,
-            (λ h e. let same : x.head ≡ h = cc in
-                subst (λ (a : ReplyHead). SameReplyFields a x.head) same (itself x.head)))
+        subst P last.1 (
+          fits.formed,
+          (λ h e. let same : x.head ≡ h = cc in
+              subst (λ (a : ReplyHead). SameReplyFields a x.head) same (itself x.head)),
+        )
 
 pub next_gathered : (w : ℕ) (b : ReplyBegun) (beats : List ReplyBeat) (x : ReplyBeat) → GatheredReply w (Some b) beats
     → FitsReply (Some b.first) x.head → length x.lanes ≡ 2 ^ w
     → ends_reply (2 ^ w) (Some b) x.head ≡ false
     → GatheredReply w
-        (Some (record { first = b.first; beats = b.beats + 1; bytes =
-            b.bytes ++ seen_at x.head.denied x.known x.lanes 0 (length x.lanes) })) (beats ++ x ∷ [])
+    (Some (record {
+      first = b.first;
+      beats = b.beats + 1;
+      bytes =
+          b.bytes ++ seen_at x.head.denied x.known x.lanes 0 (length x.lanes);
+    })) (beats ++ x ∷ [])
 next_gathered w b beats x g fits wide goes_on =
     let some : reply_begun (Some b.first) b.beats b.bytes ≡ None → ⊥ = (λ e. absurd (cc)) in
     let is = returns w (Some b.first) b.beats b.bytes x.head x.known x.lanes g.kept fits wide some in
@@ -163,14 +169,20 @@ gathered_after w (Some b) beats x g fits wide goes_on =
     let is = returns w (Some b.first) b.beats b.bytes x.head x.known x.lanes g.kept fits wide some in
     let Q : Option ReplyBegun → Type 0 = λ o. GatheredReply w o (beats ++ x ∷ []) in
     subst Q (reply_on_is w (Some b.first) b.beats b.bytes x.head x.known x.lanes wide some goes_on)
-        (next_gathered w b beats x g fits wide goes_on)
+    (next_gathered w b beats x g fits wide goes_on)
 
 -- ---- the last beat
 
 fields_of : (x y : ReplyHead) (bytes : List (Option ℕ)) → IsFormedReply x → SameReplyFields x y
     → HasReplyFieldsOf
-        (record { op = reply_op_of_number x.opcode; size = x.size; source = x.source; denied = Some x.denied; bytes =
-            bytes }) y
+    (record {
+      op = reply_op_of_number x.opcode;
+      size = x.size;
+      source = x.source;
+      denied = Some x.denied;
+      bytes =
+          bytes;
+    }) y
 fields_of x y bytes formed same =
     let named : reply_op_of_number x.opcode ≡ formed.op = reply_op_named formed.op x.opcode formed.code in
     record {
@@ -217,14 +229,14 @@ one_spells w address x fits alone = record {
           corrupt = flag_of x.head x.head fits.formed (itself x.head);
           bytes = λ plain j byte at row.
               let within : j < count =
-                  rw (← length-seen_at x.head.denied x.known x.lanes first count)
-                      (slice_get_within (reply_part (2 ^ w) address x.head x.known x.lanes) j byte at) in
+              rw (← length-seen_at x.head.denied x.known x.lanes first count)
+              (slice_get_within (reply_part (2 ^ w) address x.head x.known x.lanes) j byte at) in
               let below : j < min (2 ^ w) (2 ^ x.head.size) = omega (arith, within, some_count x.head.size (reply_carries_bytes op)) in
               let is : byte ≡ seen_in x.head.denied x.known x.lanes (first + j) =
               sym (get_or_from_slice_get (reply_part (2 ^ w) address x.head x.known x.lanes) j byte None at)
-                  ∙ seen_at-get x.head.denied x.known x.lanes first count j within in
+              ∙ seen_at-get x.head.denied x.known x.lanes first count j within in
               stands_so x.head.denied x.known x.lanes (lane_of (2 ^ w) address x.head.size j) (first + j) byte plain is
-                  (lane_in_window w address x.head.size j below);
+              (lane_in_window w address x.head.size j below);
         } in
         subst (λ (z : ReplyBeat). IsReplyBeatOf (2 ^ w) (reply_of (2 ^ w) None address x.head x.known x.lanes) address b z) last.1 here
 
@@ -240,10 +252,10 @@ long_spells w address b beats x g fits wide is ends = record {
         corrupt = flag_of x.head y.head there.0 there.1;
         bytes = λ plain j byte at row.
             let at_lanes : slice_get (b.bytes ++ seen_at x.head.denied x.known x.lanes 0 (length x.lanes)) j
-                ≡ Some byte = rw (is.part address) at in
+            ≡ Some byte = rw (is.part address) at in
             let in_row : slice_get (beats ++ x ∷ []) (j / 2 ^ w) ≡ Some y = rw row found in
             stands_so y.head.denied y.known y.lanes (lane_of (2 ^ w) address x.head.size j) (j % 2 ^ w) byte plain
-                (more_stand w b.bytes beats x g.filled wide g.stand j byte y at_lanes in_row)
+            (more_stand w b.bytes beats x g.filled wide g.stand j byte y at_lanes in_row)
             (lane_wide w address x.head.size j is.long_is.wide);
       };
 }
@@ -261,11 +273,15 @@ pub spelled_end : (w : ℕ) (begun : Option ReplyBegun) (beats : List ReplyBeat)
 spelled_end w None beats x g fits wide ends =
     let alone : reply_beats (2 ^ w) x.head ≡ 1 = sym (eqb-true 1 (reply_beats (2 ^ w) x.head) ends) in
     let P : List ReplyBeat → Type 0 =
-        λ bs. IsReplySpelled (2 ^ w) ((λ address. reply_of (2 ^ w) None address x.head x.known x.lanes),
-            bs ++ x ∷ []) in
+    λ bs. IsReplySpelled (2 ^ w) (
+      (λ address. reply_of (2 ^ w) None address x.head x.known x.lanes),
+      bs ++ x ∷ [],
+    ) in
     subst P (sym (g.empty refl))
-        (λ address. (one_reply_is_lawful w address x.head x.known x.lanes fits.formed alone,
-            one_spells w address x fits alone))
+    (λ address. (
+      one_reply_is_lawful w address x.head x.known x.lanes fits.formed alone,
+      one_spells w address x fits alone,
+    ))
 spelled_end w (Some b) beats x g fits wide ends =
     let some : reply_begun (Some b.first) b.beats b.bytes ≡ None → ⊥ = (λ e. absurd (cc)) in
     let is = returns w (Some b.first) b.beats b.bytes x.head x.known x.lanes g.kept fits wide some in
@@ -285,7 +301,7 @@ gathered_past w (x ∷ past) fitting = go (gathered_past w past fitting.0) (ends
     go : GatheredReply w (replying (2 ^ w) past) (begun_reply (2 ^ w) past) → (ends : Bool)
         → ends_reply (2 ^ w) (replying (2 ^ w) past) x.head ≡ ends
         → GatheredReply w (reply_after (2 ^ w) (replying (2 ^ w) past) x.head x.known x.lanes)
-            (if ends then [] else begun_reply (2 ^ w) past ++ x ∷ [])
+        (if ends then [] else begun_reply (2 ^ w) past ++ x ∷ [])
     go before true is = rw is (nothing_gathered w)
     go before false is = gathered_after w (replying (2 ^ w) past) (begun_reply (2 ^ w) past) x before fitting.1 fitting.2 is
 
@@ -301,13 +317,15 @@ all_spelled w (x ∷ past) fitting = go (all_spelled w past fitting.0) (ends_rep
     go : AllByRecursion (IsReplySpelled (2 ^ w)) (ended_replies (2 ^ w) past) → (ends : Bool)
         → ends_reply (2 ^ w) (replying (2 ^ w) past) x.head ≡ ends
         → AllByRecursion (IsReplySpelled (2 ^ w))
-            (if ends then ended_replies (2 ^ w) past ++
-                ((λ address. reply_of (2 ^ w) (replying (2 ^ w) past) address x.head x.known x.lanes),
-                    begun_reply (2 ^ w) past ++ x ∷ []) ∷ [] else ended_replies (2 ^ w) past)
+        (if ends then ended_replies (2 ^ w) past ++ (
+          (λ address. reply_of (2 ^ w) (replying (2 ^ w) past) address x.head x.known x.lanes),
+          begun_reply (2 ^ w) past ++ x ∷ [],
+        ) ∷ [] else ended_replies (2 ^ w) past)
     go before true is =
-        all_more (IsReplySpelled (2 ^ w)) (ended_replies (2 ^ w) past)
-            ((λ address. reply_of (2 ^ w) (replying (2 ^ w) past) address x.head x.known x.lanes),
-                begun_reply (2 ^ w) past ++ x ∷ []) before
+        all_more (IsReplySpelled (2 ^ w)) (ended_replies (2 ^ w) past) (
+          (λ address. reply_of (2 ^ w) (replying (2 ^ w) past) address x.head x.known x.lanes),
+          begun_reply (2 ^ w) past ++ x ∷ [],
+        ) before
         (spelled_end w (replying (2 ^ w) past) (begun_reply (2 ^ w) past) x (gathered_past w past fitting.0) fitting.1 fitting.2 is)
     go before false is = before
 

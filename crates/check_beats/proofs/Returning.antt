@@ -24,14 +24,14 @@ pub part_of_long_reply : (w address : ℕ) (beat : ReplyHead) (known : ℕ) (lan
 part_of_long_reply w address beat known lanes wide formed is =
     let op = reply_op_of_number beat.opcode in
     let carries : reply_carries_bytes op ≡ true =
-        ap reply_carries_bytes (reply_op_named formed.op beat.opcode formed.code)
-            ∙ sym (reply_carries_named formed.op beat.opcode formed.code) ∙ is.carries_is in
+    ap reply_carries_bytes (reply_op_named formed.op beat.opcode formed.code)
+    ∙ sym (reply_carries_named formed.op beat.opcode formed.code) ∙ is.carries_is in
     let bytes : reply_byte_count op beat.size ≡ 2 ^ beat.size = ap (λ b. if b then 2 ^ beat.size else 0) carries in
     let fits : 2 ^ w ≤ 2 ^ beat.size = pow-le-pow_right (lit≤ tt) is.wide in
     let count : length lanes ≡ min (2 ^ w) (reply_byte_count op beat.size) = omega (arith, wide, bytes, fits) in
     let first : 0 ≡ low address beat.size % 2 ^ w = sym (low-wide w address beat.size is.wide) in
     ap (λ n. seen_at beat.denied known lanes 0 n) count
-        ∙ ap (λ n. seen_at beat.denied known lanes n (min (2 ^ w) (reply_byte_count op beat.size))) first
+    ∙ ap (λ n. seen_at beat.denied known lanes n (min (2 ^ w) (reply_byte_count op beat.size))) first
 
 pub few_replied : (w : ℕ) (begun : Option ReplyBegun) → IsReplyKept (2 ^ w) begun → replied_beats begun ≤ 256
 few_replied w None kept = omega arith
@@ -70,7 +70,7 @@ returns w (Some head) beats bytes beat known lanes kept fits wide some =
     let l = long w beat.size (beat.opcode == 1) (omega (arith, is.some, within)) in
     let most : 2 ^ beat.size ≤ 2 ^ 8 = pow-le-pow_right (lit≤ tt) fits.formed.in_limit in
     let row : (beats + 1) * 2 ^ w ≤ reply_beats (2 ^ w) beat * 2 ^ w =
-        mul-le (beats + 1) (2 ^ w) (reply_beats (2 ^ w) beat) (2 ^ w) within (omega arith) in
+    mul-le (beats + 1) (2 ^ w) (reply_beats (2 ^ w) beat) (2 ^ w) within (omega arith) in
     let more : (beats + 1) * 2 ^ w ≡ beats * 2 ^ w + 2 ^ w = search arith in
     record {
       long_is = l;
@@ -87,7 +87,7 @@ more_clean : (w beats : ℕ) (bytes : List (Option ℕ)) (beat : ReplyHead) (kno
     → IsTrue beat.denied → All (λ b. b ≡ Some 0) (bytes ++ seen_at beat.denied known lanes 0 (length lanes))
 more_clean w beats bytes beat known lanes is denied =
     All-append (λ (b : Option ℕ). b ≡ Some 0) bytes (seen_at beat.denied known lanes 0 (length lanes))
-        (is.clean denied) (seen_clean beat.denied known lanes 0 (length lanes) denied)
+    (is.clean denied) (seen_clean beat.denied known lanes 0 (length lanes) denied)
 
 pub reply_kept_on : (w : ℕ) (first : Option ReplyHead) (beats : ℕ) (bytes : List (Option ℕ)) (beat : ReplyHead) (known : ℕ) (lanes : List ℕ)
     → IsReplyKept (2 ^ w) (reply_begun first beats bytes) → FitsReply (first_reply (reply_begun first beats bytes)) beat
@@ -99,7 +99,7 @@ reply_kept_on w (Some head) beats bytes beat known lanes kept fits some is goes_
     let was = kept.of (record { first = head; beats = beats; bytes = bytes }) refl in
     let same : SameReplyFields head beat = fits.same head refl in
     let after : ReplyBegun =
-        record { first = head; beats = beats + 1; bytes = bytes ++ seen_at beat.denied known lanes 0 (length lanes) } in
+    record { first = head; beats = beats + 1; bytes = bytes ++ seen_at beat.denied known lanes 0 (length lanes) } in
     let begun : IsReplyBegun (2 ^ w) after = record {
       formed = was.formed;
       some = omega arith;
@@ -114,7 +114,7 @@ pub reply_on_is : (w : ℕ) (first : Option ReplyHead) (beats : ℕ) (bytes : Li
     (known : ℕ) (lanes : List ℕ) → length lanes ≡ 2 ^ w
     → (reply_begun first beats bytes ≡ None → ⊥) → ends_reply (2 ^ w) (reply_begun first beats bytes) beat ≡ false
     → reply_begun first (beats + 1) (bytes ++ seen_at beat.denied known lanes 0 (length lanes))
-        ≡ reply_after (2 ^ w) (reply_begun first beats bytes) beat known lanes
+    ≡ reply_after (2 ^ w) (reply_begun first beats bytes) beat known lanes
 reply_on_is w None beats bytes beat known lanes wide some goes_on = absurd (some refl)
 reply_on_is w (Some head) beats bytes beat known lanes wide some goes_on = rw (goes_on, wide) refl
 
@@ -135,8 +135,8 @@ pub ended_reply_is_lawful : (w beats source : ℕ) (bytes : List (Option ℕ)) (
 ended_reply_is_lawful w beats source bytes beat known lanes formed is ends =
     let op = reply_op_of_number beat.opcode in
     let carries : reply_carries_bytes op ≡ true =
-        ap reply_carries_bytes (reply_op_named formed.op beat.opcode formed.code)
-            ∙ sym (reply_carries_named formed.op beat.opcode formed.code) ∙ is.long_is.carries_is in
+    ap reply_carries_bytes (reply_op_named formed.op beat.opcode formed.code)
+    ∙ sym (reply_carries_named formed.op beat.opcode formed.code) ∙ is.long_is.carries_is in
     record {
       in_limit = formed.in_limit;
       counted = length-append bytes (seen_at beat.denied known lanes 0 (length lanes))
@@ -185,9 +185,9 @@ reply_kept_first w beat known lanes fits wide goes_on =
 pub reply_first_is : (w : ℕ) (beat : ReplyHead) (known : ℕ) (lanes : List ℕ) → length lanes ≡ 2 ^ w
     → (goes_on : ends_reply (2 ^ w) None beat ≡ false)
     → ◌≡◌ {A =
-        Option ReplyBegun}
-            (Some (record { first = beat; beats = 1; bytes = seen_at beat.denied known lanes 0 (length lanes) }))
-                (reply_after (2 ^ w) None beat known lanes)
+    Option ReplyBegun}
+    (Some (record { first = beat; beats = 1; bytes = seen_at beat.denied known lanes 0 (length lanes) }))
+    (reply_after (2 ^ w) None beat known lanes)
 reply_first_is w beat known lanes wide goes_on = rw (goes_on, wide) refl
 
 -- ---- the last beat

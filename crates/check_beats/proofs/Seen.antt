@@ -85,7 +85,7 @@ given_window known lanes first count inside =
     shown_at known lanes lane below =
         let at : slice_get (given_in (bit_at known) lanes) lane ≡ Some (given_byte (bit_at known lane) (get_or lanes lane 0)) =
         slice_get-given_in (bit_at known) lanes lane
-            ∙ ap (option_map (given_byte (bit_at known lane))) (slice_get-get_or lanes lane 0 below) in
+        ∙ ap (option_map (given_byte (bit_at known lane))) (slice_get-get_or lanes lane 0 below) in
         get_or_from_slice_get (given_in (bit_at known) lanes) lane _ None at
         ∙ bit_byte (bit_at known lane) (get_or lanes lane 0) (bit_at-lt known lane)
 
@@ -109,9 +109,9 @@ one_reply_is_counted w address beat known lanes formed alone =
     let op = reply_op_of_number beat.opcode in
     let named : op ≡ formed.op = reply_op_named formed.op beat.opcode formed.code in
     let carries : (beat.opcode == 1) ≡ reply_carries_bytes op = reply_carries_named formed.op beat.opcode formed.code
-        ∙ ap reply_carries_bytes (sym named) in
+    ∙ ap reply_carries_bytes (sym named) in
     let fits : reply_byte_count op beat.size ≤ 2 ^ w =
-        small_count w beat.size (reply_carries_bytes op) (ap (λ b. beat_count (2 ^ w) b beat.size) (sym carries)
-            ∙ alone) in
+    small_count w beat.size (reply_carries_bytes op) (ap (λ b. beat_count (2 ^ w) b beat.size) (sym carries)
+    ∙ alone) in
     length-seen_at beat.denied known lanes (low address beat.size % 2 ^ w)
-        (min (2 ^ w) (reply_byte_count op beat.size)) ∙ omega (arith, fits)
+    (min (2 ^ w) (reply_byte_count op beat.size)) ∙ omega (arith, fits)

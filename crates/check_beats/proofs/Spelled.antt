@@ -59,20 +59,20 @@ more_stand w bytes beats x counted wide stand j given y at found = go (slice_get
         let k = j / 2 ^ w in
         let inside : k < length beats = slice_get_within beats k y before in
         let row : (k + 1) * 2 ^ w ≤ length beats * 2 ^ w =
-            mul-le (k + 1) (2 ^ w) (length beats) (2 ^ w) (omega (arith, inside)) (omega arith) in
+        mul-le (k + 1) (2 ^ w) (length beats) (2 ^ w) (omega (arith, inside)) (omega arith) in
         let more : (k + 1) * 2 ^ w ≡ k * 2 ^ w + 2 ^ w = search arith in
         let early : j < length bytes = omega (arith, counted, row, more, split, lane) in
         let same : get_or bytes j None ≡ given =
-            sym (get_or_append_left bytes (given_at x.head.mask x.lanes 0 (length x.lanes)) None j early) ∙ whole in
+        sym (get_or_append_left bytes (given_at x.head.mask x.lanes 0 (length x.lanes)) None j early) ∙ whole in
         stand j given y (slice_get-get_or bytes j None early ∙ ap (λ (g : Option ℕ). Some g) same) before
     go (inr last) =
         let i = j % 2 ^ w in
         let at_row : j / 2 ^ w * 2 ^ w ≡ length beats * 2 ^ w = ap (λ n. n * 2 ^ w) last.0 in
         let place : j ≡ length bytes + i = omega (arith, counted, at_row, split) in
         let here : get_or (bytes ++ given_at x.head.mask x.lanes 0 (length x.lanes)) j None
-            ≡ get_or (given_at x.head.mask x.lanes 0 (length x.lanes)) i None =
+        ≡ get_or (given_at x.head.mask x.lanes 0 (length x.lanes)) i None =
         ap (λ n. get_or (bytes ++ given_at x.head.mask x.lanes 0 (length x.lanes)) n None) place
-            ∙ get_or-append-add bytes (given_at x.head.mask x.lanes 0 (length x.lanes)) i None in
+        ∙ get_or-append-add bytes (given_at x.head.mask x.lanes 0 (length x.lanes)) i None in
         let is : get_or (given_at x.head.mask x.lanes 0 (length x.lanes)) i None ≡ byte_at x.head.mask x.lanes (0 + i) =
         given_at-get x.head.mask x.lanes 0 (length x.lanes) i (omega (arith, lane, wide)) in
         let none : 0 + i ≡ i = omega arith in
@@ -127,15 +127,21 @@ first_gathered w x fits wide goes_on = record {
     only k y (inl never) = absurd (cc)
     only k y (inr last) =
         let P : AskBeat → Type 0 = λ z. IsFormed (2 ^ w) z.head × ((h : AskHead) → Some x.head ≡ Some h → SameFields h z.head) in
-        subst P last.1 (fits.formed,
-            (λ h e. let same : x.head ≡ h = cc in subst (λ (a : AskHead). SameFields a x.head) same (itself x.head)))
+        subst P last.1 (
+          fits.formed,
+          (λ h e. let same : x.head ≡ h = cc in subst (λ (a : AskHead). SameFields a x.head) same (itself x.head)),
+        )
 
 pub next_gathered : (w : ℕ) (b : AskBegun) (beats : List AskBeat) (x : AskBeat) → Gathered w (Some b) beats
     → FitsAsk (2 ^ w) (Some b.first) x.head → length x.lanes ≡ 2 ^ w
     → ends_ask (2 ^ w) (Some b) x.head ≡ false
     → Gathered w
-        (Some (record { first = b.first; beats = b.beats + 1; bytes =
-            b.bytes ++ given_at x.head.mask x.lanes 0 (length x.lanes) })) (beats ++ x ∷ [])
+    (Some (record {
+      first = b.first;
+      beats = b.beats + 1;
+      bytes =
+          b.bytes ++ given_at x.head.mask x.lanes 0 (length x.lanes);
+    })) (beats ++ x ∷ [])
 next_gathered w b beats x g fits wide goes_on =
     let some : ask_begun (Some b.first) b.beats b.bytes ≡ None → ⊥ = (λ e. absurd (cc)) in
     let is = goes w (Some b.first) b.beats b.bytes x.head x.lanes g.kept fits wide some in
@@ -194,7 +200,7 @@ stands_so : (mask : ℕ) (lanes : List ℕ) (lane place : ℕ) (given : Option �
     → lane ≡ place → StandsAt mask lanes lane given
 stands_so mask lanes lane place given is at =
     subst (λ (l : ℕ). StandsAt mask lanes l given) (sym at)
-        (subst (λ (g : Option ℕ). StandsAt mask lanes place g) (sym is) (byte_stands mask lanes place))
+    (subst (λ (g : Option ℕ). StandsAt mask lanes place g) (sym is) (byte_stands mask lanes place))
 
 carries_of : (bus : ℕ) (x : AskHead) → IsFormed bus x → ask_beats bus x ≡ beat_count bus (carries_bytes (op_of x.opcode x.param)) x.size
 carries_of bus x formed =
@@ -220,14 +226,14 @@ one_spells w x fits alone = record {
           mask = mask_of (2 ^ w) x.head x.head fits.formed (itself x.head);
           bytes = λ j given at row.
               let within : j < count =
-                  rw (← length-given_at x.head.mask x.lanes first count)
-                      (slice_get_within (ask_part (2 ^ w) x.head x.lanes) j given at) in
+              rw (← length-given_at x.head.mask x.lanes first count)
+              (slice_get_within (ask_part (2 ^ w) x.head x.lanes) j given at) in
               let below : j < min (2 ^ w) (2 ^ x.head.size) = omega (arith, within, some_count x.head.size (carries_bytes op)) in
               let is : given ≡ byte_at x.head.mask x.lanes (first + j) =
               sym (get_or_from_slice_get (ask_part (2 ^ w) x.head x.lanes) j given None at)
-                  ∙ given_at-get x.head.mask x.lanes first count j within in
+              ∙ given_at-get x.head.mask x.lanes first count j within in
               stands_so x.head.mask x.lanes (lane_of (2 ^ w) x.head.address x.head.size j) (first + j) given is
-                  (lane_in_window w x.head.address x.head.size j below);
+              (lane_in_window w x.head.address x.head.size j below);
         } in
         subst (λ (z : AskBeat). IsBeatOf (2 ^ w) (ask_of (2 ^ w) None x.head x.lanes) b z) last.1 here
 
@@ -245,7 +251,7 @@ long_spells w b beats x g fits wide is ends = record {
             let at_lanes : slice_get (b.bytes ++ given_at x.head.mask x.lanes 0 (length x.lanes)) j ≡ Some given = rw is.part at in
             let in_row : slice_get (beats ++ x ∷ []) (j / 2 ^ w) ≡ Some y = rw row found in
             stands_so y.head.mask y.lanes (lane_of (2 ^ w) x.head.address x.head.size j) (j % 2 ^ w) given
-                (more_stand w b.bytes beats x g.filled wide g.stand j given y at_lanes in_row)
+            (more_stand w b.bytes beats x g.filled wide g.stand j given y at_lanes in_row)
             (lane_wide w x.head.address x.head.size j is.long_is.wide);
       };
 }
@@ -292,11 +298,15 @@ all_spelled w (x ∷ past) fitting = go (all_spelled w past fitting.0) (ends_ask
   where
     go : AllByRecursion (IsSpelled (2 ^ w)) (ended (2 ^ w) past) → (ends : Bool) → ends_ask (2 ^ w) (asking (2 ^ w) past) x.head ≡ ends
         → AllByRecursion (IsSpelled (2 ^ w))
-            (if ends then ended (2 ^ w) past ++ (ask_of (2 ^ w) (asking (2 ^ w) past) x.head x.lanes,
-                begun (2 ^ w) past ++ x ∷ []) ∷ [] else ended (2 ^ w) past)
+        (if ends then ended (2 ^ w) past ++ (
+          ask_of (2 ^ w) (asking (2 ^ w) past) x.head x.lanes,
+          begun (2 ^ w) past ++ x ∷ [],
+        ) ∷ [] else ended (2 ^ w) past)
     go before true is =
-        all_more (IsSpelled (2 ^ w)) (ended (2 ^ w) past) (ask_of (2 ^ w) (asking (2 ^ w) past) x.head x.lanes,
-            begun (2 ^ w) past ++ x ∷ []) before
+        all_more (IsSpelled (2 ^ w)) (ended (2 ^ w) past) (
+          ask_of (2 ^ w) (asking (2 ^ w) past) x.head x.lanes,
+          begun (2 ^ w) past ++ x ∷ [],
+        ) before
         (spelled_end w (asking (2 ^ w) past) (begun (2 ^ w) past) x (gathered_past w past fitting.0) fitting.1 fitting.2 is)
     go before false is = before
 

@@ -18,7 +18,7 @@ low-wide w address size wide =
     let more = size - w in
     let power : 2 ^ size ≡ 2 ^ more * 2 ^ w = split_power w more size (omega (arith, wide)) in
     let whole : low address size ≡ address / 2 ^ size * 2 ^ more * 2 ^ w = low-multiple address size
-        ∙ ap (λ n. address / 2 ^ size * n) power ∙ search arith in
+    ∙ ap (λ n. address / 2 ^ size * n) power ∙ search arith in
     ap (λ n. n % 2 ^ w) whole ∙ mul-mod_left (address / 2 ^ size * 2 ^ more) (2 ^ w)
 
 -- a smaller message ends on the bus
@@ -33,7 +33,7 @@ low-narrow w address size narrow =
     let place = n / 2 ^ size % 2 ^ more in
     let below : place < 2 ^ more = mod_below (n / 2 ^ size) (2 ^ more) (pow_pos more) in
     let row : (suc place) * 2 ^ size ≤ 2 ^ more * 2 ^ size =
-        mul-le (suc place) (2 ^ size) (2 ^ more) (2 ^ size) (omega (arith, below)) (omega arith) in
+    mul-le (suc place) (2 ^ size) (2 ^ more) (2 ^ size) (omega (arith, below)) (omega arith) in
     omega (arith, power, none, parts, row)
 
 pub window_fits : (w address size : ℕ) → low address size % 2 ^ w + min (2 ^ w) (2 ^ size) ≤ 2 ^ w
@@ -71,11 +71,11 @@ pub ones_from : (first count : ℕ) → 0 < count → first + count ≤ 64
 ones_from first count some fits =
     let power : 2 ^ 64 ≡ 2 ^ count * 2 ^ (64 - count) = split_power (64 - count) count 64 (omega (arith, fits)) in
     let whole : 2 ^ count * 2 ^ (64 - count) ≡ (2 ^ count - 1) * 2 ^ (64 - count) + 2 ^ (64 - count) =
-        one_less (2 ^ count) (2 ^ (64 - count)) (pow_pos count) in
+    one_less (2 ^ count) (2 ^ (64 - count)) (pow_pos count) in
     let top : 2 ^ 64 - 1 ≡ (2 ^ count - 1) * 2 ^ (64 - count) + (2 ^ (64 - count) - 1) =
-        omega (arith, power, whole, pow_pos (64 - count)) in
+    omega (arith, power, whole, pow_pos (64 - count)) in
     let run : (2 ^ 64 - 1) / 2 ^ (64 - count) ≡ 2 ^ count - 1 = ap (λ n. n / 2 ^ (64 - count)) top
-        ∙ div-mul-add (2 ^ count - 1) (2 ^ (64 - count)) (2 ^ (64 - count) - 1) (omega (arith, pow_pos (64 - count))) in
+    ∙ div-mul-add (2 ^ count - 1) (2 ^ (64 - count)) (2 ^ (64 - count) - 1) (omega (arith, pow_pos (64 - count))) in
     let all : 2 ^ (first + count) ≡ 2 ^ count * 2 ^ first = split_power first count (first + count) refl in
     let less : 2 ^ count * 2 ^ first ≡ (2 ^ count - 1) * 2 ^ first + 2 ^ first = one_less (2 ^ count) (2 ^ first) (pow_pos count) in
     let most : 2 ^ (first + count) ≤ 2 ^ 64 = pow-le-pow_right (lit≤ tt) fits in
@@ -104,11 +104,11 @@ pub ones_of : (count : ℕ) → count ≤ 64 → (2 ^ 64 - 1) / 2 ^ (64 - count)
 ones_of count fits =
     let power : 2 ^ 64 ≡ 2 ^ count * 2 ^ (64 - count) = split_power (64 - count) count 64 (omega (arith, fits)) in
     let whole : 2 ^ count * 2 ^ (64 - count) ≡ (2 ^ count - 1) * 2 ^ (64 - count) + 2 ^ (64 - count) =
-        one_less (2 ^ count) (2 ^ (64 - count)) (pow_pos count) in
+    one_less (2 ^ count) (2 ^ (64 - count)) (pow_pos count) in
     let top : 2 ^ 64 - 1 ≡ (2 ^ count - 1) * 2 ^ (64 - count) + (2 ^ (64 - count) - 1) =
-        omega (arith, power, whole, pow_pos (64 - count)) in
+    omega (arith, power, whole, pow_pos (64 - count)) in
     ap (λ n. n / 2 ^ (64 - count)) top
-        ∙ div-mul-add (2 ^ count - 1) (2 ^ (64 - count)) (2 ^ (64 - count) - 1) (omega (arith, pow_pos (64 - count)))
+    ∙ div-mul-add (2 ^ count - 1) (2 ^ (64 - count)) (2 ^ (64 - count) - 1) (omega (arith, pow_pos (64 - count)))
   where
     one_less : (a b : ℕ) → 0 < a → a * b ≡ (a - 1) * b + b
     one_less zero b some = absurd (omega (arith, some))

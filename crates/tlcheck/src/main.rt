@@ -68,5 +68,9 @@ fn meter<'r>(rt: &'r HostRuntime, options: &Options<'_>) -> Option<Meter<'r, Hos
 /// The length of a file that is none of the system's devices or pipes.
 fn length_of(rt: &HostRuntime, name: &str) -> Option<u64> {
     let metadata = fs::metadata(rt, name).ok()?;
-    if metadata.is_file() { Some(metadata.len()) } else { None }
+    if metadata.is_file() {
+        Some(metadata.len())
+    } else {
+        None
+    }
 }
