@@ -85,11 +85,21 @@ fn spell_request(words: &[&[u8]], sources: u16, bytes: &mut Bytes) -> Option<Spe
     let [source, name, address, size, more @ ..] = words else {
         return None;
     };
-    let source = read_source(source, sources)?;
-    let op = read_name(name)?;
-    let address = read_address(address)?;
-    let size = read_size(size)?;
-    read_bytes(op, size, more, bytes)?;
+    let Some(source) = read_source(source, sources) else {
+        return None;
+    };
+    let Some(op) = read_name(name) else {
+        return None;
+    };
+    let Some(address) = read_address(address) else {
+        return None;
+    };
+    let Some(size) = read_size(size) else {
+        return None;
+    };
+    let Some(()) = read_bytes(op, size, more, bytes) else {
+        return None;
+    };
     Some(Spelled::Send {
         op,
         size,

@@ -1,9 +1,10 @@
 -- One more line is appended, that of the first entry that is left.
-use Rattle.std.proofs.Common.{◌∙◌, ◌+◌, ◌++◌, append_assoc, ap, drop, sym}
+use Rattle.std.proofs.Common.{◌∙◌, ◌+◌, ◌++◌, append_assoc, ap, arith, drop, refl, sym}
 use Rattle.tl_script.specs.History.{history_from, history_line}
-use Rattle.tl_text.proofs.TextLemmas.{begins_appended, begins_before}
+use Rattle.tl_text.proofs.TextLemmas.{begins_appended, begins_before, begins_with_itself}
 use Rattle.tl_text.specs.Text.{BeginsWith}
-use Rattle.tl_script.proofs.Lines.{drop_at}
+use Rattle.tl_script.proofs.Appended.{on_err}
+use Rattle.tl_script.proofs.Lines.{drop_at, history_done}
 use Rattle.tl_script.proofs.history.push_history.Goals as goal
 
 pub loop-index-preserved : goal.loop-index-preserved
@@ -20,3 +21,15 @@ loop-index-preserved c =
           ∙ c.loop-index.invariant.0,
       begins_before _ _ _ one_more c.loop-index.invariant.1,
     )
+
+pub loop-index-init : goal.loop-index-init
+loop-index-init c = (refl, begins_with_itself _ _ refl)
+
+pub returns-in_err-push_line-clause-err : goal.returns-in_err-push_line-clause-err
+returns-in_err-push_line-clause-err c =
+    on_err c.from_residual.result (begins_before _ _ _ c.in_err-push_line.ensures.err c.loop-index.invariant.1)
+
+pub returns-clause-ok : goal.returns-clause-ok
+returns-clause-ok c =
+    history_done c.args.port c.loop-index.index c.args.history.now.items c.loop-index.text.items _
+    (omega (arith, c.loop-index-test.false, c.len-index-end.ensures.value)) c.loop-index.invariant.0
