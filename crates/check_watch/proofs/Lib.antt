@@ -9,3 +9,4 @@ pub mod Keeping
 pub mod Beginning
 pub mod InFlight
 pub mod Changes
+pub mod Ending

@@ -1,5 +1,5 @@
 -- What stands where a slave serves, or serves nothing.
-use Rattle.std.specs.Prelude.{Result, Ok, Err, OnOk}
+use Rattle.std.specs.Prelude.{Result, Ok, Err, OnErr, OnOk}
 use Rattle.std.proofs.Common.{◌≡◌, ◌∙◌, ◌<◌, ℕ, List, length, Option, Some, None, get_or, ap, sym, refl}
 use Rattle.std.proofs.lemmas.Option.{slice_get-get_or}
 use Rattle.std.specs.Prelude.{slice_set, unwrap_or}
@@ -23,3 +23,8 @@ slave_found slaves port d within is = is ∙ sym (ap (λ o. unwrap_or o no_slave
 pub on_both : {T E : Type 0} {P Q R : Type 0} (r : Result T E) → (P → Q → R) → OnOk r P → OnOk r Q → OnOk r R
 on_both (Ok v) f p q = f p q
 on_both (Err e) f p q = tt
+
+-- and where it is refused
+pub on_both_err : {T E : Type 0} {P Q R : Type 0} (r : Result T E) → (P → Q → R) → OnErr r P → OnErr r Q → OnErr r R
+on_both_err (Ok v) f p q = tt
+on_both_err (Err e) f p q = f p q

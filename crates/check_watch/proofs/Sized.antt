@@ -1,13 +1,13 @@
 -- Sizes, after steps that write at places.
-use Rattle.std.proofs.Common.{◌≡◌, ◌∙◌, ℕ, zero, suc, List, [], ◌∷◌, length, refl, ap, sym, length-set}
+use Rattle.std.proofs.Common.{◌≡◌, ◌∙◌, ℕ, zero, suc, ◌<◌, List, [], ◌∷◌, length, refl, ap, subst, sym, length-set}
 use Rattle.std.specs.Prelude.{slice_set, Result, Ok, Err, OnOk, OnErr}
 use Rattle.check_beats.specs.State.{Under}
 use Rattle.check_flight.specs.Crossing.{Crossing}
 use Rattle.check_flight.specs.Flight.{Flight}
 use Rattle.check_flight.specs.PortSlave.{PortSlave}
 use Rattle.check_flight.specs.Side.{SideView, side_under, side_with, under_at}
-use Rattle.check_watch.specs.Plan.{Layout, bus_of}
-use Rattle.check_watch.specs.View.{View, IsSized, under_in}
+use Rattle.check_watch.specs.Plan.{HasLink, Layout, bus_of, number_of}
+use Rattle.check_watch.specs.View.{View, IsSized, under_in, wides_in}
 use Rattle.check_watch.specs.declared.beat.Link.{Link}
 use Rattle.check_watch.specs.declared.beat.Link.TheVariants.{Master, Port}
 
@@ -94,3 +94,38 @@ sized_by layout masters ports crossings slaves masters' ports' crossings' slaves
 pub bus_in : (view : View) (link : Link) → IsSized view → (under_in view link).bus ≡ bus_of view.layout link
 bus_in view (Master m) sized = sized.master_buses m
 bus_in view (Port p) sized = sized.port_buses p
+
+-- what is within the parts of a judge, of which this is the view
+module _ (inside view : View) (is_view : inside ≡ view) where
+  pub slave_within : (port : ℕ) → port < length view.slaves → port < length inside.slaves
+  slave_within port within = subst (λ (v : View). port < length v.slaves) (sym is_view) within
+
+  module _ (sized : IsSized inside) where
+    pub wide_at_masters : (wide : ℕ) → wide < wides_in view → wide < length inside.masters.flights
+    wide_at_masters wide within =
+        rw sized.at_masters (subst (λ (v : View). wide < wides_in v) (sym is_view) within)
+
+    pub wide_at_ports : (wide : ℕ) → wide < wides_in view → wide < length inside.ports.flights
+    wide_at_ports wide within = rw sized.at_ports (subst (λ (v : View). wide < wides_in v) (sym is_view) within)
+
+  module _ (link : Link) (number place : ℕ) (at : place ≡ number_of link) where
+    pub link_at_masters : IsSized inside → link ≡ Master number → HasLink view.layout link
+        → place < length inside.masters.links
+    link_at_masters sized is known =
+        let here : place ≡ number = rw is at at in
+        let within : number < length view.layout.owners = rw is at known in
+        rw (here, sized.masters) (subst (λ (v : View). number < length v.layout.owners) (sym is_view) within)
+
+    pub link_at_ports : IsSized inside → link ≡ Port number → HasLink view.layout link
+        → place < length inside.ports.links
+    link_at_ports sized is known =
+        let here : place ≡ number = rw is at at in
+        let within : number < length view.layout.ports = rw is at known in
+        rw (here, sized.ports) (subst (λ (v : View). number < length v.layout.ports) (sym is_view) within)
+
+    -- what is under way there
+    pub under_at_masters : link ≡ Master number → under_in view link ≡ under_at inside.masters.links place
+    under_at_masters is = rw (← is_view, at, is) refl
+
+    pub under_at_ports : link ≡ Port number → under_in view link ≡ under_at inside.ports.links place
+    under_at_ports is = rw (← is_view, at, is) refl

@@ -1,12 +1,16 @@
 -- Sizes stay as they are, and the slave serves what is accepted.
-use Rattle.std.proofs.Common.{rules, ◌≡◌, ◌<◌, length, Some, refl, length-set}
-use Rattle.check_beats.specs.State.{ask_of}
+use Rattle.std.proofs.Common.{◌≡◌, ◌∙◌, ◌<◌, ◌≤◌, length, Some, ap, refl, subst, length-set}
+use Rattle.std.specs.Prelude.{IsTrue, OnErr, slice_set}
+use Rattle.check_beats.specs.Form.{FitsAsk}
+use Rattle.check_beats.specs.State.{Under, ask_of, ends_ask, first_ask}
 use Rattle.check_flight.specs.Flight.Turn.{Asked}
-use Rattle.check_flight.specs.PortSlave.{accepting, due_accepting}
+use Rattle.check_flight.specs.Order.{is_at_acceptance}
+use Rattle.check_flight.specs.PortSlave.{PortSlave, accepting, due_accepting}
 use Rattle.check_flight.specs.Side.{ask_ended, side_with, under_at}
-use Rattle.check_watch.specs.Past.{slave_at}
-use Rattle.check_watch.proofs.Served.{slave_found, on_both}
-use Rattle.check_watch.proofs.Sized.{same_shape, shape_tried, sized_by}
+use Rattle.check_flight.proofs.Served.{set_own}
+use Rattle.check_watch.specs.Past.{no_slave, slave_at}
+use Rattle.check_watch.proofs.Served.{slave_found, on_both, on_both_err}
+use Rattle.check_watch.proofs.Sized.{link_at_masters, link_at_ports, same_shape, shape_tried, sized_by, slave_within, under_at_masters, under_at_ports, wide_at_masters, wide_at_ports}
 use Rattle.check_watch.proofs.watch.Watch.accept.Goals as goal
 
 pub invariant_of-self : goal.invariant_of-self
@@ -25,7 +29,7 @@ pub returns-in-Master-clause-after : goal.returns-in-Master-clause-after
 returns-in-Master-clause-after c =
     let slaves = c.self.inside.slaves.items in
     let port = c.args.place.port in
-    let within : port < length slaves = search rules in
+    let within : port < length slaves = slave_within _ _ c.self.view_is _ c.requires.port in
     let found : c.index_mut-slave.result.now ≡ slave_at slaves port =
     slave_found slaves port c.index_mut-slave.result.now within c.index_mut-slave.ensures.value in
     let m = c.in-Master.field-0 in
@@ -43,7 +47,7 @@ pub returns-in-Port-clause-after : goal.returns-in-Port-clause-after
 returns-in-Port-clause-after c =
     let slaves = c.self.inside.slaves.items in
     let port = c.args.place.port in
-    let within : port < length slaves = search rules in
+    let within : port < length slaves = slave_within _ _ c.self.view_is _ c.requires.port in
     let found : c.index_mut-slave.result.now ≡ slave_at slaves port =
     slave_found slaves port c.index_mut-slave.result.now within c.index_mut-slave.ensures.value in
     let m = c.in-Port.field-0 in
@@ -56,3 +60,93 @@ returns-in-Port-clause-after c =
     let slave_is : c.accept-in-Port.new.slave ≡ accepting (slave_at slaves port) c.args.place.wide (Some ask) = rw (← found, ← at) slave in
     rw (← c.self.view_is, c.in-Port.is, side_is, slave_is) refl)
     c.accept-in-Port.ensures.side c.accept-in-Port.ensures.slave
+
+pub returns-in-Master-clause-served : goal.returns-in-Master-clause-served
+returns-in-Master-clause-served c =
+    let slaves = c.self.inside.slaves.items in
+    let port = c.args.place.port in
+    let within : port < length slaves = slave_within _ _ c.self.view_is _ c.requires.port in
+    let found : c.index_mut-slave.result.now ≡ slave_at slaves port =
+    slave_found slaves port c.index_mut-slave.result.now within c.index_mut-slave.ensures.value in
+    rw (← c.self.view_is) (subst (λ (s : PortSlave). OnErr c.accept.result (IsTrue (is_at_acceptance s.order))) found
+    c.accept.ensures.served)
+
+pub returns-in-Master-clause-err : goal.returns-in-Master-clause-err
+returns-in-Master-clause-err c =
+    let slaves = c.self.inside.slaves.items in
+    let port = c.args.place.port in
+    let within : port < length slaves = slave_within _ _ c.self.view_is _ c.requires.port in
+    let found : c.index_mut-slave.result.now ≡ slave_at slaves port =
+    slave_found slaves port c.index_mut-slave.result.now within c.index_mut-slave.ensures.value in
+    on_both_err c.accept.result (λ (side : c.accept.new.self ≡ c.self.inside.masters)
+    (slave : c.accept.new.slave ≡ c.index_mut-slave.result.now).
+    let slaves_are : slice_set slaves port c.accept.new.slave ≡ slaves =
+    ap (λ (s : PortSlave). slice_set slaves port s) (slave ∙ found) ∙ set_own no_slave slaves port in
+    rw (← c.self.view_is, side, slaves_are) refl) c.accept.ensures.unchanged c.accept.ensures.slave_unchanged
+
+pub returns-in-Port-clause-served : goal.returns-in-Port-clause-served
+returns-in-Port-clause-served c =
+    let slaves = c.self.inside.slaves.items in
+    let port = c.args.place.port in
+    let within : port < length slaves = slave_within _ _ c.self.view_is _ c.requires.port in
+    let found : c.index_mut-slave.result.now ≡ slave_at slaves port =
+    slave_found slaves port c.index_mut-slave.result.now within c.index_mut-slave.ensures.value in
+    rw (← c.self.view_is) (subst (λ (s : PortSlave). OnErr c.accept-in-Port.result (IsTrue (is_at_acceptance s.order))) found
+    c.accept-in-Port.ensures.served)
+
+pub returns-in-Port-clause-err : goal.returns-in-Port-clause-err
+returns-in-Port-clause-err c =
+    let slaves = c.self.inside.slaves.items in
+    let port = c.args.place.port in
+    let within : port < length slaves = slave_within _ _ c.self.view_is _ c.requires.port in
+    let found : c.index_mut-slave.result.now ≡ slave_at slaves port =
+    slave_found slaves port c.index_mut-slave.result.now within c.index_mut-slave.ensures.value in
+    on_both_err c.accept-in-Port.result (λ (side : c.accept-in-Port.new.self ≡ c.self.inside.ports)
+    (slave : c.accept-in-Port.new.slave ≡ c.index_mut-slave.result.now).
+    let slaves_are : slice_set slaves port c.accept-in-Port.new.slave ≡ slaves =
+    ap (λ (s : PortSlave). slice_set slaves port s) (slave ∙ found) ∙ set_own no_slave slaves port in
+    rw (← c.self.view_is, side, slaves_are) refl) c.accept-in-Port.ensures.unchanged c.accept-in-Port.ensures.slave_unchanged
+
+pub accept-requires-clause-link : goal.accept-requires-clause-link
+accept-requires-clause-link c =
+    link_at_masters _ _ c.self.view_is _ _ _ c.requires.at c.self.invariant c.in-Master.is c.requires.known
+
+pub accept-requires-clause-wide : goal.accept-requires-clause-wide
+accept-requires-clause-wide c = wide_at_masters _ _ c.self.view_is c.self.invariant _ c.requires.wide
+
+pub accept-requires-clause-fits : goal.accept-requires-clause-fits
+accept-requires-clause-fits c =
+    subst (λ (u : Under). FitsAsk u.bus (first_ask u.asking) c.args.beat.now)
+    (under_at_masters _ _ c.self.view_is _ _ _ c.requires.at c.in-Master.is) c.requires.fits
+
+pub accept-requires-clause-ends : goal.accept-requires-clause-ends
+accept-requires-clause-ends c =
+    subst (λ (u : Under). IsTrue (ends_ask u.bus u.asking c.args.beat.now))
+    (under_at_masters _ _ c.self.view_is _ _ _ c.requires.at c.in-Master.is) c.requires.ends
+
+pub accept-requires-clause-lanes : goal.accept-requires-clause-lanes
+accept-requires-clause-lanes c =
+    subst (λ (u : Under). u.bus ≤ length c.args.lanes.now)
+    (under_at_masters _ _ c.self.view_is _ _ _ c.requires.at c.in-Master.is) c.requires.lanes
+
+pub accept-requires-in-Port-clause-link : goal.accept-requires-in-Port-clause-link
+accept-requires-in-Port-clause-link c =
+    link_at_ports _ _ c.self.view_is _ _ _ c.requires.at c.self.invariant c.in-Port.is c.requires.known
+
+pub accept-requires-in-Port-clause-wide : goal.accept-requires-in-Port-clause-wide
+accept-requires-in-Port-clause-wide c = wide_at_ports _ _ c.self.view_is c.self.invariant _ c.requires.wide
+
+pub accept-requires-in-Port-clause-fits : goal.accept-requires-in-Port-clause-fits
+accept-requires-in-Port-clause-fits c =
+    subst (λ (u : Under). FitsAsk u.bus (first_ask u.asking) c.args.beat.now)
+    (under_at_ports _ _ c.self.view_is _ _ _ c.requires.at c.in-Port.is) c.requires.fits
+
+pub accept-requires-in-Port-clause-ends : goal.accept-requires-in-Port-clause-ends
+accept-requires-in-Port-clause-ends c =
+    subst (λ (u : Under). IsTrue (ends_ask u.bus u.asking c.args.beat.now))
+    (under_at_ports _ _ c.self.view_is _ _ _ c.requires.at c.in-Port.is) c.requires.ends
+
+pub accept-requires-in-Port-clause-lanes : goal.accept-requires-in-Port-clause-lanes
+accept-requires-in-Port-clause-lanes c =
+    subst (λ (u : Under). u.bus ≤ length c.args.lanes.now)
+    (under_at_ports _ _ c.self.view_is _ _ _ c.requires.at c.in-Port.is) c.requires.lanes
