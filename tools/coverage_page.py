@@ -4,9 +4,18 @@ import html
 
 from coverage_text import AFTER, ERROR, MOST_IN_FLIGHT, NAMES, SHAPES, SIZES
 
-STYLE = """body{font:14px/1.4 sans-serif;margin:2em;max-width:72em}h2{margin-top:2em}table{border-collapse:collapse;margin:.5em 0 1.5em}
-th,td{border:1px solid #ccc;padding:.15em .5em;text-align:right}th{background:#f3f3f3;font-weight:normal}td.none{color:#ccc}
-td.never{background:#f6b6ae}caption{text-align:left;padding:.3em 0}.bar{background:#ddd;width:20em;height:.8em}.bar i{display:block;height:100%;background:#3a8}"""
+STYLE = """
+body { font: 14px/1.4 sans-serif; margin: 2em; max-width: 72em }
+h2 { margin-top: 2em }
+table { border-collapse: collapse; margin: .5em 0 1.5em }
+caption { text-align: left; padding: .3em 0 }
+th, td { border: 1px solid #ccc; padding: .15em .5em; text-align: right }
+th { background: #f3f3f3; font-weight: normal }
+td.none { color: #ccc }
+td.never { background: #f6b6ae }
+.bar { background: #ddd; width: 20em; height: .8em }
+.bar i { display: block; height: 100%; background: #3a8 }
+"""
 
 
 def color_of(count):
@@ -23,9 +32,9 @@ def cell(goals, counts, bin):
 
 
 def table(caption, heads, rows):
+    named_columns = "".join(f"<th>{html.escape(str(head))}</th>" for head in heads)
     body = "".join(f"<tr><th>{html.escape(str(name))}</th>{''.join(cells)}</tr>" for name, cells in rows)
-    return (f"<table><caption>{html.escape(caption)}</caption><tr><th></th>{''.join(f'<th>{html.escape(str(head))}</th>' for head in heads)}</tr>"
-            f"{body}</table>")
+    return f"<table><caption>{html.escape(caption)}</caption><tr><th></th>{named_columns}</tr>{body}</table>"
 
 
 def named(table_of_system, letter, number):
@@ -35,19 +44,24 @@ def named(table_of_system, letter, number):
 def tables_of_port(system, goals, counts, place, port):
     masters = list(enumerate(system["master"]))
     for answer in ("given", "denied"):
-        heads = [f"2^{size}" for size in SIZES]
-        rows = [(f"{named(master, 'm', number)} {name}", [cell(goals, counts, ("answered", number, place, name, size, answer)) for size in SIZES])
-                for number, master in masters for name in NAMES
-                if any(bin in goals or counts.get(bin) for size in SIZES for bin in [("answered", number, place, name, size, answer)])]
+        rows = []
+        for number, master in masters:
+            for name in NAMES:
+                bins = [("answered", number, place, name, size, answer) for size in SIZES]
+                if any(bin in goals or counts.get(bin) for bin in bins):
+                    rows.append((f"{named(master, 'm', number)} {name}", [cell(goals, counts, bin) for bin in bins]))
         if rows:
-            yield table(f"replies that were {answer}, by operation and bytes", heads, rows)
-    rows = [(named(master, "m", number), [cell(goals, counts, ("mask", number, place, shape)) for shape in SHAPES]) for number, master in masters]
+            yield table(f"replies that were {answer}, by operation and bytes", [f"2^{size}" for size in SIZES], rows)
     if any(("mask", number, place, shape) in goals for number, _ in masters for shape in SHAPES):
+        rows = [(named(master, "m", number), [cell(goals, counts, ("mask", number, place, shape)) for shape in SHAPES])
+                for number, master in masters]
         yield table("partial puts, by the bytes that they give", SHAPES, rows)
     if place != ERROR:
         counted = [count for count in range(1, MOST_IN_FLIGHT + 1) if ("at_port", place, count) in goals]
-        yield table("requests in flight at once at this port", counted, [("", [cell(goals, counts, ("at_port", place, count)) for count in counted])])
-        yield table("requests that met another one in a byte that one of them writes", [""], [("", [cell(goals, counts, ("contested", place))])])
+        cells = [cell(goals, counts, ("at_port", place, count)) for count in counted]
+        yield table("requests in flight at once at this port", counted, [("", cells)])
+        cells = [cell(goals, counts, ("contested", place))]
+        yield table("requests that met another one in a byte that one of them writes", [""], [("", cells)])
 
 
 def tables_of_master(goals, counts, number):
@@ -70,4 +84,5 @@ def page_of(system, goals, counts):
     for number, master in enumerate(system["master"]):
         parts.append(f"<h2>{html.escape(named(master, 'm', number))}</h2>")
         parts += tables_of_master(goals, counts, number)
-    return f'<!DOCTYPE html><html lang="en"><meta charset="utf-8"><title>Coverage</title><style>{STYLE}</style><h1>Coverage</h1>{"".join(parts)}</html>\n'
+    head = f'<meta charset="utf-8"><title>Coverage</title><style>{STYLE}</style>'
+    return f'<!DOCTYPE html><html lang="en">{head}<h1>Coverage</h1>{"".join(parts)}</html>\n'
