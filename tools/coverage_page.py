@@ -68,7 +68,8 @@ def tables_of_master(goals, counts, number):
     counted = [count for count in range(1, MOST_IN_FLIGHT + 1) if ("in_flight", number, count) in goals]
     yield table("requests in flight at once", counted, [("", [cell(goals, counts, ("in_flight", number, count)) for count in counted])])
     steps = [f"{after} and more" if after == AFTER[-1] else after for after in AFTER]
-    yield table("a source used again, by the time after its last reply", steps, [("", [cell(goals, counts, ("again", number, after)) for after in AFTER])])
+    cells = [cell(goals, counts, ("again", number, after)) for after in AFTER]
+    yield table("a source used again, by the time after its last reply", steps, [("", cells)])
 
 
 def page_of(system, goals, counts):
