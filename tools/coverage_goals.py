@@ -2,7 +2,7 @@
 
 from common import BUS, GROUP_OF
 from coverage_text import AFTER, ERROR, MOST_IN_FLIGHT, NAMES, SHAPES, SIZES
-from partial_memory import SUPPORT
+from partial_memory import SUPPORT, ranges_of
 
 
 def is_supported(port, name, size):
@@ -17,10 +17,11 @@ def beats_of(bus, size, carries):
 
 
 def goals_of_port(system, master, number, port):
-    """The bins of a master's requests to a port: what it serves is given, and what it does not serve is denied."""
-    bus = port.get("bus", system.get("bus", BUS))
+    """The bins of a master's requests to a port: what it serves is given, and what it does not serve is denied. No request has more bytes than
+    the longest range."""
+    sizes = [size for size in SIZES if 1 << size <= max(length for _, length in ranges_of(port))]
     for name in NAMES:
-        for size in SIZES:
+        for size in sizes:
             serves = is_supported(port, name, size)
             if serves:
                 yield "asked", master, number, name, size, "aligned"
@@ -29,10 +30,10 @@ def goals_of_port(system, master, number, port):
                 yield "answered", master, number, name, size, "denied"
     bus = system["master"][master].get("bus", system.get("bus", BUS))
     for channel, names in (("A", ("putfull",)), ("D", ("get",))):
-        served = [size for size in SIZES for name in names if is_supported(port, name, size)]
+        served = [size for size in sizes for name in names if is_supported(port, name, size)]
         for count in sorted({beats_of(bus, size, True) for size in served}):
             yield "beats", master, number, channel, count
-    if any(is_supported(port, "putpart", size) for size in SIZES):
+    if any(is_supported(port, "putpart", size) for size in sizes):
         for shape in SHAPES:
             yield "mask", master, number, shape
     yield "overtook", master, number

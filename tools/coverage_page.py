@@ -51,7 +51,7 @@ def tables_of_port(system, goals, counts, place, port):
                 if any(bin in goals or counts.get(bin) for bin in bins):
                     rows.append((f"{named(master, 'm', number)} {name}", [cell(goals, counts, bin) for bin in bins]))
         if rows:
-            yield table(f"replies that were {answer}, by operation and bytes", [f"2^{size}" for size in SIZES], rows)
+            yield table(f"replies that were {answer}, by operation and bytes", [1 << size for size in SIZES], rows)
     if any(("mask", number, place, shape) in goals for number, _ in masters for shape in SHAPES):
         rows = [(named(master, "m", number), [cell(goals, counts, ("mask", number, place, shape)) for shape in SHAPES])
                 for number, master in masters]
@@ -77,7 +77,7 @@ def page_of(system, goals, counts):
     hit = sum(1 for bin in goals if counts.get(bin))
     share = 100 * hit // len(goals)
     parts = [f"<p>{hit} of {len(goals)} bins, {share} %</p><div class=\"bar\"><i style=\"width:{share}%\"></i></div>",
-             "<p>Red: never seen, and the system can do it. Green: how often; darker is more.</p>"]
+             "<p>Red: never seen, and the system can do it. Green: how often; darker is more. White: the system cannot do it.</p>"]
     ports = [*enumerate(system.get("port", [])), (ERROR, {"name": "the error port"})]
     for place, port in ports:
         parts.append(f"<h2>{html.escape(named(port, 'p', place))}</h2>")
