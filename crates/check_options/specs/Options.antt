@@ -50,27 +50,9 @@ order_rule names = record (new_rule (codes "order")) {
   defaults = codes "accept" ∷ [];
 }
 
--- `--trace`, `--complete` and `--quiet`, flags
-abbrev pub trace_rule : Rule
-trace_rule = record (new_rule (codes "trace")) {
-  long = Some (codes "trace");
-  action = Some SetTrue;
-  parser = Some values.Bool;
-}
-
-abbrev pub complete_rule : Rule
-complete_rule = record (new_rule (codes "complete")) {
-  long = Some (codes "complete");
-  action = Some SetTrue;
-  parser = Some values.Bool;
-}
-
-abbrev pub quiet_rule : Rule
-quiet_rule = record (new_rule (codes "quiet")) {
-  long = Some (codes "quiet");
-  action = Some SetTrue;
-  parser = Some values.Bool;
-}
+-- a flag, by two dashes and its name
+abbrev pub flag_rule : Text → Rule
+flag_rule name = record (new_rule name) { long = Some name; action = Some SetTrue; parser = Some values.Bool }
 
 -- SYSTEM, a word that there must be
 abbrev pub system_rule : Rule
@@ -84,11 +66,15 @@ capture_rule = record (new_rule (codes "capture")) { action = Some Set; value_na
 abbrev pub program : App
 program = let plain = new_app (codes "tlcheck") in record plain { top = record plain.top { has_version = true } }
 
+-- one flag more
+abbrev pub with_flag : App → Text → App
+with_flag app name = with_rule app (flag_rule name)
+
 -- these seven, and `--help` and `--version`, which clap adds
 abbrev pub with_rules : Names → Names → App
 with_rules links orders =
     let valued = with_rule (with_rule program (links_rule links)) (order_rule orders) in
-    let options = with_rule (with_rule (with_rule valued trace_rule) complete_rule) quiet_rule in
+    let options = with_flag (with_flag (with_flag valued (codes "trace")) (codes "complete")) (codes "quiet") in
     with_rule (with_rule options system_rule) capture_rule
 
 -- the rule is that of `--links`, or of `--order`, wherever its list of words lies

@@ -1,7 +1,7 @@
 //! The command line: `tlcheck [--links both|masters|ports|each] [--order accept|reply|any] [--trace] [--complete] [--quiet] SYSTEM [CAPTURE]`.
 ghost use Rattle.std.specs.Prelude.{◌≡◌, IfOk, [], map, false, option_map, unwrap_or};
 ghost use Rattle.clap.specs.Words.{app_of, first_value, found_of, rule_of};
-ghost use Rattle.check_options.specs.Options.{Answers, IsCommandLine, IsLinksRule, IsOrderRule, capture_rule, complete_rule, file_of, flag_of, links_of, order_of, program, quiet_rule, system_rule, trace_rule};
+ghost use Rattle.check_options.specs.Options.{Answers, IsCommandLine, IsLinksRule, IsOrderRule, capture_rule, file_of, flag_of, flag_rule, links_of, order_of, program, system_rule};
 
 use check_flight::Order;
 use check_sides::Links;
@@ -18,6 +18,13 @@ SYSTEM describes the ports and masters. CAPTURE has a row for each beat that cro
 
 Status: 0 lawful, 1 a fault of the system or the capture, 2 of the command line, 3 unlawful or incomplete, 4 memory
 refused, 5 a file could not be opened, read or written.";
+
+/// What help says of each flag.
+const TRACE_HELP: &str = "Print a line for each request that was answered";
+
+const COMPLETE_HELP: &str = "Ask for a reply to each request: else the capture is incomplete";
+
+const QUIET_HELP: &str = "Show no progress; it is shown only on a terminal";
 
 /// What the command line asks for.
 #[derive(Clone, Copy, Debug, PartialEq, Eq)]
@@ -146,40 +153,16 @@ fn order_option<'a>(alloc: Global) -> Arg<'a>
         .help("When a request takes effect at its port")
 }
 
-/// `--trace`.
-fn trace_flag<'a>(alloc: Global) -> Arg<'a>
-    ensures rule { rule_of result ≡ trace_rule }
+/// A flag, by two dashes and its name.
+fn flag<'a>(alloc: Global, name: &'a str, help: &'a str) -> Arg<'a>
+    ensures rule { rule_of result ≡ flag_rule name.now }
     ensures local { result.global ≡ false }
 {
-    Arg::new(alloc, "trace")
-        .long("trace")
+    Arg::new(alloc, name)
+        .long(name)
         .action(ArgAction::SetTrue)
         .value_parser(value_parser!(bool))
-        .help("Print a line for each request that was answered")
-}
-
-/// `--complete`.
-fn complete_flag<'a>(alloc: Global) -> Arg<'a>
-    ensures rule { rule_of result ≡ complete_rule }
-    ensures local { result.global ≡ false }
-{
-    Arg::new(alloc, "complete")
-        .long("complete")
-        .action(ArgAction::SetTrue)
-        .value_parser(value_parser!(bool))
-        .help("Ask for a reply to each request: else the capture is incomplete")
-}
-
-/// `--quiet`.
-fn quiet_flag<'a>(alloc: Global) -> Arg<'a>
-    ensures rule { rule_of result ≡ quiet_rule }
-    ensures local { result.global ≡ false }
-{
-    Arg::new(alloc, "quiet")
-        .long("quiet")
-        .action(ArgAction::SetTrue)
-        .value_parser(value_parser!(bool))
-        .help("Show no progress; it is shown only on a terminal")
+        .help(help)
 }
 
 /// SYSTEM.
@@ -212,9 +195,9 @@ fn command<'a>(alloc: Global) -> Result<Command<'a>, AllocError>
     program(alloc)
         .arg(links_option(alloc))?
         .arg(order_option(alloc))?
-        .arg(trace_flag(alloc))?
-        .arg(complete_flag(alloc))?
-        .arg(quiet_flag(alloc))?
+        .arg(flag(alloc, "trace", TRACE_HELP))?
+        .arg(flag(alloc, "complete", COMPLETE_HELP))?
+        .arg(flag(alloc, "quiet", QUIET_HELP))?
         .arg(system_word(alloc))?
         .arg(capture_word(alloc))
 }

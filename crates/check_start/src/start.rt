@@ -13,7 +13,7 @@ ghost use Rattle.check_start.specs.Start.{ByThePlan, layout_of, master_buses as 
 
 use crate::slaves::slaves_of;
 use check_beats::Bus;
-use check_description::{Description, Master};
+use check_description::{Described, Description, Master};
 use check_flight::{Order, PortSlave};
 use check_keys::SystemFault;
 use check_lines::Names;
@@ -113,6 +113,28 @@ fn master_buses(
     Ok(buses)
 }
 
+/// The buses of the links of a system's masters and ports, by their numbers.
+#[derive(Drop)]
+struct LinkBuses {
+    masters: Vec<Bus>,
+    ports: Vec<Bus>,
+}
+
+/// The buses of a system's links.
+fn buses_of(alloc: Global, parts: &Described) -> Result<LinkBuses, AllocError>
+    requires ports { length parts.now.addresses ≡ length parts.now.ports.items }
+    requires masters { length parts.now.sources ≡ length parts.now.masters.items }
+    ensures masters { IfOk result (λ buses. buses.masters.items
+        ≡ buses_of_masters (map master_view parts.now.masters.items)) }
+    ensures ports { IfOk result (λ buses. buses.ports.items ≡ buses_of_ports (map port_view parts.now.ports.items)) }
+    ensures few_masters { IfOk result (λ buses. length buses.masters.items ≤ MAX_MASTERS) }
+    ensures few_ports { IfOk result (λ buses. length buses.ports.items ≤ MAX_PORTS) }
+{
+    let masters = master_buses(alloc, &parts.sources, &parts.masters)?;
+    let ports = port_buses(alloc, &parts.addresses, &parts.ports)?;
+    Ok(LinkBuses { masters, ports })
+}
+
 /// The slaves that ports' links have by themselves: the same once more if each is judged by itself, else none.
 fn own_slaves(
     alloc: Global,
@@ -131,6 +153,35 @@ fn own_slaves(
         Links::Each => slaves_of(alloc, ports, images, terms.order),
         Links::Both | Links::Masters | Links::Ports => Ok(Vec::new(alloc)),
     }
+}
+
+/// The slaves of a system's ports, and those that ports' links have by themselves.
+#[derive(Drop)]
+struct Slaves {
+    shared: Vec<PortSlave>,
+    own: Vec<PortSlave>,
+}
+
+/// The slaves at reset.
+fn reset_slaves(
+    alloc: Global,
+    ports: &[Port],
+    images: &[Vec<u8>],
+    terms: Terms,
+) -> Result<Slaves, SystemFault>
+    ensures shared { IfOk result (λ slaves.
+        slaves_at_reset terms.order (map (λ image. image.items) images.now) (map port_view ports.now)
+        ≡ Ok slaves.shared.items) }
+    ensures own { IfOk result (λ slaves. terms.links ≡ Links.Each
+        → slaves_at_reset terms.order (map (λ image. image.items) images.now) (map port_view ports.now)
+        ≡ Ok slaves.own.items) }
+    ensures fault { IfErr result (λ fault. fault ≢ Memory
+        → slaves_at_reset terms.order (map (λ image. image.items) images.now) (map port_view ports.now)
+        ≡ Err fault) }
+{
+    let shared = slaves_of(alloc, ports, images, terms.order)?;
+    let own = own_slaves(alloc, ports, images, terms)?;
+    Ok(Slaves { shared, own })
 }
 
 /// The judge of a crossbar that is this system, before any beat, and the names and buses of its links. Images has the
@@ -155,27 +206,25 @@ pub fn begin(
 {
     let names = names_of(alloc, &system)?;
     let parts = system.into_parts();
-    let slaves = slaves_of(alloc, &parts.ports, images, terms.order)?;
-    let own = own_slaves(alloc, &parts.ports, images, terms)?;
-    let master_buses = master_buses(alloc, &parts.sources, &parts.masters)?;
-    let port_buses = port_buses(alloc, &parts.addresses, &parts.ports)?;
-    let masters = Vec::from_slice(alloc, &master_buses)?;
-    let ports = Vec::from_slice(alloc, &port_buses)?;
+    let slaves = reset_slaves(alloc, &parts.ports, images, terms)?;
+    // one for the judge, and one for the reader of rows
+    let buses = buses_of(alloc, &parts)?;
+    let told = buses_of(alloc, &parts)?;
     let watch = Watch::new(
         alloc,
         terms.links,
         parts.addresses,
         parts.sources,
-        masters,
-        ports,
-        slaves,
-        own,
+        buses.masters,
+        buses.ports,
+        slaves.shared,
+        slaves.own,
     )?;
     Ok(Beginning {
         watch,
         names,
-        master_buses,
-        port_buses,
+        master_buses: told.masters,
+        port_buses: told.ports,
     })
 }
 

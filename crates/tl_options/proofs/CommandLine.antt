@@ -1,7 +1,7 @@
 -- What a caller reads after a parse by the program's command line.
-use Rattle.std.proofs.Common.{◌&&◌, ◌||◌, ◌∙◌, ◌<◌, ◌≤◌, ◌≡◌, ℕ, Bool, true, false, not, zero, suc, List, [], ◌∷◌, length, is_some, Option, Some, None, refl, sym, subst, ap, ap₂, inl, inr, arith, map}
+use Rattle.std.proofs.Common.{◌&&◌, ◌||◌, ◌∙◌, ◌<◌, ◌≤◌, ◌≡◌, ℕ, Bool, true, false, not, zero, suc, List, [], ◌∷◌, length, is_some, Option, Some, None, refl, sym, subst, ap, inl, inr, arith, map}
 use Rattle.std.specs.Str.Parse.{ParsesUnsigned, digits_value, without_leading_plus}
-use Rattle.std.specs.Prelude.{◌≢◌, Err, Ok, Result, unwrap_or, find, slice_index, option_map, slice_get, codes}
+use Rattle.std.specs.Prelude.{Err, Ok, Result, unwrap_or, find, option_map, slice_get, codes}
 use Rattle.std.specs.List.{All, slice_index_or}
 use Rattle.std.specs.Str.{bytes_eq}
 use Rattle.std.specs.Borrow.{Bor}
@@ -27,7 +27,7 @@ use Rattle.clap.specs.declared.parser.matches.Found.{Found}
 use Rattle.clap.specs.declared.parser.matches.MatchedArg.{MatchedArg}
 use Rattle.clap.proofs.CallerLemmas.{default_present, entry_by_id, same_rules_by_id}
 use Rattle.tl_types.specs.declared.limits.TheConstants.{MAX_WORKERS}
-use Rattle.tl_options.specs.Options.{command_line, history_rule, options_in, value_in, serial_rule, workers_rule}
+use Rattle.tl_options.specs.Options.{command_line, flag_rule, options_in, value_in, workers_rule}
 
 -- ---- an argument of a command that names no group
 
@@ -227,8 +227,8 @@ record HasThree (old : Command) : Type 0 where
   history : Arg
   workers : Arg
   are : args_of old ≡ serial ∷ history ∷ workers ∷ []
-  serial_is : rule_of serial ≡ serial_rule
-  history_is : rule_of history ≡ history_rule
+  serial_is : rule_of serial ≡ flag_rule (codes "serial")
+  history_is : rule_of history ≡ flag_rule (codes "history")
   workers_is : rule_of workers ≡ workers_rule
 
 three_of : {X Y : Type 0} (f : X → Y) (xs : List X) (p q r : Y) → map f xs ≡ p ∷ q ∷ r ∷ []
@@ -241,7 +241,7 @@ three_of f (a ∷ b ∷ c ∷ x ∷ xs) p q r e = cc
 
 has_three : (old : Command) → app_of old ≡ command_line → HasThree old
 has_three old is =
-    let three = three_of rule_of (args_of old) serial_rule history_rule workers_rule
+    let three = three_of rule_of (args_of old) (flag_rule (codes "serial")) (flag_rule (codes "history")) workers_rule
     (ap (λ (app : App). app.top.rules) is) in
     record {
       serial = three.0;

@@ -1,6 +1,6 @@
 -- The command line: the options that there are, which of them the words ask for, and the status that the program ends
 -- with if they ask for none. This project's own.
-use Rattle.std.specs.Prelude.{◌≡◌, ℕ, List, [], ◌∷◌, true, Some, codes, unwrap_or}
+use Rattle.std.specs.Prelude.{◌≡◌, List, [], ◌∷◌, true, Some, codes, unwrap_or}
 use Rattle.std.specs.Str.{bytes_eq}
 use Rattle.std.specs.Str.Parse.{digits_value, without_leading_plus}
 use Rattle.tl_types.specs.declared.limits.TheConstants.{MAX_WORKERS}
@@ -10,21 +10,9 @@ use Rattle.clap.specs.declared.builder.value_parser.ValueParser.TheVariants as v
 use Rattle.clap.specs.declared.error.ErrorKind.{ErrorKind}
 use Rattle.tl_options.specs.declared.options.Options.{Options}
 
--- `--serial`, a flag
-abbrev pub serial_rule : Rule
-serial_rule = record (new_rule (codes "serial")) {
-  long = Some (codes "serial");
-  action = Some SetTrue;
-  parser = Some values.Bool;
-}
-
--- `--history`, a flag
-abbrev pub history_rule : Rule
-history_rule = record (new_rule (codes "history")) {
-  long = Some (codes "history");
-  action = Some SetTrue;
-  parser = Some values.Bool;
-}
+-- a flag, by two dashes and its name
+abbrev pub flag_rule : Text → Rule
+flag_rule name = record (new_rule name) { long = Some name; action = Some SetTrue; parser = Some values.Bool }
 
 -- `--workers N`, a number from 1 to the most that there may be, and 1 if it is not given
 abbrev pub workers_rule : Rule
@@ -42,7 +30,9 @@ program = let plain = new_app (codes "tlx") in record plain { top = record plain
 
 -- the command line: these three, and `--help` and `--version`, which clap adds
 abbrev pub command_line : App
-command_line = with_rule (with_rule (with_rule program serial_rule) history_rule) workers_rule
+command_line =
+    let flags = with_rule (with_rule program (flag_rule (codes "serial"))) (flag_rule (codes "history")) in
+    with_rule flags workers_rule
 
 -- the value that the words give an option, or its own if they give none
 abbrev pub value_in : List Text → Text → Text

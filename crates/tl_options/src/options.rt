@@ -1,7 +1,7 @@
 //! The command line: `tlx [--serial] [--history] [--workers N]`.
 ghost use Rattle.std.specs.Prelude.{◌≡◌, ◌≤◌, IfOk, map, false};
 ghost use Rattle.clap.specs.Words.{FailsBy, app_of, fault_of, rule_of};
-ghost use Rattle.tl_options.specs.Options.{command_line, history_rule, options_in, program, serial_rule, workers_rule};
+ghost use Rattle.tl_options.specs.Options.{command_line, flag_rule, options_in, program, workers_rule};
 
 use clap::{Arg, ArgAction, Command, Error, value_parser};
 use std::alloc::{AllocError, Global};
@@ -21,6 +21,11 @@ The script comes on standard input:
 
 Status: 0 done, 1 a fault of the script, 2 of the command line, 3 of the audit, 4 memory or a thread refused, 5 a read or a
 write failed.";
+
+/// What help says of each flag.
+const SERIAL_HELP: &str = "Run the masters one after the other, on one thread";
+
+const HISTORY_HELP: &str = "Print what each port has served behind the traces";
 
 /// What the command line asks for.
 #[derive(Clone, Copy, Debug, PartialEq, Eq)]
@@ -68,28 +73,16 @@ fn program<'a>(alloc: Global) -> Command<'a>
         .after_help(AFTER_HELP)
 }
 
-/// `--serial`.
-fn serial_flag<'a>(alloc: Global) -> Arg<'a>
-    ensures rule { rule_of result ≡ serial_rule }
+/// A flag, by two dashes and its name.
+fn flag<'a>(alloc: Global, name: &'a str, help: &'a str) -> Arg<'a>
+    ensures rule { rule_of result ≡ flag_rule name.now }
     ensures local { result.global ≡ false }
 {
-    Arg::new(alloc, "serial")
-        .long("serial")
+    Arg::new(alloc, name)
+        .long(name)
         .action(ArgAction::SetTrue)
         .value_parser(value_parser!(bool))
-        .help("Run the masters one after the other, on one thread")
-}
-
-/// `--history`.
-fn history_flag<'a>(alloc: Global) -> Arg<'a>
-    ensures rule { rule_of result ≡ history_rule }
-    ensures local { result.global ≡ false }
-{
-    Arg::new(alloc, "history")
-        .long("history")
-        .action(ArgAction::SetTrue)
-        .value_parser(value_parser!(bool))
-        .help("Print what each port has served behind the traces")
+        .help(help)
 }
 
 /// `--workers N`.
@@ -111,7 +104,7 @@ fn command<'a>(alloc: Global) -> Result<Command<'a>, AllocError>
     ensures { IfOk result (λ command. app_of command ≡ command_line) }
 {
     program(alloc)
-        .arg(serial_flag(alloc))?
-        .arg(history_flag(alloc))?
+        .arg(flag(alloc, "serial", SERIAL_HELP))?
+        .arg(flag(alloc, "history", HISTORY_HELP))?
         .arg(workers_option(alloc))
 }

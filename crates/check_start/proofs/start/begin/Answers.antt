@@ -7,18 +7,12 @@ use Rattle.check_start.specs.Start.{layout_of}
 use Rattle.check_start.proofs.Counted.{same_slaves, slaves_counted}
 use Rattle.check_start.proofs.start.begin.Goals as goal
 
-pub port_buses-requires : goal.port_buses-requires
-port_buses-requires c =
-    rw c.deref-4.ensures.value (ap length c.into_parts-parts.ensures.addresses
-    ∙ length-map c.args.system.ports (λ (port : Port). port.ranges)
-    ∙ ap length (sym c.into_parts-parts.ensures.ports) ∙ length-map c.into_parts-parts.result.ports.items port_view)
-
 pub new-requires-clause-slaves : goal.new-requires-clause-slaves
 new-requires-clause-slaves c =
     let images = map (λ image. image.items) c.args.images.now in
-    let made : slaves_at_reset c.args.terms.order images c.args.system.ports ≡ Ok c.in_ok-slaves.slaves.items =
+    let made : slaves_at_reset c.args.terms.order images c.args.system.ports ≡ Ok c.in_ok-slaves.slaves.shared.items =
     search rules in
-    slaves_counted c.args.terms.order images c.args.system.ports c.in_ok-slaves.slaves.items made
+    slaves_counted c.args.terms.order images c.args.system.ports c.in_ok-slaves.slaves.shared.items made
     ∙ ap (λ n. n + 1) (sym (length-map c.args.system.ports (λ (port : Port). port.ranges))
     ∙ ap length (sym c.into_parts-parts.ensures.addresses))
 
@@ -26,7 +20,7 @@ pub returns-clause-keeps : goal.returns-clause-keeps
 returns-clause-keeps c =
     let images = map (λ image. image.items) c.args.images.now in
     let laid : c.in_ok-watch.watch.layout ≡ layout_of c.args.terms c.args.system = search rules in
-    let made : slaves_at_reset c.args.terms.order images c.args.system.ports ≡ Ok c.in_ok-slaves.slaves.items =
+    let made : slaves_at_reset c.args.terms.order images c.args.system.ports ≡ Ok c.in_ok-slaves.slaves.shared.items =
     search rules in
     let one = c.in_ok-watch.ensures.plan in
     record {
@@ -39,5 +33,5 @@ returns-clause-keeps c =
         },
       );
       each = λ plan is. c.in_ok-watch.ensures.keeps plan is.is (is.layout ∙ sym laid ∙ c.in_ok-watch.ensures.layout)
-          (same_slaves plan.resets c.in_ok-slaves.slaves.items (sym is.resets ∙ made));
+          (same_slaves plan.resets c.in_ok-slaves.slaves.shared.items (sym is.resets ∙ made));
     }

@@ -1,4 +1,4 @@
-use Rattle.std.proofs.Common.{◌≡◌, ◌∙◌, true, ap}
+use Rattle.std.proofs.Common.{◌∙◌, true, ap}
 use Rattle.clap.specs.Simple.{App, app_of_fields}
 use Rattle.tl_options.proofs.options.program.Goals as goal
 

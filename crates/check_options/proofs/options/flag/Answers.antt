@@ -1,6 +1,6 @@
 use Rattle.std.proofs.Common.{◌≡◌, ◌∙◌, rules, ap, Some}
 use Rattle.clap.specs.declared.builder.value_parser.ValueParser.TheVariants as values
-use Rattle.check_options.proofs.options.quiet_flag.Goals as goal
+use Rattle.check_options.proofs.options.flag.Goals as goal
 
 pub returns : goal.returns
 returns c =
