@@ -3,4 +3,5 @@ mod model;
 mod options;
 mod program;
 mod serial;
+mod streams;
 mod threads;

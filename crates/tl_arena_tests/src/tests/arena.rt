@@ -1,9 +1,7 @@
 //! The calls of the arena, by the worked values, one after the other, and from threads that each have a seat.
 mod account;
-mod client;
-mod floor;
+mod limits;
 mod passes;
-mod shop;
 mod threads;
 mod turns;
 mod worked;

@@ -54,10 +54,14 @@ fn history_of(rt: &impl Abort, alloc: Global, messages: &[(Message, u16)]) -> Jo
     history
 }
 
-/// What one master's entries at port 0, and that port's history, are audited as.
+/// Masters of 16 sources each with their entries, all from one source, the histories of ports, and what the audit
+/// answers.
 struct Case {
-    entries: &'static [(Message, usize)],
-    history: &'static [(Message, u16)],
+    source: u16,
+    /// The messages of each master, with their places in the history of port 0.
+    masters: &'static [&'static [(Message, usize)]],
+    /// The messages of each port, with the wide sources of those who sent them.
+    ports: &'static [&'static [(Message, u16)]],
     answer: Result<(), AuditFault>,
 }
 
@@ -65,143 +69,159 @@ use Message::{Got, Put};
 
 const BOTH: &[(Message, u16)] = &[(Put, 0), (Got, 0)];
 
-const CASES: [Case; 9] = [
+/// The entries of one master, and the history of one port.
+const ONE_MASTER: [Case; 9] = [
     Case {
-        entries: &[(Put, 0), (Got, 1)],
-        history: BOTH,
+        source: 0,
+        masters: &[&[(Put, 0), (Got, 1)]],
+        ports: &[BOTH],
         answer: Ok(()),
     },
     Case {
-        entries: &[(Put, 0), (Got, 1)],
-        history: &[],
+        source: 0,
+        masters: &[&[(Put, 0), (Got, 1)]],
+        ports: &[&[]],
         answer: Err(AuditFault::Missing(0, 0)),
     },
     Case {
-        entries: &[(Put, 0), (Put, 0), (Got, 1)],
-        history: BOTH,
+        source: 0,
+        masters: &[&[(Put, 0), (Put, 0), (Got, 1)]],
+        ports: &[BOTH],
         answer: Err(AuditFault::Twice(0, 0)),
     },
     Case {
-        entries: &[(Got, 1), (Put, 0)],
-        history: BOTH,
+        source: 0,
+        masters: &[&[(Got, 1), (Put, 0)]],
+        ports: &[BOTH],
         answer: Err(AuditFault::Order(0, 1)),
     },
     Case {
-        entries: &[(Put, 0)],
-        history: BOTH,
+        source: 0,
+        masters: &[&[(Put, 0)]],
+        ports: &[BOTH],
         answer: Err(AuditFault::Untraced(0, 1)),
     },
     Case {
-        entries: &[],
-        history: BOTH,
+        source: 0,
+        masters: &[&[]],
+        ports: &[BOTH],
         answer: Err(AuditFault::Untraced(0, 0)),
     },
     // Of several faults: an entry that is nowhere, before a place named twice, before one that nobody names.
     Case {
-        entries: &[(Put, 0), (Put, 0), (Got, 0)],
-        history: BOTH,
+        source: 0,
+        masters: &[&[(Put, 0), (Put, 0), (Got, 0)]],
+        ports: &[BOTH],
         answer: Err(AuditFault::Missing(0, 2)),
     },
     Case {
-        entries: &[(Put, 0), (Put, 0)],
-        history: BOTH,
+        source: 0,
+        masters: &[&[(Put, 0), (Put, 0)]],
+        ports: &[BOTH],
         answer: Err(AuditFault::Twice(0, 0)),
     },
     // A source that no master has.
     Case {
-        entries: &[(Put, 0)],
-        history: &[(Put, 1)],
+        source: 0,
+        masters: &[&[(Put, 0)]],
+        ports: &[&[(Put, 1)]],
         answer: Err(AuditFault::Missing(0, 0)),
     },
 ];
 
-/// The audit of a case answers what it should.
-fn audit_case(rt: &impl Abort, alloc: Global, sources: &Sources, case: &Case) {
+/// A master with 16 sources for each of these.
+const COUNTS: [u16; 2] = [16, 16];
+
+/// The audit of a case.
+fn audit_of(rt: &impl Abort, alloc: Global, case: &Case) -> Result<(), AuditFault> {
+    let counts = COUNTS.get(..case.masters.len()).expect(rt, "few masters");
+    let sources = Sources::new(alloc, counts).expect(rt, "sources");
     let mut traces = Vec::new(alloc);
-    traces
-        .push(trace_of(rt, alloc, 0, case.entries))
-        .expect(rt, "memory");
-    let history = history_of(rt, alloc, case.history);
-    let answer = audit_lists(alloc, sources, &traces, &[&history]);
-    assert!(rt; answer == case.answer);
+    for entries in case.masters {
+        let trace = trace_of(rt, alloc, case.source, entries);
+        traces.push(trace).expect(rt, "memory");
+    }
+    let mut histories = Vec::new(alloc);
+    for messages in case.ports {
+        let history = history_of(rt, alloc, messages);
+        histories.push(history).expect(rt, "memory");
+    }
+    let mut lists = Vec::new(alloc);
+    for history in &histories {
+        lists.push(history).expect(rt, "memory");
+    }
+    audit_lists(alloc, &sources, &traces, &lists)
+}
+
+/// The audit of a case answers what it should.
+fn audits(rt: &impl Abort, alloc: Global, cases: &[Case]) {
+    for case in cases {
+        assert!(rt; audit_of(rt, alloc, case) == case.answer);
+    }
 }
 
 #[test]
 fn small_runs_are_audited(rt: HostRuntime) {
-    let sources = Sources::new(rt.alloc(), &[16]).expect(&rt, "sources");
-    for case in &CASES {
-        audit_case(&rt, rt.alloc(), &sources, case);
-    }
+    audits(&rt, rt.alloc(), &ONE_MASTER);
 }
 
-/// Two masters of 16 sources each have put once from their sources 1, at port 0: the second one's wide source is 17. This
-/// is the history of that port, and the audit answers this. Port 1 has none.
-fn audit_two(
-    rt: &impl Abort,
-    alloc: Global,
-    messages: &[(Message, u16)],
-    answer: Result<(), AuditFault>,
-) {
-    let sources = Sources::new(alloc, &[16, 16]).expect(rt, "sources");
-    let traces = [
-        trace_of(rt, alloc, 1, &[(Put, 1)]),
-        trace_of(rt, alloc, 1, &[(Put, 0)]),
-    ];
-    let history = history_of(rt, alloc, messages);
-    let none = Journal::new(alloc);
-    assert!(rt; audit_lists(alloc, &sources, &traces, &[&history, &none]) == answer);
-}
+/// Both masters have put once, from their sources 1: the second one's wide source is 17. Port 1 has served nothing.
+const TWO_MASTERS: [Case; 2] = [
+    Case {
+        source: 1,
+        masters: &[&[(Put, 1)], &[(Put, 0)]],
+        ports: &[&[(Put, 17), (Put, 1)], &[]],
+        answer: Ok(()),
+    },
+    Case {
+        source: 1,
+        masters: &[&[(Put, 1)], &[(Put, 0)]],
+        ports: &[&[(Put, 1), (Put, 17)], &[]],
+        answer: Err(AuditFault::Missing(0, 0)),
+    },
+];
 
 #[test]
 fn masters_are_told_apart_by_wide_sources(rt: HostRuntime) {
-    audit_two(&rt, rt.alloc(), &[(Put, 17), (Put, 1)], Ok(()));
-    let missing = Err(AuditFault::Missing(0, 0));
-    audit_two(&rt, rt.alloc(), &[(Put, 1), (Put, 17)], missing);
+    audits(&rt, rt.alloc(), &TWO_MASTERS);
 }
 
-/// Two masters of 16 sources each have these entries at port 0, from their sources 1. Port 0 has served nothing, and
-/// ports 1 and 2 this. The audit has this fault.
-fn expect_lowest(
-    rt: &impl Abort,
-    alloc: Global,
-    entries: &[(Message, usize)],
-    served: &[(Message, u16)],
-    fault: AuditFault,
-) {
-    let sources = Sources::new(alloc, &[16, 16]).expect(rt, "sources");
-    let traces = [
-        trace_of(rt, alloc, 1, entries),
-        trace_of(rt, alloc, 1, entries),
-    ];
-    let served = history_of(rt, alloc, served);
-    let none = Journal::new(alloc);
-    let answer = audit_lists(alloc, &sources, &traces, &[&none, &served, &served]);
-    assert!(rt; answer == Err(fault));
-}
+/// Of the first kind of fault that there is, the lowest master and port are named, and there the lowest place. Port 0
+/// has served nothing.
+const LOWEST: [Case; 2] = [
+    Case {
+        source: 1,
+        masters: &[&[(Put, 7), (Put, 8)], &[(Put, 7), (Put, 8)]],
+        ports: &[&[], &[], &[]],
+        answer: Err(AuditFault::Missing(0, 0)),
+    },
+    Case {
+        source: 1,
+        masters: &[&[], &[]],
+        ports: &[&[], &[(Put, 1), (Put, 1)], &[(Put, 1), (Put, 1)]],
+        answer: Err(AuditFault::Untraced(1, 0)),
+    },
+];
 
-/// Of the first kind of fault that there is, the lowest master and port are named, and there the lowest place.
 #[test]
 fn the_lowest_place_is_named(rt: HostRuntime) {
-    let lost = [(Put, 7), (Put, 8)];
-    expect_lowest(&rt, rt.alloc(), &lost, &[], AuditFault::Missing(0, 0));
-    let served = [(Put, 1), (Put, 1)];
-    expect_lowest(&rt, rt.alloc(), &[], &served, AuditFault::Untraced(1, 0));
+    audits(&rt, rt.alloc(), &LOWEST);
 }
 
-/// The audit of one put, at port 0.
-fn audit_of_one(rt: &impl Abort, alloc: Global) -> Result<(), AuditFault> {
-    let sources = Sources::new(alloc, &[16]).expect(rt, "sources");
-    let traces = [trace_of(rt, alloc, 0, &[(Put, 0)])];
-    let history = history_of(rt, alloc, &[(Put, 0)]);
-    audit_lists(alloc, &sources, &traces, &[&history])
-}
+/// One put.
+const ONE_PUT: Case = Case {
+    source: 0,
+    masters: &[&[(Put, 0)]],
+    ports: &[&[(Put, 0)]],
+    answer: Ok(()),
+};
 
 /// The audit's own requests for memory may be refused (`rt try --test --fail-alloc N`, after those that make what it
 /// audits): it answers what is right, or that memory was refused.
 #[test]
 fn an_audit_says_yes_or_memory_is_refused(rt: HostRuntime) {
-    let answer = audit_of_one(&rt, rt.alloc());
-    assert!(rt; answer == Ok(()) || answer == Err(AuditFault::Memory));
+    let answer = audit_of(&rt, rt.alloc(), &ONE_PUT);
+    assert!(rt; answer == ONE_PUT.answer || answer == Err(AuditFault::Memory));
 }
 
 const LINES: [(AuditFault, &str); 5] = [

@@ -1,154 +1,105 @@
 //! Whole runs of the program (`tl_program`): what is written, the lines and statuses of faults, and readers and writers
-//! that are slow or fail.
-ghost use Rattle.std.specs.Prelude.{Some, ◌<◌};
+//! that are slow or fail. Each run is a script with its streams, by one of both engines, and its end is compared as a
+//! whole.
+ghost use Rattle.std.specs.Prelude.{◌≤◌};
 
+mod crowds;
 mod scripts;
-mod streams;
+mod slow;
 mod threads;
 
 use super::serial::{FIRST, FIRST_TRACE, FIRST_WITH_HISTORY};
+use super::streams::{Flow, Trouble, WHOLE, reader_of, writer_with};
 use std::alloc::Global;
-use std::io;
-use std::io::{ErrorKind, Read, Write};
 use std::process::Abort;
+use std::sync::Wait;
+use std::thread::Threads;
 use tl_audit::AuditFault;
 use tl_program::engine::serial::serial_engine;
+use tl_program::engine::threads::threads_engine;
 use tl_program::fault::RunFault;
 use tl_script::{Key, MAX_SCRIPT, ScriptFault};
 
-/// What a stream does at a call, in place of its work.
+/// On one thread, or by threads: so many a port.
 #[derive(Clone, Copy)]
-enum Trouble {
-    Never,
-    /// The call of this number fails.
-    At(u32, ErrorKind),
-    /// Each call but every `n`th is interrupted.
-    Between(u32),
-    /// The first call is interrupted, and every second one after it.
-    BeforeEach,
-    Always(ErrorKind),
-    /// The write of this number takes nothing of what it is offered.
-    FullAt(u32),
+enum Engine {
+    Serial,
+    Threads(usize),
 }
 
-impl Trouble {
-    fn strikes(self, call: u32) -> Option<ErrorKind> {
-        match self {
-            Trouble::Never | Trouble::FullAt(_) => None,
-            Trouble::At(at, kind) => (at == call).then_some(kind),
-            Trouble::Between(n) => (n == 0 || call % n != 0).then_some(ErrorKind::Interrupted),
-            Trouble::BeforeEach => (call % 2 == 0).then_some(ErrorKind::Interrupted),
-            Trouble::Always(kind) => Some(kind),
-        }
-    }
-
-    fn is_full(self, call: u32) -> bool {
-        match self {
-            Trouble::FullAt(at) => at == call,
-            _ => false,
-        }
-    }
+/// A script, how it is read and its text written, and whether the histories are asked for.
+#[derive(Clone, Copy)]
+struct Run<'s> {
+    script: &'s [u8],
+    reading: Flow,
+    writing: Flow,
+    history: bool,
 }
 
-/// Gives its bytes a few at a time, counts its reads, and has trouble.
+/// What became of a run: its fault, what was written, and how often its streams were called.
 #[derive(Drop)]
-struct Trickle<'a> {
-    rest: &'a [u8],
-    step: usize,
+struct Outcome {
+    fault: Option<RunFault>,
+    written: Vec<u8>,
     reads: u32,
-    trouble: Trouble,
-    ghost gives: { 0 < step },
-}
-
-impl<'a> Read for Trickle<'a> {
-    ghost remaining = { λ r. Some r.rest.now };
-
-    fn read(&mut self, buf: &mut [u8]) -> io::Result<usize> {
-        let call = self.reads;
-        self.reads = self.reads.saturating_add(1);
-        if let Some(kind) = self.trouble.strikes(call) {
-            return Err(io::Error::from(kind));
-        }
-        let n = self.step.min(buf.len()).min(self.rest.len());
-        let (front, rest) = self.rest.split_at(n);
-        buf[..n].copy_from_slice(front);
-        self.rest = rest;
-        Ok(n)
-    }
-}
-
-fn reader_of(script: &[u8], step: usize, trouble: Trouble) -> Trickle<'_>
-    requires { 0 < step }
-{
-    Trickle {
-        rest: script,
-        step,
-        reads: 0,
-        trouble,
-    }
-}
-
-/// Takes its bytes a few at a time, counts its writes, and has trouble.
-#[derive(Drop)]
-struct Drips {
-    held: Vec<u8>,
-    step: usize,
     writes: u32,
-    trouble: Trouble,
 }
 
-impl Write for Drips {
-    ghost contents = { λ w. Some w.held.items };
+/// How a run has to end: with this line and status, if it has a fault, and this is written.
+#[derive(Clone, Copy)]
+struct End<'s> {
+    fault: Option<(&'static str, u8)>,
+    written: &'s [u8],
+}
 
-    fn write(&mut self, buf: &[u8]) -> io::Result<usize> {
-        let call = self.writes;
-        self.writes = self.writes.saturating_add(1);
-        if let Some(kind) = self.trouble.strikes(call) {
-            return Err(io::Error::from(kind));
+/// The script is read as a whole, and the text written so.
+fn whole(script: &[u8], history: bool) -> Run<'_> {
+    Run {
+        script,
+        reading: WHOLE,
+        writing: WHOLE,
+        history,
+    }
+}
+
+/// This is written.
+fn text(written: &[u8]) -> End<'_> {
+    End {
+        fault: None,
+        written,
+    }
+}
+
+/// Nothing is written, and this is the line of the script's fault.
+fn bad_script(line: &'static str) -> End<'static> {
+    End {
+        fault: Some((line, 1)),
+        written: b"",
+    }
+}
+
+/// What becomes of a run.
+fn outcome_of<T: Abort + Threads + Wait + Sync>(
+    rt: &T,
+    alloc: Global,
+    engine: Engine,
+    run: &Run,
+) -> Outcome {
+    let mut reader = reader_of(run.script, run.reading);
+    let mut writer = writer_with(alloc, run.writing);
+    let outcome = match engine {
+        Engine::Serial => serial_engine(alloc, &mut reader, &mut writer, run.history),
+        Engine::Threads(workers) => {
+            assert!(rt; 1 <= workers && workers <= 4);
+            threads_engine(rt, alloc, &mut reader, &mut writer, workers, run.history)
         }
-        let room = if self.trouble.is_full(call) {
-            0
-        } else {
-            self.step
-        };
-        let n = room.min(buf.len());
-        self.held.extend_from_slice(&buf[..n])?;
-        Ok(n)
+    };
+    Outcome {
+        fault: outcome.err(),
+        written: writer.held,
+        reads: reader.reads,
+        writes: writer.writes,
     }
-
-    fn flush(&mut self) -> io::Result<()> {
-        Ok(())
-    }
-}
-
-fn writer_with(alloc: Global, step: usize, trouble: Trouble) -> Drips {
-    Drips {
-        held: Vec::new(alloc),
-        step,
-        writes: 0,
-        trouble,
-    }
-}
-
-/// What becomes of a script on one thread, and what is written.
-fn serial_run(alloc: Global, script: &[u8], history: bool) -> (Result<(), RunFault>, Vec<u8>) {
-    let mut reader = script;
-    let mut writer = Vec::new(alloc);
-    let outcome = serial_engine(alloc, &mut reader, &mut writer, history);
-    (outcome, writer)
-}
-
-/// A script prints this on one thread.
-fn expect_printed(rt: &impl Abort, alloc: Global, script: &[u8], history: bool, wanted: &[u8]) {
-    let (outcome, written) = serial_run(alloc, script, history);
-    assert!(rt; outcome.is_ok());
-    assert!(rt; written.as_slice() == wanted);
-}
-
-#[test]
-fn first_run(rt: HostRuntime) {
-    expect_printed(&rt, rt.alloc(), FIRST, false, FIRST_TRACE);
-    expect_printed(&rt, rt.alloc(), FIRST, true, FIRST_WITH_HISTORY);
 }
 
 /// A fault has this line and this status.
@@ -156,6 +107,39 @@ fn expect_line(rt: &impl Abort, alloc: Global, fault: &RunFault, line: &str, sta
     let text = format!(in alloc; "{fault}").ok().expect(rt, "memory");
     assert!(rt; text.as_str() == line);
     assert!(rt; fault.status() == status);
+}
+
+impl Outcome {
+    /// The outcome is this end.
+    fn is_end(&self, rt: &impl Abort, alloc: Global, end: &End) {
+        assert!(rt; self.written.as_slice() == end.written);
+        match (&self.fault, &end.fault) {
+            (None, None) => {}
+            (Some(fault), Some((line, status))) => expect_line(rt, alloc, fault, line, *status),
+            _ => panic!(rt; "a fault too many, or none"),
+        }
+    }
+}
+
+/// A run has this end. The answer is how often its streams were called: the reader, and the writer.
+fn expect<T: Abort + Threads + Wait + Sync>(
+    rt: &T,
+    alloc: Global,
+    engine: Engine,
+    run: &Run,
+    end: &End,
+) -> (u32, u32) {
+    let outcome = outcome_of(rt, alloc, engine, run);
+    outcome.is_end(rt, alloc, end);
+    (outcome.reads, outcome.writes)
+}
+
+#[test]
+fn first_run(rt: HostRuntime) {
+    for (history, written) in [(false, FIRST_TRACE), (true, FIRST_WITH_HISTORY)] {
+        let run = whole(FIRST, history);
+        expect(&rt, rt.alloc(), Engine::Serial, &run, &text(written));
+    }
 }
 
 const LINES: [(RunFault, &str, u8); 10] = [
@@ -194,116 +178,54 @@ fn faults_have_their_lines_and_statuses(rt: HostRuntime) {
     }
 }
 
-/// A script has this fault on one thread, and nothing is written.
-fn expect_no_system(rt: &impl Abort, alloc: Global, script: &[u8], wanted: &ScriptFault) {
-    let (outcome, written) = serial_run(alloc, script, false);
-    assert!(rt; matches!(&outcome, Err(RunFault::Script(fault)) if fault == wanted));
-    assert!(rt; written.is_empty());
-}
+const NOT_TOML: &str = "script: not TOML";
 
-const NO_SLOTS: ScriptFault = ScriptFault::Missing(Key::Slots);
+const NO_SLOTS: &str = "script: missing slots";
+
+const TOO_LONG: &str = "script: longer than 1048576 bytes";
+
+/// A script has this fault on one thread, and nothing is written.
+fn expect_no_system<T: Abort + Threads + Wait + Sync>(
+    rt: &T,
+    alloc: Global,
+    script: &[u8],
+    line: &'static str,
+) {
+    let run = whole(script, false);
+    expect(rt, alloc, Engine::Serial, &run, &bad_script(line));
+}
 
 #[test]
 fn a_script_without_a_system_prints_nothing(rt: HostRuntime) {
-    let cut = &FIRST[..FIRST.len() - 50];
-    expect_no_system(&rt, rt.alloc(), cut, &ScriptFault::NotToml);
-    expect_no_system(&rt, rt.alloc(), b"", &NO_SLOTS);
+    expect_no_system(&rt, rt.alloc(), &FIRST[..FIRST.len() - 50], NOT_TOML);
+    expect_no_system(&rt, rt.alloc(), b"", NO_SLOTS);
 }
 
 #[test]
 fn the_limit_on_bytes(rt: HostRuntime) {
-    let mut script = vec![in rt.alloc(); b'#'; MAX_SCRIPT].expect(&rt, "memory");
-    expect_no_system(&rt, rt.alloc(), &script, &NO_SLOTS);
-    script.push(b'#').expect(&rt, "memory");
-    expect_no_system(&rt, rt.alloc(), &script, &ScriptFault::TooLong);
-}
-
-/// A script of so many comment signs has this fault. The signs come one by one, with an interruption before each and
-/// before the end.
-fn expect_one_by_one(rt: &impl Abort, alloc: Global, length: usize, wanted: &ScriptFault) {
-    let script = vec![in alloc; b'#'; length].expect(rt, "memory");
-    let mut reader = reader_of(&script, 1, Trouble::BeforeEach);
-    let mut writer = writer_with(alloc, 64, Trouble::Never);
-    let outcome = serial_engine(alloc, &mut reader, &mut writer, false);
-    assert!(rt; matches!(&outcome, Err(RunFault::Script(fault)) if fault == wanted));
-    assert!(rt; reader.reads == MOST_CALLS);
+    for (length, line) in [(MAX_SCRIPT, NO_SLOTS), (MAX_SCRIPT + 1, TOO_LONG)] {
+        let script = vec![in rt.alloc(); b'#'; length].expect(&rt, "memory");
+        expect_no_system(&rt, rt.alloc(), &script, line);
+    }
 }
 
 /// How often a stream is called at most: twice the bytes of a script too long.
 const MOST_CALLS: u32 = 2_097_154;
 
+/// The signs of a script come one by one, with an interruption before each and before the end.
 #[test]
 fn the_last_read_tells_what_was_read(rt: HostRuntime) {
-    expect_one_by_one(&rt, rt.alloc(), MAX_SCRIPT + 1, &ScriptFault::TooLong);
-    expect_one_by_one(&rt, rt.alloc(), MAX_SCRIPT, &NO_SLOTS);
-}
-
-/// The first example is run on one thread, with this trouble of its reader and its writer, each of which takes one byte
-/// at a time.
-fn expect_trouble_changes_nothing(rt: &impl Abort, alloc: Global, trouble: Trouble) {
-    let mut reader = reader_of(FIRST, 1, trouble);
-    let mut writer = writer_with(alloc, 1, trouble);
-    let outcome = serial_engine(alloc, &mut reader, &mut writer, false);
-    assert!(rt; outcome.is_ok());
-    assert!(rt; writer.held.as_slice() == FIRST_TRACE);
-}
-
-#[test]
-fn pieces_change_nothing(rt: HostRuntime) {
-    for trouble in [Trouble::Never, Trouble::Between(2), Trouble::Between(3)] {
-        expect_trouble_changes_nothing(&rt, rt.alloc(), trouble);
+    for (length, line) in [(MAX_SCRIPT + 1, TOO_LONG), (MAX_SCRIPT, NO_SLOTS)] {
+        let script = vec![in rt.alloc(); b'#'; length].expect(&rt, "memory");
+        let run = Run {
+            reading: Flow {
+                step: 1,
+                trouble: Trouble::BeforeEach,
+            },
+            ..whole(&script, false)
+        };
+        let end = bad_script(line);
+        let (reads, _) = expect(&rt, rt.alloc(), Engine::Serial, &run, &end);
+        assert!(rt; reads == MOST_CALLS);
     }
-}
-
-/// The first example is run on one thread, and read with this trouble: the read fails, and nothing is written. The
-/// answer is how many reads were made.
-fn reads_that_fail(rt: &impl Abort, alloc: Global, trouble: Trouble) -> u32 {
-    let mut reader = reader_of(FIRST, 1, trouble);
-    let mut writer = writer_with(alloc, 64, Trouble::Never);
-    let outcome = serial_engine(alloc, &mut reader, &mut writer, false);
-    assert!(rt; matches!(&outcome, Err(RunFault::Read)));
-    assert!(rt; writer.held.is_empty());
-    reader.reads
-}
-
-#[test]
-fn a_failed_read_is_read(rt: HostRuntime) {
-    for k in 0..=FIRST.len() {
-        let reads = reads_that_fail(
-            &rt,
-            rt.alloc(),
-            Trouble::At(k as u32, ErrorKind::BrokenPipe),
-        );
-        assert!(rt; reads as usize == k + 1);
-    }
-    let reads = reads_that_fail(&rt, rt.alloc(), Trouble::Always(ErrorKind::Interrupted));
-    assert!(rt; reads == MOST_CALLS);
-}
-
-/// The first example is run on one thread, and written with this trouble: the write fails after these bytes. The answer
-/// is how many writes were made.
-fn writes_that_fail(
-    rt: &impl Abort,
-    alloc: Global,
-    trouble: Trouble,
-    wanted: Option<&[u8]>,
-) -> u32 {
-    let mut writer = writer_with(alloc, 1, trouble);
-    let outcome = serial_engine(alloc, &mut FIRST, &mut writer, false);
-    assert!(rt; matches!(&outcome, Err(RunFault::Write)));
-    assert!(rt; Some(writer.held.as_slice()) == wanted);
-    writer.writes
-}
-
-#[test]
-fn a_failed_write_is_write(rt: HostRuntime) {
-    for k in 0..FIRST_TRACE.len() {
-        let at = k as u32;
-        for trouble in [Trouble::At(at, ErrorKind::BrokenPipe), Trouble::FullAt(at)] {
-            writes_that_fail(&rt, rt.alloc(), trouble, FIRST_TRACE.get(..k));
-        }
-    }
-    let forever = Trouble::Always(ErrorKind::Interrupted);
-    let writes = writes_that_fail(&rt, rt.alloc(), forever, FIRST_TRACE.get(..0));
-    assert!(rt; writes == MOST_CALLS + 1);
 }

@@ -27,6 +27,22 @@ fn run<R: Abort + Threads + Wait + Sync, G: Gate + Sync>(
     run_threads(rt, alloc, &system, workers, gate).expect(rt, "a run")
 }
 
+/// All slots are free after a run, which are these, and so many masters have left.
+fn expect_account(rt: &impl Abort, run: &ThreadedRun, slots: &[usize], masters: usize) {
+    let account = &run.account;
+    assert!(rt; account.free.as_slice() == slots);
+    assert!(rt; (account.held.len(), account.left.len()) == (0, masters));
+}
+
+/// Port 0 has a history of so many requests, and these bytes at its end.
+fn expect_book(rt: &impl Abort, run: &ThreadedRun, history: usize, bytes: &[(u64, u8)]) {
+    let book = run.books.first().expect(rt, "no book");
+    assert!(rt; book.history_len() == history);
+    for (address, byte) in bytes {
+        assert!(rt; book.byte(*address) == Some(*byte));
+    }
+}
+
 /// The places at which two threads of a kind meet, and how many saw the other there.
 #[derive(Drop)]
 struct Meeting {
@@ -75,9 +91,9 @@ fn all_meet<R: Abort + Threads + Wait + Sync>(rt: &R, alloc: Global, workers: us
         masters: [AtomicUsize::new(0), AtomicUsize::new(0)],
         met: AtomicUsize::new(0),
     };
-    let ThreadedRun { account, .. } = run(rt, alloc, TWO_PORTS, workers, &gate);
+    let run = run(rt, alloc, TWO_PORTS, workers, &gate);
     assert!(rt; gate.met.load(SeqCst) == 4);
-    assert!(rt; (account.free.len(), account.held.len()) == (4, 0));
+    expect_account(rt, &run, &[0, 1, 2, 3], 2);
 }
 
 #[test]
@@ -114,9 +130,9 @@ fn workers_of_a_port_run_at_once(rt: HostRuntime) {
         places: [AtomicUsize::new(0), AtomicUsize::new(0)],
         met: AtomicUsize::new(0),
     };
-    let ThreadedRun { account, .. } = run(&rt, rt.alloc(), ONE_PORT, 2, &gate);
+    let run = run(&rt, rt.alloc(), ONE_PORT, 2, &gate);
     assert!(rt; gate.met.load(SeqCst) == 2);
-    assert!(rt; account.free.len() == 4);
+    expect_account(&rt, &run, &[0, 1, 2, 3], 2);
 }
 
 /// Says no so many times at each of three ports, and counts how often it is asked there and, for each of two masters,
@@ -244,11 +260,9 @@ fn four_masters<R: Abort + Threads + Wait + Sync>(rt: &R, alloc: Global, workers
     requires some { 1 ≤ workers }
     requires few { workers ≤ 4 }
 {
-    let ThreadedRun { account, books, .. } = run(rt, alloc, FOUR_MASTERS, workers, &OpenGate);
-    assert!(rt; account.free.as_slice() == [0, 1].as_slice());
-    assert!(rt; (account.held.len(), account.left.len()) == (0, 4));
-    let book = books.first().expect(rt, "no book");
-    assert!(rt; (book.history_len(), book.byte(0x1000)) == (7, Some(5)));
+    let run = run(rt, alloc, FOUR_MASTERS, workers, &OpenGate);
+    expect_account(rt, &run, &[0, 1], 4);
+    expect_book(rt, &run, 7, &[(0x1000, 5)]);
 }
 
 #[test]

@@ -1,81 +1,89 @@
-//! What a port's pass over the slots accepts.
-use super::client::Client;
-use super::floor::{BASE, Floor, banks_of, client, floor_of, open_floor, shop, sources_of};
-use super::shop::Shop;
-use super::turns::read;
-use std::process::Abort;
+//! What a port's pass over the slots accepts, and where a master looks for a slot.
+use super::turns::READ;
+use crate::tests::agents::caller::CallerCall::Send;
+use crate::tests::agents::desk::DeskCall::Accept;
+use crate::tests::floor::{RAM_OF_ONES, RAM_OF_ZEROS};
+use crate::tests::stage::Call::{Desk, Seat};
+use crate::tests::stage::{Cast, End, Scene, Script, Setting, play};
 
-/// A master posts to a port, from this slot.
-fn post(rt: &impl Abort, master: &mut Client, port: usize, slot: usize) {
-    let ticket = master.send(&read(rt, BASE), port).expect(rt, "no slot");
-    assert!(rt; ticket.slot() == slot);
-}
-
-/// What the passes of a port accept, one after the other.
-fn accept(rt: &impl Abort, port: &mut Shop, slots: &[Option<usize>]) {
-    for slot in slots {
-        assert!(rt; port.accept_next() == *slot);
-    }
-}
+/// Each of four masters over four slots finds the slot of its own number.
+const OF_THE_PORT: Scene = Scene {
+    setting: Setting {
+        slots: 4,
+        sources: &[1; 4],
+        near: RAM_OF_ZEROS,
+        far: RAM_OF_ONES,
+        cast: Cast::Seats,
+    },
+    script: Script::Calls(&[
+        Desk(0, Accept(None)),
+        Seat(0, Send(READ, 0, Some(0))),
+        Seat(1, Send(READ, 0, Some(1))),
+        Seat(2, Send(READ, 1, Some(2))),
+        Desk(0, Accept(Some(0))),
+        Desk(0, Accept(Some(1))),
+        Desk(0, Accept(None)),
+        Desk(1, Accept(Some(2))),
+        Desk(1, Accept(None)),
+    ]),
+    end: End {
+        free: &[3],
+        held: 3,
+        left: &[],
+    },
+};
 
 #[test]
 fn a_pass_accepts_what_is_posted_for_the_port(rt: HostRuntime) {
-    let sources = sources_of(&rt, rt.alloc(), 4);
-    let banks = banks_of(&rt, rt.alloc(), 2);
-    let Floor {
-        arena,
-        sources,
-        mut masters,
-        mut ports,
-        mut banks,
-    } = floor_of(&rt, rt.alloc(), 4, sources, banks);
-    let _fourth = client(&rt, &arena, &sources, &mut masters);
-    let mut third = client(&rt, &arena, &sources, &mut masters);
-    let mut second = client(&rt, &arena, &sources, &mut masters);
-    let mut first = client(&rt, &arena, &sources, &mut masters);
-    let mut far = shop(&rt, &arena, &mut ports, &mut banks);
-    let mut near = shop(&rt, &arena, &mut ports, &mut banks);
-    accept(&rt, &mut near, &[None]);
-    post(&rt, &mut first, 0, 0);
-    post(&rt, &mut second, 0, 1);
-    post(&rt, &mut third, 1, 2);
-    accept(&rt, &mut near, &[Some(0), Some(1), None]);
-    accept(&rt, &mut far, &[Some(2), None]);
+    play(&rt, rt.alloc(), &OF_THE_PORT);
 }
+
+/// Both of two slots are held at the end.
+const BOTH_HELD: End = End {
+    free: &[],
+    held: 2,
+    left: &[],
+};
+
+const LAST_SLOT: Scene = Scene {
+    setting: Setting {
+        slots: 2,
+        sources: &[1; 2],
+        near: RAM_OF_ZEROS,
+        far: RAM_OF_ONES,
+        cast: Cast::Seats,
+    },
+    script: Script::Calls(&[
+        Seat(0, Send(READ, 1, Some(0))),
+        Seat(1, Send(READ, 0, Some(1))),
+        Desk(0, Accept(Some(1))),
+    ]),
+    end: BOTH_HELD,
+};
 
 #[test]
 fn a_pass_goes_to_the_last_slot(rt: HostRuntime) {
-    let Floor {
-        arena,
-        sources,
-        mut masters,
-        mut ports,
-        mut banks,
-    } = open_floor(&rt, rt.alloc(), 2);
-    let mut second = client(&rt, &arena, &sources, &mut masters);
-    let mut first = client(&rt, &arena, &sources, &mut masters);
-    let _far = shop(&rt, &arena, &mut ports, &mut banks);
-    let mut near = shop(&rt, &arena, &mut ports, &mut banks);
-    post(&rt, &mut first, 1, 0);
-    post(&rt, &mut second, 0, 1);
-    accept(&rt, &mut near, &[Some(1)]);
+    play(&rt, rt.alloc(), &LAST_SLOT);
 }
+
+/// The third and the fourth of four masters look for one of two slots from slot 1 on.
+const FROM_THE_FIRST: Scene = Scene {
+    setting: Setting {
+        slots: 2,
+        sources: &[1; 4],
+        near: RAM_OF_ZEROS,
+        far: RAM_OF_ONES,
+        cast: Cast::Seats,
+    },
+    script: Script::Calls(&[
+        Seat(3, Send(READ, 0, Some(1))),
+        Seat(2, Send(READ, 0, Some(0))),
+        Seat(1, Send(READ, 0, None)),
+    ]),
+    end: BOTH_HELD,
+};
 
 #[test]
 fn a_claim_goes_on_from_the_first_slot(rt: HostRuntime) {
-    let sources = sources_of(&rt, rt.alloc(), 4);
-    let banks = banks_of(&rt, rt.alloc(), 2);
-    let Floor {
-        arena,
-        sources,
-        mut masters,
-        ports: _,
-        banks: _,
-    } = floor_of(&rt, rt.alloc(), 2, sources, banks);
-    let mut fourth = client(&rt, &arena, &sources, &mut masters);
-    let mut third = client(&rt, &arena, &sources, &mut masters);
-    let mut second = client(&rt, &arena, &sources, &mut masters);
-    post(&rt, &mut fourth, 0, 1);
-    post(&rt, &mut third, 0, 0);
-    assert!(rt; second.send(&read(&rt, BASE), 0).is_none());
+    play(&rt, rt.alloc(), &FROM_THE_FIRST);
 }

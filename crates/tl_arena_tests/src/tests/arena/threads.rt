@@ -1,6 +1,8 @@
 //! Masters and ports on threads of their own.
-use super::client::Client;
-use super::floor::{BASE, Floor, client, open_floor, shop};
+use super::turns::TWO_MASTERS;
+use crate::tests::agents::caller::Seat;
+use crate::tests::floor::{BASE, Floor, open_floor};
+use crate::tests::stage::{Setting, Stage, stage_of};
 use std::thread::join;
 use tl_types::{Ask, AskOp, Reply, ReplyOp};
 
@@ -37,12 +39,12 @@ fn is_right(reply: &Reply, master: u16, turn: usize) -> bool {
 }
 
 /// How many turns a master made before one had not the right reply.
-fn work(client: &mut Client, master: u16) -> usize {
+fn work(seat: &mut Seat, master: u16) -> usize {
     for turn in 0..TURNS {
         let Some(ask) = ask_of(master, turn) else {
             return turn;
         };
-        match client.turn(&ask, turn / 2 % 2) {
+        match seat.turn(&ask, turn / 2 % 2) {
             Some(reply) if is_right(&reply, master, turn) => {}
             _ => return turn,
         }
@@ -50,19 +52,41 @@ fn work(client: &mut Client, master: u16) -> usize {
     TURNS
 }
 
+/// Two masters with one source each.
+const THREE_SLOTS: Setting = Setting {
+    slots: 3,
+    ..TWO_MASTERS
+};
+
 #[test]
 fn every_reply_of_two_masters_at_two_ports_is_right(rt: HostRuntime) {
+    let alloc = rt.alloc();
     let Floor {
         arena,
+        map,
         sources,
-        mut masters,
-        mut ports,
-        mut banks,
-    } = open_floor(&rt, rt.alloc(), 3);
-    let mut second = client(&rt, &arena, &sources, &mut masters);
-    let mut first = client(&rt, &arena, &sources, &mut masters);
-    let mut far = shop(&rt, &arena, &mut ports, &mut banks);
-    let mut near = shop(&rt, &arena, &mut ports, &mut banks);
+        masters,
+        ports,
+    } = open_floor(&rt, alloc, &THREE_SLOTS);
+    let Stage {
+        mut callers,
+        masters: _,
+        mut desks,
+        books: _,
+    } = stage_of(
+        &rt,
+        alloc,
+        &arena,
+        &map,
+        &sources,
+        masters,
+        ports,
+        THREE_SLOTS.cast,
+    );
+    let mut second = callers.pop().expect(&rt, "no master").into_seat();
+    let mut first = callers.pop().expect(&rt, "no master").into_seat();
+    let mut far = desks.pop().expect(&rt, "no port");
+    let mut near = desks.pop().expect(&rt, "no port");
     let (one, (two, _)) = join(
         &rt,
         || work(&mut first, 0),
@@ -70,7 +94,7 @@ fn every_reply_of_two_masters_at_two_ports_is_right(rt: HostRuntime) {
             join(
                 &rt,
                 || work(&mut second, 1),
-                || join(&rt, || near.serve(TURNS), || far.serve(TURNS)),
+                || join(&rt, || near.serve(&rt, TURNS), || far.serve(&rt, TURNS)),
             )
         },
     );

@@ -2,9 +2,10 @@
 //! about, each call has to succeed exactly where the core has a slot in the phase that the call needs.
 ghost use Rattle.std.specs.Prelude.{◌<◌};
 
-use super::agents::{Client, Desk};
-use super::floor::BASE;
-use super::stage::{Scene, play};
+use crate::tests::agents::desk::Desk;
+use crate::tests::agents::master::Client;
+use crate::tests::floor::{BASE, NO_DEVICE, RAM};
+use crate::tests::stage::{Cast, End, Scene, Script, Setting, Stage, play};
 use std::alloc::Global;
 use std::process::Abort;
 use tl_master::{IssueFault, Issued, Polled};
@@ -209,18 +210,31 @@ impl<'a> Walk<'a> {
         } = flight;
         self.tell(rt, Event::Collect(slot, master, port));
         self.tell(rt, Event::Release(slot, master, port));
-        self.out.retain(|other| other.slot != slot);
+        self.forget(slot);
         self.collections.note(true);
+    }
+
+    /// What is out in a slot is out no longer.
+    fn forget(&mut self, slot: usize) {
+        for place in 0..self.out.len() {
+            if self.out[place].slot == slot {
+                self.out.swap_remove(place);
+                return;
+            }
+        }
     }
 
     /// A port passes over the slots.
     fn accept(&mut self, rt: &impl Abort, number: usize) {
         let due = self.lowest_posted(number);
         let port = self.ports.get_mut(number).expect(rt, "no such port");
-        let slot = port.accept(rt);
-        assert!(rt; slot == due.map(|(slot, _)| slot));
-        if let Some((slot, owner)) = due {
-            self.tell(rt, Event::Accept(slot, owner, number));
+        let accepted = port.accept(rt);
+        match due {
+            None => assert!(rt; accepted.is_none()),
+            Some((slot, owner)) => {
+                assert!(rt; accepted == Some(slot));
+                self.tell(rt, Event::Accept(slot, owner, number));
+            }
         }
         self.passes.note(due.is_some());
     }
@@ -309,17 +323,11 @@ impl<'a> Walk<'a> {
 }
 
 /// Makes the calls of the walk, sees that each kind of call was often granted and often refused, and ends all turns.
-pub(super) fn walk_along<'a>(
-    rt: &impl Abort,
-    alloc: Global,
-    masters: Vec<Client<'a>>,
-    near: Desk<'a>,
-    far: Desk<'a>,
-) {
-    let ports = Vec::from_array(alloc, [near, far]).expect(rt, "memory");
+pub(in crate::tests) fn walk_along(rt: &impl Abort, alloc: Global, stage: Stage) {
+    let Stage { masters, desks, .. } = stage;
     let mut walk = Walk {
         masters,
-        ports,
+        ports: desks,
         core: Core::new(alloc, SLOTS, MASTERS, PORTS).expect(rt, "a core"),
         out: Vec::new(alloc),
         claims: Tally::NONE,
@@ -339,10 +347,24 @@ pub(super) fn walk_along<'a>(
     walk.leave(rt);
 }
 
+/// Three masters of four sources over four slots: all leave, and all slots are free.
+const SCENE: Scene = Scene {
+    setting: Setting {
+        slots: SLOTS,
+        sources: &[SOURCES; MASTERS],
+        near: RAM,
+        far: NO_DEVICE,
+        cast: Cast::Masters(LIMIT),
+    },
+    script: Script::Walk,
+    end: End {
+        free: &[0, 1, 2, 3],
+        held: 0,
+        left: &[0, 1, 2],
+    },
+};
+
 #[test]
 fn a_lone_walk_goes_as_the_core_says(rt: HostRuntime) {
-    let counts = [SOURCES; MASTERS];
-    let account = play(&rt, rt.alloc(), SLOTS, &counts, LIMIT, Scene::Walk);
-    assert!(rt; account.free.as_slice() == [0, 1, 2, 3].as_slice());
-    assert!(rt; (account.held.len(), account.left.len()) == (0, 3));
+    play(&rt, rt.alloc(), &SCENE);
 }

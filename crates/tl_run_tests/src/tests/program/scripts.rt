@@ -1,10 +1,10 @@
 //! Scripts that nobody means: the line and the status of each, from both engines, and that nothing is written.
-use super::{FIRST, expect_line, expect_printed, serial_run};
+use super::{Engine, bad_script, expect, outcome_of, text, whole};
+use crate::tests::serial::FIRST;
 use std::alloc::Global;
 use std::process::Abort;
 use std::sync::Wait;
 use std::thread::Threads;
-use tl_program::engine::threads::threads_engine;
 use tl_program::fault::RunFault;
 
 /// The first example's slots and port.
@@ -13,42 +13,19 @@ const HEAD: &str = "slots = 4\n[[port]]\nkind = \"ram\"\nbase = 0x1000\nlength =
 /// Its operations.
 const OPERATIONS: &str = "\"0 putfull 0x1000 2 11223344\", \"0 get 0x1000 2\"";
 
-/// A run has no text: it is told by this line, with status 1, and nothing is written.
-fn expect_refused(
-    rt: &impl Abort,
-    alloc: Global,
-    outcome: &Result<(), RunFault>,
-    written: &[u8],
-    line: &str,
-) {
-    match outcome {
-        Ok(()) => panic!(rt; "no fault"),
-        Err(fault) => expect_line(rt, alloc, fault, line, 1),
-    }
-    assert!(rt; written.is_empty());
-}
-
-/// What becomes of a script by threads, and what is written.
-fn threaded_run<T: Threads + Wait + Sync>(
-    rt: &T,
+/// What each engine tells of a bad script: this line, status 1, and nothing on its output.
+fn tells<R: Abort + Threads + Wait + Sync>(
+    rt: &R,
     alloc: Global,
     script: &[u8],
-) -> (Result<(), RunFault>, Vec<u8>) {
-    let mut reader = script;
-    let mut writer = Vec::new(alloc);
-    let outcome = threads_engine(rt, alloc, &mut reader, &mut writer, 1, false);
-    (outcome, writer)
+    line: &'static str,
+) {
+    for engine in [Engine::Serial, Engine::Threads(1)] {
+        expect(rt, alloc, engine, &whole(script, false), &bad_script(line));
+    }
 }
 
-/// What each engine tells of a bad script: this line, status 1, and nothing on its output.
-fn tells<R: Abort + Threads + Wait + Sync>(rt: &R, alloc: Global, script: &[u8], line: &str) {
-    let (outcome, written) = serial_run(alloc, script, false);
-    expect_refused(rt, alloc, &outcome, &written, line);
-    let (outcome, written) = threaded_run(rt, alloc, script);
-    expect_refused(rt, alloc, &outcome, &written, line);
-}
-
-const BAD: [(&[u8], &str); 4] = [
+const BAD: [(&[u8], &'static str); 4] = [
     (b"\xff", "script: not TOML"),
     (b"slots = \"4\"", "script: wrong type of slots"),
     (b"slots = 257", "script: slots out of range"),
@@ -79,8 +56,9 @@ const BAD_FIRST: &str = "script: master 0 operation 0: bad operation";
 
 const BAD_SECOND: &str = "script: master 0 operation 1: bad operation";
 
-/// The key of the port, the sources and the operations in place of the first example's, and the line that it is told by.
-const CHANGED: [(&str, u32, &str, &str); 5] = [
+/// The key of the port, the sources and the operations in place of the first example's, and the line that it is told
+/// by.
+const CHANGED: [(&str, u32, &str, &'static str); 5] = [
     (
         "reset = \"0\"\n",
         16,
@@ -106,20 +84,17 @@ fn the_first_example_with_one_thing_wrong(rt: HostRuntime) {
 fn the_last_address_is_read_at_the_error_port(rt: HostRuntime) {
     let script = changed_first(&rt, rt.alloc(), "", 16, "\"0 get 18446744073709551615 0\"");
     let trace = b"m0 s0 get 0xffffffffffffffff 0 -> AccessAckData denied 00 p1 #0\n";
-    expect_printed(&rt, rt.alloc(), script.as_bytes(), false, trace);
-}
-
-/// A script is bad, and nothing is written.
-fn expect_bad(rt: &impl Abort, alloc: Global, script: &[u8]) {
-    let (outcome, written) = serial_run(alloc, script, false);
-    assert!(rt; matches!(&outcome, Err(RunFault::Script(_))));
-    assert!(rt; written.is_empty());
+    let run = whole(script.as_bytes(), false);
+    expect(&rt, rt.alloc(), Engine::Serial, &run, &text(trace));
 }
 
 /// Each front of the first example but the whole without its last line's end is a bad script.
 #[test]
 fn a_front_of_the_first_example_prints_nothing(rt: HostRuntime) {
     for end in 0..FIRST.len() - 1 {
-        expect_bad(&rt, rt.alloc(), &FIRST[..end]);
+        let run = whole(&FIRST[..end], false);
+        let outcome = outcome_of(&rt, rt.alloc(), Engine::Serial, &run);
+        assert!(rt; matches!(&outcome.fault, Some(RunFault::Script(_))));
+        assert!(rt; outcome.written.is_empty());
     }
 }

@@ -1,7 +1,7 @@
 //! Runs of whole scripts. What they print is the same whatever the schedule.
 ghost use Rattle.std.specs.Prelude.{◌<◌, ◌≤◌};
 
-use super::run;
+use super::{expect_account, expect_book, run};
 use std::alloc::Global;
 use std::process::Abort;
 use std::sync::Wait;
@@ -47,27 +47,13 @@ fn read_in(rt: &impl Abort, alloc: Global, trace: &Trace) -> Vec<u8> {
 }
 
 /// Each of two masters gets the numbers that it puts.
-fn share_one_slot<R: Abort + Threads + Wait + Sync>(
-    rt: &R,
-    alloc: Global,
-    script: &str,
-    workers: usize,
-)
-    requires some { 1 ≤ workers }
-    requires few { workers ≤ 4 }
-{
+fn expect_numbers(rt: &impl Abort, alloc: Global, run: &ThreadedRun) {
     let numbers = (1..=250u8).collect::<Vec<u8>>(alloc).expect(rt, "memory");
-    let ThreadedRun {
-        traces,
-        account,
-        ..
-    } = run(rt, alloc, script.as_bytes(), workers, &OpenGate);
-    assert!(rt; traces.len() == 2);
-    for trace in &traces {
+    assert!(rt; run.traces.len() == 2);
+    for trace in &run.traces {
         assert!(rt; trace.len() == 500);
         assert!(rt; read_in(rt, alloc, trace) == numbers);
     }
-    assert!(rt; (account.free.len(), account.held.len()) == (1, 0));
 }
 
 #[test]
@@ -75,8 +61,11 @@ fn two_masters_share_one_slot(rt: HostRuntime) {
     let mut script = head(&rt, rt.alloc(), 1);
     push_master(&rt, &mut script, &puts_and_gets(&rt, rt.alloc(), 0x1000));
     push_master(&rt, &mut script, &puts_and_gets(&rt, rt.alloc(), 0x1020));
-    share_one_slot(&rt, rt.alloc(), &script, 1);
-    share_one_slot(&rt, rt.alloc(), &script, 4);
+    for workers in [1, 4] {
+        let run = run(&rt, rt.alloc(), script.as_bytes(), workers, &OpenGate);
+        expect_numbers(&rt, rt.alloc(), &run);
+        expect_account(&rt, &run, &[0], 2);
+    }
 }
 
 /// Runs a script, at whose end port 0 has these bytes, and a history of so many requests.
@@ -84,18 +73,12 @@ fn leaves<R: Abort + Threads + Wait + Sync>(
     rt: &R,
     alloc: Global,
     script: &str,
-    workers: usize,
     history: usize,
     bytes: &[(u64, u8)],
-)
-    requires some { 1 ≤ workers }
-    requires few { workers ≤ 4 }
-{
-    let ThreadedRun { books, .. } = run(rt, alloc, script.as_bytes(), workers, &OpenGate);
-    let book = books.first().expect(rt, "no book");
-    assert!(rt; book.history_len() == history);
-    for (address, byte) in bytes {
-        assert!(rt; book.byte(*address) == Some(*byte));
+) {
+    for workers in [1, 4] {
+        let run = run(rt, alloc, script.as_bytes(), workers, &OpenGate);
+        expect_book(rt, &run, history, bytes);
     }
 }
 
@@ -108,8 +91,7 @@ fn two_masters_add_to_one_word(rt: HostRuntime) {
     push_master(&rt, &mut script, &additions);
     push_master(&rt, &mut script, &additions);
     let left = [(0x1000, 200), (0x1001, 0), (0x1002, 0), (0x1003, 0)];
-    leaves(&rt, rt.alloc(), &script, 1, 200, &left);
-    leaves(&rt, rt.alloc(), &script, 4, 200, &left);
+    leaves(&rt, rt.alloc(), &script, 200, &left);
 }
 
 const CLEARING: &str =
@@ -118,8 +100,7 @@ const CLEARING: &str =
 #[test]
 fn two_masters_clear_their_own_bits(rt: HostRuntime) {
     let left = [(0x4000, 0), (0x4001, 0xff)];
-    leaves(&rt, rt.alloc(), CLEARING, 1, 6, &left);
-    leaves(&rt, rt.alloc(), CLEARING, 4, 6, &left);
+    leaves(&rt, rt.alloc(), CLEARING, 6, &left);
 }
 
 /// Numbers that look random, and are the same in each run of the tests.
@@ -161,26 +142,15 @@ impl Dice {
     }
 }
 
-/// Runs a script of four masters over two slots, which are free after it.
-fn all_slots_are_free<R: Abort + Threads + Wait + Sync>(
-    rt: &R,
-    alloc: Global,
-    script: &str,
-    workers: usize,
-)
-    requires some { 1 ≤ workers }
-    requires few { workers ≤ 4 }
-{
-    let ThreadedRun { account, .. } = run(rt, alloc, script.as_bytes(), workers, &OpenGate);
-    assert!(rt; account.free.as_slice() == [0, 1].as_slice());
-    assert!(rt; (account.held.len(), account.left.len()) == (0, 4));
-}
-
+/// Scripts of four masters over two slots.
 #[test]
 fn random_scripts_end_with_all_slots_free(rt: HostRuntime) {
     let mut dice = Dice(2026);
     for _ in 0..100u32 {
-        all_slots_are_free(&rt, rt.alloc(), &dice.script(&rt, rt.alloc()), 1);
-        all_slots_are_free(&rt, rt.alloc(), &dice.script(&rt, rt.alloc()), 4);
+        for workers in [1, 4] {
+            let script = dice.script(&rt, rt.alloc());
+            let run = run(&rt, rt.alloc(), script.as_bytes(), workers, &OpenGate);
+            expect_account(&rt, &run, &[0, 1], 4);
+        }
     }
 }

@@ -1,0 +1,226 @@
+//! Two threads at one arena, and a port behind its lock.
+ghost use Rattle.std.specs.Prelude.{◌≡◌, ◌+◌, ◌≤◌, length};
+
+use super::TWO_MASTERS;
+use crate::tests::agents::book::Keeper;
+use crate::tests::agents::master::{Client, MasterCall, read};
+use crate::tests::floor::{Floor, open_floor};
+use crate::tests::stage::{Call, Cast, Setting, Stage, stage_of};
+use std::marker::Brand;
+use std::process::Abort;
+use std::sync::Wait;
+use std::thread;
+use std::thread::Threads;
+use tl_arena::{Arena, ArenaName};
+use tl_map::Map;
+use tl_master::{Master, Polled};
+use tl_port::{Book, Intake, Port};
+use tl_types::Ask;
+
+/// A master, and the slots of two requests that it issues.
+fn issue_two(
+    arena: &Arena,
+    map: &Map,
+    mut master: Master,
+    asks: &[Ask; 2],
+) -> (Master, Option<[usize; 2]>)
+    requires arena { master.seat.arena ≡ arena.now }
+    requires ports { length map.now + 1 ≤ arena.now.about.ports }
+    ensures { result.0.seat.arena ≡ arena.now }
+{
+    let first = master.issue(arena, map, &asks[0]);
+    let second = master.issue(arena, map, &asks[1]);
+    match (first, second) {
+        (Ok(first), Ok(second)) => (master, Some([first.slot, second.slot])),
+        _ => (master, None),
+    }
+}
+
+/// Both masters issue twice, each on a thread of its own. The answer is both, and where each slot was claimed.
+fn issue_at_once<'a, R: Threads + Wait + Sync>(
+    rt: &R,
+    one: Client<'a>,
+    two: Client<'a>,
+    asks: &[Ask; 2],
+) -> (Client<'a>, Client<'a>, Option<([usize; 2], [usize; 2])>) {
+    let Client { arena, map, master } = one;
+    let (first_arena, first_map, first) = (arena, map, master);
+    let Client { arena, map, master } = two;
+    let ((first, one), (second, two)) = thread::join(
+        rt,
+        || -> (Master, Option<[usize; 2]>)
+            requires { (first.seat.arena ≡ first_arena.now)
+                × (length first_map.now + 1 ≤ first_arena.now.about.ports) }
+            ensures { result.0.seat.arena ≡ first_arena.entry.now }
+        { issue_two(first_arena, first_map, first, asks) },
+        || -> (Master, Option<[usize; 2]>)
+            requires { (master.seat.arena ≡ arena.now)
+                × (length map.now + 1 ≤ arena.now.about.ports) }
+            ensures { result.0.seat.arena ≡ arena.entry.now }
+        { issue_two(arena, map, master, asks) },
+    );
+    let first = Client {
+        arena: first_arena,
+        map: first_map,
+        master: first,
+    };
+    let second = Client {
+        arena,
+        map,
+        master: second,
+    };
+    (first, second, one.zip(two))
+}
+
+/// The slots of four requests are all four slots, and the port serves as many requests.
+fn serve_four(rt: &impl Abort, keeper: &mut Keeper, one: [usize; 2], two: [usize; 2]) {
+    let claimed = [one[0], one[1], two[0], two[1]];
+    for slot in 0..4 {
+        assert!(rt; claimed.contains(&slot));
+        keeper.take_and_serve(rt);
+    }
+}
+
+/// Collects both replies of a master, which then leaves.
+fn collect_two(rt: &impl Abort, mut client: Client) {
+    for source in 0..2 {
+        assert!(rt; matches!(client.poll(source), Polled::Done(_)));
+    }
+    assert!(rt; client.finish(rt).len() == 2);
+}
+
+/// Both masters issue twice at once, and collect all.
+fn claim_four<R: Abort + Threads + Wait + Sync>(rt: &R, stage: Stage) {
+    let Stage {
+        mut masters,
+        mut books,
+        ..
+    } = stage;
+    let second = masters.pop().expect(rt, "no master");
+    let first = masters.pop().expect(rt, "no master");
+    let asks = [read(rt, 0), read(rt, 1)];
+    let (first, second, slots) = issue_at_once(rt, first, second, &asks);
+    let (one, two) = slots.expect(rt, "not issued");
+    let keeper = books.first_mut().expect(rt, "no book");
+    serve_four(rt, keeper, one, two);
+    collect_two(rt, first);
+    collect_two(rt, second);
+}
+
+#[test]
+fn two_threads_claim_four_slots(rt: HostRuntime) {
+    let Floor {
+        arena,
+        map,
+        sources,
+        masters,
+        ports,
+    } = open_floor(&rt, rt.alloc(), &TWO_MASTERS);
+    {
+        let cast = TWO_MASTERS.cast;
+        let alloc = rt.alloc();
+        let stage = stage_of(&rt, alloc, &arena, &map, &sources, masters, ports, cast);
+        claim_four(&rt, stage);
+    }
+    let account = arena.close(rt.alloc()).expect(&rt, "memory");
+    assert!(rt; account.free.as_slice() == [0, 1, 2, 3].as_slice());
+    assert!(rt; (account.held.len(), account.left.len()) == (0, 2));
+}
+
+/// Each call of a port, by one thread: it does what the book's call of that name does.
+fn through_the_lock<N: ArenaName, R: Abort + Wait>(rt: &R, arena: &Arena, book: Book) -> Book
+    requires arena { arena.now ≡ N.arena }
+    requires book { book.seat.arena ≡ N.arena }
+{
+    let port = Port::<N>::new(book);
+    assert!(rt; port.intake(rt, arena) == Intake::Taken(5));
+    assert!(rt; port.intake(rt, arena) == Intake::Nothing);
+    assert!(rt; port.in_flight_len(rt) == 1);
+    assert!(rt; port.serve(rt, arena) == Some(0));
+    assert!(rt; port.in_flight_len(rt) == 0);
+    assert!(rt; port.serve(rt, arena) == None);
+    let step = port.step(rt, arena);
+    assert!(rt; (step.intake, step.index, step.source) == (Intake::Nothing, None, None));
+    port.into_book()
+}
+
+/// One request is posted, and the port's book goes through its lock.
+fn lock<R: Abort + Wait>(rt: &R, mut stage: Stage) {
+    stage.play_all(rt, &[Call::Master(0, MasterCall::Issue(5, 0))]);
+    let Keeper { arena, book } = stage.books.pop().expect(rt, "no book");
+    let book = through_the_lock::<Brand, R>(rt, arena, book);
+    assert!(rt; (book.history_len(), book.in_flight_len()) == (1, 0));
+}
+
+#[test]
+fn a_port_does_what_its_book_does(rt: HostRuntime) {
+    let Floor {
+        arena,
+        map,
+        sources,
+        masters,
+        ports,
+    } = open_floor(&rt, rt.alloc(), &TWO_MASTERS);
+    let cast = TWO_MASTERS.cast;
+    let alloc = rt.alloc();
+    lock(
+        &rt,
+        stage_of(&rt, alloc, &arena, &map, &sources, masters, ports, cast),
+    );
+}
+
+/// The same over eight slots, with room for six entries.
+const EIGHT_SLOTS: Setting = Setting {
+    slots: 8,
+    cast: Cast::Book(6),
+    ..TWO_MASTERS
+};
+
+/// Three steps of a worker.
+fn steps<N: ArenaName>(rt: &impl Wait, port: &Port<N>, arena: &Arena)
+    requires { arena.now ≡ N.arena }
+{
+    for _ in 0..3 {
+        port.step(rt, arena);
+    }
+}
+
+/// Two workers step one port.
+fn work<N: ArenaName + Send + Sync, R: Threads + Wait + Sync>(
+    rt: &R,
+    arena: &Arena,
+    book: Book,
+) -> Book
+    requires arena { arena.now ≡ N.arena }
+    requires book { book.seat.arena ≡ N.arena }
+{
+    let port = Port::<N>::new(book);
+    thread::join(rt, || steps(rt, &port, arena), || steps(rt, &port, arena));
+    port.into_book()
+}
+
+/// Six requests are posted, and two workers step the port.
+fn step_six<R: Abort + Threads + Wait + Sync>(rt: &R, mut stage: Stage) {
+    stage.play_all(rt, &[Call::Master(0, MasterCall::IssueUpTo(6))]);
+    let Keeper { arena, book } = stage.books.pop().expect(rt, "no book");
+    let book = work::<Brand, R>(rt, arena, book);
+    assert!(rt; book.history_len() == 6);
+    assert!(rt; book.in_flight_len() == 0);
+}
+
+#[test]
+fn two_threads_step_one_port(rt: HostRuntime) {
+    let Floor {
+        arena,
+        map,
+        sources,
+        masters,
+        ports,
+    } = open_floor(&rt, rt.alloc(), &EIGHT_SLOTS);
+    let cast = EIGHT_SLOTS.cast;
+    let alloc = rt.alloc();
+    step_six(
+        &rt,
+        stage_of(&rt, alloc, &arena, &map, &sources, masters, ports, cast),
+    );
+}
