@@ -10,6 +10,7 @@ mod systems;
 mod texts;
 
 use std::alloc::Global;
+use std::process::Abort;
 use tl_script::{ScriptFault, read_system};
 use tl_types::Bytes;
 
@@ -18,15 +19,18 @@ fn fault_of(alloc: Global, script: &[u8]) -> Option<ScriptFault> {
     read_system(alloc, script).err()
 }
 
-/// Whether these are the bytes.
-fn are(bytes: &Bytes, given: &[Option<u8>]) -> bool {
-    if bytes.len() != given.len() {
-        return false;
+/// What a row shows, or a step, holds. A call of this is cheaper to prove than an `assert!`, since it has no paths.
+fn holds(rt: &impl Abort, row: &str, whether: bool) {
+    assert!(rt; whether, "{row}");
+}
+
+/// No byte, in a list of bytes.
+const NO: u16 = 0x100;
+
+/// These are the bytes, of which `NO` is none.
+fn has_bytes(rt: &impl Abort, row: &str, bytes: &Bytes, given: &[u16]) {
+    assert!(rt; bytes.len() == given.len());
+    for place in 0..given.len() {
+        holds(rt, row, bytes.get(place) == u8::try_from(given[place]).ok());
     }
-    for place in 0..bytes.len() {
-        if bytes.get(place) != given[place] {
-            return false;
-        }
-    }
-    true
 }

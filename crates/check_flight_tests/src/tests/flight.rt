@@ -1,5 +1,4 @@
 //! What is in flight: all orders, devices, denied requests, replies that cross, and refused memory.
-mod contested;
 mod crossed;
 mod refused;
 mod scene;

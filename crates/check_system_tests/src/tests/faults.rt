@@ -1,16 +1,21 @@
 //! Files with faults: the line of each, and which of two faults is told.
-use super::fault_line;
+use super::{Part, has_line};
 use std::alloc::Global;
 use std::process::Abort;
 
 /// A part of a file, and the line of the file's fault.
-type Row = (&'static str, &'static str);
+pub type Row = (&'static str, &'static str);
 
-/// Each part makes a file that has its row's line. The part stands after the head.
-fn have_lines(rt: &impl Abort, alloc: Global, head: &str, rows: &[Row]) {
-    for (part, line) in rows {
-        let file = format!(in alloc; "{head}{part}\n").expect(rt, "memory");
-        assert_eq!(rt; fault_line(rt, alloc, file.as_bytes()).as_str(), *line);
+/// What stands before each part of these rows.
+pub type Rows = (&'static str, &'static [Row]);
+
+/// Each part after its head makes a file that has its row's line.
+pub fn have_lines(rt: &impl Abort, alloc: Global, read: Part, tables: &[Rows]) {
+    for (head, rows) in tables {
+        for (part, line) in *rows {
+            let file = format!(in alloc; "{head}{part}\n").expect(rt, "memory");
+            has_line(rt, alloc, read, file.as_str(), line);
+        }
     }
 }
 
@@ -37,11 +42,6 @@ const DOCUMENTS: [Row; 18] = [
     ("port = [{ kind = 'ram' }]", "system: missing base"),
 ];
 
-#[test]
-fn documents_have_faults(rt: HostRuntime) {
-    have_lines(&rt, rt.alloc(), "", &DOCUMENTS);
-}
-
 const NAMES: [Row; 14] = [
     ("name = 1", "system: wrong type of name"),
     ("name = 1\nkind = 1", "system: wrong type of name"),
@@ -59,11 +59,6 @@ const NAMES: [Row; 14] = [
     ("name = 's0'", "system: missing kind"),
     ("name = 'Uart_0.rx-9'", "system: missing kind"),
 ];
-
-#[test]
-fn names_have_faults(rt: HostRuntime) {
-    have_lines(&rt, rt.alloc(), "[[port]]\n", &NAMES);
-}
 
 const PLAIN_PORTS: [Row; 13] = [
     ("base = 0\nlength = 1", "system: missing kind"),
@@ -107,11 +102,6 @@ const PLAIN_PORTS: [Row; 13] = [
     ),
 ];
 
-#[test]
-fn plain_ports_have_faults(rt: HostRuntime) {
-    have_lines(&rt, rt.alloc(), "[[port]]\n", &PLAIN_PORTS);
-}
-
 const RANGES: [Row; 18] = [
     ("ranges = 1", "system: wrong type of ranges"),
     ("ranges = [1]", "system: wrong type of ranges"),
@@ -138,11 +128,6 @@ const RANGES: [Row; 18] = [
     ("ranges = [[0, 1], [8, 8]]", "system: missing master"),
 ];
 
-#[test]
-fn ranges_have_faults(rt: HostRuntime) {
-    have_lines(&rt, rt.alloc(), "[[port]]\nkind = 'ram'\n", &RANGES);
-}
-
 const RESETS_AND_ORDERS: [Row; 10] = [
     ("reset = 1", "system: wrong type of reset"),
     ("reset = '0'", "system: reset out of range"),
@@ -156,12 +141,6 @@ const RESETS_AND_ORDERS: [Row; 10] = [
     ("reset = '0'\norder = 1", "system: reset out of range"),
     ("order = 'reply'", "system: missing master"),
 ];
-
-#[test]
-fn resets_and_orders_have_faults(rt: HostRuntime) {
-    let head = "[[port]]\nkind = 'ram'\nranges = [[0, 2], [8, 8]]\n";
-    have_lines(&rt, rt.alloc(), head, &RESETS_AND_ORDERS);
-}
 
 const MASTERS: [Row; 16] = [
     ("name = 1\nsources = 0", "system: wrong type of name"),
@@ -201,11 +180,6 @@ const MASTERS: [Row; 16] = [
     ),
 ];
 
-#[test]
-fn masters_have_faults(rt: HostRuntime) {
-    have_lines(&rt, rt.alloc(), "[[master]]\n", &MASTERS);
-}
-
 /// The first of two masters. If one of them has a first wide source, the other has to have one.
 const TWO_MASTERS: [Row; 6] = [
     ("[[master]]", "system: missing sources"),
@@ -228,11 +202,6 @@ const TWO_MASTERS: [Row; 6] = [
         "system: wrong type of stride",
     ),
 ];
-
-#[test]
-fn two_masters_have_faults(rt: HostRuntime) {
-    have_lines(&rt, rt.alloc(), "[[master]]\nsources = 1\n", &TWO_MASTERS);
-}
 
 /// Files whose tables have no fault each: two names, two ranges or two masters' sources do not go together.
 const PARTS: [Row; 16] = [
@@ -301,7 +270,21 @@ const PARTS: [Row; 16] = [
     ),
 ];
 
+const FILES: [Rows; 8] = [
+    ("", &DOCUMENTS),
+    ("[[port]]\n", &NAMES),
+    ("[[port]]\n", &PLAIN_PORTS),
+    ("[[port]]\nkind = 'ram'\n", &RANGES),
+    (
+        "[[port]]\nkind = 'ram'\nranges = [[0, 2], [8, 8]]\n",
+        &RESETS_AND_ORDERS,
+    ),
+    ("[[master]]\n", &MASTERS),
+    ("[[master]]\nsources = 1\n", &TWO_MASTERS),
+    ("", &PARTS),
+];
+
 #[test]
-fn parts_have_faults(rt: HostRuntime) {
-    have_lines(&rt, rt.alloc(), "", &PARTS);
+fn files_have_faults(rt: HostRuntime) {
+    have_lines(&rt, rt.alloc(), Part::System, &FILES);
 }

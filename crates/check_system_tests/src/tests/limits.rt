@@ -1,5 +1,5 @@
 //! How long a file may be, and how much it may say.
-use super::fault_line;
+use super::{Part, has_line, holds, read_system};
 use check_description::MAX_SYSTEM;
 use check_keys::MAX_NAME;
 use check_map::{MAX_MASTERS, MAX_PORTS, MAX_RANGES};
@@ -8,128 +8,151 @@ use std::process::Abort;
 
 #[test]
 fn limits_in_numbers(rt: HostRuntime) {
-    assert!(rt; MAX_SYSTEM == 1_048_576);
-    assert!(rt; MAX_PORTS == 255);
-    assert!(rt; MAX_RANGES == 16);
-    assert!(rt; MAX_MASTERS == 64);
-    assert!(rt; MAX_NAME == 32);
+    holds(&rt, "MAX_SYSTEM", MAX_SYSTEM == 1_048_576);
+    holds(&rt, "MAX_PORTS", MAX_PORTS == 255);
+    holds(&rt, "MAX_RANGES", MAX_RANGES == 16);
+    holds(&rt, "MAX_MASTERS", MAX_MASTERS == 64);
+    holds(&rt, "MAX_NAME", MAX_NAME == 32);
 }
 
-/// Whether the fault of a file has this line. No line stands for no fault.
-fn has_line(rt: &impl Abort, alloc: Global, file: &[u8], line: &str) -> bool {
-    fault_line(rt, alloc, file).as_str() == line
+/// A part of a file, many times: what is read, what stands before it, the part, how often, what stands behind it, and the
+/// line of the file's fault.
+type Row = (
+    Part,
+    &'static str,
+    &'static str,
+    usize,
+    &'static str,
+    &'static str,
+);
+
+const MASTER: &str = "[[master]]\nsources = 256\n";
+
+const NAME: &str = "[[master]]\nsources = 1\nname = '";
+
+const DEVICE: &str = "[[port]]\nkind = 'device'\nbase = 0\nlength = 1\n";
+
+const REPEATED: [Row; 6] = [
+    (Part::System, "", MASTER, 64, "", ""),
+    (
+        Part::System,
+        "",
+        MASTER,
+        65,
+        "",
+        "system: master out of range",
+    ),
+    (Part::System, NAME, "n", 32, "'", ""),
+    (
+        Part::System,
+        NAME,
+        "n",
+        33,
+        "'",
+        "system: name out of range",
+    ),
+    (Part::Ports, "", DEVICE, 255, "", ""),
+    (
+        Part::Ports,
+        "",
+        DEVICE,
+        256,
+        "",
+        "system: port out of range",
+    ),
+];
+
+/// The same part many times.
+fn try_repeated(rt: &impl Abort, alloc: Global, rows: &[Row]) {
+    for (read, head, part, count, tail, line) in rows {
+        let parts = part.repeat(alloc, *count).expect(rt, "memory");
+        let file = format!(in alloc; "{head}{parts}{tail}").expect(rt, "memory");
+        has_line(rt, alloc, *read, file.as_str(), line);
+    }
 }
+
+#[test]
+fn masters_names_and_ports_have_a_most(rt: HostRuntime) {
+    try_repeated(&rt, rt.alloc(), &REPEATED);
+}
+
+/// A part of a file, with numbers from 0 on: what stands before all, before each number and behind it, how many numbers
+/// there are, what stands behind all, and the line of the file's fault.
+type Numbered = (
+    &'static str,
+    &'static str,
+    &'static str,
+    u32,
+    &'static str,
+    &'static str,
+);
 
 /// Ports of one byte each, and a master.
-fn with_ports(rt: &impl Abort, alloc: Global, count: u32) -> String {
-    let mut file = String::new(alloc);
-    for port in 0..count {
-        let table = format!(in alloc; "[[port]]\nkind = 'rom'\nbase = {port}\nlength = 1\n");
-        file.push_str(table.expect(rt, "memory").as_str())
-            .expect(rt, "memory");
-    }
-    file.push_str("[[master]]\nsources = 1\n")
-        .expect(rt, "memory");
-    file
-}
+const PORT: &str = "[[port]]\nkind = 'rom'\nbase = ";
 
-#[test]
-fn ports_have_a_most(rt: HostRuntime) {
-    let file = with_ports(&rt, rt.alloc(), 255);
-    assert!(rt; has_line(&rt, rt.alloc(), file.as_bytes(), ""));
-    let file = with_ports(&rt, rt.alloc(), 256);
-    assert!(rt;
-        has_line(
-            &rt,
-            rt.alloc(),
-            file.as_bytes(),
-            "system: port out of range"
-        )
-    );
-}
+const LENGTH: &str = "\nlength = 1\n";
 
-/// A part of a file, many times.
-fn repeated(
-    rt: &impl Abort,
-    alloc: Global,
-    head: &str,
-    part: &str,
-    count: u32,
-    tail: &str,
-) -> String {
-    let mut text = String::from_str(alloc, head).expect(rt, "memory");
-    for _ in 0..count {
-        text.push_str(part).expect(rt, "memory");
-    }
-    text.push_str(tail).expect(rt, "memory");
-    text
-}
-
-#[test]
-fn masters_have_a_most(rt: HostRuntime) {
-    let part = "[[master]]\nsources = 256\n";
-    let file = repeated(&rt, rt.alloc(), "", part, 64, "");
-    assert!(rt; has_line(&rt, rt.alloc(), file.as_bytes(), ""));
-    let file = repeated(&rt, rt.alloc(), "", part, 65, "");
-    assert!(rt;
-        has_line(
-            &rt,
-            rt.alloc(),
-            file.as_bytes(),
-            "system: master out of range"
-        )
-    );
-}
+const ONE_MASTER: &str = "[[master]]\nsources = 1\n";
 
 /// Ranges of one byte each, in one port.
-fn with_ranges(rt: &impl Abort, alloc: Global, count: u32) -> String {
-    let head = "master = [{ sources = 1 }]\n[[port]]\nkind = 'ram'\nranges = [";
+const ONE_PORT: &str = "master = [{ sources = 1 }]\n[[port]]\nkind = 'ram'\nranges = [";
+
+const NUMBERED: [Numbered; 4] = [
+    ("", PORT, LENGTH, 255, ONE_MASTER, ""),
+    (
+        "",
+        PORT,
+        LENGTH,
+        256,
+        ONE_MASTER,
+        "system: port out of range",
+    ),
+    (ONE_PORT, "[", ", 1],", 16, "]\n", ""),
+    (
+        ONE_PORT,
+        "[",
+        ", 1],",
+        17,
+        "]\n",
+        "system: ranges out of range",
+    ),
+];
+
+/// A part with each number.
+fn try_numbered(rt: &impl Abort, alloc: Global, row: &Numbered) {
+    let (head, before, behind, count, tail, line) = *row;
     let mut file = String::from_str(alloc, head).expect(rt, "memory");
-    for range in 0..count {
-        let pair = format!(in alloc; "[{range}, 1],");
-        file.push_str(pair.expect(rt, "memory").as_str())
-            .expect(rt, "memory");
+    for number in 0..count {
+        let part = format!(in alloc; "{before}{number}{behind}").expect(rt, "memory");
+        file.push_str(part.as_str()).expect(rt, "memory");
     }
-    file.push_str("]\n").expect(rt, "memory");
-    file
+    file.push_str(tail).expect(rt, "memory");
+    has_line(rt, alloc, Part::System, file.as_str(), line);
+}
+
+fn try_all_numbered(rt: &impl Abort, alloc: Global, rows: &[Numbered]) {
+    for row in rows {
+        try_numbered(rt, alloc, row);
+    }
 }
 
 #[test]
-fn ranges_have_a_most(rt: HostRuntime) {
-    let file = with_ranges(&rt, rt.alloc(), 16);
-    assert!(rt; has_line(&rt, rt.alloc(), file.as_bytes(), ""));
-    let file = with_ranges(&rt, rt.alloc(), 17);
-    assert!(rt;
-        has_line(
-            &rt,
-            rt.alloc(),
-            file.as_bytes(),
-            "system: ranges out of range"
-        )
-    );
+fn ports_and_ranges_have_a_most(rt: HostRuntime) {
+    try_all_numbered(&rt, rt.alloc(), &NUMBERED);
 }
 
-#[test]
-fn names_have_a_most(rt: HostRuntime) {
-    let head = "[[master]]\nsources = 1\nname = '";
-    let file = repeated(&rt, rt.alloc(), head, "n", 32, "'");
-    assert!(rt; has_line(&rt, rt.alloc(), file.as_bytes(), ""));
-    let file = repeated(&rt, rt.alloc(), head, "n", 33, "'");
-    assert!(rt;
-        has_line(
-            &rt,
-            rt.alloc(),
-            file.as_bytes(),
-            "system: name out of range"
-        )
-    );
+/// The fault of bytes has this line.
+fn have_line(rt: &impl Abort, alloc: Global, file: &[u8], line: &str) {
+    let fault = read_system(alloc, file).err().expect(rt, line);
+    let told = format!(in alloc; "{fault}").expect(rt, "memory");
+    holds(rt, line, told.as_str() == line);
 }
 
 #[test]
 fn files_have_a_most(rt: HostRuntime) {
     let mut file = Vec::from_elem(rt.alloc(), b'#', 1_048_576).expect(&rt, "memory");
-    assert!(rt; has_line(&rt, rt.alloc(), &file, "system: missing master"));
+    have_line(&rt, rt.alloc(), &file, "system: missing master");
     file.push(0xff).expect(&rt, "memory");
-    assert!(rt; has_line(&rt, rt.alloc(), &file, "system: longer than 1048576 bytes"));
-    assert!(rt; has_line(&rt, rt.alloc(), b"\xff", "system: not TOML"));
+    have_line(&rt, rt.alloc(), &file, "system: longer than 1048576 bytes");
+    have_line(&rt, rt.alloc(), b"\xff", "system: not TOML");
 }

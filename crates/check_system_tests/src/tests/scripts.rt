@@ -1,5 +1,5 @@
 //! Scripts of tlx, read as system files.
-use super::system_of;
+use super::{holds, system_of};
 use check_description::Description;
 use check_ports::{Port, PortKind};
 use std::alloc::Global;
@@ -35,59 +35,54 @@ sources = 1
 ops = ['wait', '0 get 0 0']
 ";
 
-/// Whether the port's bytes at reset are the device's, but for the zeros after them.
-fn has_same_reset(device: &Device, port: &Port) -> bool {
-    device.reset.starts_with(&port.contents.reset)
-        && device
-            .reset
-            .iter()
-            .skip(port.contents.reset.len())
-            .all(|byte| *byte == 0)
-}
-
-/// Whether the port is the device's: its kind, its one range and its bytes.
-fn is_same_port(device: &Device, port: &Port) -> bool {
+/// The port is the device: its kind, its one range and its bytes. The zeros at the end of the device's are not in the file.
+fn is_same_port(rt: &impl Abort, device: &Device, port: &Port) {
     let [range] = port.ranges.as_slice() else {
-        return false;
+        panic!(rt; "one range");
     };
-    port.kind == PortKind::Memory(device.kind)
-        && device.base == range.base
-        && device.reset.len() as u64 == range.length
-        && has_same_reset(device, port)
+    holds(rt, "its kind", port.kind == PortKind::Memory(device.kind));
+    holds(rt, "its base", device.base == range.base);
+    holds(rt, "its length", device.reset.len() as u64 == range.length);
+    let reset = port.contents.reset.as_slice();
+    for place in 0..device.reset.len() {
+        let byte = reset.get(place).copied().unwrap_or(0);
+        holds(rt, "a byte", device.reset[place] == byte);
+    }
+    holds(rt, "its bytes", reset.len() <= device.reset.len());
 }
 
-fn have_same_ports(script: &Script, system: &Description) -> bool {
-    script.devices().len() == system.ports().len()
-        && script
-            .devices()
-            .iter()
-            .zip(system.ports().iter())
-            .all(|(device, port)| is_same_port(device, port))
-}
-
-/// Whether the master's sources here are those of its block there.
-fn has_same_sources(script: &Script, system: &Description, master: usize) -> bool {
-    match (script.sources().count(master), system.sources().at(master)) {
-        (Some(count), Some(owner)) => {
-            owner.count == u32::from(count)
-                && system.sources().widen(master, 0) == script.sources().widen(master, 0)
-                && system.sources().widen(master, count.saturating_sub(1))
-                    == script.sources().widen(master, count.saturating_sub(1))
-        }
-        _ => false,
+/// The master's sources here are those of its block there.
+fn has_same_sources(rt: &impl Abort, script: &Script, system: &Description, master: usize) {
+    let count = script.sources().count(master).expect(rt, "a master");
+    let owner = system.sources().at(master).expect(rt, "a master");
+    holds(rt, "its sources", owner.count == u32::from(count));
+    for source in [0, count.saturating_sub(1)] {
+        let wide = script.sources().widen(master, source);
+        holds(
+            rt,
+            "a source",
+            system.sources().widen(master, source) == wide,
+        );
     }
 }
 
-fn are_same(rt: &impl Abort, alloc: Global, text: &str, masters: usize) -> bool {
+/// A script is a system file of the same ports and masters.
+fn are_same(rt: &impl Abort, alloc: Global, text: &str, masters: usize) {
     let script = read_script(alloc, text.as_bytes()).expect(rt, "a script");
     let system = system_of(rt, alloc, text);
-    have_same_ports(&script, &system)
-        && system.sources().masters() == masters
-        && (0..masters).all(|master| has_same_sources(&script, &system, master))
+    let (devices, ports) = (script.devices(), system.ports());
+    assert!(rt; devices.len() == ports.len());
+    for place in 0..devices.len() {
+        is_same_port(rt, &devices[place], &ports[place]);
+    }
+    holds(rt, "masters", system.sources().masters() == masters);
+    for master in 0..masters {
+        has_same_sources(rt, &script, &system, master);
+    }
 }
 
 #[test]
 fn a_script_is_a_system_file(rt: HostRuntime) {
-    assert!(rt; are_same(&rt, rt.alloc(), FIRST, 1));
-    assert!(rt; are_same(&rt, rt.alloc(), SEVERAL, 2));
+    are_same(&rt, rt.alloc(), FIRST, 1);
+    are_same(&rt, rt.alloc(), SEVERAL, 2);
 }

@@ -1,9 +1,12 @@
 //! The systems that files describe.
-use super::system_of;
-use check_description::{Description, Master};
+use super::{Keys, have_keys, holds, is_text, system_of};
+use check_beats::Bus;
+use check_description::Description;
 use check_flight::Order;
 use check_map::Owner;
-use check_ports::{Port, PortKind};
+use check_ports::PortKind;
+use std::alloc::Global;
+use std::process::Abort;
 use tl_map::Range;
 use tl_ops::Kind;
 
@@ -42,142 +45,184 @@ first = 1
 ops = 1
 ";
 
-/// Whether the port has this name, or none.
-fn has_name(name: &Option<String>, given: &str) -> bool {
-    match name {
-        Some(name) => name.as_str() == given,
-        None => given.is_empty(),
-    }
-}
+/// The ports of the controller, in their order. Its bus is that of each port.
+const PORTS: [Keys; 4] = [
+    Keys {
+        name: "flash",
+        kind: PortKind::Memory(Kind::Rom),
+        ranges: &[Range {
+            base: 0x2000_0000,
+            length: 0x10_0000,
+        }],
+        reset: &[0, 0xab, 0xcd],
+        image: "",
+        unknown: false,
+        order: None,
+        bus: Bus::Four,
+    },
+    Keys {
+        name: "",
+        kind: PortKind::Memory(Kind::Ram),
+        ranges: &[
+            Range {
+                base: 0x1000_0000,
+                length: 0x2_0000,
+            },
+            Range {
+                base: 0x3000_0000,
+                length: 0x2_0000,
+            },
+        ],
+        reset: &[],
+        image: "",
+        unknown: false,
+        order: Some(Order::Reply),
+        bus: Bus::Four,
+    },
+    Keys {
+        name: "UART.0",
+        kind: PortKind::Memory(Kind::Regs),
+        ranges: &[Range {
+            base: 0x7fff_ffff_ffff_ffff,
+            length: 1,
+        }],
+        reset: &[],
+        image: "",
+        unknown: false,
+        order: Some(Order::Accept),
+        bus: Bus::Four,
+    },
+    Keys {
+        name: "",
+        kind: PortKind::Memory(Kind::ClearRegs),
+        ranges: &[Range { base: 0, length: 4 }],
+        reset: &[0xff],
+        image: "",
+        unknown: false,
+        order: None,
+        bus: Bus::Four,
+    },
+];
 
-/// Whether the port has this kind, these bytes at reset and this order.
-fn has_keys(port: &Port, name: &str, kind: Kind, reset: &[u8], order: Option<Order>) -> bool {
-    has_name(&port.name, name)
-        && port.kind == PortKind::Memory(kind)
-        && port.contents.reset.as_slice() == reset
-        && port.order == order
-}
-
-fn has_ranges(port: &Port, ranges: &[Range]) -> bool {
-    port.ranges.as_slice() == ranges
-}
-
-/// Whether there is a port with this number and these keys.
-fn has_port(
-    system: &Description,
-    port: usize,
-    name: &str,
-    kind: Kind,
-    reset: &[u8],
-    order: Option<Order>,
-) -> bool {
-    match system.ports().get(port) {
-        Some(port) => has_keys(port, name, kind, reset, order),
-        None => false,
-    }
-}
-
-fn has_port_ranges(system: &Description, port: usize, ranges: &[Range]) -> bool {
-    match system.ports().get(port) {
-        Some(port) => has_ranges(port, ranges),
-        None => false,
-    }
-}
-
-fn is_master(master: &Master, name: &str, sources: u32, first: Option<u16>, stride: u16) -> bool {
-    has_name(&master.name, name)
-        && master.sources == sources
-        && master.first == first
-        && master.stride == stride
-}
-
-fn has_master(
-    system: &Description,
-    master: usize,
-    name: &str,
+/// A master's name, how many sources it has, its first wide source and stride in the file, and what its wide sources are.
+struct Row {
+    name: &'static str,
     sources: u32,
     first: Option<u16>,
     stride: u16,
-) -> bool {
-    match system.masters().get(master) {
-        Some(master) => is_master(master, name, sources, first, stride),
-        None => false,
+    owner: Owner,
+}
+
+/// The masters of the controller, in their order.
+const MASTERS: [Row; 2] = [
+    Row {
+        name: "core",
+        sources: 16,
+        first: Some(0),
+        stride: 2,
+        owner: Owner {
+            first: 0,
+            count: 16,
+            stride: 2,
+        },
+    },
+    Row {
+        name: "",
+        sources: 1,
+        first: Some(1),
+        stride: 1,
+        owner: Owner {
+            first: 1,
+            count: 1,
+            stride: 1,
+        },
+    },
+];
+
+/// A system has this master.
+fn has_master(rt: &impl Abort, system: &Description, place: usize, row: &Row) {
+    let master = system.masters().get(place).expect(rt, "a master");
+    holds(rt, "its name", is_text(&master.name, row.name));
+    holds(rt, "its sources", master.sources == row.sources);
+    holds(rt, "its first source", master.first == row.first);
+    holds(rt, "its stride", master.stride == row.stride);
+    holds(
+        rt,
+        "its wide sources",
+        system.sources().at(place) == Some(row.owner),
+    );
+}
+
+/// A system has these masters.
+fn has_masters(rt: &impl Abort, system: &Description, rows: &[Row]) {
+    holds(rt, "masters", system.masters().len() == rows.len());
+    holds(rt, "sources", system.sources().masters() == rows.len());
+    for place in 0..rows.len() {
+        has_master(rt, system, place, &rows[place]);
     }
 }
 
-const fn range(base: u64, length: u64) -> Range {
-    Range { base, length }
+/// The port to which four bytes at an address lead: each range of a port leads to it.
+const ROUTES: [(u64, usize); 4] = [
+    (0x1000_0000, 1),
+    (0x3001_fffc, 1),
+    (0x2000_0004, 0),
+    (0x4000_0000, 4),
+];
+
+/// A file describes these ports, masters and ways.
+fn is_described(
+    rt: &impl Abort,
+    alloc: Global,
+    file: &str,
+    ports: &[Keys],
+    masters: &[Row],
+    routes: &[(u64, usize)],
+) {
+    let system = system_of(rt, alloc, file);
+    have_keys(rt, system.ports(), ports);
+    has_masters(rt, &system, masters);
+    holds(rt, "ports", system.map().ports() == ports.len() + 1);
+    for (address, port) in routes {
+        holds(rt, "a way", system.map().route_bytes(*address, 2) == *port);
+    }
 }
 
 #[test]
-fn ports_keep_their_order(rt: HostRuntime) {
-    let system = system_of(&rt, rt.alloc(), CONTROLLER);
-    assert!(rt; system.ports().len() == 4);
-    assert!(rt; has_port(&system, 0, "flash", Kind::Rom, &[0, 0xab, 0xcd], None));
-    assert!(rt; has_port(&system, 1, "", Kind::Ram, &[], Some(Order::Reply)));
-    assert!(rt; has_port(&system, 2, "UART.0", Kind::Regs, &[], Some(Order::Accept)));
-    assert!(rt; has_port(&system, 3, "", Kind::ClearRegs, &[0xff], None));
-}
-
-#[test]
-fn ranges_keep_their_order(rt: HostRuntime) {
-    let system = system_of(&rt, rt.alloc(), CONTROLLER);
-    assert!(rt; has_port_ranges(&system, 0, &[range(0x2000_0000, 0x10_0000)]));
-    assert!(rt;
-        has_port_ranges(
-            &system,
-            1,
-            &[range(0x1000_0000, 0x2_0000), range(0x3000_0000, 0x2_0000)]
-        )
-    );
-    assert!(rt; has_port_ranges(&system, 2, &[range(0x7fff_ffff_ffff_ffff, 1)]));
-}
-
-#[test]
-fn masters_keep_their_order(rt: HostRuntime) {
-    let system = system_of(&rt, rt.alloc(), CONTROLLER);
-    assert!(rt; system.masters().len() == 2);
-    assert!(rt; has_master(&system, 0, "core", 16, Some(0), 2));
-    assert!(rt; has_master(&system, 1, "", 1, Some(1), 1));
+fn ports_and_masters_keep_their_order(rt: HostRuntime) {
+    is_described(&rt, rt.alloc(), CONTROLLER, &PORTS, &MASTERS, &ROUTES);
 }
 
 /// Strides that mean nothing without a first wide source.
 const STRIDES: &str = "master = [{ sources = 5, stride = 65535 }, { sources = 3 }]";
 
-const fn owner(first: u16, count: u32, stride: u16) -> Option<Owner> {
-    Some(Owner {
-        first,
-        count,
-        stride,
-    })
-}
+/// Where the file says nothing, the sources are blocks.
+const BLOCKS: [Row; 2] = [
+    Row {
+        name: "",
+        sources: 5,
+        first: None,
+        stride: 65535,
+        owner: Owner {
+            first: 0,
+            count: 5,
+            stride: 1,
+        },
+    },
+    Row {
+        name: "",
+        sources: 3,
+        first: None,
+        stride: 1,
+        owner: Owner {
+            first: 8,
+            count: 3,
+            stride: 1,
+        },
+    },
+];
 
 #[test]
 fn a_system_may_have_no_port(rt: HostRuntime) {
-    let system = system_of(&rt, rt.alloc(), STRIDES);
-    assert!(rt; system.ports().is_empty());
-    assert!(rt; system.map().ports() == 1);
-    assert!(rt; has_master(&system, 0, "", 5, None, 65535));
-    assert!(rt; has_master(&system, 1, "", 3, None, 1));
-}
-
-#[test]
-fn sources_are_blocks_or_what_the_file_says(rt: HostRuntime) {
-    let system = system_of(&rt, rt.alloc(), STRIDES);
-    assert!(rt; system.sources().at(0) == owner(0, 5, 1));
-    assert!(rt; system.sources().at(1) == owner(8, 3, 1));
-    let system = system_of(&rt, rt.alloc(), CONTROLLER);
-    assert!(rt; system.sources().at(0) == owner(0, 16, 2));
-    assert!(rt; system.sources().at(1) == owner(1, 1, 1));
-    assert!(rt; system.sources().masters() == 2);
-}
-
-#[test]
-fn each_range_of_a_port_leads_to_it(rt: HostRuntime) {
-    let system = system_of(&rt, rt.alloc(), CONTROLLER);
-    assert!(rt; system.map().ports() == 5);
-    assert!(rt; system.map().route_bytes(0x1000_0000, 2) == 1);
-    assert!(rt; system.map().route_bytes(0x3001_fffc, 2) == 1);
-    assert!(rt; system.map().route_bytes(0x2000_0004, 2) == 0);
-    assert!(rt; system.map().route_bytes(0x4000_0000, 2) == 4);
+    is_described(&rt, rt.alloc(), STRIDES, &[], &BLOCKS, &[]);
 }

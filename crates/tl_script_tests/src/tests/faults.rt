@@ -1,5 +1,5 @@
 //! Scripts with faults: the line of each, and which of two faults is told.
-use super::fault_of;
+use super::{fault_of, holds};
 use std::alloc::Global;
 use std::process::Abort;
 use tl_map::{MapFault, SourceFault};
@@ -8,19 +8,23 @@ use tl_script::ScriptFault;
 /// A part of a script, and the line of the script's fault.
 type Row = (&'static str, &'static str);
 
-/// The line of a script's fault, and nothing where it has none.
-fn fault_line(rt: &impl Abort, alloc: Global, script: &str) -> String {
-    match fault_of(alloc, script.as_bytes()) {
-        Some(fault) => format!(in alloc; "{fault}").expect(rt, "memory"),
-        None => String::new(alloc),
-    }
+/// What stands before each part of these rows.
+type Rows = (&'static str, &'static [Row]);
+
+/// A fault has this line.
+fn is_told(rt: &impl Abort, alloc: Global, row: &str, fault: ScriptFault, line: &str) {
+    let told = format!(in alloc; "{fault}").expect(rt, "memory");
+    holds(rt, row, told.as_str() == line);
 }
 
-/// Each part makes a script that has its row's line. The part stands after the head.
-fn have_lines(rt: &impl Abort, alloc: Global, head: &str, rows: &[Row]) {
-    for (part, line) in rows {
-        let script = format!(in alloc; "{head}{part}\n").expect(rt, "memory");
-        assert_eq!(rt; fault_line(rt, alloc, &script).as_str(), *line);
+/// Each part after its head makes a script that has its row's line.
+fn have_lines(rt: &impl Abort, alloc: Global, tables: &[Rows]) {
+    for (head, rows) in tables {
+        for (part, line) in *rows {
+            let script = format!(in alloc; "{head}{part}\n").expect(rt, "memory");
+            let fault = fault_of(alloc, script.as_bytes()).expect(rt, part);
+            is_told(rt, alloc, part, fault, line);
+        }
     }
 }
 
@@ -51,11 +55,6 @@ const DOCUMENTS: [Row; 18] = [
     ),
     ("slots = 4\nport = [{}]\nmaster = 1", "script: missing kind"),
 ];
-
-#[test]
-fn documents_have_faults(rt: HostRuntime) {
-    have_lines(&rt, rt.alloc(), "", &DOCUMENTS);
-}
 
 const PORTS: [Row; 16] = [
     ("base = 0\nlength = 1", "script: missing kind"),
@@ -110,11 +109,6 @@ const PORTS: [Row; 16] = [
     ),
 ];
 
-#[test]
-fn ports_have_faults(rt: HostRuntime) {
-    have_lines(&rt, rt.alloc(), "slots = 4\n[[port]]\n", &PORTS);
-}
-
 const MASTERS: [Row; 13] = [
     ("ops = 1", "script: missing sources"),
     ("sources = 'x'\nops = 1", "script: wrong type of sources"),
@@ -149,11 +143,6 @@ const MASTERS: [Row; 13] = [
     ),
 ];
 
-#[test]
-fn masters_have_faults(rt: HostRuntime) {
-    have_lines(&rt, rt.alloc(), "slots = 4\n[[master]]\n", &MASTERS);
-}
-
 /// Of two faults the first is answered.
 const TWO_MASTERS: [Row; 5] = [
     (
@@ -178,11 +167,6 @@ const TWO_MASTERS: [Row; 5] = [
     ),
 ];
 
-#[test]
-fn two_masters_have_faults(rt: HostRuntime) {
-    have_lines(&rt, rt.alloc(), "slots = 4\n[[master]]\n", &TWO_MASTERS);
-}
-
 /// What stands before two ports of RAM: a master with a fault of its count of sources and one of its operations. The
 /// ranges are tried before either.
 const BEFORE_RANGES: &str = "slots = 4\nmaster = [{ sources = 0, ops = ['none'] }]\n";
@@ -202,9 +186,17 @@ const RANGES: [Row; 3] = [
     ),
 ];
 
+const SCRIPTS: [Rows; 5] = [
+    ("", &DOCUMENTS),
+    ("slots = 4\n[[port]]\n", &PORTS),
+    ("slots = 4\n[[master]]\n", &MASTERS),
+    ("slots = 4\n[[master]]\n", &TWO_MASTERS),
+    (BEFORE_RANGES, &RANGES),
+];
+
 #[test]
-fn ranges_have_faults(rt: HostRuntime) {
-    have_lines(&rt, rt.alloc(), BEFORE_RANGES, &RANGES);
+fn scripts_have_faults(rt: HostRuntime) {
+    have_lines(&rt, rt.alloc(), &SCRIPTS);
 }
 
 /// Lines that no script above is told.
@@ -221,20 +213,22 @@ const LINES: [(ScriptFault, &str); 4] = [
     (ScriptFault::Memory, "memory refused"),
 ];
 
-#[test]
-fn the_other_faults_have_lines(rt: HostRuntime) {
-    for (fault, line) in &LINES {
-        assert_eq!(rt;
-            format!(in rt.alloc(); "{fault}")
-                .expect(&rt, "memory")
-                .as_str(),
-            *line
-        );
+/// Each fault has its line.
+fn are_told(rt: &impl Abort, alloc: Global, rows: &[(ScriptFault, &str)]) {
+    for (fault, line) in rows {
+        is_told(rt, alloc, line, *fault, line);
     }
 }
 
 #[test]
+fn the_other_faults_have_lines(rt: HostRuntime) {
+    are_told(&rt, rt.alloc(), &LINES);
+}
+
+#[test]
 fn want_of_memory_is_one_fault(rt: HostRuntime) {
-    assert_eq!(rt; ScriptFault::from(MapFault::Memory), ScriptFault::Memory);
-    assert_eq!(rt; ScriptFault::from(SourceFault::Memory), ScriptFault::Memory);
+    let of_map = ScriptFault::from(MapFault::Memory);
+    holds(&rt, "of the map", of_map == ScriptFault::Memory);
+    let of_sources = ScriptFault::from(SourceFault::Memory);
+    holds(&rt, "of the sources", of_sources == ScriptFault::Memory);
 }

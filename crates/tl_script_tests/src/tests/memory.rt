@@ -1,5 +1,6 @@
 //! What is written if memory is refused. These tests hold whether their requests for memory are granted or not, so that
 //! each request may be refused in turn (`rt try --test --fail-alloc N`): the text is the whole one, or there is none.
+use super::holds;
 use std::alloc::Global;
 use std::process::Abort;
 use tl_journal::{Journal, Place, Trace};
@@ -23,7 +24,7 @@ fn history_of_one(alloc: Global) -> Result<Vec<u8>, Memory> {
 
 fn is_whole_or_none(rt: &impl Abort, text: Result<Vec<u8>, Memory>, whole: &str) {
     if let Ok(text) = text {
-        assert!(rt; text.as_slice() == whole.as_bytes());
+        holds(rt, whole, text.as_slice() == whole.as_bytes());
     }
 }
 

@@ -1,10 +1,10 @@
 //! The systems that scripts describe.
-use super::are;
+use super::{has_bytes, holds};
 use std::alloc::Global;
 use std::process::Abort;
 use tl_ops::Kind;
-use tl_script::{Job, System, read_system};
-use tl_types::{Ask, AskOp};
+use tl_script::{Device, Job, System, read_system};
+use tl_types::AskOp;
 
 pub const FIRST: &str = "slots = 4
 [[port]]
@@ -48,115 +48,128 @@ fn system_of(rt: &impl Abort, alloc: Global, script: &str) -> System {
     read_system(alloc, script.as_bytes()).expect(rt, "a system")
 }
 
-/// Whether the system has this many slots, ports, masters and devices.
-fn has_counts(system: &System, slots: usize, ports: usize, masters: usize, devices: usize) -> bool {
-    system.slots() == slots
-        && system.map().ports() == ports
-        && system.sources().masters() == masters
-        && system.devices().len() == devices
+/// A device: its kind, base, how many bytes it has, and the first of them.
+type Bank = (Kind, u64, usize, &'static [u8]);
+
+/// A port has this device.
+fn has_device(rt: &impl Abort, device: &Device, bank: &Bank) {
+    let (kind, base, length, reset) = *bank;
+    holds(rt, "its kind", device.kind == kind);
+    holds(rt, "its base", device.base == base);
+    holds(rt, "its length", device.reset.len() == length);
+    holds(rt, "its bytes", device.reset.starts_with(reset));
 }
 
-/// Whether the port has a device of this kind, base and reset.
-fn has_device(system: &System, port: usize, kind: Kind, base: u64, reset: &[u8]) -> bool {
-    match system.devices().get(port) {
-        Some(device) => {
-            device.kind == kind && device.base == base && device.reset.as_slice() == reset
+/// An operation of a master.
+enum Operation {
+    Wait,
+    /// A request of this operation, address and bytes.
+    Send(AskOp, u64, &'static [u16]),
+}
+
+/// A job is this operation.
+fn is_job(rt: &impl Abort, job: &Job, operation: &Operation) {
+    match (job, operation) {
+        (Job::Wait, Operation::Wait) => {}
+        (Job::Send(ask), Operation::Send(op, address, bytes)) => {
+            holds(rt, "its operation", ask.op() == *op);
+            holds(rt, "its address", ask.address() == *address);
+            has_bytes(rt, "its bytes", ask.bytes(), bytes);
         }
-        None => false,
+        _ => panic!(rt; "another operation"),
     }
 }
 
-/// Whether the port has a device of this many bytes.
-fn has_length(system: &System, port: usize, length: usize) -> bool {
-    match system.devices().get(port) {
-        Some(device) => device.reset.len() == length,
-        None => false,
+/// A master: how many sources it has, and its operations.
+type Master = (u16, &'static [Operation]);
+
+/// A system has this master.
+fn has_master(rt: &impl Abort, system: &System, number: usize, master: &Master) {
+    let (sources, operations) = *master;
+    holds(
+        rt,
+        "sources",
+        system.sources().count(number) == Some(sources),
+    );
+    let jobs = system.jobs().get(number).expect(rt, "a master");
+    assert!(rt; jobs.len() == operations.len());
+    for place in 0..operations.len() {
+        is_job(rt, &jobs.job(place), &operations[place]);
     }
 }
 
-/// Whether the master has this many sources.
-fn has_sources(system: &System, master: usize, sources: u16) -> bool {
-    system.sources().count(master) == Some(sources)
-}
-
-/// Whether the master has this many operations.
-fn has_operations(system: &System, master: usize, operations: usize) -> bool {
-    match system.jobs().get(master) {
-        Some(jobs) => jobs.len() == operations,
-        None => false,
+/// A script describes so many slots, these ports and these masters.
+fn is_described(
+    rt: &impl Abort,
+    alloc: Global,
+    script: &str,
+    slots: usize,
+    banks: &[Bank],
+    masters: &[Master],
+) {
+    let system = system_of(rt, alloc, script);
+    let devices = system.devices();
+    holds(rt, "slots", system.slots() == slots);
+    holds(rt, "ports", system.map().ports() == banks.len() + 1);
+    assert!(rt; devices.len() == banks.len());
+    for port in 0..devices.len() {
+        has_device(rt, &devices[port], &banks[port]);
+    }
+    holds(rt, "masters", system.sources().masters() == masters.len());
+    for number in 0..masters.len() {
+        has_master(rt, &system, number, &masters[number]);
     }
 }
 
-/// Whether this many of the master's operations send a request.
-fn has_requests(system: &System, master: usize, requests: usize) -> bool {
-    match system.jobs().get(master) {
-        Some(jobs) => jobs.requests() == requests,
-        None => false,
-    }
-}
+/// The device, the put and the get of the first script.
+const FIRST_BANKS: [Bank; 1] = [(Kind::Ram, 0x1000, 64, &[0; 64])];
 
-/// The operation of a master; none where it has no such operation.
-fn job(system: &System, master: usize, operation: usize) -> Option<Job> {
-    let jobs = system.jobs().get(master)?;
-    if operation < jobs.len() {
-        Some(jobs.job(operation))
-    } else {
-        None
-    }
-}
+const PUT: [u16; 4] = [0x11, 0x22, 0x33, 0x44];
 
-fn is_wait(system: &System, master: usize, operation: usize) -> bool {
-    matches!(job(system, master, operation), Some(Job::Wait))
-}
+const FIRST_MASTERS: [Master; 1] = [(
+    16,
+    &[
+        Operation::Send(AskOp::PutFull, 0x1000, &PUT),
+        Operation::Send(AskOp::Get, 0x1000, &[]),
+    ],
+)];
 
-/// The request that a master's operation sends; none where it sends none.
-fn sent(system: &System, master: usize, operation: usize) -> Option<Ask> {
-    match job(system, master, operation) {
-        Some(Job::Send(ask)) => Some(ask),
-        _ => None,
-    }
-}
+/// The ports and masters of the second script, in their order.
+const SEVERAL_BANKS: [Bank; 3] = [
+    (Kind::Rom, 0x2000, 5, &[0, 0xab, 0xcd, 0, 0]),
+    (Kind::Regs, 0x7fff_ffff_ffff_ffff, 1, &[0xff]),
+    (Kind::Ram, 0x10_0000, 65536, &[0]),
+];
 
-/// Whether there is a request, and it has these parts.
-fn has_parts(ask: Option<Ask>, op: AskOp, address: u64, bytes: &[Option<u8>]) -> bool {
-    match ask {
-        Some(ask) => ask.op() == op && ask.address() == address && are(ask.bytes(), bytes),
-        None => false,
-    }
-}
+const SEVERAL_MASTERS: [Master; 2] = [
+    (256, &[]),
+    (
+        1,
+        &[
+            Operation::Wait,
+            Operation::Send(AskOp::Get, 0, &[]),
+            Operation::Wait,
+        ],
+    ),
+];
 
-const PUT: [Option<u8>; 4] = [Some(0x11), Some(0x22), Some(0x33), Some(0x44)];
+/// A script may have no port.
+const NO_PORT: &str = "slots = 1\n[[master]]\nsources = 1\nops = []\n";
+
+const NO_PORT_MASTERS: [Master; 1] = [(1, &[])];
 
 #[test]
-fn the_first_script_is_read(rt: HostRuntime) {
-    let system = system_of(&rt, rt.alloc(), FIRST);
-    assert!(rt; has_counts(&system, 4, 2, 1, 1));
-    assert!(rt; has_device(&system, 0, Kind::Ram, 0x1000, &[0; 64]));
-    assert!(rt; has_sources(&system, 0, 16));
-    assert!(rt; has_operations(&system, 0, 2));
-    assert!(rt; has_parts(sent(&system, 0, 0), AskOp::PutFull, 0x1000, &PUT));
-    assert!(rt; has_parts(sent(&system, 0, 1), AskOp::Get, 0x1000, &[]));
-}
-
-#[test]
-fn ports_keep_their_order(rt: HostRuntime) {
-    let system = system_of(&rt, rt.alloc(), SEVERAL);
-    assert!(rt; has_counts(&system, 256, 4, 2, 3));
-    assert!(rt; has_device(&system, 0, Kind::Rom, 0x2000, &[0, 0xab, 0xcd, 0, 0]));
-    assert!(rt; has_device(&system, 1, Kind::Regs, 0x7fff_ffff_ffff_ffff, &[0xff]));
-    assert!(rt; has_length(&system, 2, 65536));
-}
-
-#[test]
-fn masters_keep_their_order(rt: HostRuntime) {
-    let system = system_of(&rt, rt.alloc(), SEVERAL);
-    assert!(rt; has_sources(&system, 0, 256));
-    assert!(rt; has_operations(&system, 0, 0));
-    assert!(rt; has_sources(&system, 1, 1));
-    assert!(rt; has_operations(&system, 1, 3));
-    assert!(rt; is_wait(&system, 1, 0));
-    assert!(rt; has_parts(sent(&system, 1, 1), AskOp::Get, 0, &[]));
-    assert!(rt; is_wait(&system, 1, 2));
+fn ports_and_masters_keep_their_order(rt: HostRuntime) {
+    is_described(&rt, rt.alloc(), FIRST, 4, &FIRST_BANKS, &FIRST_MASTERS);
+    is_described(
+        &rt,
+        rt.alloc(),
+        SEVERAL,
+        256,
+        &SEVERAL_BANKS,
+        &SEVERAL_MASTERS,
+    );
+    is_described(&rt, rt.alloc(), NO_PORT, 1, &[], &NO_PORT_MASTERS);
 }
 
 /// Puts of both kinds among operations that carry nothing.
@@ -179,26 +192,24 @@ const CARRIED: [(usize, &[u8], u8); 5] = [
     (6, &[1, 0, 0, 0], 0b1111),
 ];
 
-/// Whether the master's operation sends a request with these bytes and this mask of the first eight.
-fn carries(system: &System, operation: usize, plain: &[u8], mask: u8) -> bool {
-    match sent(system, 0, operation) {
-        Some(ask) => ask.bytes().plain() == plain && ask.bytes().mask(0) == mask,
-        None => false,
+/// A master's operation sends a request with these bytes and this mask of the first eight.
+fn carries(rt: &impl Abort, job: &Job, plain: &[u8], mask: u8) {
+    match job {
+        Job::Send(ask) => {
+            holds(rt, "its bytes", ask.bytes().plain() == plain);
+            holds(rt, "its mask", ask.bytes().mask(0) == mask);
+        }
+        Job::Wait => panic!(rt; "a wait"),
     }
 }
 
 #[test]
 fn each_operation_keeps_its_own_bytes(rt: HostRuntime) {
     let system = system_of(&rt, rt.alloc(), MIXED);
+    let jobs = system.jobs().first().expect(&rt, "a master");
+    holds(&rt, "requests", jobs.requests() == 6);
     for (operation, plain, mask) in &CARRIED {
-        assert!(rt; carries(&system, *operation, plain, *mask), "{operation}");
+        assert!(rt; *operation < jobs.len());
+        carries(&rt, &jobs.job(*operation), plain, *mask);
     }
-    assert!(rt; has_requests(&system, 0, 6));
-}
-
-#[test]
-fn a_script_may_have_no_port(rt: HostRuntime) {
-    let script = "slots = 1\n[[master]]\nsources = 1\nops = []\n";
-    let system = system_of(&rt, rt.alloc(), script);
-    assert!(rt; has_counts(&system, 1, 1, 1, 0));
 }

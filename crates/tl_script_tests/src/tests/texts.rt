@@ -1,4 +1,5 @@
 //! The lines of traces, histories and accounts.
+use super::holds;
 use std::alloc::Global;
 use std::process::Abort;
 use tl_journal::{Journal, Place, Trace};
@@ -124,21 +125,35 @@ fn trace_of(rt: &impl Abort, alloc: Global, masters: &[&[Row]]) -> Vec<u8> {
 #[test]
 fn traces_have_a_line_for_each_entry(rt: HostRuntime) {
     let text = trace_of(&rt, rt.alloc(), &[&FIRST_MASTER, &[], &THIRD_MASTER]);
-    assert_eq!(rt; text.as_slice(), TRACE.as_bytes());
-    assert!(rt; trace_of(&rt, rt.alloc(), &[]).is_empty());
+    holds(&rt, "a line for each", text.as_slice() == TRACE.as_bytes());
+    let none = trace_of(&rt, rt.alloc(), &[]);
+    holds(&rt, "no line", none.is_empty());
+}
+
+/// The text of the history of a port that served these.
+fn history_of(rt: &impl Abort, alloc: Global, port: usize, rows: &[Row]) -> Vec<u8> {
+    let served = messages(rt, alloc, rows);
+    write_history(alloc, port, &served).expect(rt, "memory")
 }
 
 #[test]
 fn histories_number_their_lines(rt: HostRuntime) {
-    let served = messages(&rt, rt.alloc(), &SERVED);
-    let text = write_history(rt.alloc(), 0, &served).expect(&rt, "memory");
-    assert_eq!(rt; text.as_slice(), HISTORY.as_bytes());
-    let none = write_history(rt.alloc(), 1, &Journal::new(rt.alloc())).expect(&rt, "memory");
-    assert!(rt; none.is_empty());
+    let text = history_of(&rt, rt.alloc(), 0, &SERVED);
+    holds(
+        &rt,
+        "a line for each",
+        text.as_slice() == HISTORY.as_bytes(),
+    );
+    let none = history_of(&rt, rt.alloc(), 1, &[]);
+    holds(&rt, "no line", none.is_empty());
 }
 
 #[test]
 fn the_account_is_one_line(rt: HostRuntime) {
     let text = write_account(rt.alloc(), 4, 0).expect(&rt, "memory");
-    assert_eq!(rt; text.as_slice(), b"free 4 held 0\n".as_slice());
+    holds(
+        &rt,
+        "one line",
+        text.as_slice() == b"free 4 held 0\n".as_slice(),
+    );
 }

@@ -1,5 +1,6 @@
 //! Whole replies, as far as their lanes were known, on buses of several widths.
-use super::scene::{byte_of, cross_reply, reply_head_of};
+use super::scene::{cross_reply, reply_head_of};
+use crate::tests::{expect_text, holds_at};
 use check_beats::{Bus, UnderWay};
 use check_cells::Pattern;
 use std::process::Abort;
@@ -186,45 +187,44 @@ const SCENES: [Scene; 18] = [
 const OPS: [ReplyOp; 3] = [ReplyOp::AccessAck, ReplyOp::AccessAckData, ReplyOp::HintAck];
 
 /// A reply is these parts.
-fn expect_reply(rt: &impl Abort, reply: &Pattern, scene: &Scene) {
+fn expect_reply(rt: &impl Abort, row: usize, reply: &Pattern, scene: &Scene) {
     let op = OPS.get(usize::from(scene.opcode)).expect(rt, "an opcode");
-    assert!(rt; reply.op() == *op && reply.size() == scene.size);
-    assert!(rt; reply.source() == 3 && reply.denied() == Some(scene.denied));
-    let bytes = reply.cells();
-    let mut place = 0;
-    for word in scene.bytes.split_whitespace() {
-        assert!(rt; place < bytes.len());
-        assert!(rt; bytes.get(place) == byte_of(rt, word));
-        place += 1;
-    }
-    assert!(rt; place == bytes.len());
+    holds_at(rt, row, reply.op() == *op);
+    holds_at(rt, row, reply.size() == scene.size);
+    holds_at(rt, row, reply.source() == 3);
+    holds_at(rt, row, reply.denied() == Some(scene.denied));
+    expect_text(rt, scene.bytes, reply.cells(), scene.bytes);
 }
 
 /// Its beats cross, and the last one alone ends it.
-fn try_scene(rt: &impl Abort, scene: &Scene) {
+fn try_scene(rt: &impl Abort, row: usize, scene: &Scene) {
     let mut link = UnderWay::new(scene.bus);
     let mut reply = Pattern::blank();
-    let mut left = scene.beats.len();
-    for beat in scene.beats {
-        let (known, base, corrupt) = *beat;
+    for place in 0..scene.beats.len() {
+        let (known, base, corrupt) = scene.beats[place];
         let head = reply_head_of(scene.opcode, scene.size, scene.denied, corrupt);
         let ends = cross_reply(rt, &mut link, &head, scene.address, known, base, &mut reply);
-        left = left.saturating_sub(1);
-        assert!(rt; ends == Ok(left == 0));
+        holds_at(rt, row, ends == Ok(place + 1 == scene.beats.len()));
     }
-    expect_reply(rt, &reply, scene);
+    expect_reply(rt, row, &reply, scene);
+}
+
+fn try_scenes(rt: &impl Abort, scenes: &[Scene]) {
+    for row in 0..scenes.len() {
+        try_scene(rt, row, &scenes[row]);
+    }
 }
 
 #[test]
 fn replies_are_gathered(rt: HostRuntime) {
-    for scene in &SCENES {
-        try_scene(&rt, scene);
-    }
+    try_scenes(&rt, &SCENES);
 }
 
 /// A bus, an opcode, a size, an address, whether it is denied, the lanes that are known, and whether these are all that
 /// carry a byte.
-const KNOWN: [(Bus, u8, u8, u64, bool, u64, bool); 12] = [
+type Known = (Bus, u8, u8, u64, bool, u64, bool);
+
+const KNOWN: [Known; 12] = [
     (Bus::One, 1, 3, 0, false, 0b1, true),
     (Bus::One, 1, 3, 0, false, 0b10, false),
     (Bus::Four, 1, 1, 0x1002, false, 0b1100, true),
@@ -239,16 +239,17 @@ const KNOWN: [(Bus, u8, u8, u64, bool, u64, bool); 12] = [
     (Bus::SixtyFour, 1, 0, 0x103f, false, 1 << 63, true),
 ];
 
+fn try_known(rt: &impl Abort, row: &Known) {
+    let (bus, opcode, size, address, denied, known, all) = *row;
+    let link = UnderWay::new(bus);
+    let head = reply_head_of(opcode, size, denied, false);
+    assert!(rt; link.reply_fault(&head).is_none());
+    assert!(rt; link.is_known_reply(&head, address, known) == all);
+}
+
 #[test]
 fn lanes_that_carry_a_byte_are_known(rt: HostRuntime) {
     for row in &KNOWN {
-        let (bus, opcode, size, address, denied, known, all) = *row;
-        let link = UnderWay::new(bus);
-        let head = reply_head_of(opcode, size, denied, false);
-        if link.reply_fault(&head).is_none() {
-            assert!(rt; link.is_known_reply(&head, address, known) == all);
-        } else {
-            panic!(rt; "a beat that fits");
-        }
+        try_known(&rt, row);
     }
 }

@@ -1,4 +1,4 @@
-//! What the scenes of the tests share: lanes that count, beats that cross, and bytes as words.
+//! What the scenes of the tests share: lanes that count, and beats that cross.
 use check_beats::{AskHead, FormFault, ReplyHead, UnderWay};
 use check_cells::Pattern;
 use std::process::Abort;
@@ -82,12 +82,4 @@ pub fn cross_reply(
     link.take_reply(beat, known, &lanes);
     assert!(rt; link.begins_reply() == ends);
     Ok(ends)
-}
-
-/// A byte from a word of two hexadecimal digits, or none from `xx`.
-pub fn byte_of(rt: &impl Abort, word: &str) -> Option<u8> {
-    if word == "xx" {
-        return None;
-    }
-    Some(u8::from_str_radix(word, 16).ok().expect(rt, "two digits"))
 }

@@ -1,6 +1,6 @@
 //! What the scenes of the tests share: slaves, requests that cross, and replies that are expected.
+use crate::tests::{expect_text, holds};
 use check_beats::{AskHead, Bus};
-use check_cells::Pattern;
 use check_flight::{Order, Place, PortSlave, Side};
 use check_memory::{Memory, Range, Sizes, Slave, are_within};
 use std::alloc::{AllocError, Global};
@@ -25,7 +25,7 @@ pub fn side_of_four(alloc: Global) -> Result<Side, AllocError> {
 }
 
 /// The place of a wide source's request at link 0, to port 2.
-pub fn place_of(wide: usize) -> Place {
+fn place_of(wide: usize) -> Place {
     Place {
         link: 0,
         wide,
@@ -69,35 +69,31 @@ pub fn cross(
 }
 
 /// The reply begins to the request of a wide source.
-pub fn begin_reply(
+fn begin_reply(
     rt: &impl Abort,
     alloc: Global,
     side: &mut Side,
     slave: &mut PortSlave,
     wide: usize,
-) -> Result<(), AllocError> {
+) {
     let place = place_of(wide);
     assert!(rt; place.wide < side.wides());
     side.answer(alloc, place, slave)
+        .expect(rt, "memory refused");
 }
 
 /// The reply to the request of a wide source ends.
-pub fn end_reply(rt: &impl Abort, side: &mut Side, wide: usize) {
+fn end_reply(rt: &impl Abort, side: &mut Side, wide: usize) {
     let place = place_of(wide);
     assert!(rt; place.link < side.links());
     assert!(rt; place.wide < side.wides());
     side.end_reply(place);
     assert!(rt; place.wide < side.wides());
-    assert!(rt; side.flight(place.wide).is_idle());
-}
-
-/// These bytes are known or unknown in a reply.
-pub fn expect_bytes(rt: &impl Abort, reply: &Pattern, bytes: &[Option<u8>]) {
-    let cells = reply.cells();
-    assert!(rt; cells.len() == bytes.len());
-    for place in 0..cells.len() {
-        assert!(rt; Some(&cells.get(place)) == bytes.get(place));
-    }
+    holds(
+        rt,
+        "nothing is in flight",
+        side.flight(place.wide).is_idle(),
+    );
 }
 
 /// The request of a wide source has taken effect, as the one of this place in the list of port 2, and its reply has to
@@ -108,20 +104,77 @@ pub fn expect_due(
     wide: usize,
     index: usize,
     denied: Option<bool>,
-    bytes: &[Option<u8>],
+    bytes: &str,
 ) {
     assert!(rt; wide < side.wides());
     let due = side.flight(wide).due().expect(rt, "a reply is due");
-    assert!(rt; due.port == 2);
-    assert!(rt; due.index == index);
-    assert!(rt; due.reply.denied() == denied);
-    expect_bytes(rt, &due.reply, bytes);
+    holds(rt, "its port", due.port == 2);
+    holds(rt, "its place", due.index == index);
+    holds(rt, "whether it is denied", due.reply.denied() == denied);
+    expect_text(rt, "its bytes", due.reply.cells(), bytes);
 }
 
 /// The request of a wide source has ended, and has taken no effect yet.
-pub fn expect_no_due(rt: &impl Abort, side: &Side, wide: usize) {
+fn expect_no_due(rt: &impl Abort, side: &Side, wide: usize) {
     assert!(rt; wide < side.wides());
     let flight = side.flight(wide);
-    assert!(rt; flight.asked().is_some());
-    assert!(rt; flight.due().is_none());
+    holds(rt, "the request has ended", flight.asked().is_some());
+    holds(rt, "no reply is due", flight.due().is_none());
+}
+
+/// What crosses at link 0, and what is due then.
+pub enum Step {
+    /// A beat of a request crosses: its opcode, size, source and address, and its lanes.
+    Cross(u8, u8, u16, u64, [u8; 4]),
+    /// The reply begins to the request of a wide source.
+    Begin(usize),
+    /// The reply to the request of a wide source ends.
+    End(usize),
+    /// The request of a wide source has ended, and has taken no effect yet.
+    NoDue(usize),
+    /// The request of a wide source has taken effect, as the one of this place in the list of port 2, and its reply has
+    /// to have this flag and these bytes.
+    Due(usize, usize, Option<bool>, &'static str),
+    /// The reply begins and ends to the request of a wide source, which is the one of this place: these bytes are due.
+    Answer(usize, usize, &'static str),
+}
+
+/// The reply begins and ends.
+fn answer(
+    rt: &impl Abort,
+    alloc: Global,
+    side: &mut Side,
+    slave: &mut PortSlave,
+    wide: usize,
+    index: usize,
+    bytes: &str,
+) {
+    expect_no_due(rt, side, wide);
+    begin_reply(rt, alloc, side, slave, wide);
+    expect_due(rt, side, wide, index, Some(false), bytes);
+    end_reply(rt, side, wide);
+}
+
+fn take(rt: &impl Abort, alloc: Global, side: &mut Side, slave: &mut PortSlave, step: &Step) {
+    match step {
+        Step::Cross(opcode, size, source, address, lanes) => {
+            let head = head_of(*opcode, *size, *source, *address);
+            cross(rt, alloc, side, slave, &head, lanes).expect(rt, "memory refused");
+        }
+        Step::Begin(wide) => begin_reply(rt, alloc, side, slave, *wide),
+        Step::End(wide) => end_reply(rt, side, *wide),
+        Step::NoDue(wide) => expect_no_due(rt, side, *wide),
+        Step::Due(wide, index, denied, bytes) => {
+            expect_due(rt, side, *wide, *index, *denied, bytes);
+        }
+        Step::Answer(wide, index, bytes) => answer(rt, alloc, side, slave, *wide, *index, bytes),
+    }
+}
+
+/// One step after the other, on a side and a slave.
+pub fn play(rt: &impl Abort, alloc: Global, slave: &mut PortSlave, steps: &[Step]) {
+    let mut side = side_of_four(alloc).expect(rt, "memory refused");
+    for step in steps {
+        take(rt, alloc, &mut side, slave, step);
+    }
 }

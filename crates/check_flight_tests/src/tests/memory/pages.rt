@@ -1,11 +1,11 @@
 //! Pages: as many as were written, wherever they are, and images over several of them.
 use super::scene::{Turn, ask_of, memory_of, serve_all};
-use arrayvec::ArrayVec;
+use crate::tests::{expect_cells, holds};
 use check_memory::{Memory, Pattern, Range, Sizes};
 use std::alloc::Global;
 use std::process::Abort;
 use tl_ops::Kind;
-use tl_types::{Ask, AskOp, MAX_BYTES};
+use tl_types::{Ask, AskOp};
 
 /// A RAM in one range, of which nothing is known.
 fn ram(rt: &impl Abort, alloc: Global, base: u64, length: u64) -> Memory {
@@ -18,30 +18,32 @@ const STEP: u64 = 26 * 4096;
 
 const BASE: u64 = 0x8000_0000;
 
+/// The eight bytes of a number.
+fn number_bytes(number: u64) -> [Option<u8>; 8] {
+    let bytes = number.to_le_bytes();
+    let mut given = [None; 8];
+    for k in 0..8 {
+        given[k] = Some(bytes[k]);
+    }
+    given
+}
+
 /// Puts the eight bytes of a number.
 fn put_number(rt: &impl Abort, alloc: Global, memory: &mut Memory, address: u64, number: u64) {
-    let mut bytes = ArrayVec::<Option<u8>, MAX_BYTES>::new();
-    for byte in number.to_le_bytes() {
-        bytes.try_push(Some(byte)).ok().expect(rt, "room");
-    }
-    let ask = Ask::new(AskOp::PutFull, 3, 0, address, &bytes).expect(rt, "a request");
+    let ask = Ask::new(AskOp::PutFull, 3, 0, address, &number_bytes(number));
+    let ask = ask.expect(rt, "a request");
     let mut answer = Pattern::blank();
     memory
         .serve_into(alloc, &ask, &mut answer)
         .expect(rt, "memory refused");
-    assert!(rt; answer.denied() == Some(false));
+    holds(rt, "a put", answer.denied() == Some(false));
 }
 
 /// The eight bytes of a number stand there.
 fn expect_number(rt: &impl Abort, memory: &Memory, address: u64, number: u64) {
-    let ask = ask_of(rt, AskOp::Get, 3, address, "");
     let mut answer = Pattern::blank();
-    memory.answer(&ask, &mut answer);
-    let bytes = number.to_le_bytes();
-    assert!(rt; answer.cells().len() == 8);
-    for place in 0..8 {
-        assert!(rt; answer.cells().get(place) == Some(bytes[place]));
-    }
+    memory.answer(&ask_of(rt, AskOp::Get, 3, address, ""), &mut answer);
+    expect_cells(rt, "a number", answer.cells(), &number_bytes(number));
 }
 
 #[test]
@@ -57,12 +59,12 @@ fn ten_thousand_pages_are_kept_of_a_gibibyte(rt: HostRuntime) {
             k,
         );
     }
-    assert!(rt; memory.pages() == 10_000);
+    holds(&rt, "pages", memory.pages() == 10_000);
     for k in 0..10_000 {
         expect_number(&rt, &memory, BASE + STEP * (9_999 - k) + 8, k);
     }
-    serve_all(&rt, rt.alloc(), &mut memory, &BETWEEN);
-    assert!(rt; memory.pages() == 10_000);
+    serve_all(&rt, rt.alloc(), "between", &mut memory, &BETWEEN);
+    holds(&rt, "pages", memory.pages() == 10_000);
 }
 
 /// What no page was made for is unknown, and reading makes none.
@@ -145,12 +147,12 @@ const LOADED: [Turn; 2] = [
 #[test]
 fn the_last_page_of_the_address_space(rt: HostRuntime) {
     let mut memory = ram(&rt, rt.alloc(), 0xffff_ffff_ffff_f000, 0x1000);
-    serve_all(&rt, rt.alloc(), &mut memory, &LAST);
+    serve_all(&rt, rt.alloc(), "the last page", &mut memory, &LAST);
     memory
         .load(rt.alloc(), 0xffff_ffff_ffff_fffc, &[0xaa, 0xbb, 0xcc, 0xdd])
         .expect(&rt, "memory refused");
-    serve_all(&rt, rt.alloc(), &mut memory, &LOADED);
-    assert!(rt; memory.pages() == 1);
+    serve_all(&rt, rt.alloc(), "loaded", &mut memory, &LOADED);
+    holds(&rt, "pages", memory.pages() == 1);
 }
 
 /// The seams of an image of 10,000 bytes, of which byte k is k modulo 251, from 0x1ffa on.
@@ -182,6 +184,6 @@ fn an_image_goes_over_pages(rt: HostRuntime) {
         .load(rt.alloc(), 0x1ffa, &bytes)
         .expect(&rt, "memory refused");
     // those of 256 bytes from 0x1f00 to 0x4700
-    assert!(rt; memory.pages() == 41);
-    serve_all(&rt, rt.alloc(), &mut memory, &SEAMS);
+    holds(&rt, "pages", memory.pages() == 41);
+    serve_all(&rt, rt.alloc(), "seams", &mut memory, &SEAMS);
 }

@@ -1,6 +1,7 @@
 //! What is left if memory is refused. These tests hold whether their requests for memory are granted or not, so that
 //! each request may be refused in turn (`rt try --test --fail-alloc N`).
-use super::scene::{ask_of, expect_bytes};
+use super::scene::ask_of;
+use crate::tests::{expect_text, holds};
 use check_memory::{Memory, Pattern, Range, Sizes, are_within};
 use std::alloc::{AllocError, Global};
 use std::process::Abort;
@@ -22,7 +23,7 @@ fn ram(rt: &impl Abort, alloc: Global) -> Result<Memory, AllocError> {
 fn expect_there(rt: &impl Abort, memory: &Memory, address: u64, text: &str) {
     let mut answer = Pattern::blank();
     memory.answer(&ask_of(rt, AskOp::Get, 1, address, ""), &mut answer);
-    expect_bytes(rt, answer.cells(), text);
+    expect_text(rt, "what stands there", answer.cells(), text);
 }
 
 /// A put in a page of its own leaves its bytes, or where memory is refused all as it was.
@@ -31,17 +32,16 @@ fn try_put(rt: &impl Abort, alloc: Global, memory: &mut Memory, address: u64) {
     let mut answer = Pattern::blank();
     memory.answer(&ask_of(rt, AskOp::Get, 1, address, ""), &mut answer);
     let put = ask_of(rt, AskOp::PutFull, 1, address, "11 22");
-    match memory.serve_into(alloc, &put, &mut answer) {
-        Ok(()) => {
-            expect_bytes(rt, answer.cells(), "");
-            expect_there(rt, memory, address, "11 22");
-        }
+    // what is told, and what stands there
+    let (told, there) = match memory.serve_into(alloc, &put, &mut answer) {
+        Ok(()) => ("", "11 22"),
         Err(_) => {
-            expect_bytes(rt, answer.cells(), "xx xx");
-            expect_there(rt, memory, address, "xx xx");
-            assert!(rt; memory.pages() == pages);
+            holds(rt, "pages", memory.pages() == pages);
+            ("xx xx", "xx xx")
         }
-    }
+    };
+    expect_text(rt, "what is told", answer.cells(), told);
+    expect_there(rt, memory, address, there);
 }
 
 #[test]

@@ -1,6 +1,8 @@
 //! Captured replies that fit what is expected, and replies that do not.
-use super::scene::{ask_of, bytes_of, memory_of};
+use super::scene::{ask_of, memory_of};
+use crate::tests::{bytes_of, holds};
 use check_memory::{Pattern, Range, Sizes, Slave};
+use std::alloc::Global;
 use std::process::Abort;
 use tl_ops::Kind;
 use tl_types::{AskOp, ReplyOp};
@@ -47,16 +49,16 @@ const BYTES: [(&str, &str, bool); 12] = [
     ),
 ];
 
-fn try_bytes(rt: &impl Abort, row: &(&str, &str, bool)) {
-    let (expected, captured, fits) = *row;
-    assert!(rt; data_of(rt, expected).fits(&data_of(rt, captured)) == fits);
+fn try_bytes(rt: &impl Abort, rows: &[(&str, &str, bool)]) {
+    for (expected, captured, fits) in rows {
+        let told = data_of(rt, expected).fits(&data_of(rt, captured));
+        holds(rt, captured, told == *fits);
+    }
 }
 
 #[test]
 fn known_bytes_have_to_be_captured(rt: HostRuntime) {
-    for row in &BYTES {
-        try_bytes(&rt, row);
-    }
+    try_bytes(&rt, &BYTES);
 }
 
 /// A captured reply: its opcode, size, source, denied flag and bytes.
@@ -73,10 +75,25 @@ fn fits(rt: &impl Abort, expected: &Pattern, reply: &Reply) -> bool {
 
 /// Each of these replies fits, or not.
 fn try_replies(rt: &impl Abort, expected: &Pattern, replies: &[(Reply, bool)]) {
-    for row in replies {
-        let (reply, whether) = row;
-        assert!(rt; fits(rt, expected, reply) == *whether);
+    for (reply, whether) in replies {
+        holds(rt, reply.4, fits(rt, expected, reply) == *whether);
     }
+}
+
+/// A request of four bytes: its operation, address and bytes; and replies that fit what is expected to it, or do not.
+type Asked = (AskOp, u64, &'static str, &'static [(Reply, bool)]);
+
+/// A slave serves the first request, and is then asked what it expects to the second one.
+fn try_slave(rt: &impl Abort, alloc: Global, slave: &mut Slave, served: &Asked, asked: &Asked) {
+    let mut expected = Pattern::blank();
+    let (op, address, text, replies) = *served;
+    slave
+        .serve_into(alloc, &ask_of(rt, op, 2, address, text), &mut expected)
+        .expect(rt, "memory refused");
+    try_replies(rt, &expected, replies);
+    let (op, address, text, replies) = *asked;
+    slave.answer(&ask_of(rt, op, 2, address, text), &mut expected);
+    try_replies(rt, &expected, replies);
 }
 
 /// Where zeros are expected since the request is denied.
@@ -111,6 +128,18 @@ const TO_DEVICE: [(Reply, bool); 8] = [
     ((ReplyOp::AccessAck, 2, 0, false, "11 22 33 44"), false),
 ];
 
+/// Where a device is to answer a put.
+const TO_PUT: [(Reply, bool); 3] = [
+    ((ReplyOp::AccessAck, 2, 0, false, ""), true),
+    ((ReplyOp::AccessAck, 2, 0, true, ""), true),
+    ((ReplyOp::AccessAck, 2, 0, true, "00"), false),
+];
+
+/// A get that is not aligned, and one of which nothing is known.
+const DENIED: Asked = (AskOp::Get, 2, "", &TO_DENIED);
+
+const UNKNOWN: Asked = (AskOp::Get, 4, "", &TO_UNKNOWN);
+
 #[test]
 fn replies_fit_what_is_expected(rt: HostRuntime) {
     let range = Range {
@@ -120,30 +149,15 @@ fn replies_fit_what_is_expected(rt: HostRuntime) {
     let sizes = Sizes::of(Kind::Ram);
     let memory = memory_of(&rt, rt.alloc(), Kind::Ram, sizes, &[range], false);
     let mut slave = Slave::Memory(memory);
-    let mut expected = Pattern::blank();
-    slave
-        .serve_into(
-            rt.alloc(),
-            &ask_of(&rt, AskOp::Get, 2, 2, ""),
-            &mut expected,
-        )
-        .expect(&rt, "memory refused");
-    try_replies(&rt, &expected, &TO_DENIED);
-    slave.answer(&ask_of(&rt, AskOp::Get, 2, 4, ""), &mut expected);
-    try_replies(&rt, &expected, &TO_UNKNOWN);
+    try_slave(&rt, rt.alloc(), &mut slave, &DENIED, &UNKNOWN);
 }
+
+const PUT: Asked = (AskOp::PutFull, 4, "11 22 33 44", &TO_PUT);
+
+const GET: Asked = (AskOp::Get, 5, "", &TO_DEVICE);
 
 #[test]
 fn a_device_answers_what_it_likes(rt: HostRuntime) {
     let mut slave = Slave::Device;
-    let mut expected = Pattern::blank();
-    let put = ask_of(&rt, AskOp::PutFull, 2, 4, "11 22 33 44");
-    slave
-        .serve_into(rt.alloc(), &put, &mut expected)
-        .expect(&rt, "memory refused");
-    assert!(rt; fits(&rt, &expected, &(ReplyOp::AccessAck, 2, 0, false, "")));
-    assert!(rt; fits(&rt, &expected, &(ReplyOp::AccessAck, 2, 0, true, "")));
-    assert!(rt; !fits(&rt, &expected, &(ReplyOp::AccessAck, 2, 0, true, "00")));
-    slave.answer(&ask_of(&rt, AskOp::Get, 2, 5, ""), &mut expected);
-    try_replies(&rt, &expected, &TO_DEVICE);
+    try_slave(&rt, rt.alloc(), &mut slave, &PUT, &GET);
 }

@@ -160,15 +160,6 @@ const WORDS: [Turn; 5] = [
     ),
 ];
 
-#[test]
-fn a_ram_is_known_where_it_was_written(rt: HostRuntime) {
-    try_kind(&rt, rt.alloc(), Kind::Ram, false, &PUTS);
-    try_kind(&rt, rt.alloc(), Kind::Ram, false, &ATOMICS_UNKNOWN);
-    try_kind(&rt, rt.alloc(), Kind::Ram, true, &ATOMICS_KNOWN);
-    try_kind(&rt, rt.alloc(), Kind::Ram, false, &DENIED);
-    try_kind(&rt, rt.alloc(), Kind::Ram, false, &WORDS);
-}
-
 const ROM: [Turn; 6] = [
     (GET, 3, 0x1000, "", false, "xx xx xx xx xx xx xx xx"),
     (PUT, 2, 0x1000, "11 22 33 44", true, ""),
@@ -220,14 +211,6 @@ const NOTHING: [Turn; 4] = [
     (HINT, 0, 0x1000, "", true, ""),
 ];
 
-#[test]
-fn other_kinds_support_what_their_rows_say(rt: HostRuntime) {
-    try_kind(&rt, rt.alloc(), Kind::Rom, false, &ROM);
-    try_kind(&rt, rt.alloc(), Kind::Regs, false, &REGS);
-    try_kind(&rt, rt.alloc(), Kind::ClearRegs, false, &CLEARING);
-    try_kind(&rt, rt.alloc(), Kind::NoDevice, false, &NOTHING);
-}
-
 const RANGES: [Range; 3] = [
     Range {
         base: 0x1000,
@@ -264,8 +247,36 @@ const PLACES: [Turn; 9] = [
 ];
 
 #[test]
+fn each_kind_serves_what_its_row_says(rt: HostRuntime) {
+    let alloc = rt.alloc();
+    try_kind(&rt, alloc, "puts", Kind::Ram, false, &PUTS);
+    try_kind(
+        &rt,
+        alloc,
+        "unknown bytes",
+        Kind::Ram,
+        false,
+        &ATOMICS_UNKNOWN,
+    );
+    try_kind(&rt, alloc, "known bytes", Kind::Ram, true, &ATOMICS_KNOWN);
+    try_kind(&rt, alloc, "denied requests", Kind::Ram, false, &DENIED);
+    try_kind(&rt, alloc, "whole words", Kind::Ram, false, &WORDS);
+    try_kind(&rt, alloc, "a ROM", Kind::Rom, false, &ROM);
+    try_kind(&rt, alloc, "registers", Kind::Regs, false, &REGS);
+    try_kind(
+        &rt,
+        alloc,
+        "clearing registers",
+        Kind::ClearRegs,
+        false,
+        &CLEARING,
+    );
+    try_kind(&rt, alloc, "no device", Kind::NoDevice, false, &NOTHING);
+}
+
+#[test]
 fn a_request_lies_in_one_range(rt: HostRuntime) {
     let sizes = Sizes::of(Kind::Ram);
     let mut memory = memory_of(&rt, rt.alloc(), Kind::Ram, sizes, &RANGES, false);
-    serve_all(&rt, rt.alloc(), &mut memory, &PLACES);
+    serve_all(&rt, rt.alloc(), "ranges", &mut memory, &PLACES);
 }

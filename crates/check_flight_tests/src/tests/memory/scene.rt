@@ -1,36 +1,10 @@
-//! What the scenes of the tests share: bytes as words, memories, and requests that are served.
-use arrayvec::ArrayVec;
-use check_memory::{Cells, Memory, Pattern, Range, Sizes, are_within};
+//! What the scenes of the tests share: memories, and requests that are served.
+use crate::tests::{bytes_of, expect_cells, holds};
+use check_memory::{Memory, Pattern, Range, Sizes, are_within};
 use std::alloc::Global;
 use std::process::Abort;
 use tl_ops::Kind;
-use tl_types::{Ask, AskOp, MAX_BYTES};
-
-/// Bytes, some of them unknown or unset.
-pub type Given = ArrayVec<Option<u8>, MAX_BYTES>;
-
-/// Bytes from words of two hexadecimal digits, or `xx`.
-pub fn bytes_of(rt: &impl Abort, text: &str) -> Given {
-    let mut bytes = Given::new();
-    for word in text.split_whitespace() {
-        let byte = if word == "xx" {
-            None
-        } else {
-            Some(u8::from_str_radix(word, 16).ok().expect(rt, "two digits"))
-        };
-        bytes.try_push(byte).ok().expect(rt, "too many bytes");
-    }
-    bytes
-}
-
-/// These are the bytes of a reply.
-pub fn expect_bytes(rt: &impl Abort, cells: &Cells, text: &str) {
-    let bytes = bytes_of(rt, text);
-    assert!(rt; cells.len() == bytes.len());
-    for place in 0..cells.len() {
-        assert!(rt; Some(&cells.get(place)) == bytes.get(place));
-    }
-}
+use tl_types::{Ask, AskOp};
 
 /// A request from source 0.
 pub fn ask_of(rt: &impl Abort, op: AskOp, size: u8, address: u64, text: &str) -> Ask {
@@ -59,7 +33,7 @@ pub fn memory_of(
 pub type Turn = (AskOp, u8, u64, &'static str, bool, &'static str);
 
 /// A memory serves one request.
-fn serve(rt: &impl Abort, alloc: Global, memory: &mut Memory, turn: &Turn) {
+fn serve(rt: &impl Abort, alloc: Global, row: &str, memory: &mut Memory, turn: &Turn) {
     let (op, size, address, given, denied, read) = *turn;
     let ask = ask_of(rt, op, size, address, given);
     let mut early = Pattern::blank();
@@ -68,25 +42,36 @@ fn serve(rt: &impl Abort, alloc: Global, memory: &mut Memory, turn: &Turn) {
     memory
         .serve_into(alloc, &ask, &mut answer)
         .expect(rt, "memory refused");
-    assert!(rt; (answer.op(), answer.size(), answer.source()) == (op.reply_op(), size, 0));
-    assert!(rt; answer.denied() == Some(denied) && early.denied() == Some(denied));
-    expect_bytes(rt, answer.cells(), read);
-    expect_bytes(rt, early.cells(), read);
+    holds(rt, row, answer.op() == op.reply_op());
+    holds(rt, row, answer.size() == size);
+    holds(rt, row, answer.source() == 0);
+    holds(rt, row, answer.denied() == Some(denied));
+    holds(rt, row, early.denied() == Some(denied));
+    let bytes = bytes_of(rt, read);
+    expect_cells(rt, row, answer.cells(), &bytes);
+    expect_cells(rt, row, early.cells(), &bytes);
 }
 
 /// A memory serves one request after the other.
-pub fn serve_all(rt: &impl Abort, alloc: Global, memory: &mut Memory, turns: &[Turn]) {
+pub fn serve_all(rt: &impl Abort, alloc: Global, row: &str, memory: &mut Memory, turns: &[Turn]) {
     for turn in turns {
-        serve(rt, alloc, memory, turn);
+        serve(rt, alloc, row, memory, turn);
     }
 }
 
 /// A memory of this kind with its kind's sizes, 64 bytes from 0x1000 on, serves one request after the other.
-pub fn try_kind(rt: &impl Abort, alloc: Global, kind: Kind, known: bool, turns: &[Turn]) {
+pub fn try_kind(
+    rt: &impl Abort,
+    alloc: Global,
+    row: &str,
+    kind: Kind,
+    known: bool,
+    turns: &[Turn],
+) {
     let range = Range {
         base: 0x1000,
         length: 0x40,
     };
     let mut memory = memory_of(rt, alloc, kind, Sizes::of(kind), &[range], known);
-    serve_all(rt, alloc, &mut memory, turns);
+    serve_all(rt, alloc, row, &mut memory, turns);
 }

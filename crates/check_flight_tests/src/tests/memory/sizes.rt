@@ -1,5 +1,6 @@
 //! Tables of sizes: which there are, and what they make of a kind.
 use super::scene::{Turn, memory_of, serve_all};
+use crate::tests::holds_at;
 use check_memory::{Range, SizeTable, Sizes, Span};
 use std::alloc::Global;
 use std::process::Abort;
@@ -15,60 +16,61 @@ const NONE: SizeTable = SizeTable {
     intent: None,
 };
 
-const fn span(least: u8, greatest: u8) -> Option<Span> {
-    Some(Span { least, greatest })
-}
-
-/// The least and the greatest size of each operation, in the order of the table's fields.
-type Pairs = [Option<(u8, u8)>; 6];
-
-/// Tables, and whether each is within the rules.
-const TABLES: [(Pairs, bool); 12] = [
-    ([None, None, None, None, None, None], true),
-    ([Some((0, 8)), None, None, None, None, None], true),
-    ([Some((8, 8)), None, None, None, None, None], true),
-    ([Some((0, 9)), None, None, None, None, None], false),
-    ([None, Some((3, 2)), None, None, None, None], false),
-    ([None, None, Some((9, 8)), None, None, None], false),
-    ([None, None, None, None, None, Some((0, 255))], false),
-    ([None, None, None, Some((2, 3)), None, None], true),
-    ([None, None, None, Some((1, 3)), None, None], false),
-    ([None, None, None, None, Some((3, 3)), None], true),
-    ([None, None, None, None, Some((2, 4)), None], false),
-    ([None, None, None, None, Some((3, 2)), None], false),
+/// A table of one operation: its least and greatest size, and whether that is within the rules.
+const TABLES: [(AskOp, u8, u8, bool); 11] = [
+    (AskOp::Get, 0, 8, true),
+    (AskOp::Get, 8, 8, true),
+    (AskOp::Get, 0, 9, false),
+    (AskOp::PutFull, 3, 2, false),
+    (AskOp::PutPartial, 9, 8, false),
+    (AskOp::Intent(Hint::PrefetchRead), 0, 255, false),
+    (AskOp::Arithmetic(Arith::Add), 2, 3, true),
+    (AskOp::Arithmetic(Arith::Add), 1, 3, false),
+    (AskOp::Logical(Logic::Swap), 3, 3, true),
+    (AskOp::Logical(Logic::Swap), 2, 4, false),
+    (AskOp::Logical(Logic::Swap), 3, 2, false),
 ];
 
-fn span_of(pair: Option<(u8, u8)>) -> Option<Span> {
-    match pair {
-        Some((least, greatest)) => span(least, greatest),
-        None => None,
+/// The table of one operation.
+fn table_of(op: AskOp, least: u8, greatest: u8) -> SizeTable {
+    let span = Some(Span { least, greatest });
+    match op {
+        AskOp::Get => SizeTable { get: span, ..NONE },
+        AskOp::PutFull => SizeTable {
+            put_full: span,
+            ..NONE
+        },
+        AskOp::PutPartial => SizeTable {
+            put_partial: span,
+            ..NONE
+        },
+        AskOp::Arithmetic(_) => SizeTable {
+            arithmetic: span,
+            ..NONE
+        },
+        AskOp::Logical(_) => SizeTable {
+            logical: span,
+            ..NONE
+        },
+        AskOp::Intent(_) => SizeTable {
+            intent: span,
+            ..NONE
+        },
+    }
+}
+
+fn try_tables(rt: &impl Abort, rows: &[(AskOp, u8, u8, bool)]) {
+    for row in 0..rows.len() {
+        let (op, least, greatest, lawful) = rows[row];
+        let made = Sizes::new(table_of(op, least, greatest));
+        holds_at(rt, row, made.is_some() == lawful);
     }
 }
 
 #[test]
 fn a_table_keeps_the_rules(rt: HostRuntime) {
-    for ([get, put_full, put_partial, arithmetic, logical, intent], lawful) in TABLES {
-        let table = SizeTable {
-            get: span_of(get),
-            put_full: span_of(put_full),
-            put_partial: span_of(put_partial),
-            arithmetic: span_of(arithmetic),
-            logical: span_of(logical),
-            intent: span_of(intent),
-        };
-        assert!(rt; Sizes::new(table).is_some() == lawful);
-    }
-}
-
-/// A memory of this kind with this table, 64 bytes from 0 on, serves one request after the other.
-fn try_sizes(rt: &impl Abort, alloc: Global, kind: Kind, table: SizeTable, turns: &[Turn]) {
-    let sizes = Sizes::new(table).expect(rt, "a lawful table");
-    let range = Range {
-        base: 0,
-        length: 0x40,
-    };
-    let mut memory = memory_of(rt, alloc, kind, sizes, &[range], false);
-    serve_all(rt, alloc, &mut memory, turns);
+    assert!(rt; Sizes::new(NONE).is_some());
+    try_tables(&rt, &TABLES);
 }
 
 /// A ROM that a table gives puts of four bytes stores them.
@@ -171,33 +173,103 @@ const PARTLY_CLEARED: [Turn; 6] = [
     (AskOp::Get, 3, 16, "", false, "00 xx xx xx xx xx xx 00"),
 ];
 
+/// A memory of this kind with this table, 64 bytes from 0 on, serves one request after the other.
+fn try_sizes(
+    rt: &impl Abort,
+    alloc: Global,
+    row: &str,
+    kind: Kind,
+    table: SizeTable,
+    turns: &[Turn],
+) {
+    let sizes = Sizes::new(table).expect(rt, row);
+    let range = Range {
+        base: 0,
+        length: 0x40,
+    };
+    let mut memory = memory_of(rt, alloc, kind, sizes, &[range], false);
+    serve_all(rt, alloc, row, &mut memory, turns);
+}
+
+const FOR_ROM: SizeTable = SizeTable {
+    get: Some(Span {
+        least: 0,
+        greatest: 3,
+    }),
+    put_full: Some(Span {
+        least: 2,
+        greatest: 2,
+    }),
+    ..NONE
+};
+
+const FOR_RAM: SizeTable = SizeTable {
+    put_full: Some(Span {
+        least: 0,
+        greatest: 3,
+    }),
+    arithmetic: Some(Span {
+        least: 2,
+        greatest: 2,
+    }),
+    ..NONE
+};
+
+const FOR_REGS: SizeTable = SizeTable {
+    get: Some(Span {
+        least: 3,
+        greatest: 3,
+    }),
+    arithmetic: Some(Span {
+        least: 2,
+        greatest: 3,
+    }),
+    logical: Some(Span {
+        least: 2,
+        greatest: 3,
+    }),
+    ..NONE
+};
+
+const FOR_CLEARING: SizeTable = SizeTable {
+    get: Some(Span {
+        least: 0,
+        greatest: 8,
+    }),
+    put_full: Some(Span {
+        least: 0,
+        greatest: 8,
+    }),
+    put_partial: Some(Span {
+        least: 0,
+        greatest: 8,
+    }),
+    logical: Some(Span {
+        least: 2,
+        greatest: 2,
+    }),
+    ..NONE
+};
+
 #[test]
 fn a_table_stands_for_its_kinds_row(rt: HostRuntime) {
-    let rom = SizeTable {
-        get: span(0, 3),
-        put_full: span(2, 2),
-        ..NONE
-    };
-    try_sizes(&rt, rt.alloc(), Kind::Rom, rom, &WRITTEN_ROM);
-    let ram = SizeTable {
-        put_full: span(0, 3),
-        arithmetic: span(2, 2),
-        ..NONE
-    };
-    try_sizes(&rt, rt.alloc(), Kind::Ram, ram, &BLIND_RAM);
-    let regs = SizeTable {
-        get: span(3, 3),
-        arithmetic: span(2, 3),
-        logical: span(2, 3),
-        ..NONE
-    };
-    try_sizes(&rt, rt.alloc(), Kind::Regs, regs, &ATOMIC_REGS);
-    let clearing = SizeTable {
-        get: span(0, 8),
-        put_full: span(0, 8),
-        put_partial: span(0, 8),
-        logical: span(2, 2),
-        ..NONE
-    };
-    try_sizes(&rt, rt.alloc(), Kind::ClearRegs, clearing, &PARTLY_CLEARED);
+    let alloc = rt.alloc();
+    try_sizes(
+        &rt,
+        alloc,
+        "puts to a ROM",
+        Kind::Rom,
+        FOR_ROM,
+        &WRITTEN_ROM,
+    );
+    try_sizes(&rt, alloc, "no gets", Kind::Ram, FOR_RAM, &BLIND_RAM);
+    try_sizes(&rt, alloc, "atomics", Kind::Regs, FOR_REGS, &ATOMIC_REGS);
+    try_sizes(
+        &rt,
+        alloc,
+        "partial puts",
+        Kind::ClearRegs,
+        FOR_CLEARING,
+        &PARTLY_CLEARED,
+    );
 }

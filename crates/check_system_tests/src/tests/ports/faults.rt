@@ -1,26 +1,6 @@
 //! Ports with faults: the line of each, and which of two faults is told.
-use super::read_file;
-use std::alloc::Global;
-use std::process::Abort;
-
-/// A part of a port's table, and the line of the file's fault, which is empty where there is none.
-type Row = (&'static str, &'static str);
-
-/// The line of a file's fault.
-fn fault_line(rt: &impl Abort, alloc: Global, file: &str) -> String {
-    match read_file(rt, alloc, file) {
-        Ok(_) => String::new(alloc),
-        Err(fault) => format!(in alloc; "{fault}").expect(rt, "memory"),
-    }
-}
-
-/// Each part makes a file that has its row's line. The part stands after the head.
-fn have_lines(rt: &impl Abort, alloc: Global, head: &str, rows: &[Row]) {
-    for (part, line) in rows {
-        let file = format!(in alloc; "{head}{part}\n").expect(rt, "memory");
-        assert_eq!(rt; fault_line(rt, alloc, file.as_str()).as_str(), *line);
-    }
-}
+use crate::tests::Part;
+use crate::tests::faults::{Row, Rows, have_lines};
 
 const TABLES: [Row; 9] = [
     ("", ""),
@@ -33,11 +13,6 @@ const TABLES: [Row; 9] = [
     ("port = [{ kind = 1 }]", "system: wrong type of kind"),
     ("port = [{ kind = 'Device' }]", "system: kind out of range"),
 ];
-
-#[test]
-fn tables_have_faults(rt: HostRuntime) {
-    have_lines(&rt, rt.alloc(), "", &TABLES);
-}
 
 const RANGES: [Row; 14] = [
     ("", "system: missing base"),
@@ -61,11 +36,6 @@ const RANGES: [Row; 14] = [
     ("ranges = 1\nbase = 'x'", "system: wrong type of base"),
 ];
 
-#[test]
-fn ranges_have_faults(rt: HostRuntime) {
-    have_lines(&rt, rt.alloc(), "[[port]]\nkind = 'device'\n", &RANGES);
-}
-
 /// A port of two bytes.
 const SMALL: &str = "[[port]]\nkind = 'ram'\nbase = 0\nlength = 2\n";
 
@@ -86,11 +56,6 @@ const CONTENTS: [Row; 14] = [
     ("sizes = 1\nunknown = 1", "system: wrong type of unknown"),
     ("order = 1\nsizes = 1", "system: wrong type of sizes"),
 ];
-
-#[test]
-fn contents_have_faults(rt: HostRuntime) {
-    have_lines(&rt, rt.alloc(), SMALL, &CONTENTS);
-}
 
 const SIZES: [Row; 19] = [
     ("sizes = {}", ""),
@@ -125,11 +90,6 @@ const SIZES: [Row; 19] = [
     ("sizes = { atomics = [0, 9] }", ""),
 ];
 
-#[test]
-fn sizes_have_faults(rt: HostRuntime) {
-    have_lines(&rt, rt.alloc(), SMALL, &SIZES);
-}
-
 const RULES: [Row; 13] = [
     ("order = 1", "system: wrong type of order"),
     ("order = 'all'", "system: order out of range"),
@@ -147,28 +107,15 @@ const RULES: [Row; 13] = [
     ("bus = 3\n[[port]]", "system: bus out of range"),
 ];
 
-#[test]
-fn orders_and_buses_have_faults(rt: HostRuntime) {
-    have_lines(&rt, rt.alloc(), SMALL, &RULES);
-}
-
-/// A file of so many ports.
-fn file_of(rt: &impl Abort, alloc: Global, count: usize) -> String {
-    let mut file = String::new(alloc);
-    for _ in 0..count {
-        file.push_str("[[port]]\nkind = 'device'\nbase = 0\nlength = 1\n")
-            .expect(rt, "memory");
-    }
-    file
-}
+const FILES: [Rows; 5] = [
+    ("", &TABLES),
+    ("[[port]]\nkind = 'device'\n", &RANGES),
+    (SMALL, &CONTENTS),
+    (SMALL, &SIZES),
+    (SMALL, &RULES),
+];
 
 #[test]
-fn there_is_a_most_of_ports(rt: HostRuntime) {
-    let most = file_of(&rt, rt.alloc(), 255);
-    assert!(rt; read_file(&rt, rt.alloc(), &most).is_ok());
-    let more = file_of(&rt, rt.alloc(), 256);
-    assert_eq!(rt;
-        fault_line(&rt, rt.alloc(), &more).as_str(),
-        "system: port out of range"
-    );
+fn ports_have_faults(rt: HostRuntime) {
+    have_lines(&rt, rt.alloc(), Part::Ports, &FILES);
 }
