@@ -1,0 +1,6 @@
+pub mod Bytes
+pub mod Counted
+pub mod Places
+pub mod Lawful
+pub mod Owners
+pub mod Covered
