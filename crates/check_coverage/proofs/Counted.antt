@@ -1,9 +1,9 @@
 -- Bins, as they are counted.
 use Rattle.std.proofs.Common.{◌≡◌, ◌∙◌, ℕ, ◌+◌, ◌-◌, ◌^◌, ◌≤◌, Bool, true, false, cond, List, [], ◌∷◌, ◌++◌, Some, refl, ap, sym, arith}
-use Rattle.std.specs.Prelude.{if◌then◌else◌, min, unwrap_or}
+use Rattle.std.specs.Prelude.{if◌then◌else◌, min, unwrap_or, Result, Ok, Err, OnOk}
 use Rattle.std.specs.Ordering.{is_eq}
 use Rattle.std.specs.BTreeMap.{Updates, get, get_by}
-use Rattle.std.specs.Cmp.{Equal-is}
+use Rattle.std.specs.Cmp.{Equal-is, IsTotalOrder}
 use Rattle.std.specs.declared.cmp.Ordering.{Ordering}
 use Rattle.std.specs.declared.cmp.Ordering.TheVariants.{Equal}
 use Rattle.check_coverage.specs.contracts.bin.BinOrd.TheImpl.Laws.{total-law}
@@ -33,10 +33,14 @@ adds_then old mid new xs ys first second bin n is =
 -- ---- one bin more
 
 -- bins that are the same have the same count
+bins_total : IsTotalOrder bin_cmp
+unfolding bin_cmp
+bins_total = total-law
+
 same_count : (counts : Counts) (one other : Bin) → is_eq (bin_cmp one other) ≡ true → count_of counts one ≡ count_of counts other
 same_count counts one other same =
     let equal : bin_cmp one other ≡ Equal = (Equal-is (bin_cmp one other)).0 same in
-    ap (λ (f : Bin → Ordering). unwrap_or (get_by f counts.counts) 0) (λ i k. total-law.congr one other k equal i)
+    ap (λ (f : Bin → Ordering). unwrap_or (get_by f counts.counts) 0) (λ i k. bins_total.congr one other k equal i)
 
 pub adds_one : (old new : Counts) (bin : Bin) (count : ℕ) → Updates bin_cmp old.counts new.counts bin (Some count)
     → count ≡ capped (count_of old bin + 1) → Adds old new (bin ∷ [])
@@ -59,3 +63,10 @@ adds_one old new bin count updates is other n before = go (is_eq (bin_cmp bin ot
     go false same =
         let none : n ≡ n + 0 = omega arith in
         get_is false same ∙ before ∙ ap capped none ∙ ap (λ k. capped (n + k)) (sym (often_is false same))
+
+-- ---- what a call that may fail counts
+
+pub adds_ok : {E : Type 0} (old mid new : Counts) (xs ys : List Bin) (r : Result (Unit {0}) E) → Adds old mid xs
+    → OnOk r (Adds mid new ys) → OnOk r (Adds old new (xs ++ ys))
+adds_ok old mid new xs ys (Ok done) first second = adds_then old mid new xs ys first second
+adds_ok old mid new xs ys (Err fault) first second = tt

@@ -3,4 +3,5 @@ pub mod Counted
 pub mod Places
 pub mod Lawful
 pub mod Owners
+pub mod Adding
 pub mod Covered

@@ -15,7 +15,7 @@ use Rattle.check_coverage.specs.declared.counts.Counts.{Counts}
 use Rattle.check_coverage.specs.declared.coverage.Coverage.{Coverage}
 
 -- the order of bins
-abbrev pub bin_cmp : Bin → Bin → Ordering
+unfoldable pub bin_cmp : Bin → Bin → Ordering
 bin_cmp = (bin_ord.ghosts).cmp
 
 -- how often a bin is among these

@@ -24,6 +24,7 @@ impl Counts {
     }
 
     /// The count of a bin.
+    #[tactic(auto, unfolding(crate::specs::View::bin_cmp))]
     pub fn count(&self, bin: &Bin) -> u64
         ensures { result ≡ count_of self.now bin.now }
     {

@@ -204,8 +204,14 @@ fn count_reply(
     counts.add(Bin::Answered(flight.pair(), flight.operation(), beat.denied))?;
     counts.add(Bin::Beats(flight.pair(), Channel::D, beats))?;
     match oldest_of(flights, flight.master) {
-        Some(oldest) if oldest.wide != flight.wide => counts.add(Bin::Overtook(flight.pair())),
-        Some(_) | None => Ok(()),
+        Some(oldest) => {
+            if oldest.wide == flight.wide {
+                Ok(())
+            } else {
+                counts.add(Bin::Overtook(flight.pair()))
+            }
+        }
+        None => Ok(()),
     }
 }
 

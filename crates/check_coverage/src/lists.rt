@@ -48,11 +48,12 @@ pub fn is_contested(flights: &[Flight], flight: &Flight) -> bool
     ensures { (before : List InFlight) (this : InFlight) → flights.now ≡ map kept before → flight.now ≡ kept this
         → result ≡ list_any (contests this) before }
 {
-    let mut is_contested = false;
     for other in flights {
-        is_contested = is_contested || flight.contests(other);
+        if flight.contests(other) {
+            return true;
+        }
     }
-    is_contested
+    false
 }
 
 /// Takes the request of a wide source out.
