@@ -1,6 +1,6 @@
 -- What one beat adds, as it is counted from what is kept of the requests in flight.
 use Rattle.std.proofs.Common.{◌≡◌, ◌∙◌, ℕ, ◌+◌, Bool, true, false, List, [], ◌∷◌, ◌++◌, length, Option, Some, None, refl, ap, sym, subst}
-use Rattle.std.specs.Prelude.{if◌then◌else◌, ◌==◌, not, map, filter, find, option_map, Result, OnOk}
+use Rattle.std.specs.Prelude.{if◌then◌else◌, ◌==◌, not, map, filter, find, is_some, option_map, Result, OnOk}
 use Rattle.std.specs.List.{list_any}
 use Rattle.std.proofs.lemmas.Option.{none-some, same_Some}
 use Rattle.check_beats.specs.declared.beat.AskHead.{AskHead}
@@ -13,7 +13,7 @@ use Rattle.check_coverage.specs.Bins.{again, begin_bins, contested_bins, contest
 use Rattle.check_coverage.specs.Flights.{InFlight, is_of, kept}
 use Rattle.check_coverage.specs.View.{Adds}
 use Rattle.check_coverage.proofs.Counted.{adds_ok}
-use Rattle.check_coverage.proofs.Places.{filter_count, find_kept}
+use Rattle.check_coverage.proofs.Places.{filter_count, find_kept, found_any}
 
 -- two bins, and some more by a call that may fail
 pub adds_two : {E : Type 0} (old a b new : Counts) (x y : Bin) (rest : List Bin) (r : Result (Unit {0}) E)
@@ -78,3 +78,34 @@ module _ (before : List InFlight) (this : InFlight) where
 
   pub overtook_none : None ≡ option_map kept (find (is_of_master this.master) before) → overtook_bins before this ≡ []
   overtook_none is = ap by (older_none this (find (is_of_master this.master) before) is)
+
+-- ---- what was found
+
+some_kept : (found : Option InFlight) → is_some (option_map kept found) ≡ is_some found
+some_kept None = refl
+some_kept (Some flight) = refl
+
+pub record IsFound (found : Option InFlight) (flight : Flight) : Type 0 where
+  pub this : InFlight
+  pub is : found ≡ Some this
+  pub kept_is : flight ≡ kept this
+
+pub found_some : (found : Option InFlight) (flight : Flight) → Some flight ≡ option_map kept found → IsFound found flight
+found_some None flight is = absurd (none-some flight (sym is))
+found_some (Some this) flight is = record { this = this; is = refl; kept_is = same_Some flight (kept this) is }
+
+pub found_none : (found : Option InFlight) → None ≡ option_map kept found → found ≡ None
+found_none None is = refl
+found_none (Some this) is = absurd (none-some (kept this) is)
+
+module _ (wide : ℕ) (before : List InFlight) (flights : List Flight) (is : flights ≡ map kept before) where
+  pub found_is : find (λ (flight : Flight). flight.wide == wide) flights ≡ option_map kept (find (is_of wide) before)
+  found_is =
+      (λ i. find (λ (flight : Flight). flight.wide == wide) (is i))
+      ∙ find_kept (λ (flight : Flight). flight.wide == wide) before
+
+  pub any_is : (found : Option Flight) → found ≡ find (λ (flight : Flight). flight.wide == wide) flights
+      → list_any (is_of wide) before ≡ is_some found
+  any_is found of =
+      sym (found_any (is_of wide) before) ∙ sym (some_kept (find (is_of wide) before))
+      ∙ ap is_some (sym (of ∙ found_is))

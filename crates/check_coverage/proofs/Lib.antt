@@ -4,4 +4,5 @@ pub mod Places
 pub mod Lawful
 pub mod Owners
 pub mod Adding
+pub mod Noted
 pub mod Covered
