@@ -1,15 +1,16 @@
 -- What is kept as one row more is judged.
-use Rattle.std.proofs.Common.{◌≡◌, ◌∙◌, ℕ, ◌+◌, Bool, true, false, ◌&&◌, List, [], ◌∷◌, ◌++◌, Option, Some, None, refl, ap, sym, subst, arith}
-use Rattle.std.specs.Prelude.{if◌then◌else◌, ◌==◌, map}
+use Rattle.std.proofs.Common.{◌≡◌, ◌∙◌, ℕ, ◌+◌, Bool, true, false, ◌&&◌, List, [], ◌∷◌, ◌++◌, Option, Some, None, refl, ap, sym, subst, arith, append_assoc, length}
+use Rattle.std.specs.Prelude.{if◌then◌else◌, ◌==◌, map, codes, flat_map, Result, Ok, Err, OnOk}
 use Rattle.std.specs.Ordering.{nat_cmp}
-use Rattle.std.specs.BTreeMap.{get}
+use Rattle.std.specs.BTreeMap.{IsOrdered, get}
 use Rattle.check_sides.specs.Plan.{Plan, bus_of}
 use Rattle.check_rows.specs.Row.{SeenRow}
 use Rattle.check_coverage.specs.declared.bin.Bin.{Bin}
 use Rattle.check_coverage.specs.declared.coverage.Coverage.{Coverage}
 use Rattle.check_coverage.specs.Bins.{bins, bins_by, bins_of}
 use Rattle.check_coverage.specs.Flights.{InFlight, answered_at, end_of, ends_reply, flights_after, in_flight, is_counted, kept, wide_at}
-use Rattle.check_coverage.specs.View.{Adds, Covers, IsNoted, IsSameSystem, Suits, capped, count_of, how_often}
+use Rattle.check_coverage.specs.Text.{TellsCoverage, bin_line}
+use Rattle.check_coverage.specs.View.{Adds, Covers, IsNoted, IsSameSystem, Suits, bin_cmp, capped, count_of, how_often}
 use Rattle.check_coverage.proofs.Counted.{how_often-append}
 
 pub suits_same : (plan : Plan) (old new : Coverage) → IsSameSystem old new → Suits plan old → Suits plan new
@@ -82,3 +83,22 @@ module _ (plan : Plan) (before : List SeenRow) (row : SeenRow) where
         (let h = how_often-append bin (bins_of plan before row) (bins plan before) in omega (arith, h)) in
         added ∙ ap (λ l. capped (how_often bin (bins plan before) + how_often bin l)) same ∙ ap capped sum;
   }
+
+-- ---- the text
+
+pub covered_text : {E : Type 0} (plan : Plan) (rows : List SeenRow) (coverage : Coverage) (old mid new : List ℕ) (ports : ℕ)
+    (r : Result (Unit {0}) E) → Covers plan rows coverage → mid ≡ old ++ codes "coverage 1\n"
+    → ports ≡ length plan.layout.ports
+    → OnOk r (new ≡ mid ++ flat_map (bin_line ports) coverage.counts.counts.entries)
+    → OnOk r (IsOrdered bin_cmp coverage.counts.counts) → OnOk r (TellsCoverage plan rows old new)
+covered_text plan rows coverage old mid new ports (Err fault) covers head is_ports told ordered = tt
+covered_text plan rows coverage old mid new ports (Ok done) covers head is_ports told ordered = record {
+  entries = coverage.counts.counts.entries;
+  is = told
+      ∙ (λ i. head i ++ flat_map (bin_line (is_ports i)) coverage.counts.counts.entries)
+      ∙ append_assoc old (codes "coverage 1\n")
+      (flat_map (bin_line (length plan.layout.ports)) coverage.counts.counts.entries);
+  sorted = ordered;
+  some = coverage.counts.some;
+  counts = covers.counts;
+}

@@ -12,6 +12,7 @@ ghost use Rattle.check_watch.specs.Plan.{source_of};
 ghost use Rattle.check_watch.specs.declared.beat.Beat.TheVariants.{A, D};
 ghost use Rattle.check_coverage.specs.Bins.{ask_bins, begin_bins, contested_bins, first_bins, last_bins, mask_bins, of_found, reply_bins, step_of, with_one};
 ghost use Rattle.check_coverage.specs.Flights.{HasSize, InFlight, begun, end_of, is_counted, is_of, is_whole_ask, kept, master_of, with_begun};
+ghost use Rattle.check_coverage.specs.Text.{TellsCoverage};
 ghost use Rattle.check_coverage.specs.View.{Adds, Covers, IsNoted, IsSameSystem, Suits};
 
 use crate::bin::{Bin, Channel};
@@ -407,5 +408,14 @@ impl Coverage {
             Some(wide) => self.note_beat(wide, row.time, &row.beat, bus, end),
             None => Ok(()),
         }
+    }
+
+    /// Appends the text of what was covered.
+    pub fn append(&self, text: &mut Vec<u8>) -> Result<(), AllocError>
+        ensures { (plan : Plan) (rows : List SeenRow) → Covers plan rows self.now
+            → OnOk result (TellsCoverage plan rows text.old.items text.new.items) }
+    {
+        text.extend_from_slice(b"coverage 1\n")?;
+        self.counts.append(self.map.ports() - 1, text)
     }
 }

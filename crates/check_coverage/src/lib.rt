@@ -11,6 +11,7 @@
 #![tactic(auto)]
 
 mod bin;
+mod counting;
 mod counts;
 mod coverage;
 mod flight;

@@ -2,7 +2,7 @@
 ghost use Rattle.std.specs.Prelude.{◌≡◌, ◌++◌, codes, OnOk, if◌then◌else◌};
 ghost use Rattle.std.specs.Fmt.{decimal};
 ghost use Rattle.check_beats.specs.Message.{arith_of, logic_of, op_of};
-ghost use Rattle.check_coverage.specs.Text.{bin_text, channel_text, master_text, operation_text, pair_text, port_text, shape_text};
+ghost use Rattle.check_coverage.specs.Text.{bin_line, bin_text, channel_text, master_text, operation_text, pair_text, port_text, shape_text};
 
 use crate::bin::{Bin, Channel, Operation, Pair, Shape};
 use std::alloc::AllocError;
@@ -226,4 +226,14 @@ pub fn push_bin(text: &mut Vec<u8>, ports: usize, bin: &Bin) -> Result<(), Alloc
         Bin::Again(master, least) => push_of_master(text, "again", master, least),
         Bin::Contested(port) => push_contested(text, ports, port),
     }
+}
+
+/// Appends the line of a bin that occurred so often.
+pub fn push_line(text: &mut Vec<u8>, ports: usize, bin: &Bin, count: u64) -> Result<(), AllocError>
+    ensures { OnOk result (text.new.items ≡ text.old.items ++ bin_line ports (bin.now, count)) }
+{
+    push_bin(text, ports, bin)?;
+    push_field(text, b" ", count)?;
+    text.push(b'\n')?;
+    Ok(())
 }
