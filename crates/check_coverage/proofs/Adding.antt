@@ -1,15 +1,13 @@
 -- What one beat adds, as it is counted from what is kept of the requests in flight.
-use Rattle.std.proofs.Common.{◌≡◌, ◌∙◌, ℕ, ◌+◌, Bool, true, false, List, [], ◌∷◌, ◌++◌, length, Option, Some, None, refl, ap, sym, subst}
+use Rattle.std.proofs.Common.{◌≡◌, ◌∙◌, ℕ, Bool, true, false, List, [], ◌∷◌, length, Option, Some, None, refl, ap, sym}
 use Rattle.std.specs.Prelude.{if◌then◌else◌, ◌==◌, not, map, filter, find, is_some, option_map, Result, OnOk}
 use Rattle.std.specs.List.{list_any}
 use Rattle.std.proofs.lemmas.Option.{none-some, same_Some}
-use Rattle.check_beats.specs.declared.beat.AskHead.{AskHead}
-use Rattle.check_beats.specs.declared.beat.ReplyHead.{ReplyHead}
 use Rattle.check_coverage.specs.declared.bin.Bin.{Bin}
 use Rattle.check_coverage.specs.declared.bin.Bin.TheVariants as bin
 use Rattle.check_coverage.specs.declared.counts.Counts.{Counts}
 use Rattle.check_coverage.specs.declared.flight.Flight.{Flight}
-use Rattle.check_coverage.specs.Bins.{again, begin_bins, contested_bins, contests, is_of_master, is_of_port, is_younger, overtook_bins, pair_of, step_of, with_one}
+use Rattle.check_coverage.specs.Bins.{again, begin_bins, contested_bins, contests, is_of_master, is_of_port, is_younger, overtook_bins, pair_of, with_one}
 use Rattle.check_coverage.specs.Flights.{InFlight, is_of, kept}
 use Rattle.check_coverage.specs.View.{Adds}
 use Rattle.check_coverage.proofs.Counted.{adds_ok}

@@ -1,5 +1,5 @@
 -- Bytes that are given or not, as one more comes.
-use Rattle.std.proofs.Common.{◌≡◌, ◌∙◌, ℕ, zero, suc, ◌+◌, ◌-◌, ◌*◌, ◌%◌, ◌^◌, ◌<◌, ◌≤◌, Bool, true, false, ◌&&◌, List, [], ◌∷◌, ◌++◌, length, length-append, append_assoc, take, refl, ap, sym, subst, arith}
+use Rattle.std.proofs.Common.{◌≡◌, ◌∙◌, ℕ, zero, suc, ◌+◌, ◌-◌, ◌*◌, ◌%◌, ◌^◌, ◌<◌, ◌≤◌, Bool, true, false, ◌&&◌, List, [], ◌∷◌, ◌++◌, length, length-append, append_assoc, take, refl, ap, sym, arith}
 use Rattle.std.specs.Prelude.{if◌then◌else◌, not, nat_lt, ◌==◌}
 use Rattle.std.specs.Bool.{beq}
 use Rattle.std.specs.Cmp.{both_ways}

@@ -1,6 +1,6 @@
 -- Bins, as they are counted.
-use Rattle.std.proofs.Common.{◌≡◌, ◌∙◌, ℕ, ◌+◌, ◌-◌, ◌^◌, ◌<◌, ◌≤◌, Bool, true, false, cond, List, [], ◌∷◌, ◌++◌, Some, BTreeMap, refl, ap, sym, subst, arith}
-use Rattle.std.specs.Prelude.{if◌then◌else◌, min, unwrap_or, Result, Ok, Err, OnErr, OnOk, All}
+use Rattle.std.proofs.Common.{◌≡◌, ◌∙◌, ℕ, ◌+◌, ◌<◌, Bool, true, false, cond, List, [], ◌∷◌, ◌++◌, Some, BTreeMap, refl, ap, sym, subst, arith}
+use Rattle.std.specs.Prelude.{if◌then◌else◌, unwrap_or, Result, Ok, Err, OnErr, OnOk, All}
 use Rattle.std.specs.Ordering.{is_eq}
 use Rattle.std.specs.BTreeMap.{IsUnchanged, Updates, get, get_by, insert_entry, values}
 use Rattle.std.specs.Map.{values_of}
@@ -11,7 +11,7 @@ use Rattle.std.specs.declared.cmp.Ordering.TheVariants.{Equal}
 use Rattle.check_coverage.specs.contracts.bin.BinOrd.TheImpl.Laws.{total-law}
 use Rattle.check_coverage.specs.declared.bin.Bin.{Bin}
 use Rattle.check_coverage.specs.declared.counts.Counts.{Counts}
-use Rattle.check_coverage.specs.View.{Adds, bin_cmp, capped, count_of, how_often}
+use Rattle.check_coverage.specs.View.{Adds, bin_cmp, capped, how_often}
 
 pub how_often-append : (bin : Bin) (xs ys : List Bin) → how_often bin (xs ++ ys) ≡ how_often bin xs + how_often bin ys
 how_often-append bin [] ys = omega arith

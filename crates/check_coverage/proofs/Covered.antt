@@ -1,5 +1,5 @@
 -- What is kept as one row more is judged.
-use Rattle.std.proofs.Common.{◌≡◌, ◌∙◌, ℕ, ◌+◌, Bool, true, false, ◌&&◌, List, [], ◌∷◌, ◌++◌, Option, Some, None, refl, ap, sym, subst, arith, append_assoc, length}
+use Rattle.std.proofs.Common.{◌≡◌, ◌∙◌, ℕ, ◌+◌, Bool, true, false, ◌&&◌, List, [], ◌∷◌, ◌++◌, Option, Some, ap, sym, arith, append_assoc, length}
 use Rattle.std.specs.Prelude.{if◌then◌else◌, ◌==◌, map, codes, flat_map, Result, Ok, Err, OnOk}
 use Rattle.std.specs.Ordering.{nat_cmp}
 use Rattle.std.specs.BTreeMap.{IsOrdered, get}
@@ -10,7 +10,7 @@ use Rattle.check_coverage.specs.declared.coverage.Coverage.{Coverage}
 use Rattle.check_coverage.specs.Bins.{bins, bins_by, bins_of}
 use Rattle.check_coverage.specs.Flights.{InFlight, answered_at, end_of, ends_reply, flights_after, in_flight, is_counted, kept, wide_at}
 use Rattle.check_coverage.specs.Text.{TellsCoverage, bin_line}
-use Rattle.check_coverage.specs.View.{Adds, Covers, IsNoted, IsSameSystem, Suits, bin_cmp, capped, count_of, how_often}
+use Rattle.check_coverage.specs.View.{Covers, IsNoted, IsSameSystem, Suits, bin_cmp, capped, how_often}
 use Rattle.check_coverage.proofs.Counted.{how_often-append}
 
 pub suits_same : (plan : Plan) (old new : Coverage) → IsSameSystem old new → Suits plan old → Suits plan new

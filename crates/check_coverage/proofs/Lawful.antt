@@ -1,5 +1,5 @@
 -- What a lawful row has: a size within the limit, and a source of its link.
-use Rattle.std.proofs.Common.{◌≡◌, ◌∙◌, ℕ, Bool, true, false, List, ◌∷◌, Option, Some, refl, ap, sym, subst}
+use Rattle.std.proofs.Common.{◌≡◌, ℕ, Bool, true, false, List, ◌∷◌, Option, Some, refl, ap, sym, subst}
 use Rattle.std.specs.Prelude.{◌↔◌, if◌then◌else◌}
 use Rattle.check_map.specs.Owner.{IsWide}
 use Rattle.check_map.specs.declared.sources.Owner.{Owner}
@@ -8,7 +8,7 @@ use Rattle.check_watch.specs.declared.beat.Beat.TheVariants.{A, D}
 use Rattle.check_watch.specs.declared.beat.Link.{Link}
 use Rattle.check_watch.specs.declared.beat.Link.TheVariants.{Master, Port}
 use Rattle.check_watch.specs.Lawful.{IsAllowedBeat}
-use Rattle.check_watch.specs.Plan.{HasSource, IsWideAt, Plan as GroupPlan, Sighting, source_of, wide_of}
+use Rattle.check_watch.specs.Plan.{HasSource, Plan as GroupPlan, Sighting, source_of, wide_of}
 use Rattle.check_watch.specs.Scene.{Scene}
 use Rattle.check_sides.specs.declared.links.Links.{Links}
 use Rattle.check_sides.specs.declared.links.Links.TheVariants.{Both, Masters, Ports, Each}

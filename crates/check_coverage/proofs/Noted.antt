@@ -1,6 +1,6 @@
 -- What is kept as one beat more is noted.
-use Rattle.std.proofs.Common.{◌≡◌, ◌∙◌, ℕ, ◌<◌, ◌≤◌, ◌⊎◌, inl, inr, Bool, true, false, cond, ◌&&◌, List, [], ◌∷◌, ◌++◌, Option, Some, None, Vec, BTreeMap, refl, ap, sym, subst, arith}
-use Rattle.std.specs.Prelude.{if◌then◌else◌, ◌==◌, not, map, filter, find, Result, Ok, Err, OnOk}
+use Rattle.std.proofs.Common.{◌≡◌, ◌∙◌, ℕ, ◌<◌, ◌≤◌, ◌⊎◌, inl, inr, Bool, true, false, cond, List, Some, Vec, BTreeMap, refl, ap, sym, arith}
+use Rattle.std.specs.Prelude.{◌==◌, not, map, filter, find, Result, Ok, Err, OnOk}
 use Rattle.std.specs.Ordering.{is_eq, nat_cmp}
 use Rattle.std.specs.declared.cmp.Ordering.TheVariants.{Less, Equal, Greater}
 use Rattle.std.proofs.lemmas.Bool.{cases_lt, le-ltb, lt-ltb, ne_eqb}
@@ -12,7 +12,6 @@ use Rattle.check_watch.specs.declared.beat.Beat.TheVariants.{A, D}
 use Rattle.check_watch.specs.declared.seen.Ended.{Ended}
 use Rattle.check_watch.specs.declared.seen.Ended.TheVariants as ends
 use Rattle.check_sides.specs.Plan.{Plan}
-use Rattle.check_coverage.specs.declared.counts.Counts.{Counts}
 use Rattle.check_coverage.specs.declared.coverage.Coverage.{Coverage}
 use Rattle.check_coverage.specs.declared.flight.Flight.{Flight}
 use Rattle.check_coverage.specs.Bins.{first_bins, last_bins, of_found, reply_bins}

@@ -1,6 +1,6 @@
 -- Which bins a row adds after the rows before it. Lists of rows have the latest first; they are rows of links that are
 -- watched. This project's own.
-use Rattle.std.specs.Prelude.{ℕ, ◌+◌, ◌-◌, ◌^◌, ◌&&◌, ◌||◌, ◌==◌, Bool, true, false, not, nat_lt, min, if◌then◌else◌, List, [], ◌∷◌, ◌++◌, length, filter, find, Option, Some, None}
+use Rattle.std.specs.Prelude.{ℕ, ◌+◌, ◌-◌, ◌^◌, ◌&&◌, ◌||◌, ◌==◌, Bool, false, not, nat_lt, min, if◌then◌else◌, List, [], ◌∷◌, ◌++◌, length, filter, find, Option, Some, None}
 use Rattle.std.specs.List.{list_any}
 use Rattle.check_beats.specs.Message.{ask_beats, reply_beats}
 use Rattle.check_beats.specs.declared.beat.AskHead.{AskHead}

@@ -1,6 +1,6 @@
 -- The text of what was covered: `coverage 1`, and a line for each bin that occurred, in the order of bins, with its words
 -- and its count. This project's own.
-use Rattle.std.specs.Prelude.{◌≡◌, ℕ, ◌<◌, nat_lt, Bool, if◌then◌else◌, List, ◌∷◌, [], ◌++◌, All, codes, flat_map, length, unwrap_or}
+use Rattle.std.specs.Prelude.{◌≡◌, ℕ, ◌<◌, nat_lt, if◌then◌else◌, List, ◌++◌, All, codes, flat_map, length, unwrap_or}
 use Rattle.std.specs.Fmt.{decimal}
 use Rattle.std.specs.BTreeMap.{is_at}
 use Rattle.std.specs.List.Sorted.{IsStrictlySortedBy}

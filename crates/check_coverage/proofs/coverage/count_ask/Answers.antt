@@ -1,11 +1,10 @@
 -- What the last beat of a request adds.
-use Rattle.std.proofs.Common.{◌≡◌, ◌++◌, List, ◌∷◌, [], subst}
+use Rattle.std.proofs.Common.{◌++◌, List, ◌∷◌, subst}
 use Rattle.std.specs.Prelude.{OnOk}
 use Rattle.check_coverage.specs.declared.bin.Bin.{Bin}
 use Rattle.check_coverage.specs.declared.bin.Bin.TheVariants as bin
 use Rattle.check_coverage.specs.declared.bin.Channel.TheVariants as channel
-use Rattle.check_coverage.specs.declared.flight.Flight.{Flight}
-use Rattle.check_coverage.specs.Bins.{ask_bins, contested_bins, mask_bins}
+use Rattle.check_coverage.specs.Bins.{contested_bins, mask_bins}
 use Rattle.check_coverage.specs.View.{Adds}
 use Rattle.check_coverage.proofs.Adding.{adds_two}
 use Rattle.check_coverage.proofs.Counted.{adds_ok}

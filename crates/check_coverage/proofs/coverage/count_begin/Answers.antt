@@ -1,10 +1,9 @@
 -- What the first beat of a request adds.
-use Rattle.std.proofs.Common.{◌≡◌, ◌∙◌, ◌-◌, List, [], ◌∷◌, Some, None, ap, sym, subst}
+use Rattle.std.proofs.Common.{◌≡◌, ◌∙◌, ◌-◌, List, [], ◌∷◌, ap, sym, subst}
 use Rattle.std.specs.Prelude.{OnOk, filter}
 use Rattle.check_coverage.specs.declared.bin.Bin.{Bin}
 use Rattle.check_coverage.specs.declared.bin.Bin.TheVariants as bin
-use Rattle.check_coverage.specs.Bins.{again, begin_bins, is_of_master, is_of_port, step_of, with_one}
-use Rattle.check_coverage.specs.Flights.{InFlight}
+use Rattle.check_coverage.specs.Bins.{again, is_of_master, is_of_port, step_of}
 use Rattle.check_coverage.specs.View.{Adds}
 use Rattle.check_coverage.proofs.Adding.{adds_two, begin_is, count_master, count_port}
 use Rattle.check_coverage.proofs.Counted.{adds_then}

@@ -1,5 +1,5 @@
 -- The owner's master, or past all masters.
-use Rattle.std.proofs.Common.{◌≡◌, ◌∙◌, sym}
+use Rattle.std.proofs.Common.{◌∙◌, sym}
 use Rattle.std.proofs.lemmas.Option.{none-some}
 use Rattle.check_coverage.proofs.Owners.{master_is, master_none}
 use Rattle.check_coverage.proofs.coverage.master_of.Goals as goal

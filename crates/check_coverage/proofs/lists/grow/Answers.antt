@@ -1,5 +1,5 @@
 -- One request more, and all of them.
-use Rattle.std.proofs.Common.{◌≡◌, ◌∙◌, ◌≤◌, ◌<◌, length, arith}
+use Rattle.std.proofs.Common.{◌∙◌, arith}
 use Rattle.check_beats.specs.Bus.{bus_bytes}
 use Rattle.check_coverage.specs.Flights.{with_beat}
 use Rattle.check_coverage.proofs.Places.{grow_all, grow_first, grow_more}

@@ -1,5 +1,5 @@
 -- One request more, or all of them.
-use Rattle.std.proofs.Common.{◌≡◌, ◌∙◌, ◌<◌, false, sym, arith}
+use Rattle.std.proofs.Common.{◌∙◌, sym}
 use Rattle.check_coverage.specs.Bins.{contests}
 use Rattle.check_coverage.proofs.Places.{none_more, none_of, not_kept, some_here, told}
 use Rattle.check_coverage.proofs.lists.is_contested.Goals as goal

@@ -1,5 +1,5 @@
 -- One line more, and all lines.
-use Rattle.std.proofs.Common.{◌≡◌, ◌∙◌, ◌++◌, ℕ, List, append_assoc, append-nil, ap, sym}
+use Rattle.std.proofs.Common.{◌∙◌, ◌++◌, ℕ, List, append_assoc, append-nil, ap, sym}
 use Rattle.std.specs.Prelude.{flat_map}
 use Rattle.check_coverage.specs.declared.bin.Bin.{Bin}
 use Rattle.check_coverage.specs.Text.{bin_line}

@@ -1,5 +1,5 @@
 -- The request that was found is answered, or none was found.
-use Rattle.std.proofs.Common.{◌≡◌, ◌∙◌, List, [], Option, ap, sym, subst}
+use Rattle.std.proofs.Common.{◌∙◌, List, Option, ap, sym, subst}
 use Rattle.std.specs.Prelude.{OnOk, find}
 use Rattle.check_beats.specs.Bus.{bus_bytes}
 use Rattle.check_coverage.specs.declared.bin.Bin.{Bin}

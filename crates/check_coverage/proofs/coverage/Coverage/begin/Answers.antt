@@ -6,8 +6,8 @@ use Rattle.std.specs.BTreeMap.{get}
 use Rattle.std.specs.List.{list_any}
 use Rattle.std.proofs.lemmas.List.{map_push}
 use Rattle.check_coverage.specs.declared.bin.Bin.{Bin}
-use Rattle.check_coverage.specs.Bins.{begin_bins, first_bins}
-use Rattle.check_coverage.specs.Flights.{InFlight, begun, is_of, kept}
+use Rattle.check_coverage.specs.Bins.{begin_bins}
+use Rattle.check_coverage.specs.Flights.{begun, is_of, kept}
 use Rattle.check_coverage.specs.View.{Adds}
 use Rattle.check_coverage.proofs.Adding.{any_is}
 use Rattle.check_coverage.proofs.Counted.{adds_none}

@@ -1,5 +1,5 @@
 -- The request that begins with a beat, as it is kept.
-use Rattle.std.proofs.Common.{◌≡◌, ◌∙◌, ◌%◌, ◌^◌, [], false, List, sym, ap, subst}
+use Rattle.std.proofs.Common.{◌≡◌, ◌∙◌, ◌%◌, ◌^◌, false, List, sym, ap, subst}
 use Rattle.std.specs.Prelude.{◌==◌, not}
 use Rattle.tl_map.specs.declared.map.Range.{Range}
 use Rattle.check_map.specs.Ranges.{RoutesBytes}

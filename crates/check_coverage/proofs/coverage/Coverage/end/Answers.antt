@@ -3,7 +3,7 @@ use Rattle.std.proofs.Common.{◌≡◌, ◌∙◌, List, [], Bool, true, Option
 use Rattle.std.specs.Prelude.{OnOk, find, if◌then◌else◌}
 use Rattle.check_beats.specs.Bus.{bus_bytes}
 use Rattle.check_coverage.specs.declared.bin.Bin.{Bin}
-use Rattle.check_coverage.specs.Bins.{ask_bins, last_bins, of_found}
+use Rattle.check_coverage.specs.Bins.{ask_bins, of_found}
 use Rattle.check_coverage.specs.Flights.{InFlight, is_of, is_whole_ask}
 use Rattle.check_coverage.specs.View.{Adds}
 use Rattle.check_coverage.proofs.Adding.{found_is, found_none, found_some}

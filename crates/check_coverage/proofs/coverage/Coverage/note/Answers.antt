@@ -1,13 +1,13 @@
 -- A row is noted.
-use Rattle.std.proofs.Common.{◌≡◌, ◌∙◌, ◌∷◌, ℕ, true, false, Some, ap, sym, subst}
-use Rattle.std.specs.Prelude.{◌↔◌, OnOk}
+use Rattle.std.proofs.Common.{◌≡◌, ◌∙◌, ℕ, true, Some, ap, sym, subst}
+use Rattle.std.specs.Prelude.{◌↔◌}
 use Rattle.std.proofs.lemmas.Option.{none-some, same_Some}
 use Rattle.check_beats.specs.Bus.{bus_bytes}
 use Rattle.check_map.specs.Owner.{IsWide}
 use Rattle.check_watch.specs.declared.seen.Ended.{Ended}
 use Rattle.check_sides.specs.declared.links.Links.{Links}
 use Rattle.check_unanswered.specs.Began.{beats_of, row_with}
-use Rattle.check_coverage.specs.Flights.{end_of, is_counted, wide_at}
+use Rattle.check_coverage.specs.Flights.{is_counted, wide_at}
 use Rattle.check_coverage.specs.View.{IsNoted}
 use Rattle.check_coverage.proofs.Covered.{covers_counted, covers_uncounted}
 use Rattle.check_coverage.proofs.Lawful.{found_wide, lawful_size}

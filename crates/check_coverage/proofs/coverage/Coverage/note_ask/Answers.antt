@@ -1,5 +1,4 @@
 -- A beat of channel A is noted.
-use Rattle.std.proofs.Common.{◌≡◌}
 use Rattle.check_beats.specs.Bus.{bus_bytes}
 use Rattle.check_coverage.proofs.Noted.{ask_noted}
 use Rattle.check_coverage.proofs.coverage.Coverage.note_ask.Goals as goal

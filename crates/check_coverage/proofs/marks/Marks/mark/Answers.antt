@@ -1,9 +1,5 @@
 -- One byte more, if there is room for it.
-use Rattle.std.proofs.Common.{◌≡◌, ◌∙◌, ℕ, ◌+◌, ◌%◌, ◌^◌, ◌<◌, ◌++◌, ◌∷◌, [], Bool, List, length, sym, ap, arith}
-use Rattle.std.specs.Prelude.{if◌then◌else◌, not, nat_lt}
-use Rattle.check_coverage.specs.declared.marks.Marks.{Marks}
-use Rattle.check_coverage.specs.Shape.{bytes_of, count_given, is_even, is_low, marks_of}
-use Rattle.check_coverage.proofs.Bytes.{added_marks, full_marks}
+use Rattle.check_coverage.proofs.Bytes.{added_marks}
 use Rattle.check_coverage.proofs.marks.Marks.mark.Goals as goal
 
 pub returns : goal.returns
