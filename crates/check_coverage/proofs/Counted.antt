@@ -38,7 +38,7 @@ abbrev pub count_in : BTreeMap Bin ℕ → Bin → ℕ
 count_in counts bin = unwrap_or (get bin_cmp counts bin) 0
 
 -- bins that are the same have the same count
-bins_total : IsTotalOrder bin_cmp
+pub bins_total : IsTotalOrder bin_cmp
 unfolding bin_cmp
 bins_total = total-law
 

@@ -6,3 +6,4 @@ pub mod Owners
 pub mod Adding
 pub mod Noted
 pub mod Covered
+pub mod Exact

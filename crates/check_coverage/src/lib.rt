@@ -15,6 +15,7 @@ mod counting;
 mod counts;
 mod coverage;
 mod flight;
+pub mod laws;
 mod lists;
 mod marks;
 mod words;
