@@ -1,11 +1,11 @@
 -- The order of bins tells them apart.
-use Rattle.std.proofs.Common.{◌≡◌, ◌∙◌, ℕ, ◌<◌, Bool, true, false, cond, refl, ap, sym, subst, arith}
-use Rattle.std.specs.Prelude.{◌==◌}
+use Rattle.std.proofs.Common.{◌≡◌, ℕ, Bool, true, false, refl, ap, sym, subst}
 use Rattle.std.specs.Ordering.{bool_cmp, is_eq, nat_cmp, ordering_reverse, ordering_then}
 use Rattle.std.specs.Cmp.{Equal-is}
 use Rattle.check_coverage.proofs.Counted.{bins_total}
 use Rattle.std.specs.declared.cmp.Ordering.{Ordering}
 use Rattle.std.specs.declared.cmp.Ordering.TheVariants.{Less, Equal, Greater}
+use Rattle.std.proofs.lemmas.Bool.{true≢false}
 use Rattle.std.proofs.lemmas.Map.Lookups.{exact_unsigned}
 use Rattle.check_coverage.specs.contracts.bin.ChannelOrd.TheImpl as channel_ord
 use Rattle.check_coverage.specs.contracts.bin.OperationOrd.TheImpl as operation_ord
@@ -35,7 +35,7 @@ bool_exact false false is = refl
 channel_exact : (a b : Channel) → (channel_ord.ghosts).cmp a b ≡ Equal → a ≡ b
 channel_exact A A is = refl
 channel_exact D D is = refl
-channel_exact a b is = absurd (cc)
+channel_exact a b is = absurd (true≢false (ap is_eq (sym is)))
 
 shape_exact : (a b : Shape) → (shape_ord.ghosts).cmp a b ≡ Equal → a ≡ b
 shape_exact Empty Empty is = refl
@@ -47,7 +47,7 @@ shape_exact High High is = refl
 shape_exact Even Even is = refl
 shape_exact Odd Odd is = refl
 shape_exact Other Other is = refl
-shape_exact a b is = absurd (cc)
+shape_exact a b is = absurd (true≢false (ap is_eq (sym is)))
 
 pair_exact : (p q : Pair) → (pair_ord.ghosts).cmp p q ≡ Equal → p ≡ q
 pair_exact p q is =
@@ -92,7 +92,7 @@ exact (Again m n) (Again k l) is =
     let both = then_both (nat_cmp m k) (nat_cmp n l) is in
     λ i. Again (exact_unsigned m k both.0 i) (exact_unsigned n l both.1 i)
 exact (Contested m) (Contested k) is = ap (λ (n : ℕ). Contested n) (exact_unsigned m k is)
-exact one other is = absurd (cc)
+exact one other is = absurd (true≢false (ap is_eq (sym is)))
 
 pub exact_eq : (one other : Bin) → is_eq (bin_cmp one other) ≡ true → one ≡ other
 exact_eq one other is = exact one other ((Equal-is (bin_cmp one other)).0 is)
