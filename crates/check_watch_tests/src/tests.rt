@@ -1,4 +1,5 @@
 mod captures;
+mod coverage;
 mod rows;
 mod scene;
 mod sides;

@@ -1,0 +1,104 @@
+-- What is kept as one row more is judged.
+use Rattle.std.proofs.Common.{◌≡◌, ◌∙◌, ℕ, ◌+◌, Bool, true, false, ◌&&◌, List, [], ◌∷◌, ◌++◌, Option, Some, ap, sym, arith, append_assoc, length}
+use Rattle.std.specs.Prelude.{if◌then◌else◌, ◌==◌, map, codes, flat_map, Result, Ok, Err, OnOk}
+use Rattle.std.specs.Ordering.{nat_cmp}
+use Rattle.std.specs.BTreeMap.{IsOrdered, get}
+use Rattle.check_sides.specs.Plan.{Plan, bus_of}
+use Rattle.check_rows.specs.Row.{SeenRow}
+use Rattle.check_coverage.specs.declared.bin.Bin.{Bin}
+use Rattle.check_coverage.specs.declared.coverage.Coverage.{Coverage}
+use Rattle.check_coverage.specs.Bins.{bins, bins_by, bins_of}
+use Rattle.check_coverage.specs.Flights.{InFlight, answered_at, end_of, ends_reply, flights_after, in_flight, is_counted, kept, wide_at}
+use Rattle.check_coverage.specs.Text.{TellsCoverage, bin_line}
+use Rattle.check_coverage.specs.View.{Covers, IsNoted, IsSameSystem, Suits, bin_cmp, capped, how_often}
+use Rattle.check_coverage.proofs.Counted.{how_often-append}
+
+pub suits_same : (plan : Plan) (old new : Coverage) → IsSameSystem old new → Suits plan old → Suits plan new
+suits_same plan old new same suits = record {
+  lawful = suits.lawful;
+  links = same.links ∙ suits.links;
+  owners = same.sources ∙ suits.owners;
+  ports = same.map ∙ suits.ports;
+}
+
+module _ (plan : Plan) (before : List SeenRow) (row : SeenRow) where
+  abbrev flights_by : Bool → List InFlight
+  flights_by counted =
+      if counted
+      then flights_after plan (bus_of plan.layout row.sighting.link) (wide_at plan row.sighting) (in_flight plan before)
+      row.sighting.beat (end_of plan before row)
+      else in_flight plan before
+
+  abbrev answered_by : ℕ → Bool → Option ℕ
+  answered_by wide counted =
+      if counted && (ends_reply row.sighting.beat (end_of plan before row) && (wide_at plan row.sighting == wide))
+      then Some row.time
+      else answered_at plan before wide
+
+  abbrev bins_with : Bool → List Bin
+  bins_with counted =
+      if counted
+      then bins_by plan (bus_of plan.layout row.sighting.link) (wide_at plan row.sighting) (in_flight plan before) row.time
+      (answered_at plan before (wide_at plan row.sighting)) row.sighting.beat (end_of plan before row)
+      else []
+
+  -- nothing changes where the row is not counted
+  pub covers_uncounted : (coverage : Coverage) → Covers plan before coverage
+      → is_counted plan.layout.links row.sighting.link ≡ false → Covers plan (row ∷ before) coverage
+  covers_uncounted coverage covers is = record {
+    suits = covers.suits;
+    flights = covers.flights ∙ ap (λ b. map kept (flights_by b)) (sym is);
+    answered = λ wide. covers.answered wide ∙ ap (λ b. answered_by wide b) (sym is);
+    counts = λ bin. covers.counts bin ∙ ap (λ b. capped (how_often bin (bins_with b ++ bins plan before))) (sym is);
+  }
+
+  -- else it is what was noted
+  pub covers_counted : (old new : Coverage) (bus : ℕ) → Covers plan before old
+      → is_counted plan.layout.links row.sighting.link ≡ true → bus ≡ bus_of plan.layout row.sighting.link
+      → IsNoted bus (wide_at plan row.sighting) row.time row.sighting.beat (end_of plan before row) old new
+      → Covers plan (row ∷ before) new
+  covers_counted old new bus covers is is_bus noted = record {
+    suits = suits_same plan old new noted.same covers.suits;
+    flights = noted.flights plan (in_flight plan before) covers.suits covers.flights
+        ∙ ap (λ b. map kept (flights_after plan b (wide_at plan row.sighting) (in_flight plan before)
+        row.sighting.beat (end_of plan before row))) is_bus
+        ∙ ap (λ b. map kept (flights_by b)) (sym is);
+    answered = λ wide. noted.answered wide
+        ∙ ap (λ o. if ends_reply row.sighting.beat (end_of plan before row) && (wide_at plan row.sighting == wide)
+        then Some row.time else o) (covers.answered wide)
+        ∙ ap (λ b. answered_by wide b) (sym is);
+    counts = λ bin.
+        let wide = wide_at plan row.sighting in
+        let now = in_flight plan before in
+        let added = noted.counts plan now covers.suits covers.flights bin (how_often bin (bins plan before))
+        (covers.counts bin) in
+        let by : ℕ → Option ℕ → List Bin =
+        λ (b : ℕ) (o : Option ℕ). bins_by plan b wide now row.time o row.sighting.beat (end_of plan before row) in
+        let same : by bus (get nat_cmp old.answered wide) ≡ bins_of plan before row =
+        ap (λ o. by bus o) (covers.answered wide)
+        ∙ ap (λ b. by b (answered_at plan before wide)) is_bus
+        ∙ ap (λ b. bins_with b) (sym is) in
+        let sum : how_often bin (bins plan before) + how_often bin (bins_of plan before row)
+        ≡ how_often bin (bins plan (row ∷ before)) =
+        (let h = how_often-append bin (bins_of plan before row) (bins plan before) in omega (arith, h)) in
+        added ∙ ap (λ l. capped (how_often bin (bins plan before) + how_often bin l)) same ∙ ap capped sum;
+  }
+
+-- ---- the text
+
+pub covered_text : {E : Type 0} (plan : Plan) (rows : List SeenRow) (coverage : Coverage) (old mid new : List ℕ) (ports : ℕ)
+    (r : Result (Unit {0}) E) → Covers plan rows coverage → mid ≡ old ++ codes "coverage 1\n"
+    → ports ≡ length plan.layout.ports
+    → OnOk r (new ≡ mid ++ flat_map (bin_line ports) coverage.counts.counts.entries)
+    → OnOk r (IsOrdered bin_cmp coverage.counts.counts) → OnOk r (TellsCoverage plan rows old new)
+covered_text plan rows coverage old mid new ports (Err fault) covers head is_ports told ordered = tt
+covered_text plan rows coverage old mid new ports (Ok done) covers head is_ports told ordered = record {
+  entries = coverage.counts.counts.entries;
+  is = told
+      ∙ (λ i. head i ++ flat_map (bin_line (is_ports i)) coverage.counts.counts.entries)
+      ∙ append_assoc old (codes "coverage 1\n")
+      (flat_map (bin_line (length plan.layout.ports)) coverage.counts.counts.entries);
+  sorted = ordered;
+  some = coverage.counts.some;
+  counts = covers.counts;
+}

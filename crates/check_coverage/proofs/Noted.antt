@@ -1,0 +1,104 @@
+-- What is kept as one beat more is noted.
+use Rattle.std.proofs.Common.{◌≡◌, ◌∙◌, ℕ, ◌<◌, ◌≤◌, ◌⊎◌, inl, inr, Bool, true, false, cond, List, Some, Vec, BTreeMap, refl, ap, sym, arith}
+use Rattle.std.specs.Prelude.{◌==◌, not, map, filter, find, Result, Ok, Err, OnOk}
+use Rattle.std.specs.Ordering.{is_eq, nat_cmp}
+use Rattle.std.specs.declared.cmp.Ordering.TheVariants.{Less, Equal, Greater}
+use Rattle.std.proofs.lemmas.Bool.{cases_lt, le-ltb, lt-ltb, ne_eqb}
+use Rattle.std.specs.BTreeMap.{Updates, get}
+use Rattle.std.specs.Global.{Global}
+use Rattle.check_beats.specs.declared.beat.AskHead.{AskHead}
+use Rattle.check_beats.specs.declared.beat.ReplyHead.{ReplyHead}
+use Rattle.check_watch.specs.declared.beat.Beat.TheVariants.{A, D}
+use Rattle.check_watch.specs.declared.seen.Ended.{Ended}
+use Rattle.check_watch.specs.declared.seen.Ended.TheVariants as ends
+use Rattle.check_sides.specs.Plan.{Plan}
+use Rattle.check_coverage.specs.declared.coverage.Coverage.{Coverage}
+use Rattle.check_coverage.specs.declared.flight.Flight.{Flight}
+use Rattle.check_coverage.specs.Bins.{first_bins, last_bins, of_found, reply_bins}
+use Rattle.check_coverage.specs.Flights.{InFlight, flights_after, is_of, is_whole_ask, kept, with_beat, with_begun}
+use Rattle.check_coverage.specs.View.{Adds, IsNoted, IsSameSystem, Suits}
+use Rattle.check_coverage.proofs.Counted.{adds_then}
+use Rattle.check_coverage.proofs.Places.{filter_kept}
+
+pub ok_then : {E P Q : Type 0} (r : Result (Unit {0}) E) → (P → Q) → OnOk r P → OnOk r Q
+ok_then (Ok done) next first = next first
+ok_then (Err fault) next first = tt
+
+same_then : (old mid new : Coverage) → IsSameSystem old mid → IsSameSystem mid new → IsSameSystem old new
+same_then old mid new first second = record {
+  links = second.links ∙ first.links;
+  sources = second.sources ∙ first.sources;
+  map = second.map ∙ first.map;
+}
+
+-- ---- a beat of channel A: its request begins if none is in flight, has one beat more, and ends
+
+module _ (bus wide time : ℕ) (beat : AskHead) (end : Ended) (old mid : Coverage) (grown : Vec Flight Global) (whole : Bool)
+    (new : Coverage) (same : IsSameSystem old mid) (answered : mid.answered ≡ old.answered)
+    (flights : (plan : Plan) (before : List InFlight) → Suits plan old → old.flights.items ≡ map kept before
+    → mid.flights.items ≡ map kept (with_begun plan wide beat before))
+    (counts : (plan : Plan) (before : List InFlight) → Suits plan old → old.flights.items ≡ map kept before
+    → Adds old.counts mid.counts (first_bins plan wide before time (get nat_cmp old.answered wide) beat))
+    (grows : (before : List InFlight) → mid.flights.items ≡ map kept before
+    → grown.items ≡ map kept (map (with_beat bus wide beat whole) before))
+    (is_whole : whole ≡ is_whole_ask end) where
+  after_grown : (plan : Plan) (before : List InFlight) → Suits plan old → old.flights.items ≡ map kept before
+      → grown.items ≡ map kept (flights_after plan bus wide before (A beat) end)
+  after_grown plan before suits is =
+      grows (with_begun plan wide beat before) (flights plan before suits is)
+      ∙ ap (λ w. map kept (map (with_beat bus wide beat w) (with_begun plan wide beat before))) is_whole
+
+  pub ask_noted : {E : Type 0} (r : Result (Unit {0}) E) → IsSameSystem (record mid { flights = grown }) new
+      → new.answered ≡ mid.answered → new.flights ≡ grown
+      → ((after : List InFlight) → grown.items ≡ map kept after
+      → OnOk r (Adds mid.counts new.counts (last_bins bus wide after beat end)))
+      → OnOk r (IsNoted bus wide time (A beat) end old new)
+  ask_noted (Err fault) same_new kept_answered kept_flights ended = tt
+  ask_noted (Ok done) same_new kept_answered kept_flights ended = record {
+    same = record {
+      links = same_new.links ∙ same.links;
+      sources = same_new.sources ∙ same.sources;
+      map = same_new.map ∙ same.map;
+    };
+    answered = λ other. ap (λ m. get nat_cmp m other) (kept_answered ∙ answered);
+    flights = λ plan before suits is. ap (λ v. v.items) kept_flights ∙ after_grown plan before suits is;
+    counts = λ plan before suits is. adds_then old.counts mid.counts new.counts
+        (first_bins plan wide before time (get nat_cmp old.answered wide) beat)
+        (last_bins bus wide (flights_after plan bus wide before (A beat) end) beat end)
+        (counts plan before suits is)
+        (ended (flights_after plan bus wide before (A beat) end) (after_grown plan before suits is));
+  }
+
+-- ---- the last beat of a reply: its request is answered, and is no more in flight
+
+equal_is : (b : Bool) → is_eq (cond b Equal Greater) ≡ b
+equal_is true = refl
+equal_is false = refl
+
+same_number : (a b : ℕ) → is_eq (nat_cmp a b) ≡ (a == b)
+same_number a b = go (cases_lt a b)
+  where
+    go : (a < b) ⊎ (b ≤ a) → is_eq (nat_cmp a b) ≡ (a == b)
+    go (inl below) =
+        ap (λ t. is_eq (cond t Less (cond (a == b) Equal Greater))) (lt-ltb a b below)
+        ∙ sym (ne_eqb a b (λ same. omega (arith, below, same)))
+    go (inr above) =
+        ap (λ t. is_eq (cond t Less (cond (a == b) Equal Greater))) (le-ltb a b above) ∙ equal_is (a == b)
+
+pub reply_noted : (bus wide time : ℕ) (beat : ReplyHead) (old mid : Coverage) (left : Vec Flight Global)
+    (times : BTreeMap ℕ ℕ) → IsSameSystem old mid → mid.answered ≡ old.answered → mid.flights ≡ old.flights
+    → ((before : List InFlight) → old.flights.items ≡ map kept before
+    → Adds old.counts mid.counts (of_found (find (is_of wide) before) (reply_bins bus before beat)))
+    → left.items ≡ filter (λ (flight : Flight). not (flight.wide == wide)) mid.flights.items
+    → Updates nat_cmp mid.answered times wide (Some time)
+    → IsNoted bus wide time (D beat) ends.Reply old (record mid { flights = left; answered = times })
+reply_noted bus wide time beat old mid left times same answered flights counts lefts updates = record {
+  same = record { links = same.links; sources = same.sources; map = same.map };
+  answered = λ other. updates.0 other
+      ∙ ap (λ b. cond b (Some time) (get nat_cmp mid.answered other)) (same_number wide other)
+      ∙ ap (λ m. cond (wide == other) (Some time) (get nat_cmp m other)) answered;
+  flights = λ plan before suits is. lefts
+      ∙ ap (filter (λ (flight : Flight). not (flight.wide == wide))) (ap (λ v. v.items) flights ∙ is)
+      ∙ filter_kept (λ flight. not (flight.wide == wide)) before;
+  counts = λ plan before suits is. counts before is;
+}

@@ -1,0 +1,9 @@
+-- The lines so far, and those that are left, are all lines.
+use Rattle.std.proofs.Common.{◌≡◌, ◌++◌}
+use Rattle.std.specs.Prelude.{flat_map}
+use Rattle.check_coverage.specs.Text.{bin_line}
+use Rattle.check_coverage.proofs.counts.Counts.append.Given as goal
+
+abbrev pub invariant-loop-bin : goal.invariant-loop-bin
+invariant-loop-bin l = l.text.items ++ flat_map (bin_line l.ports) l.bin-iterator
+    ≡ l.initial.text.items ++ flat_map (bin_line l.ports) l.self.counts.entries

@@ -1,0 +1,160 @@
+-- Which requests are in flight after some rows, of those that are counted, and when the last reply to each source ended.
+-- Lists of rows have the latest first; they are rows of links that are watched. This project's own.
+use Rattle.std.specs.Prelude.{ℕ, ◌+◌, ◌≤◌, ◌*◌, ◌%◌, ◌^◌, ◌&&◌, ◌==◌, Bool, true, false, not, if◌then◌else◌, List, [], ◌∷◌, ◌++◌, map, filter, Option, Some, None}
+use Rattle.std.specs.List.{list_any, range_with_len}
+use Rattle.tl_types.specs.declared.limits.TheConstants.{MAX_SIZE}
+use Rattle.check_map.specs.declared.sources.Owner.{Owner}
+use Rattle.check_beats.specs.declared.beat.AskHead.{AskHead}
+use Rattle.check_watch.specs.declared.beat.Beat.{Beat}
+use Rattle.check_watch.specs.declared.beat.Beat.TheVariants.{A, D}
+use Rattle.check_watch.specs.declared.beat.Link.{Link}
+use Rattle.check_watch.specs.declared.beat.Link.TheVariants.{Master, Port}
+use Rattle.check_watch.specs.declared.seen.Ended.{Ended}
+use Rattle.check_watch.specs.declared.seen.Ended.TheVariants as ends
+use Rattle.check_watch.specs.Plan.{Sighting, source_of, wide_of}
+use Rattle.check_watch.specs.Scene.{ended}
+use Rattle.check_sides.specs.declared.links.Links.{Links}
+use Rattle.check_sides.specs.declared.links.Links.TheVariants.{Both, Masters, Ports, Each}
+use Rattle.check_sides.specs.Groups.{shared_plan}
+use Rattle.check_sides.specs.Lawful.{what_is_seen}
+use Rattle.check_sides.specs.Plan.{Plan, bus_of}
+use Rattle.check_rows.specs.Row.{SeenRow}
+use Rattle.check_unanswered.specs.Began.{beats_of}
+use Rattle.check_coverage.specs.Shape.{given_in, marks_of}
+use Rattle.check_coverage.specs.declared.flight.Flight.{Flight}
+
+-- messages are counted at the masters' links if these are watched, else at the ports'
+abbrev pub is_counted : Links → Link → Bool
+is_counted Both (Master m) = true
+is_counted Both (Port p) = false
+is_counted Masters (Master m) = true
+is_counted Masters (Port p) = false
+is_counted Ports (Master m) = false
+is_counted Ports (Port p) = true
+is_counted Each (Master m) = true
+is_counted Each (Port p) = false
+
+-- ---- sources
+
+-- the wide source of a beat
+abbrev pub wide_at : Plan → Sighting → ℕ
+wide_at plan x = wide_of (shared_plan plan) x.link (source_of x.beat)
+
+-- some source of the owner has this wide source
+abbrev pub owns : Owner → ℕ → Bool
+owns owner wide = list_any (λ source. owner.first + owner.stride * source == wide) (range_with_len 0 owner.count)
+
+-- the master that has a wide source
+abbrev pub master_of : List Owner → ℕ → ℕ
+master_of [] wide = 0
+master_of (owner ∷ owners) wide = if owns owner wide then 0 else master_of owners wide + 1
+
+-- ---- beats
+
+-- the size of the beat's message is within the limit
+abbrev pub HasSize : Beat → Type 0
+HasSize (A beat) = beat.size ≤ MAX_SIZE
+HasSize (D beat) = beat.size ≤ MAX_SIZE
+
+-- what the beat of a row ends after the rows before it
+abbrev pub end_of : Plan → List SeenRow → SeenRow → Ended
+end_of plan before row = ended (what_is_seen plan (beats_of before) row.sighting)
+
+abbrev pub is_whole_ask : Ended → Bool
+is_whole_ask ends.Part = false
+is_whole_ask ends.Ask = true
+is_whole_ask ends.Reply = false
+
+abbrev pub is_whole_reply : Ended → Bool
+is_whole_reply ends.Part = false
+is_whole_reply ends.Ask = false
+is_whole_reply ends.Reply = true
+
+-- ---- requests in flight
+
+-- a request in flight: its wide source, its master, its port, its first beat, whether its beats so far give each of
+-- their bytes, and whether it is whole
+pub record InFlight : Type 0 where
+  pub wide : ℕ
+  pub master : ℕ
+  pub port : ℕ
+  pub first : AskHead
+  pub given : List Bool
+  pub is_whole : Bool
+
+abbrev pub is_of : ℕ → InFlight → Bool
+is_of wide flight = flight.wide == wide
+
+-- the request that begins with a beat
+abbrev pub begun : Plan → ℕ → AskHead → InFlight
+begun plan wide beat = record {
+  wide = wide;
+  master = master_of plan.layout.owners wide;
+  port = plan.route beat.address beat.size;
+  first = beat;
+  given = [];
+  is_whole = false;
+}
+
+-- a beat of channel A begins a request if none of its source is in flight
+abbrev pub with_begun : Plan → ℕ → AskHead → List InFlight → List InFlight
+with_begun plan wide beat flights =
+    if list_any (is_of wide) flights then flights else flights ++ begun plan wide beat ∷ []
+
+-- a request with one beat more
+abbrev pub grown : ℕ → AskHead → Bool → InFlight → InFlight
+grown bus beat is_whole flight = record flight { given = flight.given ++ given_in bus beat; is_whole = is_whole }
+
+-- it is one beat more of the request of its source
+abbrev pub with_beat : ℕ → ℕ → AskHead → Bool → InFlight → InFlight
+with_beat bus wide beat is_whole flight = if is_of wide flight then grown bus beat is_whole flight else flight
+
+-- those in flight after one beat more, which ends this: a request is in flight from its first beat to the last beat of
+-- its reply
+abbrev pub flights_after : Plan → ℕ → ℕ → List InFlight → Beat → Ended → List InFlight
+flights_after plan bus wide flights (A beat) end =
+    map (with_beat bus wide beat (is_whole_ask end)) (with_begun plan wide beat flights)
+flights_after plan bus wide flights (D beat) end =
+    if is_whole_reply end then filter (λ flight. not (is_of wide flight)) flights else flights
+
+-- the requests in flight after some rows, the one that began first in front
+abbrev pub in_flight : Plan → List SeenRow → List InFlight
+in_flight plan [] = []
+in_flight plan (row ∷ before) =
+    if is_counted plan.layout.links row.sighting.link
+    then flights_after plan (bus_of plan.layout row.sighting.link) (wide_at plan row.sighting) (in_flight plan before)
+    row.sighting.beat (end_of plan before row)
+    else in_flight plan before
+
+-- ---- replies
+
+-- the beat is one of channel D, and ends a reply
+abbrev pub ends_reply : Beat → Ended → Bool
+ends_reply (A beat) end = false
+ends_reply (D beat) end = is_whole_reply end
+
+-- when the last reply to a wide source ended, if one did
+abbrev pub answered_at : Plan → List SeenRow → ℕ → Option ℕ
+answered_at plan [] wide = None
+answered_at plan (row ∷ before) wide =
+    if is_counted plan.layout.links row.sighting.link
+    && (ends_reply row.sighting.beat (end_of plan before row) && (wide_at plan row.sighting == wide))
+    then Some row.time
+    else answered_at plan before wide
+
+-- ---- how a request in flight is kept
+
+abbrev pub is_unaligned : AskHead → Bool
+is_unaligned beat = not (beat.address % 2 ^ beat.size == 0)
+
+abbrev pub kept : InFlight → Flight
+kept flight = record {
+  wide = flight.wide;
+  master = flight.master;
+  port = flight.port;
+  first = flight.first;
+  span = 2 ^ flight.first.size;
+  is_unaligned = is_unaligned flight.first;
+  marks = marks_of flight.first.size flight.given;
+  is_whole = flight.is_whole;
+}

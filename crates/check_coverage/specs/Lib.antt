@@ -1,0 +1,5 @@
+pub mod Shape
+pub mod Flights
+pub mod Bins
+pub mod View
+pub mod Text

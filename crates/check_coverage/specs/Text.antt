@@ -1,0 +1,85 @@
+-- The text of what was covered: `coverage 1`, and a line for each bin that occurred, in the order of bins, with its words
+-- and its count. This project's own.
+use Rattle.std.specs.Prelude.{◌≡◌, ℕ, ◌<◌, nat_lt, if◌then◌else◌, List, ◌++◌, All, codes, flat_map, length, unwrap_or}
+use Rattle.std.specs.Fmt.{decimal}
+use Rattle.std.specs.BTreeMap.{is_at}
+use Rattle.std.specs.List.Sorted.{IsStrictlySortedBy}
+use Rattle.std.specs.Map.{keys_of, lookup, values_of}
+use Rattle.tl_text.specs.Name.{word_of}
+use Rattle.check_beats.specs.Message.{op_of}
+use Rattle.check_sides.specs.Plan.{Plan}
+use Rattle.check_rows.specs.Row.{SeenRow}
+use Rattle.check_coverage.specs.declared.bin.Bin.{Bin}
+use Rattle.check_coverage.specs.declared.bin.Bin.TheVariants.{Asked, Answered, Beats, Mask, InFlight, AtPort, Overtook, Again, Contested}
+use Rattle.check_coverage.specs.declared.bin.Channel.{Channel}
+use Rattle.check_coverage.specs.declared.bin.Channel.TheVariants as channel
+use Rattle.check_coverage.specs.declared.bin.Operation.{Operation}
+use Rattle.check_coverage.specs.declared.bin.Pair.{Pair}
+use Rattle.check_coverage.specs.declared.bin.Shape.{Shape}
+use Rattle.check_coverage.specs.declared.bin.Shape.TheVariants.{Empty, Full, One, Hole, Low, High, Even, Odd, Other}
+use Rattle.check_coverage.specs.Bins.{bins}
+use Rattle.check_coverage.specs.View.{bin_cmp, capped, how_often}
+
+-- a master
+abbrev pub master_text : ℕ → List ℕ
+master_text master = codes " m" ++ decimal master
+
+-- a port of a system of so many; the error port comes after them
+abbrev pub port_text : ℕ → ℕ → List ℕ
+port_text ports port = if nat_lt port ports then codes " p" ++ decimal port else codes " error"
+
+abbrev pub pair_text : ℕ → Pair → List ℕ
+pair_text ports pair = master_text pair.master ++ port_text ports pair.port
+
+-- an operation by its name, and its size
+abbrev pub operation_text : Operation → List ℕ
+operation_text operation =
+    codes " " ++ word_of (op_of operation.opcode operation.param) ++ codes " " ++ decimal operation.size
+
+abbrev pub shape_text : Shape → List ℕ
+shape_text Empty = codes " none"
+shape_text Full = codes " all"
+shape_text One = codes " one"
+shape_text Hole = codes " hole"
+shape_text Low = codes " low"
+shape_text High = codes " high"
+shape_text Even = codes " even"
+shape_text Odd = codes " odd"
+shape_text Other = codes " other"
+
+abbrev pub channel_text : Channel → List ℕ
+channel_text channel.A = codes " A "
+channel_text channel.D = codes " D "
+
+-- the words of a bin of a system of so many ports
+unfoldable pub bin_text : ℕ → Bin → List ℕ
+bin_text ports (Asked pair operation is_unaligned) =
+    codes "asked" ++ pair_text ports pair ++ operation_text operation
+    ++ (if is_unaligned then codes " unaligned" else codes " aligned")
+bin_text ports (Answered pair operation is_denied) =
+    codes "answered" ++ pair_text ports pair ++ operation_text operation
+    ++ (if is_denied then codes " denied" else codes " given")
+bin_text ports (Beats pair channel beats) =
+    codes "beats" ++ pair_text ports pair ++ channel_text channel ++ decimal beats
+bin_text ports (Mask pair shape) = codes "mask" ++ pair_text ports pair ++ shape_text shape
+bin_text ports (InFlight master requests) = codes "in_flight" ++ master_text master ++ codes " " ++ decimal requests
+bin_text ports (AtPort port requests) = codes "at_port" ++ port_text ports port ++ codes " " ++ decimal requests
+bin_text ports (Overtook pair) = codes "overtook" ++ pair_text ports pair
+bin_text ports (Again master least) = codes "again" ++ master_text master ++ codes " " ++ decimal least
+bin_text ports (Contested port) = codes "contested" ++ port_text ports port
+
+-- its line, with its count
+abbrev pub bin_line : ℕ → Bin × ℕ → List ℕ
+bin_line ports entry = bin_text ports entry.0 ++ codes " " ++ decimal entry.1 ++ codes "\n"
+
+abbrev pub coverage_text : ℕ → List (Bin × ℕ) → List ℕ
+coverage_text ports entries = codes "coverage 1\n" ++ flat_map (bin_line ports) entries
+
+-- a text grew by the text of what the rows have covered: the bins that they add at all have their lines, in order, and no
+-- others; of each bin the text tells how often they add it, up to 2 ^ 64 - 1
+pub record TellsCoverage (plan : Plan) (rows : List SeenRow) (old new : List ℕ) : Type 0 where
+  pub entries : List (Bin × ℕ)
+  pub is : new ≡ old ++ coverage_text (length plan.layout.ports) entries
+  pub sorted : IsStrictlySortedBy bin_cmp (keys_of entries)
+  pub some : All (λ (n : ℕ). 0 < n) (values_of entries)
+  pub counts : (bin : Bin) → unwrap_or (lookup (is_at (bin_cmp bin)) entries) 0 ≡ capped (how_often bin (bins plan rows))

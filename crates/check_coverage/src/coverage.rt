@@ -1,0 +1,421 @@
+//! What the rows that were judged have covered.
+ghost use Rattle.std.specs.Prelude.{◌≡◌, ◌≤◌, ◌↔◌, [], ◌∷◌, ℕ, List, find, length, map, OnOk};
+ghost use Rattle.std.specs.Ordering.{nat_cmp};
+ghost use Rattle.std.specs.BTreeMap.{get};
+ghost use Rattle.check_beats.specs.Bus.{beat_count, bus_bytes};
+ghost use Rattle.check_map.specs.Owner.{IsWide};
+ghost use Rattle.check_rows.specs.Row.{SeenRow};
+ghost use Rattle.check_sides.specs.Lawful.{IsLawful};
+ghost use Rattle.check_sides.specs.Plan.{IsPlan, Plan, bus_of};
+ghost use Rattle.check_unanswered.specs.Began.{beats_of, row_with};
+ghost use Rattle.check_watch.specs.Plan.{source_of};
+ghost use Rattle.check_watch.specs.declared.beat.Beat.TheVariants.{A, D};
+ghost use Rattle.check_coverage.specs.Bins.{ask_bins, begin_bins, contested_bins, first_bins, last_bins, mask_bins, of_found, reply_bins, step_of, with_one};
+ghost use Rattle.check_coverage.specs.Flights.{HasSize, InFlight, begun, end_of, is_counted, is_of, is_whole_ask, kept, master_of, with_begun};
+ghost use Rattle.check_coverage.specs.Text.{TellsCoverage};
+ghost use Rattle.check_coverage.specs.View.{Adds, Covers, IsNoted, IsSameSystem, Suits};
+
+use crate::bin::{Bin, Channel};
+use crate::counts::Counts;
+use crate::flight::Flight;
+use crate::lists::{
+    count_of_master, count_of_port, find_of, grow, is_contested, oldest_of, remove,
+};
+use crate::marks::Marks;
+use check_beats::{AskHead, Bus, ReplyHead};
+use check_map::{Map, Sources};
+use check_rows::Row;
+use check_sides::{Beat, Ended, Link, Links};
+use std::alloc::{AllocError, Global};
+use std::collections::BTreeMap;
+use tl_types::{MAX_SIZE, width};
+
+/// The most requests in flight that are told apart.
+pub const MOST_IN_FLIGHT: usize = 64;
+
+/// What the rows that were judged have covered.
+#[derive(Drop)]
+pub struct Coverage {
+    links: Links,
+    sources: Sources,
+    map: Map,
+    /// Those that are counted, the one that began first in front.
+    flights: Vec<Flight>,
+    /// When the last reply to each wide source ended.
+    answered: BTreeMap<u16, u64>,
+    counts: Counts,
+}
+
+/// Whether messages are counted at a link: at the masters' if these are watched, else at the ports'.
+fn is_counted(links: Links, link: Link) -> bool
+    ensures { result ≡ is_counted links link }
+{
+    match link {
+        Link::Master(_) => matches!(links, Links::Both | Links::Masters | Links::Each),
+        Link::Port(_) => matches!(links, Links::Ports),
+    }
+}
+
+/// Whether it is a request.
+fn is_whole_ask(end: Ended) -> bool
+    ensures { result ≡ is_whole_ask end }
+{
+    match end {
+        Ended::Ask => true,
+        Ended::Part | Ended::Reply => false,
+    }
+}
+
+/// The source of a beat.
+fn source_of(beat: &Beat) -> u16
+    ensures { result ≡ source_of beat.now }
+{
+    match beat {
+        Beat::A(beat) => beat.source,
+        Beat::D(beat) => beat.source,
+    }
+}
+
+/// The master that has a wide source.
+fn master_of(sources: &Sources, wide: u16) -> usize
+    ensures { result ≡ master_of sources.now wide }
+{
+    let masters = sources.masters();
+    match sources.owner(wide) {
+        Some((master, _)) => master,
+        None => masters,
+    }
+}
+
+/// How many beats a message has.
+fn beat_count(bus: Bus, carries: bool, size: u8) -> usize
+    requires { size ≤ MAX_SIZE }
+    ensures { result ≡ beat_count (bus_bytes bus) carries size }
+{
+    if carries {
+        (width(size) >> bus.log()).max(1)
+    } else {
+        1
+    }
+}
+
+/// The least time of the step that a time is in.
+fn step_of(time: u64) -> u64
+    ensures { result ≡ step_of time }
+{
+    match time {
+        0..=3 => time,
+        4..=7 => 4,
+        8..=15 => 8,
+        _ => 16,
+    }
+}
+
+/// One more, up to the most that are told apart.
+fn with_one(count: usize) -> usize
+    ensures { (flights : List InFlight) → count ≡ length flights → result ≡ with_one flights }
+{
+    count.saturating_add(1).min(MOST_IN_FLIGHT)
+}
+
+/// Counts what the first beat of a request adds.
+fn count_begin(
+    counts: &mut Counts,
+    flights: &[Flight],
+    flight: &Flight,
+    time: u64,
+    answered: Option<u64>,
+) -> Result<(), AllocError>
+    ensures { (before : List InFlight) (this : InFlight) → flights.now ≡ map kept before → flight.now ≡ kept this
+        → OnOk result (Adds counts.old counts.new (begin_bins before this time answered)) }
+{
+    let of_master = with_one(count_of_master(flights, flight.master));
+    let of_port = with_one(count_of_port(flights, flight.port));
+    counts.add(Bin::InFlight(flight.master, of_master))?;
+    counts.add(Bin::AtPort(flight.port, of_port))?;
+    match answered {
+        Some(answered) => counts.add(Bin::Again(
+            flight.master,
+            step_of(time.saturating_sub(answered)),
+        )),
+        None => Ok(()),
+    }
+}
+
+/// Counts the bytes that a partial put gives.
+fn count_mask(counts: &mut Counts, flight: &Flight) -> Result<(), AllocError>
+    ensures { (this : InFlight) → flight.now ≡ kept this
+        → OnOk result (Adds counts.old counts.new (mask_bins this)) }
+{
+    if flight.first.opcode == 1 {
+        counts.add(Bin::Mask(flight.pair(), flight.marks.shape(flight.span)))
+    } else {
+        Ok(())
+    }
+}
+
+/// Counts a request that meets another one.
+fn count_contested(
+    counts: &mut Counts,
+    flights: &[Flight],
+    flight: &Flight,
+) -> Result<(), AllocError>
+    ensures { (after : List InFlight) (this : InFlight) → flights.now ≡ map kept after → flight.now ≡ kept this
+        → OnOk result (Adds counts.old counts.new (contested_bins after this)) }
+{
+    if is_contested(flights, flight) {
+        counts.add(Bin::Contested(flight.port))
+    } else {
+        Ok(())
+    }
+}
+
+/// Counts what the last beat of a request adds.
+fn count_ask(
+    counts: &mut Counts,
+    flights: &[Flight],
+    flight: &Flight,
+    bus: Bus,
+    beat: &AskHead,
+) -> Result<(), AllocError>
+    requires { beat.now.size ≤ MAX_SIZE }
+    ensures { (after : List InFlight) (this : InFlight) → flights.now ≡ map kept after → flight.now ≡ kept this
+        → OnOk result (Adds counts.old counts.new (ask_bins (bus_bytes bus) after beat.now this)) }
+{
+    let beats = beat_count(bus, beat.opcode < 4, beat.size);
+    counts.add(Bin::Asked(flight.pair(), flight.operation(), flight.is_unaligned))?;
+    counts.add(Bin::Beats(flight.pair(), Channel::A, beats))?;
+    count_mask(counts, flight)?;
+    count_contested(counts, flights, flight)
+}
+
+/// Counts what the last beat of a reply adds.
+fn count_reply(
+    counts: &mut Counts,
+    flights: &[Flight],
+    flight: &Flight,
+    bus: Bus,
+    beat: &ReplyHead,
+) -> Result<(), AllocError>
+    requires { beat.now.size ≤ MAX_SIZE }
+    ensures { (before : List InFlight) (this : InFlight) → flights.now ≡ map kept before → flight.now ≡ kept this
+        → OnOk result (Adds counts.old counts.new (reply_bins (bus_bytes bus) before beat.now this)) }
+{
+    let beats = beat_count(bus, beat.opcode == 1, beat.size);
+    counts.add(Bin::Answered(flight.pair(), flight.operation(), beat.denied))?;
+    counts.add(Bin::Beats(flight.pair(), Channel::D, beats))?;
+    match oldest_of(flights, flight.master) {
+        Some(oldest) => {
+            if oldest.wide == flight.wide {
+                Ok(())
+            } else {
+                counts.add(Bin::Overtook(flight.pair()))
+            }
+        }
+        None => Ok(()),
+    }
+}
+
+impl Coverage {
+    /// Nothing is covered of a crossbar with these sources and ports, where these links are watched.
+    pub fn new(alloc: Global, links: Links, sources: Sources, map: Map) -> Coverage
+        ensures { (plan : Plan) → IsPlan plan → plan.layout.links ≡ links → plan.layout.owners ≡ sources
+            → plan.layout.ports ≡ map → Covers plan [] result }
+    {
+        Coverage {
+            links,
+            sources,
+            map,
+            flights: Vec::new(alloc),
+            answered: BTreeMap::new(alloc),
+            counts: Counts::new(alloc),
+        }
+    }
+
+    /// The wide source of a source at a link, if the link has it.
+    fn wide(&self, link: Link, source: u16) -> Option<u16>
+        ensures master { (number wide : ℕ) → link ≡ Link.Master number
+            → (result ≡ Some wide) ↔ IsWide self.now.sources number source wide }
+        ensures port { (number : ℕ) → link ≡ Link.Port number → result ≡ Some source }
+    {
+        match link {
+            Link::Master(master) => self.sources.widen(master, source),
+            Link::Port(_) => Some(source),
+        }
+    }
+
+    /// The request that begins with a beat.
+    fn begun(&self, wide: u16, beat: &AskHead) -> Flight
+        requires { beat.now.size ≤ MAX_SIZE }
+        ensures { (plan : Plan) → Suits plan self.now → result ≡ kept (begun plan wide beat.now) }
+    {
+        let span = width(beat.size) as u64;
+        Flight {
+            wide,
+            master: master_of(&self.sources, wide),
+            port: self.map.route_bytes(beat.address, beat.size),
+            first: *beat,
+            span,
+            is_unaligned: beat.address % span != 0,
+            marks: Marks::new(),
+            is_whole: false,
+        }
+    }
+
+    /// Counts the first beat of a request and keeps the request, if none of its source is in flight.
+    fn begin(&mut self, wide: u16, time: u64, beat: &AskHead) -> Result<(), AllocError>
+        requires { beat.now.size ≤ MAX_SIZE }
+        ensures same { IsSameSystem self.old self.new }
+        ensures answered { self.new.answered ≡ self.old.answered }
+        ensures flights { (plan : Plan) (before : List InFlight) → Suits plan self.old
+            → self.old.flights.items ≡ map kept before
+            → OnOk result (self.new.flights.items ≡ map kept (with_begun plan wide beat.now before)) }
+        ensures counts { (plan : Plan) (before : List InFlight) → Suits plan self.old
+            → self.old.flights.items ≡ map kept before
+            → OnOk result (Adds self.old.counts self.new.counts
+            (first_bins plan wide before time (get nat_cmp self.old.answered wide) beat.now)) }
+    {
+        if find_of(&self.flights, wide).is_some() {
+            return Ok(());
+        }
+        let flight = self.begun(wide, beat);
+        let answered = self.answered.get(&wide).copied();
+        count_begin(&mut self.counts, &self.flights, &flight, time, answered)?;
+        self.flights.push(flight)?;
+        Ok(())
+    }
+
+    /// Counts the last beat of a request, if it is that.
+    fn end(&mut self, wide: u16, beat: &AskHead, bus: Bus, end: Ended) -> Result<(), AllocError>
+        requires { beat.now.size ≤ MAX_SIZE }
+        ensures same { IsSameSystem self.old self.new }
+        ensures answered { self.new.answered ≡ self.old.answered }
+        ensures flights { self.new.flights ≡ self.old.flights }
+        ensures counts { (after : List InFlight) → self.old.flights.items ≡ map kept after
+            → OnOk result (Adds self.old.counts self.new.counts
+            (last_bins (bus_bytes bus) wide after beat.now end)) }
+    {
+        if !is_whole_ask(end) {
+            return Ok(());
+        }
+        match find_of(&self.flights, wide) {
+            Some(flight) => count_ask(&mut self.counts, &self.flights, &flight, bus, beat),
+            None => Ok(()),
+        }
+    }
+
+    /// Notes a beat of channel A.
+    fn note_ask(
+        &mut self,
+        wide: u16,
+        time: u64,
+        beat: &AskHead,
+        bus: Bus,
+        end: Ended,
+    ) -> Result<(), AllocError>
+        requires { beat.now.size ≤ MAX_SIZE }
+        ensures { OnOk result (IsNoted (bus_bytes bus) wide time (A beat.now) end self.old self.new) }
+    {
+        self.begin(wide, time, beat)?;
+        grow(&mut self.flights, wide, bus, beat, is_whole_ask(end));
+        self.end(wide, beat, bus, end)
+    }
+
+    /// Counts the last beat of a reply.
+    fn answer(&mut self, wide: u16, beat: &ReplyHead, bus: Bus) -> Result<(), AllocError>
+        requires { beat.now.size ≤ MAX_SIZE }
+        ensures same { IsSameSystem self.old self.new }
+        ensures answered { self.new.answered ≡ self.old.answered }
+        ensures flights { self.new.flights ≡ self.old.flights }
+        ensures counts { (before : List InFlight) → self.old.flights.items ≡ map kept before
+            → OnOk result (Adds self.old.counts self.new.counts
+            (of_found (find (is_of wide) before) (reply_bins (bus_bytes bus) before beat.now))) }
+    {
+        match find_of(&self.flights, wide) {
+            Some(flight) => count_reply(&mut self.counts, &self.flights, &flight, bus, beat),
+            None => Ok(()),
+        }
+    }
+
+    /// Notes the last beat of a reply.
+    fn note_reply(
+        &mut self,
+        wide: u16,
+        time: u64,
+        beat: &ReplyHead,
+        bus: Bus,
+    ) -> Result<(), AllocError>
+        requires { beat.now.size ≤ MAX_SIZE }
+        ensures { OnOk result (IsNoted (bus_bytes bus) wide time (D beat.now) Ended.Reply self.old self.new) }
+    {
+        self.answer(wide, beat, bus)?;
+        remove(&mut self.flights, wide);
+        self.answered.insert(wide, time)?;
+        Ok(())
+    }
+
+    /// Notes a beat of channel D.
+    fn note_reply_beat(
+        &mut self,
+        wide: u16,
+        time: u64,
+        beat: &ReplyHead,
+        bus: Bus,
+        end: Ended,
+    ) -> Result<(), AllocError>
+        requires { beat.now.size ≤ MAX_SIZE }
+        ensures { OnOk result (IsNoted (bus_bytes bus) wide time (D beat.now) end self.old self.new) }
+    {
+        match end {
+            Ended::Reply => self.note_reply(wide, time, beat, bus),
+            Ended::Part | Ended::Ask => Ok(()),
+        }
+    }
+
+    /// Notes a beat at a link that is counted, if its size is within the limit, as that of a lawful beat is.
+    fn note_beat(
+        &mut self,
+        wide: u16,
+        time: u64,
+        beat: &Beat,
+        bus: Bus,
+        end: Ended,
+    ) -> Result<(), AllocError>
+        ensures { HasSize beat.now
+            → OnOk result (IsNoted (bus_bytes bus) wide time beat.now end self.old self.new) }
+    {
+        match beat {
+            Beat::A(beat) if beat.size <= MAX_SIZE => self.note_ask(wide, time, beat, bus, end),
+            Beat::D(beat) if beat.size <= MAX_SIZE => {
+                self.note_reply_beat(wide, time, beat, bus, end)
+            }
+            Beat::A(_) | Beat::D(_) => Ok(()),
+        }
+    }
+
+    /// Counts what a row covers that was judged after those before it, and ended this. Its link has this bus.
+    pub fn note(&mut self, row: &Row, bus: Bus, end: Ended) -> Result<(), AllocError>
+        ensures { (plan : Plan) (rows : List SeenRow) (lanes : List ℕ) → Covers plan rows self.old
+            → IsLawful plan (beats_of (row_with row.now lanes ∷ rows))
+            → bus_bytes bus ≡ bus_of plan.layout row.now.link
+            → end ≡ end_of plan rows (row_with row.now lanes)
+            → OnOk result (Covers plan (row_with row.now lanes ∷ rows) self.new) }
+    {
+        if !is_counted(self.links, row.link) {
+            return Ok(());
+        }
+        match self.wide(row.link, source_of(&row.beat)) {
+            Some(wide) => self.note_beat(wide, row.time, &row.beat, bus, end),
+            None => Ok(()),
+        }
+    }
+
+    /// Appends the text of what was covered.
+    pub fn append(&self, text: &mut Vec<u8>) -> Result<(), AllocError>
+        ensures { (plan : Plan) (rows : List SeenRow) → Covers plan rows self.now
+            → OnOk result (TellsCoverage plan rows text.old.items text.new.items) }
+    {
+        text.extend_from_slice(b"coverage 1\n")?;
+        self.counts.append(self.map.ports() - 1, text)
+    }
+}

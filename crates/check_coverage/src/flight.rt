@@ -1,0 +1,95 @@
+//! A request in flight, as it is kept.
+ghost use Rattle.std.specs.Prelude.{◌≡◌, ◌≤◌, ◌<◌, ◌+◌, ◌&&◌, ◌||◌, ◌==◌, not, nat_lt};
+ghost use Rattle.check_beats.specs.Bus.{bus_bytes};
+ghost use Rattle.check_coverage.specs.Bins.{contests, operation_of, pair_of};
+ghost use Rattle.check_coverage.specs.Flights.{InFlight, kept, with_beat};
+
+use crate::bin::{Operation, Pair};
+use crate::marks::Marks;
+use check_beats::{AskHead, Bus};
+use tl_types::MAX_SIZE;
+
+/// A request in flight: its wide source, its master, its port, its first beat, how many bytes its size stands for, whether
+/// its address is no multiple of that, which of its bytes are given so far, and whether it is whole.
+#[derive(Clone, Copy)]
+pub struct Flight {
+    pub wide: u16,
+    pub master: usize,
+    pub port: usize,
+    pub first: AskHead,
+    pub span: u64,
+    pub is_unaligned: bool,
+    pub marks: Marks,
+    pub is_whole: bool,
+}
+
+impl Flight {
+    /// The request with one beat more of a wide source, if it is of this.
+    pub fn grown(self, wide: u16, bus: Bus, beat: &AskHead, is_whole: bool) -> Flight
+        requires { beat.now.size ≤ MAX_SIZE }
+        ensures { (flight : InFlight) → self ≡ kept flight
+            → result ≡ kept (with_beat (bus_bytes bus) wide beat.now is_whole flight) }
+    {
+        if self.wide != wide {
+            return self;
+        }
+        let mut marks = self.marks;
+        marks.mark_beat(self.span, bus, beat);
+        Flight {
+            wide: self.wide,
+            master: self.master,
+            port: self.port,
+            first: self.first,
+            span: self.span,
+            is_unaligned: self.is_unaligned,
+            marks,
+            is_whole,
+        }
+    }
+
+    pub fn pair(&self) -> Pair
+        ensures { (flight : InFlight) → self.now ≡ kept flight → result ≡ pair_of flight }
+    {
+        Pair {
+            master: self.master,
+            port: self.port,
+        }
+    }
+
+    pub fn operation(&self) -> Operation
+        ensures { (flight : InFlight) → self.now ≡ kept flight → result ≡ operation_of flight }
+    {
+        Operation {
+            opcode: self.first.opcode,
+            param: self.first.param,
+            size: self.first.size,
+        }
+    }
+
+    /// Whether the requests have a byte in common.
+    fn overlaps(&self, other: &Flight) -> bool
+        ensures { result ≡ (nat_lt self.now.first.address (other.now.first.address + other.now.span)
+            && nat_lt other.now.first.address (self.now.first.address + self.now.span)) }
+    {
+        u128::from(self.first.address) < u128::from(other.first.address) + u128::from(other.span)
+            && u128::from(other.first.address)
+                < u128::from(self.first.address) + u128::from(self.span)
+    }
+
+    /// Whether they have, and one of them writes.
+    fn meets(&self, other: &Flight) -> bool
+        ensures { result ≡ ((nat_lt self.now.first.address (other.now.first.address + other.now.span)
+            && nat_lt other.now.first.address (self.now.first.address + self.now.span))
+            && (nat_lt self.now.first.opcode 4 || nat_lt other.now.first.opcode 4)) }
+    {
+        self.overlaps(other) && (self.first.opcode < 4 || other.first.opcode < 4)
+    }
+
+    /// Whether another request of the same port, which is whole, meets this one.
+    pub fn contests(&self, other: &Flight) -> bool
+        ensures { (flight rival : InFlight) → self.now ≡ kept flight → other.now ≡ kept rival
+            → result ≡ contests flight rival }
+    {
+        other.wide != self.wide && other.port == self.port && other.is_whole && self.meets(other)
+    }
+}

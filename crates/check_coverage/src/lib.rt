@@ -1,0 +1,25 @@
+//! What a capture has covered: how often each bin occurs.
+//!
+//! A bin ([`Bin`]) is a thing that a capture may show, as a request of this operation and size from this master to this
+//! port. Each row that was judged adds some bins after the rows before it (`specs/Bins.antt`). [`Coverage::note`] counts
+//! those of one row more, and keeps which requests are in flight (`specs/Flights.antt`). [`Coverage::append`] appends the
+//! counts as a text, a line for each bin that occurred, in the order of [`Bin`] (`specs/Text.antt`).
+//!
+//! Messages are counted at the masters' links if these are watched, else at the ports'. A count stops at 2^64 - 1.
+//!
+//! Read on in `docs/REGRESSION.md`, "What was covered", which has the table of bins.
+#![tactic(auto)]
+
+mod bin;
+mod counting;
+mod counts;
+mod coverage;
+mod flight;
+pub mod laws;
+mod lists;
+mod marks;
+mod words;
+
+pub use bin::{Bin, Channel, Operation, Pair, Shape};
+pub use counts::Counts;
+pub use coverage::Coverage;

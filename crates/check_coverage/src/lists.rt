@@ -1,0 +1,75 @@
+//! The requests in flight, as they are kept.
+ghost use Rattle.std.specs.Prelude.{◌≡◌, ◌≤◌, List, ℕ, length, map, filter, find, not, ◌==◌};
+ghost use Rattle.std.specs.List.{list_any};
+ghost use Rattle.check_beats.specs.Bus.{bus_bytes};
+ghost use Rattle.check_coverage.specs.Bins.{contests};
+ghost use Rattle.check_coverage.specs.Flights.{InFlight, is_of, kept, with_beat};
+
+use crate::flight::Flight;
+use check_beats::{AskHead, Bus};
+use tl_types::MAX_SIZE;
+
+/// The request of a wide source.
+pub fn find_of(flights: &[Flight], wide: u16) -> Option<Flight>
+    ensures { result ≡ find (λ flight. flight.wide == wide) flights.now }
+{
+    flights.iter().find(|flight| flight.wide == wide).copied()
+}
+
+/// The oldest request of a master.
+pub fn oldest_of(flights: &[Flight], master: usize) -> Option<Flight>
+    ensures { result ≡ find (λ flight. flight.master == master) flights.now }
+{
+    flights
+        .iter()
+        .find(|flight| flight.master == master)
+        .copied()
+}
+
+/// How many requests of a master there are.
+pub fn count_of_master(flights: &[Flight], master: usize) -> usize
+    ensures { result ≡ length (filter (λ flight. flight.master == master) flights.now) }
+{
+    flights
+        .iter()
+        .filter(|flight| flight.master == master)
+        .count()
+}
+
+/// How many requests of a port there are.
+pub fn count_of_port(flights: &[Flight], port: usize) -> usize
+    ensures { result ≡ length (filter (λ flight. flight.port == port) flights.now) }
+{
+    flights.iter().filter(|flight| flight.port == port).count()
+}
+
+/// Whether another request contests this one.
+pub fn is_contested(flights: &[Flight], flight: &Flight) -> bool
+    ensures { (before : List InFlight) (this : InFlight) → flights.now ≡ map kept before → flight.now ≡ kept this
+        → result ≡ list_any (contests this) before }
+{
+    for other in flights {
+        if flight.contests(other) {
+            return true;
+        }
+    }
+    false
+}
+
+/// Takes the request of a wide source out.
+pub fn remove(flights: &mut Vec<Flight>, wide: u16)
+    ensures { flights.new.items ≡ filter (λ flight. not (flight.wide == wide)) flights.old.items }
+{
+    flights.retain(|flight| flight.wide != wide);
+}
+
+/// Gives one beat more to the request of a wide source.
+pub fn grow(flights: &mut Vec<Flight>, wide: u16, bus: Bus, beat: &AskHead, is_whole: bool)
+    requires { beat.now.size ≤ MAX_SIZE }
+    ensures { (before : List InFlight) → flights.old.items ≡ map kept before
+        → flights.new.items ≡ map kept (map (with_beat (bus_bytes bus) wide beat.now is_whole) before) }
+{
+    for place in 0..flights.len() {
+        flights[place] = flights[place].grown(wide, bus, beat, is_whole);
+    }
+}

@@ -1,0 +1,92 @@
+//! What a capture covers, worked out by hand.
+//!
+//! A partial put leaves out a byte, and an unaligned get meets it. A get goes to nobody's address. The first get's reply
+//! overtakes the put's. Then a get of two beats begins 3 after the last reply to its source, and a put 25 after it.
+use super::scene::map_of;
+use check_beats::{Bus, MAX_LANES};
+use check_coverage::Coverage;
+use check_map::{Owner, Sources};
+use check_rows::{Buses, read_bare_row};
+use check_sides::{Ended, Links};
+use std::process::Abort;
+
+/// Rows, and what each ends.
+const ROWS: [(&str, Ended); 11] = [
+    ("1,m0,A,1,0,2,0,1000,07,00000000ffccbbaa,,", Ended::Ask),
+    ("2,m0,A,4,0,2,1,1002,0f,,,", Ended::Ask),
+    ("3,m1,A,4,0,3,0,3000,ff,,,", Ended::Ask),
+    ("4,m0,D,1,,2,1,,,,1,1", Ended::Reply),
+    ("5,m1,D,1,,3,0,,,,1,1", Ended::Reply),
+    ("6,m0,D,0,,2,0,,,,0,0", Ended::Reply),
+    ("7,m0,A,4,0,4,1,1010,ff,,,", Ended::Ask),
+    ("8,m0,D,1,,4,1,,,,0,0", Ended::Part),
+    ("9,m0,D,1,,4,1,,,,0,0", Ended::Reply),
+    ("30,m1,A,0,0,0,0,2000,01,0000000000000001,,", Ended::Ask),
+    ("31,m1,D,0,,0,0,,,,1,0", Ended::Reply),
+];
+
+const COVERED: &str = "coverage 1
+asked m0 p0 putpart 2 aligned 1
+asked m0 p0 get 2 unaligned 1
+asked m0 p0 get 4 aligned 1
+asked m1 p1 putfull 0 aligned 1
+asked m1 error get 3 aligned 1
+answered m0 p0 putpart 2 given 1
+answered m0 p0 get 2 denied 1
+answered m0 p0 get 4 given 1
+answered m1 p1 putfull 0 denied 1
+answered m1 error get 3 denied 1
+beats m0 p0 A 1 3
+beats m0 p0 D 1 2
+beats m0 p0 D 2 1
+beats m1 p1 A 1 1
+beats m1 p1 D 1 1
+beats m1 error A 1 1
+beats m1 error D 1 1
+mask m0 p0 hole 1
+in_flight m0 1 2
+in_flight m0 2 1
+in_flight m1 1 2
+at_port p0 1 2
+at_port p0 2 1
+at_port p1 1 1
+at_port error 1 1
+overtook m0 p0 1
+again m0 3 1
+again m1 16 1
+contested p0 1
+";
+
+/// A master with so many sources from this one on.
+const fn owner(first: u16, count: u32) -> Owner {
+    Owner {
+        first,
+        count,
+        stride: 1,
+    }
+}
+
+/// Notes a row.
+fn note(rt: &impl Abort, coverage: &mut Coverage, line: &str, end: Ended) {
+    let buses = Buses {
+        masters: &[Bus::Eight; 2],
+        ports: &[Bus::Eight; 2],
+    };
+    let mut lanes = [0; MAX_LANES];
+    let row = read_bare_row(&buses, 1, line.as_bytes(), &mut lanes).expect(rt, "a row");
+    coverage.note(&row, row.bus, end).expect(rt, "memory");
+}
+
+#[test]
+fn a_capture_covers_what_was_worked_out(rt: HostRuntime) {
+    let alloc = rt.alloc();
+    let sources = Sources::new(alloc, &[owner(0, 2), owner(2, 1)]).expect(&rt, "sources");
+    let map = map_of(&rt, alloc);
+    let mut coverage = Coverage::new(alloc, Links::Masters, sources, map);
+    for (line, end) in ROWS {
+        note(&rt, &mut coverage, line, end);
+    }
+    let mut text = Vec::new(alloc);
+    coverage.append(&mut text).expect(&rt, "memory");
+    assert!(&rt; text.as_slice() == COVERED.as_bytes());
+}
