@@ -1,12 +1,12 @@
-//! Tests of tlcheck and tlvcd as programs, and of what the judge reads and looks up: nothing else is here. All is worked
-//! out by hand from the formats. Captures with their verdicts stand in `check_text_tests`.
+//! Tests of tlcheck and tlvcd as programs, and of what the judge reads and looks up: nothing else is here. All is
+//! worked out by hand from the formats. Captures with their verdicts stand in `check_text_tests`.
 //!
 //! - `options`: the command line (`check_options`);
 //! - `progress`: the progress of a capture (`check_progress`);
 //! - `program`: a system, its images and a capture with the verdict, its lines and its faults; readers and writers that
 //!   are slow or fail (`check_engine`);
 //! - `dumps`: a system and a dump with the capture, and its faults (`check_waves`);
-//! - `streams`: the readers and writers of these two;
+//! - `ends`, `streams`: the ends of runs of these two, and their readers and writers;
 //! - `records`: texts with their records (`check_records`);
 //! - `map`, `sources`: addresses with their ports, and sources with their masters (`check_map`);
 //! - `refused`: what is answered of these two if memory is refused.

@@ -1,4 +1,5 @@
 mod dumps;
+mod ends;
 mod map;
 mod options;
 mod program;

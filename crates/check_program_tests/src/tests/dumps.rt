@@ -1,7 +1,6 @@
-//! What no clause of `check_waves` says: the lines and statuses of faults, and readers and writers that are slow or fail
-//! at each place.
-ghost use Rattle.std.specs.Prelude.{Some, ◌<◌};
-
+//! What no clause of `check_waves` says: the lines and statuses of faults, and readers and writers that are slow or
+//! fail at each place.
+use crate::tests::ends::{End, Outcome, Run, fault, without_trouble};
 use crate::tests::streams::{Drips, Trickle, Trouble};
 use check_keys::SystemFault;
 use check_samples::{Signal, UnknownBit};
@@ -57,125 +56,156 @@ const CAPTURE: &[u8] =
 /// How many bytes the first row of a capture has.
 const FIRST_ROW: usize = 76;
 
-/// What becomes of two texts, and what is written.
-fn outcome_of(
-    alloc: Global,
-    system: &[u8],
-    dump: &[u8],
-    trouble: (Trouble, Trouble, Trouble),
-) -> (Result<(), WaveFault>, Vec<u8>) {
-    let mut reader = Trickle::new(system, trouble.0);
-    let dump = Trickle::new(dump, trouble.1);
-    let mut writer = Drips::new(alloc, trouble.2);
-    let outcome = write_capture(alloc, &mut reader, dump, &mut writer);
-    (outcome, writer.held)
+/// The line and the status of a fault.
+fn line_of(rt: &impl Abort, alloc: Global, fault: &WaveFault) -> (String, u8) {
+    let line = format!(in alloc; "{fault}").ok().expect(rt, "a line");
+    (line, fault.status())
+}
+
+/// A run has this end. A dump of which a capture is made is lawful here.
+fn expect(rt: &impl Abort, alloc: Global, run: &Run, end: &End) {
+    let mut system = Trickle::new(run.system, run.reading_system);
+    let dump = Trickle::new(run.input, run.reading_input);
+    let mut writer = Drips::new(alloc, run.writing);
+    let answer = match write_capture(alloc, &mut system, dump, &mut writer) {
+        Ok(()) => Ok(true),
+        Err(fault) => Err(line_of(rt, alloc, &fault)),
+    };
+    let outcome = Outcome {
+        answer,
+        written: writer.held,
+    };
+    outcome.is_end(rt, end);
+}
+
+/// This capture is written.
+fn capture(written: &[u8]) -> End<'_> {
+    End {
+        answer: Ok(true),
+        written,
+    }
+}
+
+/// So much of the capture is written before the fault.
+fn front(rt: &impl Abort, line: &'static str, status: u8, count: usize) -> End<'static> {
+    End {
+        answer: Err((line, status)),
+        written: CAPTURE.get(..count).expect(rt, "a front"),
+    }
 }
 
 #[test]
 fn slow_streams_change_nothing(rt: HostRuntime) {
-    for trouble in [Trouble::Never, Trouble::BeforeEach] {
-        let (outcome, written) = outcome_of(rt.alloc(), SYSTEM, DUMP, (trouble, trouble, trouble));
-        assert!(&rt; outcome.is_ok());
-        assert_eq!(&rt; written.as_slice(), CAPTURE);
+    for trouble in &[Trouble::Never, Trouble::BeforeEach] {
+        let run = Run {
+            reading_system: *trouble,
+            reading_input: *trouble,
+            writing: *trouble,
+            ..without_trouble(SYSTEM, DUMP)
+        };
+        expect(&rt, rt.alloc(), &run, &capture(CAPTURE));
     }
 }
 
 #[test]
 fn rows_have_the_widths_of_their_links(rt: HostRuntime) {
-    let never = (Trouble::Never, Trouble::Never, Trouble::Never);
-    let (outcome, written) = outcome_of(rt.alloc(), MIXED, MIXED_DUMP, never);
-    assert!(&rt; outcome.is_ok());
-    assert_eq!(&rt; written.as_slice(), MIXED_CAPTURE);
+    expect(
+        &rt,
+        rt.alloc(),
+        &without_trouble(MIXED, MIXED_DUMP),
+        &capture(MIXED_CAPTURE),
+    );
 }
 
-/// Two texts have this fault: its line and its status, and so many bytes of the capture are written.
-fn expect_fault(
-    rt: &impl Abort,
-    alloc: Global,
-    texts: (&[u8], &[u8]),
-    trouble: (Trouble, Trouble),
-    fault: (&str, u8),
-    count: usize,
-) {
-    let (outcome, written) = outcome_of(
-        alloc,
-        texts.0,
-        texts.1,
-        (trouble.0, trouble.1, Trouble::Never),
-    );
-    let found = outcome.err().expect(rt, "a fault");
-    let text = format!(in alloc; "{found}").ok().expect(rt, "a line");
-    assert_eq!(rt; text.as_str(), fault.0);
-    assert_eq!(rt; found.status(), fault.1);
-    assert_eq!(rt; Some(written.as_slice()), CAPTURE.get(..count));
-}
+/// Systems and dumps, and the line of their fault.
+const REFUSED: [(&[u8], &[u8], &'static str); 10] = [
+    (b"slots", b"", "system: not TOML"),
+    (b"slots = 1", b"", "system: missing master"),
+    (b"bus = 3", b"", "system: bus out of range"),
+    (TWO_CALLED, b"", "system: two are called core"),
+    (OVERLAP, b"", "system: ports 0 and 1 overlap"),
+    (NO_CLOCK, b"", "system: missing clock"),
+    (SYSTEM, b"", "tlvcd: line 1: cut in its header"),
+    (SYSTEM, b"\n$upscope $end ", "tlvcd: line 2: not a dump"),
+    (SYSTEM, b"$enddefinitions $end ", "tlvcd: no signal c"),
+    (MIXED, NARROW, "tlvcd: port 0: m4 has 8 bits, 4 wanted"),
+];
 
 #[test]
 fn the_system_comes_before_the_header_and_that_before_its_signals(rt: HostRuntime) {
-    let rows = [
-        (b"slots".as_slice(), b"".as_slice(), "system: not TOML"),
-        (b"slots = 1", b"", "system: missing master"),
-        (b"bus = 3", b"", "system: bus out of range"),
-        (TWO_CALLED, b"", "system: two are called core"),
-        (OVERLAP, b"", "system: ports 0 and 1 overlap"),
-        (NO_CLOCK, b"", "system: missing clock"),
-        (SYSTEM, b"", "tlvcd: line 1: cut in its header"),
-        (SYSTEM, b"\n$upscope $end ", "tlvcd: line 2: not a dump"),
-        (SYSTEM, b"$enddefinitions $end ", "tlvcd: no signal c"),
-        (MIXED, NARROW, "tlvcd: port 0: m4 has 8 bits, 4 wanted"),
-    ];
-    let never = (Trouble::Never, Trouble::Never);
-    for (system, dump, line) in rows {
-        expect_fault(&rt, rt.alloc(), (system, dump), never, (line, 1), 0);
+    for (system, dump, line) in &REFUSED {
+        expect(
+            &rt,
+            rt.alloc(),
+            &without_trouble(system, dump),
+            &fault(line, 1),
+        );
     }
-    // the system is read to its end before the dump is touched
-    let trouble = (Trouble::Never, Trouble::Always(ErrorKind::BrokenPipe));
-    let texts = (b"slots".as_slice(), DUMP);
-    expect_fault(&rt, rt.alloc(), texts, trouble, ("system: not TOML", 1), 0);
 }
 
 #[test]
+fn the_system_is_read_to_its_end_before_the_dump_is_touched(rt: HostRuntime) {
+    let run = Run {
+        reading_input: Trouble::Always(ErrorKind::BrokenPipe),
+        ..without_trouble(b"slots", DUMP)
+    };
+    expect(&rt, rt.alloc(), &run, &fault("system: not TOML", 1));
+}
+
+/// A dump whose clock does not rise.
+const NO_EDGE: &[u8] =
+    b"$var wire 1 ! c $end $var wire 1 \" v $end $enddefinitions $end\n0! 1\" #5 #6 0!\n";
+
+#[test]
 fn a_clock_that_never_rises(rt: HostRuntime) {
-    let dump: &[u8] =
-        b"$var wire 1 ! c $end $var wire 1 \" v $end $enddefinitions $end\n0! 1\" #5 #6 0!\n";
-    let never = (Trouble::Never, Trouble::Never);
-    let fault = ("tlvcd: the clock never rises", 1);
-    expect_fault(&rt, rt.alloc(), (SYSTEM, dump), never, fault, FIRST_ROW);
+    let end = front(&rt, "tlvcd: the clock never rises", 1, FIRST_ROW);
+    expect(&rt, rt.alloc(), &without_trouble(SYSTEM, NO_EDGE), &end);
+}
+
+/// The system or the dump cannot be read, with this trouble, and so much is written before.
+fn expect_unread(
+    rt: &impl Abort,
+    alloc: Global,
+    reading_system: Trouble,
+    reading_input: Trouble,
+    count: usize,
+) {
+    let run = Run {
+        reading_system,
+        reading_input,
+        ..without_trouble(SYSTEM, DUMP)
+    };
+    expect(rt, alloc, &run, &front(rt, "read failed", 5, count));
 }
 
 #[test]
 fn a_failed_read_is_read(rt: HostRuntime) {
-    let texts = (SYSTEM, DUMP);
-    let fault = ("read failed", 5);
     for at in 0..=SYSTEM.len() as u32 {
-        let trouble = (Trouble::At(at), Trouble::Never);
-        expect_fault(&rt, rt.alloc(), texts, trouble, fault, 0);
+        expect_unread(&rt, rt.alloc(), Trouble::At(at), Trouble::Never, 0);
     }
     for at in 0..HEAD.len() as u32 {
-        let trouble = (Trouble::Never, Trouble::At(at));
-        expect_fault(&rt, rt.alloc(), texts, trouble, fault, 0);
+        expect_unread(&rt, rt.alloc(), Trouble::Never, Trouble::At(at), 0);
     }
     // after the header its line is written; at the end all rows are there
-    let places = [(HEAD.len(), FIRST_ROW), (DUMP.len(), CAPTURE.len())];
-    for (at, count) in places {
-        let trouble = (Trouble::Never, Trouble::At(at as u32));
-        expect_fault(&rt, rt.alloc(), texts, trouble, fault, count);
-    }
+    let behind_head = Trouble::At(HEAD.len() as u32);
+    expect_unread(&rt, rt.alloc(), Trouble::Never, behind_head, FIRST_ROW);
+    let at_end = Trouble::At(DUMP.len() as u32);
+    expect_unread(&rt, rt.alloc(), Trouble::Never, at_end, CAPTURE.len());
 }
 
 #[test]
 fn reads_that_are_interrupted_for_ever_are_read(rt: HostRuntime) {
-    let trouble = (Trouble::Always(ErrorKind::Interrupted), Trouble::Never);
-    let texts = (SYSTEM, DUMP);
-    expect_fault(&rt, rt.alloc(), texts, trouble, ("read failed", 5), 0);
+    let forever = Trouble::Always(ErrorKind::Interrupted);
+    expect_unread(&rt, rt.alloc(), forever, Trouble::Never, 0);
 }
 
 /// A writer with this trouble is a failed write, after so many bytes.
-fn expect_front(rt: &impl Abort, alloc: Global, trouble: Trouble, count: usize) {
-    let never = Trouble::Never;
-    let (outcome, written) = outcome_of(alloc, SYSTEM, DUMP, (never, never, trouble));
-    assert!(rt; matches!(outcome, Err(WaveFault::Write)));
-    assert_eq!(rt; Some(written.as_slice()), CAPTURE.get(..count));
+fn expect_front(rt: &impl Abort, alloc: Global, writing: Trouble, count: usize) {
+    let run = Run {
+        writing,
+        ..without_trouble(SYSTEM, DUMP)
+    };
+    expect(rt, alloc, &run, &front(rt, "write failed", 5, count));
 }
 
 #[test]
@@ -187,52 +217,55 @@ fn a_failed_write_is_write(rt: HostRuntime) {
     expect_front(&rt, rt.alloc(), forever, 0);
 }
 
+const OF_ASK: UnknownBit = UnknownBit {
+    time: 35,
+    link: Link::Master(0),
+    signal: Signal::AOpcode,
+};
+
+const OF_REPLY: UnknownBit = UnknownBit {
+    time: 9,
+    link: Link::Port(3),
+    signal: Signal::DSize,
+};
+
+const LINES: [(WaveFault, &str, u8); 9] = [
+    (
+        WaveFault::System(SystemFault::TooLong),
+        "system: longer than 1048576 bytes",
+        1,
+    ),
+    (
+        WaveFault::Keys(KeyFault::WrongType(Key::Wires)),
+        "system: wrong type of wires",
+        1,
+    ),
+    (
+        WaveFault::Dump(12, Mistake::BadValue),
+        "tlvcd: line 12: bad value",
+        1,
+    ),
+    (
+        WaveFault::Unknown(OF_ASK),
+        "tlvcd: time 35, m0 A: a_opcode is unknown",
+        1,
+    ),
+    (
+        WaveFault::Unknown(OF_REPLY),
+        "tlvcd: time 9, p3 D: d_size is unknown",
+        1,
+    ),
+    (WaveFault::NoEdge, "tlvcd: the clock never rises", 1),
+    (WaveFault::Memory, "memory refused", 4),
+    (WaveFault::Read, "read failed", 5),
+    (WaveFault::Write, "write failed", 5),
+];
+
 #[test]
 fn faults_have_their_lines_and_statuses(rt: HostRuntime) {
-    let of_ask = UnknownBit {
-        time: 35,
-        link: Link::Master(0),
-        signal: Signal::AOpcode,
-    };
-    let of_reply = UnknownBit {
-        time: 9,
-        link: Link::Port(3),
-        signal: Signal::DSize,
-    };
-    let rows: [(WaveFault, &str, u8); 9] = [
-        (
-            WaveFault::System(SystemFault::TooLong),
-            "system: longer than 1048576 bytes",
-            1,
-        ),
-        (
-            WaveFault::Keys(KeyFault::WrongType(Key::Wires)),
-            "system: wrong type of wires",
-            1,
-        ),
-        (
-            WaveFault::Dump(12, Mistake::BadValue),
-            "tlvcd: line 12: bad value",
-            1,
-        ),
-        (
-            WaveFault::Unknown(of_ask),
-            "tlvcd: time 35, m0 A: a_opcode is unknown",
-            1,
-        ),
-        (
-            WaveFault::Unknown(of_reply),
-            "tlvcd: time 9, p3 D: d_size is unknown",
-            1,
-        ),
-        (WaveFault::NoEdge, "tlvcd: the clock never rises", 1),
-        (WaveFault::Memory, "memory refused", 4),
-        (WaveFault::Read, "read failed", 5),
-        (WaveFault::Write, "write failed", 5),
-    ];
-    for (fault, line, status) in &rows {
-        let text = format!(in rt.alloc(); "{fault}").ok().expect(&rt, "a line");
-        assert_eq!(&rt; text.as_str(), *line);
-        assert_eq!(&rt; fault.status(), *status);
+    for (fault, line, status) in &LINES {
+        let (text, found) = line_of(&rt, rt.alloc(), fault);
+        assert!(rt; text.as_str() == *line);
+        assert!(rt; found == *status);
     }
 }

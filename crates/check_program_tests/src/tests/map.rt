@@ -98,37 +98,39 @@ const SYSTEM: [&[Range]; 3] = [
     ],
 ];
 
+/// Addresses and sizes of requests, and the port that each goes to.
+const ROUTES: [(u64, u8, usize); 20] = [
+    (0x1000, 6, 0),
+    (0x1000, 7, 3),
+    (0xfff, 0, 3),
+    (0x103f, 0, 0),
+    // one byte of the RAM, one of the ROM
+    (0x103f, 1, 3),
+    (0x1040, 5, 1),
+    (0x1060, 0, 3),
+    (0x9000, 6, 0),
+    (0x903f, 0, 0),
+    // two ranges of one port are two
+    (0x903f, 1, 3),
+    (0x9040, 3, 0),
+    (0x9048, 0, 3),
+    (0, 4, 2),
+    (0, 5, 3),
+    (16, 0, 3),
+    (u64::MAX - 8, 0, 3),
+    (u64::MAX - 7, 3, 2),
+    (u64::MAX, 0, 2),
+    (u64::MAX, 1, 3),
+    (u64::MAX - 254, 8, 3),
+];
+
 #[test]
 fn bytes_go_to_the_port_one_of_whose_ranges_holds_them_all(rt: HostRuntime) {
     let map = map_of(&rt, rt.alloc(), &SYSTEM);
     assert!(rt; map.ports() == 4);
-    let rows = [
-        (0x1000, 6, 0),
-        (0x1000, 7, 3),
-        (0xfff, 0, 3),
-        (0x103f, 0, 0),
-        // one byte of the RAM, one of the ROM
-        (0x103f, 1, 3),
-        (0x1040, 5, 1),
-        (0x1060, 0, 3),
-        (0x9000, 6, 0),
-        (0x903f, 0, 0),
-        // two ranges of one port are two
-        (0x903f, 1, 3),
-        (0x9040, 3, 0),
-        (0x9048, 0, 3),
-        (0, 4, 2),
-        (0, 5, 3),
-        (16, 0, 3),
-        (u64::MAX - 8, 0, 3),
-        (u64::MAX - 7, 3, 2),
-        (u64::MAX, 0, 2),
-        (u64::MAX, 1, 3),
-        (u64::MAX - 254, 8, 3),
-    ];
-    for (address, size, wanted) in rows {
-        let ask = Ask::new(AskOp::Get, size, 0, address, &[]).expect(&rt, "a request");
-        assert!(rt; map.route(&ask) == wanted);
+    for (address, size, wanted) in &ROUTES {
+        let ask = Ask::new(AskOp::Get, *size, 0, *address, &[]).expect(&rt, "a request");
+        assert!(rt; map.route(&ask) == *wanted);
     }
 }
 
@@ -189,8 +191,9 @@ const OVERLAPS: [(&[&[Range]], usize, usize); 9] = [
 
 #[test]
 fn ranges_have_a_first_fault(rt: HostRuntime) {
-    for (ports, one, other) in OVERLAPS {
-        assert!(rt; fault_of(&rt, rt.alloc(), ports) == Some(MapFault::Overlap(one, other)));
+    for (ports, one, other) in &OVERLAPS {
+        let wanted = Some(MapFault::Overlap(*one, *other));
+        assert!(rt; fault_of(&rt, rt.alloc(), ports) == wanted);
     }
     assert!(rt; fault_of(&rt, rt.alloc(), &[&[RAM], &[NEXT], &[FAR]]) == None);
 }
@@ -262,14 +265,15 @@ fn a_port_may_have_sixteen_ranges(rt: HostRuntime) {
     assert!(rt; map.route_bytes(1016, 3) == 1);
 }
 
+const TEXTS: [(MapFault, &str); 2] = [
+    (MapFault::Overlap(0, 254), "ports 0 and 254 overlap"),
+    (MapFault::Memory, "memory refused"),
+];
+
 #[test]
 fn faults_have_their_texts(rt: HostRuntime) {
-    let rows = [
-        (MapFault::Overlap(0, 254), "ports 0 and 254 overlap"),
-        (MapFault::Memory, "memory refused"),
-    ];
-    for (fault, wanted) in rows {
+    for (fault, wanted) in &TEXTS {
         let text = format!(in rt.alloc(); "{fault}").expect(&rt, "memory");
-        assert!(rt; text.as_str() == wanted);
+        assert!(rt; text.as_str() == *wanted);
     }
 }

@@ -4,136 +4,126 @@ use check_options::{Options, read_options};
 use check_sides::Links;
 use tl_streams::line_status;
 
-/// The words of a command line, and the options that they ask for: `--trace`, `--complete` and `--quiet` stand together.
-type Line = (
-    &'static [&'static str],
-    Links,
-    Order,
-    [bool; 3],
-    Option<&'static str>,
-);
+/// The options of a command line that has a system alone.
+const PLAIN: Options<'static> = Options {
+    links: Links::Both,
+    order: Order::Accept,
+    trace: false,
+    complete: false,
+    quiet: false,
+    system: "s",
+    capture: None,
+};
 
-const LINES: [Line; 11] = [
-    (
-        &["tlcheck", "s"],
-        Links::Both,
-        Order::Accept,
-        [false, false, false],
-        None,
-    ),
+/// The words of a command line, and the options that they ask for.
+const LINES: [(&[&str], Options<'static>); 11] = [
+    (&["tlcheck", "s"], PLAIN),
     (
         &["tlcheck", "s", "c"],
-        Links::Both,
-        Order::Accept,
-        [false, false, false],
-        Some("c"),
+        Options {
+            capture: Some("c"),
+            ..PLAIN
+        },
     ),
-    (
-        &["tlcheck", "s", "-"],
-        Links::Both,
-        Order::Accept,
-        [false, false, false],
-        None,
-    ),
+    (&["tlcheck", "s", "-"], PLAIN),
     (
         &["tlcheck", "--links", "masters", "s"],
-        Links::Masters,
-        Order::Accept,
-        [false, false, false],
-        None,
+        Options {
+            links: Links::Masters,
+            ..PLAIN
+        },
     ),
     (
         &["tlcheck", "s", "--links=ports", "--order=reply", "c"],
-        Links::Ports,
-        Order::Reply,
-        [false, false, false],
-        Some("c"),
+        Options {
+            links: Links::Ports,
+            order: Order::Reply,
+            capture: Some("c"),
+            ..PLAIN
+        },
     ),
     (
         &["tlcheck", "--order=any", "s"],
-        Links::Both,
-        Order::Any,
-        [false, false, false],
-        None,
+        Options {
+            order: Order::Any,
+            ..PLAIN
+        },
     ),
     (
         &["tlcheck", "--trace", "s", "c"],
-        Links::Both,
-        Order::Accept,
-        [true, false, false],
-        Some("c"),
+        Options {
+            trace: true,
+            capture: Some("c"),
+            ..PLAIN
+        },
     ),
     (
         &["tlcheck", "--order", "accept", "--", "s", "--links"],
-        Links::Both,
-        Order::Accept,
-        [false, false, false],
-        Some("--links"),
+        Options {
+            capture: Some("--links"),
+            ..PLAIN
+        },
     ),
     (
         &["tlcheck", "--complete", "s", "c"],
-        Links::Both,
-        Order::Accept,
-        [false, true, false],
-        Some("c"),
+        Options {
+            complete: true,
+            capture: Some("c"),
+            ..PLAIN
+        },
     ),
     (
         &["tlcheck", "--trace", "s", "--complete", "--links", "each"],
-        Links::Each,
-        Order::Accept,
-        [true, true, false],
-        None,
+        Options {
+            links: Links::Each,
+            trace: true,
+            complete: true,
+            ..PLAIN
+        },
     ),
     (
         &["tlcheck", "s", "--quiet", "c", "--trace"],
-        Links::Both,
-        Order::Accept,
-        [true, false, true],
-        Some("c"),
+        Options {
+            trace: true,
+            quiet: true,
+            capture: Some("c"),
+            ..PLAIN
+        },
     ),
 ];
 
 #[test]
 fn words_give_options(rt: HostRuntime) {
-    for (words, links, order, [trace, complete, quiet], capture) in LINES {
+    for (words, wanted) in &LINES {
         let options = read_options(rt.alloc(), words).expect(&rt, "options");
-        assert!(rt;
-            options
-                == Options {
-                    links,
-                    order,
-                    trace,
-                    complete,
-                    quiet,
-                    system: "s",
-                    capture
-                }
-        );
+        assert!(rt; options == *wanted);
     }
 }
 
+/// Other words, and the status that the program ends with.
+const OTHERS: [(&[&str], u8); 14] = [
+    (&["tlcheck"], 2),
+    (&["tlcheck", "s", "c", "stray"], 2),
+    (&["tlcheck", "--links", "all", "s"], 2),
+    (&["tlcheck", "--links", "Both", "s"], 2),
+    (&["tlcheck", "--order", "reply", "--order", "reply", "s"], 2),
+    (&["tlcheck", "s", "--order"], 2),
+    (&["tlcheck", "--trace=yes", "s"], 2),
+    (&["tlcheck", "--trace", "--trace", "s"], 2),
+    (&["tlcheck", "--complete=yes", "s"], 2),
+    (&["tlcheck", "--complete", "s", "--complete"], 2),
+    (&["tlcheck", "--quiet=yes", "s"], 2),
+    (&["tlcheck", "--verbose", "s"], 2),
+    (&["tlcheck", "--version"], 0),
+    (&["tlcheck", "--help"], 0),
+];
+
 #[test]
 fn other_words_have_a_status(rt: HostRuntime) {
-    let rows: [(&[&str], u8); 14] = [
-        (&["tlcheck"], 2),
-        (&["tlcheck", "s", "c", "stray"], 2),
-        (&["tlcheck", "--links", "all", "s"], 2),
-        (&["tlcheck", "--links", "Both", "s"], 2),
-        (&["tlcheck", "--order", "reply", "--order", "reply", "s"], 2),
-        (&["tlcheck", "s", "--order"], 2),
-        (&["tlcheck", "--trace=yes", "s"], 2),
-        (&["tlcheck", "--trace", "--trace", "s"], 2),
-        (&["tlcheck", "--complete=yes", "s"], 2),
-        (&["tlcheck", "--complete", "s", "--complete"], 2),
-        (&["tlcheck", "--quiet=yes", "s"], 2),
-        (&["tlcheck", "--verbose", "s"], 2),
-        (&["tlcheck", "--version"], 0),
-        (&["tlcheck", "--help"], 0),
-    ];
-    for (words, status) in rows {
+    for (words, status) in &OTHERS {
         match read_options(rt.alloc(), words) {
             Ok(_) => panic!(&rt; "options"),
-            Err(error) => assert!(rt; line_status(&error) == status),
+            Err(error) => assert!(rt; line_status(&error) == *status),
         }
     }
 }

@@ -1,7 +1,8 @@
-//! What no clause of the engine (`check_engine`) says: the lines and statuses of faults, readers and writers that are slow
-//! or fail, and that the system is judged before the capture is read.
-ghost use Rattle.std.specs.Prelude.{Some, ◌<◌};
+//! What no clause of the engine (`check_engine`) says: the lines and statuses of faults, readers and writers that are
+//! slow or fail, and that the system is judged before the capture is read.
+ghost use Rattle.std.specs.Prelude.{◌<◌};
 
+use crate::tests::ends::{End, Outcome, Run, fault, without_trouble};
 use crate::tests::streams::{Drips, Trickle, Trouble};
 use check_description::Parts;
 use check_engine::{Asked, CheckFault, check, read_image, read_system};
@@ -12,7 +13,7 @@ use check_sides::Links;
 use check_start::Terms;
 use check_text::CaptureFault;
 use std::alloc::Global;
-use std::io::{ErrorKind, Read, Write};
+use std::io::ErrorKind;
 use std::process::Abort;
 
 /// One master with one source, and 16 bytes of memory.
@@ -39,12 +40,15 @@ const UNLAWFUL_LINE: &[u8] =
 /// What becomes of two texts by these streams.
 fn judge(
     alloc: Global,
-    mut system: Trickle<'_>,
-    capture: Trickle<'_>,
+    system: &mut Trickle,
+    capture: Trickle,
     writer: &mut Drips,
     trace: bool,
 ) -> Result<bool, CheckFault> {
-    let parts = read_system(alloc, &mut system)?;
+    let parts = match read_system(alloc, system) {
+        Ok(parts) => parts,
+        Err(fault) => return Err(fault),
+    };
     let asked = Asked {
         terms: Terms {
             links: Links::Both,
@@ -56,34 +60,42 @@ fn judge(
     check(alloc, parts, &[], capture, writer, asked)
 }
 
-/// What becomes of two texts, and what is written, with replies told or not.
-fn outcome_of(
-    alloc: Global,
-    system: &[u8],
-    capture: &[u8],
-    trouble: (Trouble, Trouble, Trouble),
-    trace: bool,
-) -> (Result<bool, CheckFault>, Vec<u8>) {
-    let system = Trickle::new(system, trouble.0);
-    let capture = Trickle::new(capture, trouble.1);
-    let mut writer = Drips::new(alloc, trouble.2);
-    let outcome = judge(alloc, system, capture, &mut writer, trace);
-    (outcome, writer.held)
+/// The line and the status of a fault.
+fn line_of(rt: &impl Abort, alloc: Global, fault: &CheckFault) -> (String, u8) {
+    let line = format!(in alloc; "{fault}").ok().expect(rt, "a line");
+    (line, fault.status())
 }
 
-/// Two texts are judged so, by streams without trouble and by those that are interrupted again and again.
+/// A run has this end.
+fn expect(rt: &impl Abort, alloc: Global, run: &Run, end: &End) {
+    let mut system = Trickle::new(run.system, run.reading_system);
+    let capture = Trickle::new(run.input, run.reading_input);
+    let mut writer = Drips::new(alloc, run.writing);
+    let answer = match judge(alloc, &mut system, capture, &mut writer, run.trace) {
+        Ok(lawful) => Ok(lawful),
+        Err(fault) => Err(line_of(rt, alloc, &fault)),
+    };
+    let outcome = Outcome {
+        answer,
+        written: writer.held,
+    };
+    outcome.is_end(rt, end);
+}
+
+/// A capture is judged so, by streams without trouble and by those that are interrupted again and again.
 fn expect_verdict(rt: &impl Abort, alloc: Global, capture: &[u8], lawful: bool, line: &[u8]) {
-    for trouble in [Trouble::Never, Trouble::BeforeEach] {
-        let (outcome, written) = outcome_of(
-            alloc,
-            SYSTEM,
-            capture,
-            (trouble, trouble, trouble),
-            false,
-        );
-        assert!(rt; matches!(outcome, Ok(answer) if answer == lawful));
-        assert!(rt; written.as_slice() == line);
-    }
+    let end = End {
+        answer: Ok(lawful),
+        written: line,
+    };
+    expect(rt, alloc, &without_trouble(SYSTEM, capture), &end);
+    let interrupted = Run {
+        reading_system: Trouble::BeforeEach,
+        reading_input: Trouble::BeforeEach,
+        writing: Trouble::BeforeEach,
+        ..without_trouble(SYSTEM, capture)
+    };
+    expect(rt, alloc, &interrupted, &end);
 }
 
 #[test]
@@ -92,108 +104,130 @@ fn a_lawful_and_an_unlawful_capture(rt: HostRuntime) {
     expect_verdict(&rt, rt.alloc(), UNLAWFUL, false, UNLAWFUL_LINE);
 }
 
-/// The same lines with the replies told: this is written, in whole or where a write fails in so many bytes.
-fn expect_told(rt: &impl Abort, alloc: Global, capture: &[u8], trouble: Trouble, written: &[u8]) {
-    let never = Trouble::Never;
-    let (_, found) = outcome_of(alloc, SYSTEM, capture, (never, never, trouble), true);
-    assert!(rt; found.as_slice() == written);
-}
+const WRITE_FAILED: Result<bool, (&'static str, u8)> = Err(("write failed", 5));
+
+/// Captures whose replies are told, the trouble of the writer, and the end.
+const TOLD: [(&[u8], Trouble, End); 4] = [
+    (
+        LAWFUL,
+        Trouble::Never,
+        End {
+            answer: Ok(true),
+            written: TOLD_AND_LAWFUL,
+        },
+    ),
+    (
+        UNLAWFUL,
+        Trouble::Never,
+        End {
+            answer: Ok(false),
+            written: UNLAWFUL_LINE,
+        },
+    ),
+    // the line of the reply has 45 bytes, and that of the verdict comes after it
+    (
+        LAWFUL,
+        Trouble::At(5),
+        End {
+            answer: WRITE_FAILED,
+            written: b"m0 s0",
+        },
+    ),
+    (
+        LAWFUL,
+        Trouble::At(52),
+        End {
+            answer: WRITE_FAILED,
+            written: b"m0 s0 get 0x1000 0 -> AccessAckData 00 p0 #0\nlawful:",
+        },
+    ),
+];
 
 #[test]
 fn replies_are_told_before_the_verdict(rt: HostRuntime) {
-    let never = Trouble::Never;
-    expect_told(&rt, rt.alloc(), LAWFUL, never, TOLD_AND_LAWFUL);
-    expect_told(&rt, rt.alloc(), UNLAWFUL, never, UNLAWFUL_LINE);
-    // the line of the reply has 45 bytes, and that of the verdict comes after it
-    expect_told(&rt, rt.alloc(), LAWFUL, Trouble::At(5), b"m0 s0");
-    expect_told(
-        &rt,
-        rt.alloc(),
-        LAWFUL,
-        Trouble::At(52),
-        b"m0 s0 get 0x1000 0 -> AccessAckData 00 p0 #0\nlawful:",
-    );
+    for (capture, writing, end) in &TOLD {
+        let run = Run {
+            writing: *writing,
+            trace: true,
+            ..without_trouble(SYSTEM, capture)
+        };
+        expect(&rt, rt.alloc(), &run, end);
+    }
 }
 
-/// Two texts have this fault: its line and its status, and nothing is written.
-fn expect_fault(
-    rt: &impl Abort,
-    alloc: Global,
-    texts: (&[u8], &[u8]),
-    trouble: (Trouble, Trouble),
-    line: &str,
-    status: u8,
-) {
-    let (outcome, written) = outcome_of(
-        alloc,
-        texts.0,
-        texts.1,
-        (trouble.0, trouble.1, Trouble::Never),
-        false,
-    );
-    let fault = outcome.err().expect(rt, "a fault");
-    let text = format!(in alloc; "{fault}").ok().expect(rt, "a line");
-    assert!(rt; text.as_str() == line);
-    assert!(rt; fault.status() == status);
-    assert!(rt; written.is_empty());
-}
+/// Systems and captures, and the line of their fault.
+const REFUSED: [(&[u8], &[u8], &'static str); 5] = [
+    (b"slots", LAWFUL, "system: not TOML"),
+    // the system is judged first
+    (b"slots = 1", b"no header", "system: missing master"),
+    (SYSTEM, b"", "capture: line 1: wrong header"),
+    (SYSTEM, b"\n\ntime\n", "capture: line 3: wrong header"),
+    (
+        SYSTEM,
+        b"time,link,channel,opcode,param,size,source,address,mask,data,denied,corrupt\n1,m1,A,4,0,0,0,1000,01,,,\n",
+        "capture: line 2: no such link",
+    ),
+];
 
 #[test]
 fn no_system_and_no_capture(rt: HostRuntime) {
-    let rows = [
-        (b"slots".as_slice(), LAWFUL, "system: not TOML"),
-        // the system is judged first
-        (
-            b"slots = 1",
-            b"no header".as_slice(),
-            "system: missing master",
-        ),
-        (SYSTEM, b"", "capture: line 1: wrong header"),
-        (SYSTEM, b"\n\ntime\n", "capture: line 3: wrong header"),
-        (
-            SYSTEM,
-            b"time,link,channel,opcode,param,size,source,address,mask,data,denied,corrupt\n1,m1,A,4,0,0,0,1000,01,,,\n",
-            "capture: line 2: no such link",
-        ),
-    ];
-    let never = (Trouble::Never, Trouble::Never);
-    for (system, capture, line) in rows {
-        expect_fault(&rt, rt.alloc(), (system, capture), never, line, 1);
+    for (system, capture, line) in &REFUSED {
+        expect(
+            &rt,
+            rt.alloc(),
+            &without_trouble(system, capture),
+            &fault(line, 1),
+        );
     }
+}
+
+/// Two texts cannot be read, with this trouble.
+fn expect_unread(rt: &impl Abort, alloc: Global, reading_system: Trouble, reading_input: Trouble) {
+    let run = Run {
+        reading_system,
+        reading_input,
+        ..without_trouble(SYSTEM, LAWFUL)
+    };
+    expect(rt, alloc, &run, &fault("read failed", 5));
 }
 
 #[test]
 fn a_failed_read_is_read(rt: HostRuntime) {
-    let texts = (SYSTEM, LAWFUL);
     for at in 0..=SYSTEM.len() as u32 {
-        let trouble = (Trouble::At(at), Trouble::Never);
-        expect_fault(&rt, rt.alloc(), texts, trouble, "read failed", 5);
+        expect_unread(&rt, rt.alloc(), Trouble::At(at), Trouble::Never);
     }
     for at in 0..=LAWFUL.len() as u32 {
-        let trouble = (Trouble::Never, Trouble::At(at));
-        expect_fault(&rt, rt.alloc(), texts, trouble, "read failed", 5);
+        expect_unread(&rt, rt.alloc(), Trouble::Never, Trouble::At(at));
     }
 }
 
 #[test]
 fn reads_that_are_interrupted_for_ever_are_read(rt: HostRuntime) {
     let forever = Trouble::Always(ErrorKind::Interrupted);
-    let texts = (SYSTEM, LAWFUL);
-    for trouble in [(forever, Trouble::Never), (Trouble::Never, forever)] {
-        expect_fault(&rt, rt.alloc(), texts, trouble, "read failed", 5);
-    }
-    // the system is read to its end before the capture is touched
-    let texts = (b"slots".as_slice(), LAWFUL);
-    let trouble = (Trouble::Never, Trouble::Always(ErrorKind::BrokenPipe));
-    expect_fault(&rt, rt.alloc(), texts, trouble, "system: not TOML", 1);
+    expect_unread(&rt, rt.alloc(), forever, Trouble::Never);
+    expect_unread(&rt, rt.alloc(), Trouble::Never, forever);
+}
+
+#[test]
+fn the_system_is_read_to_its_end_before_the_capture_is_touched(rt: HostRuntime) {
+    let run = Run {
+        reading_input: Trouble::Always(ErrorKind::BrokenPipe),
+        ..without_trouble(b"slots", LAWFUL)
+    };
+    expect(&rt, rt.alloc(), &run, &fault("system: not TOML", 1));
 }
 
 /// A writer with this trouble is a failed write, after so many bytes.
-fn expect_front(rt: &impl Abort, alloc: Global, trouble: Trouble, count: usize) {
-    let never = Trouble::Never;
-    let (outcome, written) = outcome_of(alloc, SYSTEM, UNLAWFUL, (never, never, trouble), false);
-    assert!(rt; matches!(outcome, Err(CheckFault::Write)));
-    assert!(rt; Some(written.as_slice()) == UNLAWFUL_LINE.get(..count));
+fn expect_front(rt: &impl Abort, alloc: Global, writing: Trouble, count: usize) {
+    let run = Run {
+        writing,
+        ..without_trouble(SYSTEM, UNLAWFUL)
+    };
+    let end = End {
+        answer: WRITE_FAILED,
+        written: UNLAWFUL_LINE.get(..count).expect(rt, "a front"),
+    };
+    expect(rt, alloc, &run, &end);
 }
 
 #[test]
@@ -205,37 +239,38 @@ fn a_failed_write_is_write(rt: HostRuntime) {
     expect_front(&rt, rt.alloc(), forever, 0);
 }
 
+const LINES: [(CheckFault, &str, u8); 7] = [
+    (
+        CheckFault::System(SystemFault::TooLong),
+        "system: longer than 1048576 bytes",
+        1,
+    ),
+    (
+        CheckFault::System(SystemFault::ImageUnreadable(3)),
+        "system: port 3: image can't be read",
+        1,
+    ),
+    (
+        CheckFault::Capture(CaptureFault::TooLong(7)),
+        "capture: line 7: row too long",
+        1,
+    ),
+    (
+        CheckFault::Capture(CaptureFault::Row(9, RowFault::TimeFalls)),
+        "capture: line 9: time falls",
+        1,
+    ),
+    (CheckFault::Memory, "memory refused", 4),
+    (CheckFault::Read, "read failed", 5),
+    (CheckFault::Write, "write failed", 5),
+];
+
 #[test]
 fn faults_have_their_lines_and_statuses(rt: HostRuntime) {
-    let rows: [(CheckFault, &str, u8); 7] = [
-        (
-            CheckFault::System(SystemFault::TooLong),
-            "system: longer than 1048576 bytes",
-            1,
-        ),
-        (
-            CheckFault::System(SystemFault::ImageUnreadable(3)),
-            "system: port 3: image can't be read",
-            1,
-        ),
-        (
-            CheckFault::Capture(CaptureFault::TooLong(7)),
-            "capture: line 7: row too long",
-            1,
-        ),
-        (
-            CheckFault::Capture(CaptureFault::Row(9, RowFault::TimeFalls)),
-            "capture: line 9: time falls",
-            1,
-        ),
-        (CheckFault::Memory, "memory refused", 4),
-        (CheckFault::Read, "read failed", 5),
-        (CheckFault::Write, "write failed", 5),
-    ];
-    for (fault, line, status) in &rows {
-        let text = format!(in rt.alloc(); "{fault}").ok().expect(&rt, "a line");
+    for (fault, line, status) in &LINES {
+        let (text, found) = line_of(&rt, rt.alloc(), fault);
         assert!(rt; text.as_str() == *line);
-        assert!(rt; fault.status() == *status);
+        assert!(rt; found == *status);
     }
 }
 
@@ -250,6 +285,7 @@ image = 'rom.bin'
 sources = 1
 ";
 
+/// The port of that ROM.
 fn rom(rt: &impl Abort, alloc: Global) -> Parts {
     let mut system = Trickle::new(ROM, Trouble::Never);
     let parts = read_system(alloc, &mut system).ok().expect(rt, "a system");
@@ -257,57 +293,86 @@ fn rom(rt: &impl Abort, alloc: Global) -> Parts {
     parts
 }
 
-/// The bytes of a file are an image, with streams that are interrupted too.
-fn is_image(rt: &impl Abort, alloc: Global, parts: &Parts, bytes: &[u8]) {
+/// What is read of a file as the image of port 7, or the line of the fault and the status.
+fn image_of(
+    rt: &impl Abort,
+    alloc: Global,
+    parts: &Parts,
+    mut file: Trickle,
+) -> Result<Vec<u8>, (String, u8)> {
     let port = parts.ports.first().expect(rt, "a port");
-    for trouble in [Trouble::Never, Trouble::BeforeEach] {
-        let mut file = Trickle::new(bytes, trouble);
-        let image = read_image(alloc, &mut file, 0, port).ok();
-        assert!(rt; image.expect(rt, "an image").as_slice() == bytes);
+    match read_image(alloc, &mut file, 7, port) {
+        Ok(image) => Ok(image),
+        Err(fault) => Err(line_of(rt, alloc, &fault)),
     }
 }
+
+/// The bytes of a file are an image, with streams that are interrupted too.
+fn is_image(rt: &impl Abort, alloc: Global, parts: &Parts, bytes: &[u8]) {
+    for trouble in &[Trouble::Never, Trouble::BeforeEach] {
+        let file = Trickle::new(bytes, *trouble);
+        match image_of(rt, alloc, parts, file) {
+            Ok(image) => assert!(rt; image.as_slice() == bytes),
+            Err(_) => panic!(rt; "no image"),
+        }
+    }
+}
+
+const IMAGES: [&[u8]; 3] = [b"", b"\x11", b"\x11\x22"];
 
 #[test]
 fn an_image_is_read_whole(rt: HostRuntime) {
     let parts = rom(&rt, rt.alloc());
-    for bytes in [b"".as_slice(), b"\x11", b"\x11\x22"] {
+    for bytes in &IMAGES {
         is_image(&rt, rt.alloc(), &parts, bytes);
     }
 }
 
-/// The bytes of a file are refused as the image of a port by this line.
-fn is_refused(rt: &impl Abort, alloc: Global, parts: &Parts, mut file: Trickle<'_>, line: &str) {
-    let port = parts.ports.first().expect(rt, "a port");
-    let fault = read_image(alloc, &mut file, 7, port)
-        .err()
-        .expect(rt, "a fault");
-    let text = format!(in alloc; "{fault}").ok().expect(rt, "a line");
-    assert!(rt; text.as_str() == line);
-    assert!(rt; fault.status() == 1);
+/// Files with their trouble, and the line by which they are refused.
+const NO_IMAGES: [(&[u8], Trouble, &str); 5] = [
+    (
+        b"\x11\x22\x33",
+        Trouble::Never,
+        "system: port 7: image is longer than its range",
+    ),
+    (
+        b"\x11\x22",
+        Trouble::At(0),
+        "system: port 7: image can't be read",
+    ),
+    (
+        b"\x11\x22",
+        Trouble::At(1),
+        "system: port 7: image can't be read",
+    ),
+    (
+        b"\x11\x22",
+        Trouble::At(2),
+        "system: port 7: image can't be read",
+    ),
+    (
+        b"",
+        Trouble::Always(ErrorKind::Interrupted),
+        "system: port 7: image can't be read",
+    ),
+];
+
+/// A file is refused by this line.
+fn is_refused(rt: &impl Abort, alloc: Global, parts: &Parts, file: Trickle, line: &str) {
+    match image_of(rt, alloc, parts, file) {
+        Ok(_) => panic!(rt; "an image"),
+        Err((text, status)) => {
+            assert!(rt; text.as_str() == line);
+            assert!(rt; status == 1);
+        }
+    }
 }
 
 #[test]
 fn an_image_is_refused(rt: HostRuntime) {
     let parts = rom(&rt, rt.alloc());
-    let long = Trickle::new(b"\x11\x22\x33", Trouble::Never);
-    let line = "system: port 7: image is longer than its range";
-    is_refused(&rt, rt.alloc(), &parts, long, line);
-    for at in 0..=2 {
-        let file = Trickle::new(b"\x11\x22", Trouble::At(at));
-        is_refused(
-            &rt,
-            rt.alloc(),
-            &parts,
-            file,
-            "system: port 7: image can't be read",
-        );
+    for (bytes, trouble, line) in &NO_IMAGES {
+        let file = Trickle::new(bytes, *trouble);
+        is_refused(&rt, rt.alloc(), &parts, file, line);
     }
-    let forever = Trickle::new(b"", Trouble::Always(ErrorKind::Interrupted));
-    is_refused(
-        &rt,
-        rt.alloc(),
-        &parts,
-        forever,
-        "system: port 7: image can't be read",
-    );
 }

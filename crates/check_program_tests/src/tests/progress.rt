@@ -5,6 +5,7 @@ use std::cell::{Cell, RefCell};
 use std::fmt::{Display, Write};
 use std::io;
 use std::io::{Eprint, ErrorKind, Read};
+use std::process::Abort;
 use std::time::{Clock, Duration};
 
 /// A clock that is set by hand, and what was printed on standard error.
@@ -99,33 +100,76 @@ fn nothing_is_printed_of_a_short_capture(rt: HostRuntime) {
     assert!(rt; prints(rt.alloc(), &[(0, b"time,link\n1\n", ""), (5_000, b"", "")]));
 }
 
+/// A line, and how it is spelled.
+const LINES: [(Line, &str); 6] = [
+    (
+        Line {
+            rows: 0,
+            millis: 0,
+            bytes: 0,
+            whole: None,
+        },
+        "0 rows, 0 rows a second",
+    ),
+    (
+        Line {
+            rows: 1_200_000,
+            millis: 2_000,
+            bytes: 9,
+            whole: None,
+        },
+        "1200000 rows, 600000 rows a second",
+    ),
+    (
+        Line {
+            rows: 5,
+            millis: 2_000,
+            bytes: 99,
+            whole: Some(100),
+        },
+        "5 rows, 2 rows a second, 99 %",
+    ),
+    (
+        Line {
+            rows: 5,
+            millis: 1_000,
+            bytes: 100,
+            whole: Some(100),
+        },
+        "5 rows, 5 rows a second, 100 %",
+    ),
+    // the file has grown, or had no length
+    (
+        Line {
+            rows: 5,
+            millis: 1_000,
+            bytes: 300,
+            whole: Some(100),
+        },
+        "5 rows, 5 rows a second, 100 %",
+    ),
+    (
+        Line {
+            rows: 5,
+            millis: 1_000,
+            bytes: 7,
+            whole: Some(0),
+        },
+        "5 rows, 5 rows a second, 100 %",
+    ),
+];
+
 #[test]
 fn lines_are_spelled(rt: HostRuntime) {
-    let lines: [(u64, u64, u64, Option<u64>, &str); 6] = [
-        (0, 0, 0, None, "0 rows, 0 rows a second"),
-        (
-            1_200_000,
-            2_000,
-            9,
-            None,
-            "1200000 rows, 600000 rows a second",
-        ),
-        (5, 2_000, 99, Some(100), "5 rows, 2 rows a second, 99 %"),
-        (5, 1_000, 100, Some(100), "5 rows, 5 rows a second, 100 %"),
-        // the file has grown, or had no length
-        (5, 1_000, 300, Some(100), "5 rows, 5 rows a second, 100 %"),
-        (5, 1_000, 7, Some(0), "5 rows, 5 rows a second, 100 %"),
-    ];
-    for (rows, millis, bytes, whole, spelled) in lines {
-        let line = Line {
-            rows,
-            millis,
-            bytes,
-            whole,
-        };
+    for (line, spelled) in &LINES {
         let text = line.to_string(rt.alloc()).expect(&rt, "memory");
-        assert!(rt; text.as_str() == spelled);
+        assert!(rt; text.as_str() == *spelled);
     }
+}
+
+/// So many bytes are read.
+fn take(rt: &impl Abort, reader: &mut impl Read, buffer: &mut [u8], count: usize) {
+    assert!(rt; reader.read(buffer).expect(rt, "bytes") == count);
 }
 
 #[test]
@@ -134,10 +178,10 @@ fn what_is_read_is_handed_on(rt: HostRuntime) {
     let mut shown = Shown::new(b"12345".as_slice(), Meter::new(&desk, Some(5)));
     let mut buffer = [0u8; 3];
     desk.millis.set(2_000);
-    assert!(rt; shown.read(&mut buffer).expect(&rt, "bytes") == 3);
+    take(&rt, &mut shown, &mut buffer, 3);
     assert!(rt; buffer == *b"123");
     assert!(rt; desk.has_said("0 rows, 0 rows a second, 60 %\u{1b}[K\r"));
-    assert!(rt; shown.read(&mut buffer).expect(&rt, "bytes") == 2);
-    assert!(rt; shown.read(&mut buffer).expect(&rt, "bytes") == 0);
+    take(&rt, &mut shown, &mut buffer, 2);
+    take(&rt, &mut shown, &mut buffer, 0);
     assert!(rt; desk.has_said("\u{1b}[K"));
 }

@@ -50,68 +50,72 @@ fn reader_of(text: &[u8], step: usize, interrupted: u32, fails: u32) -> Trickle<
     }
 }
 
-/// Writes a record after a text: its line before a colon, its fields between bars, and a line feed.
-fn push_record<R: Read>(rt: &impl Abort, alloc: Global, text: &mut String, records: &Records<R>)
-where
-    R: Drop,
-{
-    let line = records.line();
-    let number = format!(in alloc; "{line}:").expect(rt, "memory");
-    text.push_str(number.as_str()).expect(rt, "memory");
+/// The reader of a text as a whole.
+fn whole(text: &[u8]) -> Trickle<'_> {
+    reader_of(text, usize::MAX, 0, 0)
+}
+
+/// Appends a bar and a field.
+fn push_field(rt: &impl Abort, text: &mut String, field: &[u8]) {
+    text.push('|').expect(rt, "memory");
+    let field = str::from_utf8(field).unwrap_or("?");
+    text.push_str(field).expect(rt, "memory");
+}
+
+/// Appends the fields of a record.
+fn push_fields(rt: &impl Abort, text: &mut String, records: &Records<Trickle>) {
     for column in records.columns() {
-        text.push('|').expect(rt, "memory");
-        text.push_str(str::from_utf8(column).unwrap_or("?"))
-            .expect(rt, "memory");
+        push_field(rt, text, column);
     }
-    text.push('\n').expect(rt, "memory");
 }
 
-/// The records of a text, one after the other.
-fn listed<R: Read>(rt: &impl Abort, alloc: Global, reader: R) -> Result<String, RecordFault>
-where
-    R: Drop,
-{
-    let mut text = String::new(alloc);
-    let mut records = Records::new(alloc, reader)?;
-    for _ in 0..1000 {
-        if !records.read()? {
-            return Ok(text);
+/// Appends what stands between the commas of a line without quotes.
+fn push_parts(rt: &impl Abort, text: &mut String, line: &[u8]) {
+    let mut start = 0;
+    for end in 0..=line.len() {
+        if matches!(line.get(end), None | Some(b',')) {
+            push_field(rt, text, line.get(start..end).expect(rt, "a part"));
+            start = end.saturating_add(1);
         }
-        push_record(rt, alloc, &mut text, &records);
     }
-    Ok(text)
 }
 
-/// Writes a line without quotes as a record after a text: its number, and what stands between its commas.
-fn push_line(rt: &impl Abort, alloc: Global, text: &mut String, number: u64, line: &[u8]) {
-    let number = format!(in alloc; "{number}:").expect(rt, "memory");
-    text.push_str(number.as_str()).expect(rt, "memory");
-    for part in line.split(|byte| *byte == b',') {
-        text.push('|').expect(rt, "memory");
-        text.push_str(str::from_utf8(part).unwrap_or("?"))
-            .expect(rt, "memory");
+/// Appends a record to a text: its line before a colon, its fields each after a bar, and a line feed.
+fn push_record(rt: &impl Abort, text: &mut String, records: &Records<Trickle>) {
+    write!(text, "{}:", records.line()).expect(rt, "memory");
+    match records.bare() {
+        Some(line) => push_parts(rt, text, line),
+        None => push_fields(rt, text, records),
     }
     text.push('\n').expect(rt, "memory");
 }
 
-/// The records of a text, each left in place where that can be.
-fn listed_in_place<R: Read>(
+/// Reads the next record, and leaves it in place if it may be and can.
+fn read_next(records: &mut Records<Trickle>, in_place: bool) -> Result<bool, RecordFault> {
+    if in_place {
+        records.read_in_place()
+    } else {
+        records.read()
+    }
+}
+
+/// The records of a text, one after the other, left in place where they may be and can, or the fault.
+fn listed(
     rt: &impl Abort,
     alloc: Global,
-    reader: R,
-) -> Result<String, RecordFault>
-where
-    R: Drop,
-{
+    reader: Trickle,
+    in_place: bool,
+) -> Result<String, RecordFault> {
+    let mut records = match Records::new(alloc, reader) {
+        Ok(records) => records,
+        Err(fault) => return Err(fault),
+    };
     let mut text = String::new(alloc);
-    let mut records = Records::new(alloc, reader)?;
     for _ in 0..1000 {
-        if !records.read_in_place()? {
-            return Ok(text);
-        }
-        match records.bare() {
-            Some(line) => push_line(rt, alloc, &mut text, records.line(), line),
-            None => push_record(rt, alloc, &mut text, &records),
+        match read_next(&mut records, in_place) {
+            Ok(true) => push_record(rt, &mut text, &records),
+            Ok(false) => break,
+            Err(fault) => return Err(fault),
         }
     }
     Ok(text)
@@ -143,21 +147,23 @@ const TEXTS: [(&[u8], &str); 22] = [
     (b"ab,cd\r\nef,gh", "1:|ab|cd\n2:|ef|gh\n"),
 ];
 
+/// A text is listed so.
+fn is_listed(rt: &impl Abort, alloc: Global, reader: Trickle, in_place: bool, records: &str) {
+    let text = listed(rt, alloc, reader, in_place).expect(rt, "a text in memory");
+    assert!(rt; text.as_str() == records);
+}
+
 /// A text has these records, read whole, in parts of each size, and byte by byte with interruptions. So each record,
 /// each field and each CR LF lies across two reads once, and ends exactly at the end of a read once.
 fn has_records(rt: &impl Abort, alloc: Global, text: &[u8], records: &str) {
-    let whole = listed(rt, alloc, text).expect(rt, "a text in memory");
-    assert!(rt; whole.as_str() == records);
-    for step in 1..text.len() {
-        let partwise = listed(rt, alloc, reader_of(text, step, 0, 0)).expect(rt, "in parts");
-        assert!(rt; partwise.as_str() == records);
-        let in_place = listed_in_place(rt, alloc, reader_of(text, step, 0, 0));
-        assert!(rt; in_place.expect(rt, "in place").as_str() == records);
+    for in_place in &[false, true] {
+        is_listed(rt, alloc, whole(text), *in_place, records);
+        for step in 1..text.len() {
+            let reader = reader_of(text, step, 0, 0);
+            is_listed(rt, alloc, reader, *in_place, records);
+        }
     }
-    let in_place = listed_in_place(rt, alloc, text).expect(rt, "a text in memory");
-    assert!(rt; in_place.as_str() == records);
-    let bitwise = listed(rt, alloc, reader_of(text, 1, 2, 0)).expect(rt, "byte by byte");
-    assert!(rt; bitwise.as_str() == records);
+    is_listed(rt, alloc, reader_of(text, 1, 2, 0), false, records);
 }
 
 #[test]
@@ -181,10 +187,22 @@ fn long_text(rt: &impl Abort, alloc: Global, quoted: bool, count: usize) -> Vec<
     text
 }
 
-/// The reader of a text whose first record, on line 1, has been read.
-fn behind_the_first<'t>(rt: &impl Abort, alloc: Global, text: &'t [u8]) -> Records<&'t [u8]> {
-    let mut records = Records::new(alloc, text).expect(rt, "memory");
-    assert!(rt; records.read() == Ok(true));
+/// The answers of reads, in place where that is said, one after the other.
+fn reads(
+    rt: &impl Abort,
+    records: &mut Records<Trickle>,
+    in_place: bool,
+    answers: &[Result<bool, RecordFault>],
+) {
+    for answer in answers {
+        assert!(rt; read_next(records, in_place) == *answer);
+    }
+}
+
+/// The records of a text whose first record, on line 1, has been read.
+fn behind_the_first<'t>(rt: &impl Abort, alloc: Global, text: &'t [u8]) -> Records<Trickle<'t>> {
+    let mut records = Records::new(alloc, whole(text)).expect(rt, "memory");
+    reads(rt, &mut records, false, &[Ok(true)]);
     assert!(rt; records.line() == 1);
     records
 }
@@ -192,17 +210,19 @@ fn behind_the_first<'t>(rt: &impl Abort, alloc: Global, text: &'t [u8]) -> Recor
 /// The record on line 3 is the last, and has so many bytes.
 fn is_read(rt: &impl Abort, alloc: Global, text: &[u8], size: usize) {
     let mut records = behind_the_first(rt, alloc, text);
-    assert!(rt; records.read() == Ok(true));
+    reads(rt, &mut records, false, &[Ok(true)]);
     assert!(rt; (records.line(), records.columns().as_slice().len()) == (3, size));
-    assert!(rt; records.read() == Ok(false));
+    reads(rt, &mut records, false, &[Ok(false)]);
 }
 
 /// The record on line 3 is too long, and that stays so.
-fn is_refused(rt: &impl Abort, alloc: Global, text: &[u8]) {
+fn is_refused(rt: &impl Abort, alloc: Global, text: &[u8], in_place: bool) {
     let mut records = behind_the_first(rt, alloc, text);
-    assert!(rt; records.read() == Err(RecordFault::TooLong(3)));
-    assert!(rt; records.read() == Err(RecordFault::TooLong(3)));
+    reads(rt, &mut records, in_place, &[TOO_LONG]);
+    reads(rt, &mut records, false, &[TOO_LONG]);
 }
+
+const TOO_LONG: Result<bool, RecordFault> = Err(RecordFault::TooLong(3));
 
 #[test]
 fn records_of_4096_bytes_are_read(rt: HostRuntime) {
@@ -216,7 +236,7 @@ fn records_of_4096_bytes_are_read(rt: HostRuntime) {
 fn longer_records_are_refused(rt: HostRuntime) {
     for (quoted, count) in [(false, 4097), (true, 4095), (false, 200_000)] {
         let text = long_text(&rt, rt.alloc(), quoted, count);
-        is_refused(&rt, rt.alloc(), &text);
+        is_refused(&rt, rt.alloc(), &text, false);
     }
 }
 
@@ -234,10 +254,10 @@ fn comma_text(rt: &impl Abort, alloc: Global, count: usize) -> Vec<u8> {
 /// The record on line 3 has so many bytes, and is left in place.
 fn is_left(rt: &impl Abort, alloc: Global, text: &[u8], size: usize) {
     let mut records = behind_the_first(rt, alloc, text);
-    assert!(rt; records.read_in_place() == Ok(true));
+    reads(rt, &mut records, true, &[Ok(true)]);
     assert!(rt; records.line() == 3);
-    assert!(rt; records.bare().map(<[u8]>::len) == Some(size));
-    assert!(rt; records.read_in_place() == Ok(false));
+    assert!(rt; records.bare().expect(rt, "not in place").len() == size);
+    reads(rt, &mut records, true, &[Ok(false)]);
 }
 
 #[test]
@@ -245,9 +265,7 @@ fn lines_of_4096_bytes_are_left_in_place(rt: HostRuntime) {
     let text = long_text(&rt, rt.alloc(), false, 4096);
     is_left(&rt, rt.alloc(), &text, 4096);
     let longer = long_text(&rt, rt.alloc(), false, 4097);
-    let mut records = behind_the_first(&rt, rt.alloc(), &longer);
-    assert!(&rt; records.read_in_place() == Err(RecordFault::TooLong(3)));
-    assert!(&rt; records.read() == Err(RecordFault::TooLong(3)));
+    is_refused(&rt, rt.alloc(), &longer, true);
 }
 
 #[test]
@@ -255,24 +273,29 @@ fn commas_count_as_bytes(rt: HostRuntime) {
     let text = comma_text(&rt, rt.alloc(), 4096);
     is_read(&rt, rt.alloc(), &text, 0);
     let longer = comma_text(&rt, rt.alloc(), 4097);
-    is_refused(&rt, rt.alloc(), &longer);
+    is_refused(&rt, rt.alloc(), &longer, false);
+}
+
+/// Listed in reads of so many bytes, the last of these texts has a record too long, and the other has not.
+fn is_long(rt: &impl Abort, alloc: Global, text: &[u8], longer: &[u8], step: usize) {
+    let records = listed(rt, alloc, reader_of(text, step.max(1), 0, 0), false);
+    // line 1 is `1:|a`; line 3 is `3:` and a bar before each of its 4,097 fields; each ends in a line feed
+    assert!(rt; records.expect(rt, "in parts").len() == 5 + 2 + 4097 + 1);
+    let refused = listed(rt, alloc, reader_of(longer, step.max(1), 0, 0), false);
+    assert!(rt; refused.err() == Some(RecordFault::TooLong(3)));
 }
 
 #[test]
 fn a_record_may_be_long_over_many_reads(rt: HostRuntime) {
     let text = comma_text(&rt, rt.alloc(), 4096);
     let longer = comma_text(&rt, rt.alloc(), 4097);
-    for step in [1, 2, 1000, 4096, 4097] {
-        let records = listed(&rt, rt.alloc(), reader_of(&text, step, 0, 0));
-        // line 1 is `1:|a`; line 3 is `3:` and a bar before each of its 4,097 fields; each ends in a line feed
-        assert!(&rt; records.expect(&rt, "in parts").len() == 5 + 2 + 4097 + 1);
-        let refused = listed(&rt, rt.alloc(), reader_of(&longer, step, 0, 0));
-        assert!(&rt; refused.err() == Some(RecordFault::TooLong(3)));
+    for step in &[1, 2, 1000, 4096, 4097] {
+        is_long(&rt, rt.alloc(), &text, &longer, *step);
     }
 }
 
 fn fails(rt: &impl Abort, alloc: Global, reader: Trickle) {
-    let answer = listed(rt, alloc, reader);
+    let answer = listed(rt, alloc, reader, false);
     assert!(rt; answer.err() == Some(RecordFault::Read));
 }
 

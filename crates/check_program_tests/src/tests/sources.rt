@@ -49,94 +49,125 @@ const CLIENTS: [Owner; 3] = [
     },
 ];
 
+/// Owners, a master with a source of its own, and the wide source.
+const WIDENED: [(&[Owner], usize, u16, u16); 8] = [
+    (&HOSTS, 0, 3, 12),
+    (&HOSTS, 1, 0, 1),
+    (&HOSTS, 1, 1, 5),
+    (&HOSTS, 2, 2, 10),
+    (&CLIENTS, 0, 0, 64),
+    (&CLIENTS, 0, 15, 79),
+    (&CLIENTS, 1, 0, 0),
+    (&CLIENTS, 2, 0, 65_535),
+];
+
+/// A master's source is this wide one, and this is its owner.
+fn is_widened(rt: &impl Abort, sources: &Sources, master: usize, source: u16, wide: u16) {
+    assert!(rt; sources.widen(master, source) == Some(wide));
+    assert!(rt; sources.owner(wide) == Some((master, source)));
+    assert!(rt; sources.is_owned(wide));
+}
+
+/// The sources of these owners.
+fn sources_of(rt: &impl Abort, alloc: Global, owners: &[Owner]) -> Sources {
+    Sources::new(alloc, owners).expect(rt, "sources")
+}
+
 #[test]
 fn sources_are_widened_and_owned(rt: HostRuntime) {
-    let rows = [
-        (HOSTS.as_slice(), 0, 3, 12),
-        (HOSTS.as_slice(), 1, 0, 1),
-        (HOSTS.as_slice(), 1, 1, 5),
-        (HOSTS.as_slice(), 2, 2, 10),
-        (CLIENTS.as_slice(), 0, 0, 64),
-        (CLIENTS.as_slice(), 0, 15, 79),
-        (CLIENTS.as_slice(), 1, 0, 0),
-        (CLIENTS.as_slice(), 2, 0, 65_535),
-    ];
-    for (owners, master, source, wide) in rows {
-        let sources = Sources::new(rt.alloc(), owners).expect(&rt, "sources");
-        assert!(rt; sources.widen(master, source) == Some(wide));
-        assert!(rt; sources.owner(wide) == Some((master, source)));
-        assert!(rt; sources.is_owned(wide));
+    for (owners, master, source, wide) in &WIDENED {
+        let sources = sources_of(&rt, rt.alloc(), owners);
+        is_widened(&rt, &sources, *master, *source, *wide);
     }
+}
+
+/// A wide source has no owner.
+fn is_nobodys(rt: &impl Abort, sources: &Sources, wide: u16) {
+    assert!(rt; sources.owner(wide) == None);
+    assert!(rt; !sources.is_owned(wide));
 }
 
 #[test]
 fn other_sources_are_nobodys(rt: HostRuntime) {
-    let hosts = Sources::new(rt.alloc(), &HOSTS).expect(&rt, "sources");
+    let hosts = sources_of(&rt, rt.alloc(), &HOSTS);
     for (master, source) in [(0, 4), (1, 2), (2, 3), (3, 0)] {
         assert!(rt; hosts.widen(master, source) == None);
     }
     for wide in [3, 7, 9, 13, 14, 65_535] {
-        assert!(rt; hosts.owner(wide) == None);
-        assert!(rt; !hosts.is_owned(wide));
+        is_nobodys(&rt, &hosts, wide);
     }
+}
+
+#[test]
+fn masters_and_wide_sources_are_counted(rt: HostRuntime) {
+    let hosts = sources_of(&rt, rt.alloc(), &HOSTS);
     assert!(rt; hosts.masters() == 3);
     assert!(rt; hosts.at(1) == Some(owner(1, 2, 4)));
     assert!(rt; hosts.at(3) == None);
     assert!(rt; hosts.wides() == 13);
-    let clients = Sources::new(rt.alloc(), &CLIENTS).expect(&rt, "sources");
-    assert!(rt; clients.wides() == 65_536);
+    assert!(rt; sources_of(&rt, rt.alloc(), &CLIENTS).wides() == 65_536);
+}
+
+/// The first source, the count and the stride of a master.
+type Block = (u16, u32, u16);
+
+const TOO_MANY: Option<SourceFault> = Some(SourceFault::TooMany);
+
+const FAULTS: [(&[Block], Option<SourceFault>); 12] = [
+    (&[(0, 65_536, 1)], None),
+    (&[(1, 65_535, 1), (0, 1, 1)], None),
+    (&[(1, 65_536, 1)], TOO_MANY),
+    (&[(0, 65_537, 1)], TOO_MANY),
+    (&[(0, 0, 1)], TOO_MANY),
+    (&[(0, 1, 0)], TOO_MANY),
+    (&[(65_535, 2, 1)], TOO_MANY),
+    // what is tried over all masters comes first
+    (&[(3, 1, 1), (3, 1, 1), (0, 0, 1)], TOO_MANY),
+    (&[(3, 1, 1), (0, 8, 1)], Some(SourceFault::Shared(0, 1, 3))),
+    // the later master's sources are tried in their order
+    (
+        &[(6, 1, 1), (3, 1, 1), (0, 8, 3)],
+        Some(SourceFault::Shared(1, 2, 3)),
+    ),
+    // and the masters in theirs
+    (
+        &[(0, 2, 1), (4, 1, 1), (1, 1, 1), (4, 1, 1)],
+        Some(SourceFault::Shared(0, 2, 1)),
+    ),
+    (&[(0, 2, 4), (2, 2, 4), (1, 4, 2)], None),
+];
+
+/// The fault of masters with these blocks.
+fn fault_of(rt: &impl Abort, alloc: Global, blocks: &[Block]) -> Option<SourceFault> {
+    let mut owners = Vec::new(alloc);
+    for (first, count, stride) in blocks {
+        let owner = owner(*first, *count, *stride);
+        owners.push(owner).expect(rt, "memory");
+    }
+    Sources::new(alloc, &owners).err()
 }
 
 #[test]
 fn owners_have_a_first_fault(rt: HostRuntime) {
-    let shared = |one, other, wide| Some(SourceFault::Shared(one, other, wide));
-    let too_many = Some(SourceFault::TooMany);
-    let rows: [(&[Owner], Option<SourceFault>); 12] = [
-        (&[owner(0, 65_536, 1)], None),
-        (&[owner(1, 65_535, 1), owner(0, 1, 1)], None),
-        (&[owner(1, 65_536, 1)], too_many),
-        (&[owner(0, 65_537, 1)], too_many),
-        (&[owner(0, 0, 1)], too_many),
-        (&[owner(0, 1, 0)], too_many),
-        (&[owner(65_535, 2, 1)], too_many),
-        // what is tried over all masters comes first
-        (&[owner(3, 1, 1), owner(3, 1, 1), owner(0, 0, 1)], too_many),
-        (&[owner(3, 1, 1), owner(0, 8, 1)], shared(0, 1, 3)),
-        // the later master's sources are tried in their order
-        (
-            &[owner(6, 1, 1), owner(3, 1, 1), owner(0, 8, 3)],
-            shared(1, 2, 3),
-        ),
-        // and the masters in theirs
-        (
-            &[
-                owner(0, 2, 1),
-                owner(4, 1, 1),
-                owner(1, 1, 1),
-                owner(4, 1, 1),
-            ],
-            shared(0, 2, 1),
-        ),
-        (&[owner(0, 2, 4), owner(2, 2, 4), owner(1, 4, 2)], None),
-    ];
-    for (owners, wanted) in rows {
-        assert!(rt; Sources::new(rt.alloc(), owners).err() == wanted);
+    for (blocks, wanted) in &FAULTS {
+        assert!(rt; fault_of(&rt, rt.alloc(), blocks) == *wanted);
     }
 }
 
+const TEXTS: [(SourceFault, &str); 3] = [
+    (SourceFault::TooMany, "too many masters or sources"),
+    (
+        SourceFault::Shared(2, 11, 65_535),
+        "masters 2 and 11 share source 65535",
+    ),
+    (SourceFault::Memory, "memory refused"),
+];
+
 #[test]
 fn faults_have_their_texts(rt: HostRuntime) {
-    let rows = [
-        (SourceFault::TooMany, "too many masters or sources"),
-        (
-            SourceFault::Shared(2, 11, 65_535),
-            "masters 2 and 11 share source 65535",
-        ),
-        (SourceFault::Memory, "memory refused"),
-    ];
-    for (fault, wanted) in rows {
+    for (fault, wanted) in &TEXTS {
         let text = format!(in rt.alloc(); "{fault}").expect(&rt, "memory");
-        assert!(rt; text.as_str() == wanted);
+        assert!(rt; text.as_str() == *wanted);
     }
 }
 
@@ -152,14 +183,63 @@ fn in_a_row(rt: &impl Abort, alloc: Global, masters: u16) -> Vec<Owner> {
 
 #[test]
 fn sixty_four_masters_and_no_more(rt: HostRuntime) {
-    let owners = in_a_row(&rt, rt.alloc(), 64);
-    let sources = Sources::new(rt.alloc(), &owners).expect(&rt, "sources");
+    let sources = sources_of(&rt, rt.alloc(), &in_a_row(&rt, rt.alloc(), 64));
     assert!(rt; sources.widen(63, 15) == Some(1023));
     assert!(rt; sources.owner(1008) == Some((63, 0)));
     assert!(rt; sources.wides() == 1024);
     let owners = in_a_row(&rt, rt.alloc(), 65);
-    assert!(rt; Sources::new(rt.alloc(), &owners).err() == Some(SourceFault::TooMany));
+    assert!(rt; Sources::new(rt.alloc(), &owners).err() == TOO_MANY);
 }
+
+/// Counts of sources, the number of a master, and its block, if it has one.
+const BLOCKS: [(&[u32], usize, Option<Owner>); 6] = [
+    (
+        &[3, 5, 1, 256],
+        0,
+        Some(Owner {
+            first: 0,
+            count: 3,
+            stride: 1,
+        }),
+    ),
+    (
+        &[3, 5, 1, 256],
+        1,
+        Some(Owner {
+            first: 8,
+            count: 5,
+            stride: 1,
+        }),
+    ),
+    (
+        &[3, 5, 1, 256],
+        2,
+        Some(Owner {
+            first: 16,
+            count: 1,
+            stride: 1,
+        }),
+    ),
+    (
+        &[3, 5, 1, 256],
+        3,
+        Some(Owner {
+            first: 256,
+            count: 256,
+            stride: 1,
+        }),
+    ),
+    (&[3, 5, 1, 256], 4, None),
+    (
+        &[256; 64],
+        63,
+        Some(Owner {
+            first: 16_128,
+            count: 256,
+            stride: 1,
+        }),
+    ),
+];
 
 /// The owner of a master that says only how many sources it has.
 fn block(rt: &impl Abort, alloc: Global, counts: &[u32], master: usize) -> Option<Owner> {
@@ -169,19 +249,16 @@ fn block(rt: &impl Abort, alloc: Global, counts: &[u32], master: usize) -> Optio
 
 #[test]
 fn counts_alone_make_blocks(rt: HostRuntime) {
-    let rows = [
-        (0, Some(owner(0, 3, 1))),
-        (1, Some(owner(8, 5, 1))),
-        (2, Some(owner(16, 1, 1))),
-        (3, Some(owner(256, 256, 1))),
-        (4, None),
-    ];
-    for (master, wanted) in rows {
-        assert!(rt; block(&rt, rt.alloc(), &[3, 5, 1, 256], master) == wanted);
+    for (counts, master, wanted) in &BLOCKS {
+        assert!(rt; block(&rt, rt.alloc(), counts, *master) == *wanted);
     }
-    assert!(rt; block(&rt, rt.alloc(), &[256; 64], 63) == Some(owner(16_128, 256, 1)));
-    let refused: [&[u32]; 4] = [&[0], &[257], &[1, 0], &[1; 65]];
-    for counts in refused {
-        assert!(rt; blocks(rt.alloc(), counts).err() == Some(SourceFault::TooMany));
+}
+
+const REFUSED: [&[u32]; 4] = [&[0], &[257], &[1, 0], &[1; 65]];
+
+#[test]
+fn other_counts_make_no_blocks(rt: HostRuntime) {
+    for counts in &REFUSED {
+        assert!(rt; blocks(rt.alloc(), counts).err() == TOO_MANY);
     }
 }
