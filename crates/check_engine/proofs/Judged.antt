@@ -1,18 +1,22 @@
 -- What a judge finds by each plan that it judges by is what is found by the plan of its system.
-use Rattle.std.proofs.Common.{◌≡◌, ◌∙◌, ℕ, Bool, List, [], Option, Result, Ok, Err, IfSome, ap, subst}
+use Rattle.std.proofs.Common.{◌≡◌, ◌∙◌, ℕ, Bool, List, [], Option, None, Some, Result, Ok, Err, IfSome, ap, refl, subst}
 use Rattle.check_beats.specs.declared.bus.Bus.{Bus}
 use Rattle.check_description.specs.Description.{Description, Makes}
-use Rattle.check_review.specs.View.{Judges, is_asked, is_traced}
+use Rattle.check_review.specs.Covered.{AppendsCoverage, HasCovered}
+use Rattle.check_review.specs.View.{Judges, is_asked, is_covered, is_traced}
 use Rattle.check_review.specs.declared.judge.Judge.{Judge}
+use Rattle.check_review.specs.declared.tally.Tally.{Tally}
+use Rattle.check_rows.specs.Row.{SeenRow}
 use Rattle.check_records.specs.Text.{start_of}
 use Rattle.check_start.specs.Start.{ByThePlan, master_buses, port_buses}
 use Rattle.check_text.specs.Buses.{LinkBuses}
-use Rattle.check_text.specs.Capture.{IsFault, IsVerdict, IsWritten}
+use Rattle.check_text.specs.Capture.{IsCovered, IsFault, IsVerdict, IsWritten, TellsCovered}
 use Rattle.check_text.specs.declared.fault.CaptureFault.{CaptureFault}
 use Rattle.check_text.specs.declared.fault.Verdict.{Verdict}
 use Rattle.check_sides.specs.Plan.{Plan}
 use Rattle.check_engine.specs.declared.asked.Asked.{Asked}
-use Rattle.check_engine.specs.Engine.{Given, HasVerdict, IsStopped, IsWrittenOf, buses_of}
+use Rattle.check_text.proofs.Answering.{of_capture}
+use Rattle.check_engine.specs.Engine.{Given, HasVerdict, IsCounted, IsStopped, IsVerdictOf, IsWrittenOf, buses_of, is_lawful}
 
 abbrev with_buses : List Bus → List Bus → LinkBuses
 with_buses masters ports = record { masters = masters; ports = ports }
@@ -23,6 +27,7 @@ pub record IsJudgeOf (asked : Asked) (given : Given) (system : Description) (jud
   pub judges : ByThePlan asked.terms system given.images (λ plan. Judges plan [] judge)
   pub trace : is_traced judge ≡ asked.trace
   pub complete : is_asked judge ≡ asked.complete
+  pub coverage : is_covered judge ≡ asked.coverage
   pub have : buses ≡ buses_of system
 
 -- the buses of the links are those of the system
@@ -33,20 +38,20 @@ buses_are masters ports system of_masters of_ports =
     ap (λ (m : List Bus). with_buses m ports) of_masters
     ∙ ap (λ (p : List Bus). with_buses (master_buses system.masters) p) of_ports
 
--- a judge that is made of a judge of beats and of the requests in flight, if it is asked which are left
+-- a judge that is made of a judge of beats, and tells what is asked for
 pub is_judge_of : (asked : Asked) (given : Given) (system : Description) (judge : Judge) (buses : LinkBuses)
-    (Begins IsPending : Plan → Type 0)
-    → ByThePlan asked.terms system given.images Begins → ((plan : Plan) → Begins plan → IsPending plan)
-    → ((plan : Plan) → Begins plan → IsPending plan → Judges plan [] judge)
-    → is_traced judge ≡ asked.trace → is_asked judge ≡ asked.complete → buses ≡ buses_of system
-    → IsJudgeOf asked given system judge buses
-is_judge_of asked given system judge buses Begins IsPending begun pending judges trace complete have = record {
+    (Begins : Plan → Type 0) → ByThePlan asked.terms system given.images Begins
+    → ((plan : Plan) → Begins plan → Judges plan [] judge)
+    → is_traced judge ≡ asked.trace → is_asked judge ≡ asked.complete → is_covered judge ≡ asked.coverage
+    → buses ≡ buses_of system → IsJudgeOf asked given system judge buses
+is_judge_of asked given system judge buses Begins begun judges trace complete coverage have = record {
   judges = record {
     some = begun.some;
-    each = λ plan is. let begins = begun.each plan is in judges plan begins (pending plan begins);
+    each = λ plan is. judges plan (begun.each plan is);
   };
   trace = trace;
   complete = complete;
+  coverage = coverage;
   have = have;
 }
 
@@ -103,4 +108,36 @@ is_stopped asked given system judge buses old new fault of_it made found tells =
   is = by_the_plan asked given system judge buses
       (λ b plan. IfSome given.capture (λ text. IsFault plan b (start_of text) fault)) of_it found;
   tells = by_the_traced_plan asked given system judge buses old new (Err fault) of_it tells;
+}
+
+-- ---- what is covered
+
+of_known : (known : Option (List ℕ)) (P Q : List ℕ → Type 0) → ((text : List ℕ) → P text → Q text) → IfSome known P
+    → IfSome known Q
+of_known None P Q to is = tt
+of_known (Some text) P Q to is = to text is
+
+pub is_counted : (asked : Asked) (given : Given) (system : Description) (judge : Judge) (buses : LinkBuses)
+    (tally : Tally) (covered : Bool) (old new : List ℕ) (verdict : Verdict)
+    → IsJudgeOf asked given system judge buses → Makes given.parts system → IsVerdictOf asked given system verdict
+    → covered ≡ is_covered judge
+    → ((plan : Plan) → Judges plan [] judge → IfSome given.capture
+    (λ text. IsCovered plan buses (start_of text) tally verdict))
+    → ((plan : Plan) (crossed : List SeenRow) → HasCovered plan crossed tally
+    → AppendsCoverage covered plan crossed old new)
+    → IsCounted asked given old new (is_lawful verdict)
+is_counted asked given system judge buses tally covered old new verdict of_it made is same covers appends = record {
+  system = system;
+  verdict = verdict;
+  made = made;
+  is = is;
+  answered = refl;
+  covered = by_the_plan asked given system judge buses (λ b plan. IfSome given.capture
+      (λ text. TellsCovered asked.coverage plan b (start_of text) old new verdict)) of_it (λ plan start.
+      of_known given.capture (λ text. IsCovered plan buses (start_of text) tally verdict)
+      (λ text. TellsCovered asked.coverage plan buses (start_of text) old new verdict) (λ text is_covered_there.
+      of_capture plan buses (start_of text) verdict (λ crossed. HasCovered plan crossed tally)
+      (λ crossed. AppendsCoverage asked.coverage plan crossed old new)
+      (λ crossed has. subst (λ a. AppendsCoverage a plan crossed old new) (same ∙ of_it.coverage)
+      (appends plan crossed has)) is_covered_there) (covers plan start));
 }

@@ -12,7 +12,7 @@ use Rattle.check_records.specs.Text.{start_of}
 use Rattle.check_start.specs.Slaves.{slaves_at_reset}
 use Rattle.check_start.specs.Start.{ByThePlan, master_buses, names_of, port_buses}
 use Rattle.check_text.specs.Buses.{LinkBuses}
-use Rattle.check_text.specs.Capture.{IsFault, IsVerdict, IsWritten}
+use Rattle.check_text.specs.Capture.{IsFault, IsVerdict, IsWritten, TellsCovered}
 use Rattle.check_text.specs.declared.fault.CaptureFault.{CaptureFault}
 use Rattle.check_text.specs.declared.fault.CaptureFault.TheVariants as stop
 use Rattle.check_text.specs.declared.fault.Verdict.{Verdict}
@@ -132,3 +132,16 @@ pub record IsChecked (asked : Asked) (given : Given) (old new : Option (List ℕ
     : Type 0 where
   pub ok : IfOk result (IsJudged asked given old new)
   pub fault : IfErr result (IsFaulty asked given old new)
+
+-- ---- what is covered
+
+-- a text grew by what the rows of the capture cover that the verdict is of, if that is asked for; the verdict is the one
+-- that is answered, whether lawful or not
+pub record IsCounted (asked : Asked) (given : Given) (old new : List ℕ) (lawful : Bool) : Type 0 where
+  pub system : Description
+  pub verdict : Verdict
+  pub made : Makes given.parts system
+  pub is : IsVerdictOf asked given system verdict
+  pub answered : lawful ≡ is_lawful verdict
+  pub covered : OfTheText asked given system
+      (λ plan text. TellsCovered asked.coverage plan (buses_of system) (start_of text) old new verdict)

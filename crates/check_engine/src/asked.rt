@@ -9,4 +9,6 @@ pub struct Asked {
     pub trace: bool,
     /// Whether a lawful capture at whose end requests are left is incomplete.
     pub complete: bool,
+    /// Whether what the capture covers is told.
+    pub coverage: bool,
 }

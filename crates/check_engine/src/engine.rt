@@ -4,10 +4,13 @@ ghost use Rattle.check_description.specs.File.{parts_view};
 ghost use Rattle.check_sides.specs.Plan.{Plan};
 ghost use Rattle.check_sides.specs.View.{Keeps};
 ghost use Rattle.check_unanswered.specs.View.{Holds};
-ghost use Rattle.check_engine.specs.Engine.{IsChecked, is_lawful, line_of};
+ghost use Rattle.check_coverage.specs.View.{Covers};
+ghost use Rattle.check_review.specs.View.{Judges, is_asked, is_covered, is_traced};
+ghost use Rattle.check_engine.specs.Engine.{IsChecked, IsCounted, is_lawful, line_of};
 
 use crate::asked::Asked;
 use crate::fault::CheckFault;
+use check_coverage::Coverage;
 use check_description::{Parts, describe};
 use check_lines::{Names, push_incomplete, push_lawful, push_unlawful};
 use check_review::Judge;
@@ -53,10 +56,36 @@ fn pending_if(alloc: Global, watch: &Watch, asked: bool) -> Result<Option<Pendin
     }
 }
 
+/// What a judge has covered that has seen no beat, if it is asked for.
+fn coverage_if(alloc: Global, asked: bool) -> Option<Coverage>
+    ensures asked { is_some result ≡ asked }
+    ensures none_yet { (plan : Plan) → IfSome result (Covers plan []) }
+{
+    if asked {
+        Some(Coverage::new(alloc))
+    } else {
+        None
+    }
+}
+
+/// The judge of a capture, of a judge of beats that has seen none, which tells what is asked for.
+fn judge_of(alloc: Global, watch: Watch, asked: Asked) -> Result<Judge, AllocError>
+    ensures judges { IfOk result (λ judge. (plan : Plan) → Keeps plan [] watch → Judges plan [] judge) }
+    ensures layout { IfOk result (λ judge. judge.tally.watch.layout ≡ watch.layout) }
+    ensures trace { IfOk result (λ judge. is_traced judge ≡ asked.trace) }
+    ensures complete { IfOk result (λ judge. is_asked judge ≡ asked.complete) }
+    ensures coverage { IfOk result (λ judge. is_covered judge ≡ asked.coverage) }
+{
+    let pending = pending_if(alloc, &watch, asked.complete)?;
+    let coverage = coverage_if(alloc, asked.coverage);
+    Ok(Judge::new(watch, asked.trace, pending, coverage))
+}
+
 /// Reads a capture to its end or first fault, and writes the line of the verdict: whether what crossed the watched links
 /// of a crossbar that is the system of these parts is lawful. Images has the bytes of the image of each port by its
 /// number, none of a port that names no image. The answer is the same as the line's. If replies are told, their lines
-/// are written before, as the capture is read.
+/// are written before, as the capture is read. If it is asked what the capture covers, the text of that is appended to
+/// `covered` with the verdict.
 pub fn check<C: Read + Drop, W: Write>(
     alloc: Global,
     parts: Parts,
@@ -64,15 +93,21 @@ pub fn check<C: Read + Drop, W: Write>(
     capture: C,
     writer: &mut W,
     asked: Asked,
+    covered: &mut Vec<u8>,
 ) -> Result<bool, CheckFault>
-    ensures { IsChecked asked (record {
+    ensures checked { IsChecked asked (record {
       parts = parts_view parts;
       images = map (λ image. image.items) images.now;
       capture = C.remaining capture;
     }) (W.contents writer.old) (W.contents writer.new) result }
+    ensures covered { IfOk result (IsCounted asked (record {
+      parts = parts_view parts;
+      images = map (λ image. image.items) images.now;
+      capture = C.remaining capture;
+    }) covered.old.items covered.new.items) }
 {
     let mut writer = LimitedWriter::new(writer);
-    check_within(alloc, parts, images, capture, &mut writer, asked)
+    check_within(alloc, parts, images, capture, &mut writer, asked, covered)
 }
 
 /// The same, through what limits the retried writes.
@@ -83,6 +118,7 @@ fn check_within<C: Read + Drop, W: Write>(
     capture: C,
     writer: &mut LimitedWriter<'_, W>,
     asked: Asked,
+    covered: &mut Vec<u8>,
 ) -> Result<bool, CheckFault>
     ensures same_writer { writer.new.writer.ghost_name ≡ writer.old.writer.ghost_name }
     ensures checked { IsChecked asked (record {
@@ -90,16 +126,21 @@ fn check_within<C: Read + Drop, W: Write>(
       images = map (λ image. image.items) images.now;
       capture = C.remaining capture;
     }) (W.contents writer.old.writer.now) (W.contents writer.new.writer.now) result }
+    ensures covered { IfOk result (IsCounted asked (record {
+      parts = parts_view parts;
+      images = map (λ image. image.items) images.now;
+      capture = C.remaining capture;
+    }) covered.old.items covered.new.items) }
 {
     let system = describe(alloc, parts)?;
     let begun = begin(alloc, system, images, asked.terms)?;
-    let pending = pending_if(alloc, &begun.watch, asked.complete)?;
-    let judge = Judge::new(begun.watch, asked.trace, pending);
+    let mut judge = judge_of(alloc, begun.watch, asked)?;
     let buses = Buses {
         masters: &begun.master_buses,
         ports: &begun.port_buses,
     };
-    let verdict = judge_capture(alloc, capture, writer, judge, &buses)?;
+    let verdict = judge_capture(alloc, capture, writer, &mut judge, &buses)?;
+    judge.append_coverage(covered)?;
     let line = line_of(alloc, &begun.names, &verdict)?;
     write_all(writer, &line)?;
     Ok(is_lawful(&verdict))

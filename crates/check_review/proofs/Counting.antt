@@ -1,5 +1,5 @@
 -- What is counted after one row more.
-use Rattle.std.proofs.Common.{◌≡◌, ◌∙◌, true, ◌&&◌, List, ◌∷◌, sym, ap, subst}
+use Rattle.std.proofs.Common.{◌≡◌, ◌∙◌, true, ◌&&◌, List, ◌∷◌, IfSome, sym, ap, subst}
 use Rattle.check_watch.specs.Scene.{ended}
 use Rattle.check_watch.specs.declared.seen.Ended.{Ended}
 use Rattle.check_watch.specs.declared.seen.Seen.{Seen}
@@ -7,13 +7,15 @@ use Rattle.check_sides.specs.Lawful.{what_is_seen}
 use Rattle.check_sides.specs.Plan.{Layout, Plan}
 use Rattle.check_sides.specs.View.{Keeps, View}
 use Rattle.check_rows.specs.Row.{SeenRow}
+use Rattle.check_coverage.specs.Flights.{end_of}
+use Rattle.check_coverage.specs.View.{Covers}
 use Rattle.check_review.specs.Count.{answered, asked, ends_a_reply, ends_an_ask, is_counted, one_more}
-use Rattle.check_review.specs.Order.{is_watched, seen}
+use Rattle.check_review.specs.Order.{is_watched, seen, watched}
 use Rattle.check_review.specs.View.{Tallied}
 use Rattle.check_review.specs.declared.tally.Tally.{Tally}
-use Rattle.check_review.proofs.Watched.{seen_one}
+use Rattle.check_review.proofs.Watched.{seen_one, watched_one}
 
--- a row at a watched link was taken, what it ends was counted, and nothing else changed
+-- a row at a watched link was taken, what it ends and covers was counted, and nothing else changed
 pub record IsCounted (plan : Plan) (before : List SeenRow) (row : SeenRow) (old new : Tally) (watch : View) (sees : Seen)
     (end : Ended) : Type 0 where
   pub here : is_watched plan.layout row.sighting.link ≡ true
@@ -25,6 +27,9 @@ pub record IsCounted (plan : Plan) (before : List SeenRow) (row : SeenRow) (old 
       ≡ one_more (is_counted watch.layout.links row.sighting.link && ends_an_ask end) old.requests
   pub answered : new.answered
       ≡ one_more (is_counted watch.layout.links row.sighting.link && ends_a_reply end) old.answered
+  pub covers : IfSome old.coverage (Covers plan (watched plan.layout before))
+      → Keeps plan (row.sighting ∷ seen plan.layout before) watch → end ≡ end_of plan (watched plan.layout before) row
+      → IfSome new.coverage (Covers plan (row ∷ watched plan.layout before))
 
 pub tallied_one : (plan : Plan) (before : List SeenRow) (row : SeenRow) (old new : Tally) (watch : View) (sees : Seen)
     (end : Ended) → Tallied plan before old → IsCounted plan before row old new watch sees end
@@ -43,4 +48,6 @@ tallied_one plan before row old new watch sees end tallied step =
       answered = step.answered
           ∙ (λ i. one_more (is_counted (layout i).links row.sighting.link && ends_a_reply (ends i)) (tallied.answered i))
           ∙ ap (answered plan) (sym all);
+      covers = subst (λ rows. IfSome new.coverage (Covers plan rows)) (sym (watched_one plan.layout row before step.here))
+          (step.covers tallied.covers step.keeps ends);
     }

@@ -13,6 +13,7 @@ use Rattle.check_rows.specs.declared.fault.RowFault.{RowFault}
 use Rattle.check_rows.specs.declared.fault.RowFault.TheVariants as fault
 use Rattle.check_rows.specs.Row.{SeenRow}
 use Rattle.check_unanswered.specs.View.{Holds}
+use Rattle.check_coverage.specs.View.{Covers}
 use Rattle.check_review.specs.declared.stop.Refusal.{Refusal}
 use Rattle.check_review.specs.declared.stop.Refusal.TheVariants as refusal
 use Rattle.check_review.specs.declared.stop.Stop.TheVariants as stop
@@ -30,8 +31,8 @@ use Rattle.check_review.proofs.Unique.{crossing_is_unique}
 
 pub judges_none : (plan : Plan) (judge : JudgeView) → judge.moment ≡ record { time = 0; rows = [] } → judge.rows ≡ 0
     → judge.tally.requests ≡ 0 → judge.tally.answered ≡ 0 → Keeps plan [] judge.tally.watch
-    → IfSome judge.tally.pending (Holds plan []) → Judges plan [] judge
-judges_none plan judge fresh rows requests answered keeps pending =
+    → IfSome judge.tally.pending (Holds plan []) → IfSome judge.tally.coverage (Covers plan []) → Judges plan [] judge
+judges_none plan judge fresh rows requests answered keeps pending covers =
     let none : judge.moment.rows ≡ [] = ap (λ (m : Moment). m.rows) fresh in
     let P : List SeenRow → Type 0 = λ l. IsCrossing [] (reverse l ++ []) in
     record {
@@ -43,7 +44,7 @@ judges_none plan judge fresh rows requests answered keeps pending =
       begun = λ is. ap (λ (m : Moment). m.time) fresh;
       never_falls = IsNonDecreasingBy-short (λ (row : SeenRow). row.time) [] (omega arith);
       kept = record {
-        tallied = record { keeps = keeps; requests = requests; answered = answered };
+        tallied = record { keeps = keeps; requests = requests; answered = answered; covers = covers };
         pending = pending;
       };
       rows = rows;
@@ -252,9 +253,9 @@ first_unlawful plan file judge found judges stops =
     )
 
 -- memory may be refused to one of the rows of the moment, and so to a row of the file
-pub may_want : (trace : Bool) (plan : Plan) (file : List SeenRow) (judge : JudgeView) (judges : Judges plan file judge)
-    → MayWantAmong trace plan judge.moment.rows judges.before → MayWantMemory trace plan file
-may_want trace plan file judge judges want =
+pub may_want : (wants : Bool) (plan : Plan) (file : List SeenRow) (judge : JudgeView) (judges : Judges plan file judge)
+    → MayWantAmong wants plan judge.moment.rows judges.before → MayWantMemory wants plan file
+may_want wants plan file judge judges want =
     let P : List SeenRow → Type 0 = λ l. IsCrossing file l in
     let is : reverse judge.moment.rows ++ judges.before ≡ reverse want.left
     ++ (want.row ∷ (reverse want.done ++ judges.before)) =

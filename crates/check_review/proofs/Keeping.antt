@@ -15,7 +15,7 @@ use Rattle.check_review.specs.declared.stop.Refusal.TheVariants as refusal
 use Rattle.check_review.specs.declared.stop.Unlawful.{Unlawful}
 use Rattle.check_review.specs.Order.{seen}
 use Rattle.check_review.specs.Told.{AppendsTold}
-use Rattle.check_review.specs.Verdict.{IsUnlawfulAfter, MayWantAfter, MayWantAmong, OfUnlawful, StopsTelling}
+use Rattle.check_review.specs.Verdict.{IsUnlawfulAfter, MayWantAfter, MayWantAmong, OfUnlawful, StopsAt, StopsTelling}
 use Rattle.check_review.specs.View.{HasLanes}
 
 -- what follows from what is said of the unlawful row
@@ -25,7 +25,7 @@ of_unlawful P Q (refusal.Unlawful found) to is = to found is
 of_unlawful P Q refusal.Memory to is = tt
 
 -- a row among some, those before it, and those after it
-split : (rows : List SeenRow) (i : ℕ) (row : SeenRow) → i < length rows → get_or rows i row ≡ row
+pub split : (rows : List SeenRow) (i : ℕ) (row : SeenRow) → i < length rows → get_or rows i row ≡ row
     → rows ≡ take i rows ++ row ∷ drop (i + 1) rows
 split rows i row inside here =
     sym (take-append-drop i rows) ∙ ap (λ l. take i rows ++ l)
@@ -38,6 +38,17 @@ one_more rows before i row inside here =
     ap (λ l. reverse l ++ before) (take_more rows i row inside ∙ ap (λ r. take i rows ++ r ∷ []) here)
     ∙ ap (λ l. l ++ before) (reverse-append (take i rows) (row ∷ []))
 
+abbrev pub stops_at : (plan : Plan) (rows before : List SeenRow) (i : ℕ) (row : SeenRow) (found : Unlawful) → i < length rows
+    → get_or rows i row ≡ row → IsUnlawfulAfter plan (reverse (take i rows) ++ before) row found
+    → StopsAt plan rows before found
+stops_at plan rows before i row found inside here unlawful = record {
+  row = row;
+  done = take i rows;
+  left = drop (i + 1) rows;
+  are = split rows i row inside here;
+  is = unlawful;
+}
+
 pub stops_there : (trace : Bool) (plan : Plan) (rows before : List SeenRow) (i : ℕ) (row : SeenRow)
     (old now next : List ℕ) (why : Refusal) → i < length rows → get_or rows i row ≡ row
     → OfUnlawful (IsUnlawfulAfter plan (reverse (take i rows) ++ before) row) why
@@ -45,22 +56,16 @@ pub stops_there : (trace : Bool) (plan : Plan) (rows before : List SeenRow) (i :
     (seen plan.layout (reverse (take i rows) ++ before)) old now
     → OfUnlawful (StopsTelling trace plan rows before old next) why
 stops_there trace plan rows before i row old now next (refusal.Unlawful found) inside here unlawful quiet told = record {
-  stops = record {
-    row = row;
-    done = take i rows;
-    left = drop (i + 1) rows;
-    are = split rows i row inside here;
-    is = unlawful;
-  };
+  stops = stops_at plan rows before i row found inside here unlawful;
   told = subst (λ text. AppendsTold trace plan (seen plan.layout before)
       (seen plan.layout (reverse (take i rows) ++ before)) old text) (sym quiet) told;
 }
 stops_there trace plan rows before i row old now next refusal.Memory inside here unlawful quiet told = tt
 
-pub wants_there : (trace : Bool) (plan : Plan) (rows before : List SeenRow) (i : ℕ) (row : SeenRow)
-    → i < length rows → get_or rows i row ≡ row → MayWantAfter trace plan (reverse (take i rows) ++ before) row
-    → MayWantAmong trace plan rows before
-wants_there trace plan rows before i row inside here wants = record {
+pub wants_there : (wanted : Bool) (plan : Plan) (rows before : List SeenRow) (i : ℕ) (row : SeenRow)
+    → i < length rows → get_or rows i row ≡ row → MayWantAfter wanted plan (reverse (take i rows) ++ before) row
+    → MayWantAmong wanted plan rows before
+wants_there wanted plan rows before i row inside here wants = record {
   row = row;
   done = take i rows;
   left = drop (i + 1) rows;

@@ -6,6 +6,7 @@ use Rattle.check_sides.specs.Pending.{IsChange}
 use Rattle.check_sides.specs.Plan.{Plan}
 use Rattle.check_sides.specs.View.{Keeps}
 use Rattle.check_rows.specs.Row.{SeenRow}
+use Rattle.check_coverage.specs.View.{Covers}
 use Rattle.check_unanswered.specs.Began.{IsComplete, IsLeft, beats_of}
 use Rattle.check_unanswered.specs.View.{Holds, PendingView}
 use Rattle.check_unanswered.specs.declared.request.Left.{Left}
@@ -66,6 +67,8 @@ kept_unwatched plan before row tally other kept =
         keeps = subst (λ past. Keeps plan past tally.watch) same kept.tallied.keeps;
         requests = kept.tallied.requests ∙ ap (asked plan) same;
         answered = kept.tallied.answered ∙ ap (answered plan) same;
+        covers = subst (λ rows. IfSome tally.coverage (Covers plan rows)) (sym (watched_other plan.layout row before other))
+            kept.tallied.covers;
       };
       pending = subst R (sym (watched_other plan.layout row before other)) kept.pending;
     }

@@ -6,3 +6,4 @@ pub mod Keeping
 pub mod Leaving
 pub mod Judging
 pub mod Counting
+pub mod Covering

@@ -2,4 +2,5 @@ pub mod Order
 pub mod Count
 pub mod Told
 pub mod Verdict
+pub mod Covered
 pub mod View

@@ -111,27 +111,28 @@ pub record StopsTelling (trace : Bool) (plan : Plan) (rows before : List SeenRow
 
 -- ---- want of memory
 
--- memory can be refused to the lawful beat of a row after those before: for what is told of it, or for what is kept
+-- memory can be refused to the lawful beat of a row after those before: for what is told or counted of it, if it
+-- is to be, or for what is kept
 abbrev pub MayWantAfter : Bool → Plan → List SeenRow → SeenRow → Type 0
-MayWantAfter trace plan before row =
-    (trace ≡ true) ⊎ (IsLawful plan (row.sighting ∷ seen plan.layout before)
+MayWantAfter wants plan before row =
+    (wants ≡ true) ⊎ (IsLawful plan (row.sighting ∷ seen plan.layout before)
     × MayNeedMemory plan (seen plan.layout before) row.sighting)
 
 -- it can be refused to one of these rows, which cross in this order after those before
-pub record MayWantAmong (trace : Bool) (plan : Plan) (rows before : List SeenRow) : Type 0 where
+pub record MayWantAmong (wants : Bool) (plan : Plan) (rows before : List SeenRow) : Type 0 where
   pub row : SeenRow
   pub done : List SeenRow
   pub left : List SeenRow
   pub are : rows ≡ done ++ row ∷ left
-  pub is : MayWantAfter trace plan (reverse done ++ before) row
+  pub is : MayWantAfter wants plan (reverse done ++ before) row
 
 -- it can be refused to a row of a file, in the order in which beats cross
-pub record MayWantMemory (trace : Bool) (plan : Plan) (file : List SeenRow) : Type 0 where
+pub record MayWantMemory (wants : Bool) (plan : Plan) (file : List SeenRow) : Type 0 where
   pub row : SeenRow
   pub after : List SeenRow
   pub before : List SeenRow
   pub crossing : IsCrossing file (after ++ row ∷ before)
-  pub is : MayWantAfter trace plan before row
+  pub is : MayWantAfter wants plan before row
 
 -- why a row is not taken after those of the file: it may not stand there, or it is of a later time, and they are not
 -- lawful, or memory was refused

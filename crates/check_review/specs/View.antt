@@ -1,11 +1,12 @@
 -- What a judge knows of the rows that it has taken. Lists of what crossed have the latest first. This project's own.
-use Rattle.std.specs.Prelude.{◌≡◌, ℕ, ◌<◌, ◌≤◌, All, ◌%◌, ◌^◌, Bool, List, [], ◌++◌, reverse, length, is_some, IfSome}
+use Rattle.std.specs.Prelude.{◌≡◌, ℕ, ◌<◌, ◌≤◌, All, ◌%◌, ◌^◌, ◌||◌, Bool, List, [], ◌++◌, reverse, length, is_some, IfSome}
 use Rattle.std.specs.List.{AllByRecursion}
 use Rattle.check_sides.specs.Plan.{Layout, Plan, bus_of}
 use Rattle.check_rows.specs.Moment.{Moment}
 use Rattle.check_sides.specs.View.{Keeps}
 use Rattle.check_rows.specs.Row.{SeenRow}
 use Rattle.check_unanswered.specs.View.{Holds}
+use Rattle.check_coverage.specs.View.{Covers}
 use Rattle.check_review.specs.declared.tally.Tally.{Tally}
 use Rattle.check_review.specs.declared.stop.Stop.{Stop}
 use Rattle.check_review.specs.declared.stop.Stop.TheVariants as stop
@@ -14,16 +15,21 @@ use Rattle.check_review.specs.Count.{asked, answered}
 use Rattle.check_review.specs.Told.{IsTold}
 use Rattle.check_review.specs.Verdict.{IsToldBefore}
 
--- the rows that crossed are lawful, and this is kept and counted of them
+-- the rows that crossed are lawful, and this is kept and counted of them, with what they cover if that is asked for
 pub record Tallied (plan : Plan) (crossed : List SeenRow) (tally : Tally) : Type 0 where
   pub keeps : Keeps plan (seen plan.layout crossed) tally.watch
   pub requests : tally.requests ≡ asked plan (seen plan.layout crossed)
   pub answered : tally.answered ≡ answered plan (seen plan.layout crossed)
+  pub covers : IfSome tally.coverage (Covers plan (watched plan.layout crossed))
 
 -- and these of their requests are in flight, if it is asked which are left
 pub record Kept (plan : Plan) (crossed : List SeenRow) (tally : Tally) : Type 0 where
   pub tallied : Tallied plan crossed tally
   pub pending : IfSome tally.pending (Holds plan (watched plan.layout crossed))
+
+-- replies are to be told, or what is covered: then memory can be wanted with each row
+abbrev pub wants : Tally → Bool
+wants tally = tally.trace || is_some tally.coverage
 
 -- ---- the rows of the moment at hand
 
@@ -55,6 +61,10 @@ pub record Judges (plan : Plan) (file : List SeenRow) (judge : JudgeView) : Type
 -- the judge is to say which requests are left
 abbrev pub is_asked : JudgeView → Bool
 is_asked judge = is_some judge.tally.pending
+
+-- the judge is to count what the rows cover
+abbrev pub is_covered : JudgeView → Bool
+is_covered judge = is_some judge.tally.coverage
 
 -- ---- what is told
 

@@ -6,11 +6,14 @@ ghost use Rattle.check_sides.specs.View.{Keeps};
 ghost use Rattle.check_rows.specs.Moment.{HasFault, IsLink, IsMoment, Takes};
 ghost use Rattle.check_rows.specs.Row.{SeenRow, seen_row};
 ghost use Rattle.check_unanswered.specs.View.{Holds};
-ghost use Rattle.check_review.specs.View.{HasTold, Judges, TellsOn, TellsStop, is_asked, is_traced};
+ghost use Rattle.check_coverage.specs.View.{Covers};
+ghost use Rattle.check_review.specs.Covered.{AppendsCoverage, CoversStop, HasCovered, IsCoveredBefore, IsCoveredFile};
+ghost use Rattle.check_review.specs.View.{HasTold, Judges, TellsOn, TellsStop, is_asked, is_covered, is_traced, wants};
 ghost use Rattle.check_review.specs.Verdict.{HasCounts, HasLeft, IsFirstUnlawful, IsLawfulFile, IsStop, IsToldBefore, IsToldFile, MayWantMemory, OfUnlawful};
 
 use crate::stop::{Ending, Refusal, Stop, stop_of};
 use crate::tally::Tally;
+use check_coverage::Coverage;
 use check_lines::Counts;
 use check_rows::{Moment, Row, RowFault};
 use check_sides::Watch;
@@ -31,25 +34,39 @@ impl Model for Judge {
 
     ghost Value = { JudgeView };
 
+    ghost use Rattle.check_coverage.specs.contracts.coverage.Coverage as the_coverage;
+    ghost use Rattle.std.specs.Coded.{codes};
+
     ghost view = { λ j. record { tally = j.tally; moment = j.moment; rows = j.rows } };
+
+    ghost coded = { Prim.hlevel (codes, the_coverage.the_row.coded) };
 
     ghost invariant = { λ j. IsJudge (record { tally = j.tally; moment = j.moment; rows = j.rows }) };
 }
 
 impl Judge {
     /// The judge of a capture, with a judge of beats that has seen none; it tells replies if they are traced. If it is
-    /// given the requests in flight, which are none yet, it says at the end which are left.
-    pub fn new(watch: Watch, trace: bool, pending: Option<Pending>) -> Judge
-        ensures judges { (plan : Plan) → Keeps plan [] watch → IfSome pending (Holds plan []) → Judges plan [] result }
+    /// given the requests in flight, which are none yet, it says at the end which are left. If it is given what is
+    /// covered, which is nothing yet, it counts what the rows cover.
+    pub fn new(
+        watch: Watch,
+        trace: bool,
+        pending: Option<Pending>,
+        coverage: Option<Coverage>,
+    ) -> Judge
+        ensures judges { (plan : Plan) → Keeps plan [] watch → IfSome pending (Holds plan [])
+            → IfSome coverage (Covers plan []) → Judges plan [] result }
         ensures layout { result.tally.watch.layout ≡ watch.layout }
         ensures trace { is_traced result ≡ trace }
         ensures asked { is_asked result ≡ is_some pending }
+        ensures covered { is_covered result ≡ is_some coverage }
     {
         Judge {
             tally: Tally {
                 watch,
                 trace,
                 pending,
+                coverage,
                 requests: 0,
                 answered: 0,
             },
@@ -116,6 +133,7 @@ impl Judge {
         ensures layout { self.new.tally.watch.layout ≡ self.old.tally.watch.layout }
         ensures trace { is_traced self.new ≡ is_traced self.old }
         ensures asked { is_asked self.new ≡ is_asked self.old }
+        ensures covered { is_covered self.new ≡ is_covered self.old }
         ensures keeps { (plan : Plan) (file : List SeenRow) → Judges plan file self.old
             → OnOk result (Judges plan (file ++ seen_row row.now lanes.now ∷ []) self.new) }
         ensures told { (plan : Plan) (file : List SeenRow) (so_far : List ℕ)
@@ -128,8 +146,10 @@ impl Judge {
             → HasTold plan file self.old so_far
             → IfErr result (TellsStop (is_traced self.old) plan file so_far
             text.old.items text.new.items) }
+        ensures stop_covered { (plan : Plan) (file : List SeenRow) → Judges plan file self.old
+            → IfErr result (CoversStop plan file self.new.tally) }
         ensures memory { (plan : Plan) (file : List SeenRow) → Judges plan file self.old
-            → IfErr result (λ stop. stop ≡ Stop.Memory → MayWantMemory (is_traced self.old) plan file) }
+            → IfErr result (λ stop. stop ≡ Stop.Memory → MayWantMemory (wants self.old.tally) plan file) }
     {
         // asked for its clause that they are a moment
         let _rows = self.moment.len();
@@ -155,6 +175,7 @@ impl Judge {
         ensures layout { self.new.tally.watch.layout ≡ self.old.tally.watch.layout }
         ensures trace { is_traced self.new ≡ is_traced self.old }
         ensures asked { is_asked self.new ≡ is_asked self.old }
+        ensures covered { is_covered self.new ≡ is_covered self.old }
         ensures keeps { (plan : Plan) (file : List SeenRow) → Judges plan file self.old
             → OnOk result (Judges plan (file ++ seen_row row.now lanes.now ∷ []) self.new) }
         ensures told { (plan : Plan) (file : List SeenRow) (so_far : List ℕ)
@@ -167,8 +188,10 @@ impl Judge {
             → HasTold plan file self.old so_far
             → IfErr result (TellsStop (is_traced self.old) plan file so_far
             text.old.items text.new.items) }
+        ensures stop_covered { (plan : Plan) (file : List SeenRow) → Judges plan file self.old
+            → IfErr result (CoversStop plan file self.new.tally) }
         ensures memory { (plan : Plan) (file : List SeenRow) → Judges plan file self.old
-            → IfErr result (λ stop. stop ≡ Stop.Memory → MayWantMemory (is_traced self.old) plan file) }
+            → IfErr result (λ stop. stop ≡ Stop.Memory → MayWantMemory (wants self.old.tally) plan file) }
     {
         match self.put(row, lanes) {
             Ok(true) => Ok(()),
@@ -187,12 +210,13 @@ impl Judge {
         ensures layout { self.new.tally.watch.layout ≡ self.old.tally.watch.layout }
         ensures trace { is_traced self.new ≡ is_traced self.old }
         ensures asked { is_asked self.new ≡ is_asked self.old }
+        ensures covered { is_covered self.new ≡ is_covered self.old }
         ensures told { (plan : Plan) (file : List SeenRow) (so_far text : List ℕ) → HasTold plan file self.old so_far
             → IfOk result (λ taken. taken ≡ true
             → TellsOn plan (file ++ seen_row row.now lanes.now ∷ []) self.new so_far text text) }
         ensures left { IfOk result (λ taken. taken ≡ false → self.new ≡ self.old) }
         ensures memory { (plan : Plan) (file : List SeenRow) → Judges plan file self.old
-            → IfErr result (λ _. MayWantMemory (is_traced self.old) plan file) }
+            → IfErr result (λ _. MayWantMemory (wants self.old.tally) plan file) }
     {
         // asked for its clause that they are a moment
         let _rows = self.moment.len();
@@ -217,12 +241,13 @@ impl Judge {
         ensures layout { self.new.tally.watch.layout ≡ self.old.tally.watch.layout }
         ensures trace { is_traced self.new ≡ is_traced self.old }
         ensures asked { is_asked self.new ≡ is_asked self.old }
+        ensures covered { is_covered self.new ≡ is_covered self.old }
         ensures told { (plan : Plan) (file : List SeenRow) (so_far text : List ℕ) → HasTold plan file self.old so_far
             → IfOk result (λ taken. taken ≡ true
             → TellsOn plan (file ++ seen_row row.now lanes.now ∷ []) self.new so_far text text) }
         ensures left { IfOk result (λ taken. taken ≡ false → self.new ≡ self.old) }
         ensures memory { (plan : Plan) (file : List SeenRow) → Judges plan file self.old
-            → IfErr result (λ _. MayWantMemory (is_traced self.old) plan file) }
+            → IfErr result (λ _. MayWantMemory (wants self.old.tally) plan file) }
     {
         match self.put(row, lanes) {
             Ok(true) => Ok(true),
@@ -233,25 +258,31 @@ impl Judge {
 
     /// Judges the last rows, and appends what is told of them: the counts of the file and what is left of its requests,
     /// if it is lawful.
-    pub fn end(mut self, alloc: Global, text: &mut Vec<u8>) -> Result<Ending, Refusal>
-        ensures lawful { (plan : Plan) (file : List SeenRow) → Judges plan file self
+    pub fn end(&mut self, alloc: Global, text: &mut Vec<u8>) -> Result<Ending, Refusal>
+        ensures lawful { (plan : Plan) (file : List SeenRow) → Judges plan file self.old
             → (result ≡ Err Refusal.Memory → ⊥) → IsOk result ↔ IsLawfulFile plan file }
-        ensures counts { (plan : Plan) (file : List SeenRow) → Judges plan file self
+        ensures counts { (plan : Plan) (file : List SeenRow) → Judges plan file self.old
             → IfOk result (λ ending. HasCounts plan file ending.counts) }
-        ensures left { (plan : Plan) (file : List SeenRow) → Judges plan file self
-            → IfOk result (λ ending. HasLeft (is_asked self) plan file ending.left) }
-        ensures fault { (plan : Plan) (file : List SeenRow) → Judges plan file self
+        ensures left { (plan : Plan) (file : List SeenRow) → Judges plan file self.old
+            → IfOk result (λ ending. HasLeft (is_asked self.old) plan file ending.left) }
+        ensures fault { (plan : Plan) (file : List SeenRow) → Judges plan file self.old
             → IfErr result (OfUnlawful (IsFirstUnlawful plan file)) }
-        ensures told { (plan : Plan) (file : List SeenRow) (so_far : List ℕ) → HasTold plan file self so_far
+        ensures told { (plan : Plan) (file : List SeenRow) (so_far : List ℕ) → HasTold plan file self.old so_far
             → OnOk result ((more : List ℕ) × (text.new.items ≡ text.old.items ++ more)
-            × IsToldFile (is_traced self) plan file (so_far ++ more)) }
+            × IsToldFile (is_traced self.old) plan file (so_far ++ more)) }
         ensures fault_told { (plan : Plan) (file : List SeenRow) (so_far : List ℕ)
-            → HasTold plan file self so_far
+            → HasTold plan file self.old so_far
             → IfErr result (OfUnlawful (λ found. (more : List ℕ)
             × (text.new.items ≡ text.old.items ++ more)
-            × IsToldBefore (is_traced self) plan file (so_far ++ more) found)) }
-        ensures memory { (plan : Plan) (file : List SeenRow) → Judges plan file self
-            → IfErr result (λ why. why ≡ Refusal.Memory → MayWantMemory (is_traced self) plan file) }
+            × IsToldBefore (is_traced self.old) plan file (so_far ++ more) found)) }
+        ensures layout { self.new.tally.watch.layout ≡ self.old.tally.watch.layout }
+        ensures covered { is_covered self.new ≡ is_covered self.old }
+        ensures covers { (plan : Plan) (file : List SeenRow) → Judges plan file self.old
+            → OnOk result (IsCoveredFile plan file self.new.tally) }
+        ensures fault_covers { (plan : Plan) (file : List SeenRow) → Judges plan file self.old
+            → IfErr result (OfUnlawful (IsCoveredBefore plan file self.new.tally)) }
+        ensures memory { (plan : Plan) (file : List SeenRow) → Judges plan file self.old
+            → IfErr result (λ why. why ≡ Refusal.Memory → MayWantMemory (wants self.old.tally) plan file) }
     {
         if let Err(refusal) = self.tally.judge_rows(alloc, &self.moment, text) {
             return Err(refusal);
@@ -265,5 +296,15 @@ impl Judge {
             counts,
             left: self.tally.left(),
         })
+    }
+    /// Appends the text of what the rows have covered that were judged, if that is asked for.
+    pub fn append_coverage(&self, text: &mut Vec<u8>) -> Result<(), AllocError>
+        ensures { (plan : Plan) (crossed : List SeenRow) → HasCovered plan crossed self.now.tally
+            → OnOk result (AppendsCoverage (is_covered self.now) plan crossed text.old.items text.new.items) }
+    {
+        match &self.tally.coverage {
+            Some(coverage) => coverage.append(&self.tally.watch, text),
+            None => Ok(()),
+        }
     }
 }

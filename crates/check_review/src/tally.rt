@@ -8,13 +8,17 @@ ghost use Rattle.check_sides.specs.View.{Keeps};
 ghost use Rattle.check_rows.specs.Row.{SeenRow};
 ghost use Rattle.check_unanswered.specs.Began.{beats_of, row_with};
 ghost use Rattle.check_unanswered.specs.View.{Holds};
+ghost use Rattle.check_coverage.specs.Flights.{end_of};
+ghost use Rattle.check_coverage.specs.View.{Covers};
 ghost use Rattle.check_review.specs.Count.{ends_a_reply, ends_an_ask, is_counted, one_more};
 ghost use Rattle.check_review.specs.Order.{seen};
 ghost use Rattle.check_review.specs.Told.{AppendsTold, AppendsToldOf, IsCountedOfOwner};
-ghost use Rattle.check_review.specs.View.{HasLanes, Kept, Tallied};
+ghost use Rattle.check_review.specs.View.{HasLanes, Kept, Tallied, wants};
 ghost use Rattle.check_review.specs.Verdict.{IsUnlawfulAfter, IsWhatIsLeft, MayWantAfter, MayWantAmong, OfUnlawful, StopsTelling};
+ghost use Rattle.check_review.specs.Covered.{StopsCovering};
 
 use crate::stop::{Refusal, Unlawful};
+use check_coverage::Coverage;
 use check_lines::push_answer;
 use check_rows::{Moment, Row};
 use check_sides::{Beat, Change, Ended, Link, Links, Seen, StepError, Watch};
@@ -64,6 +68,8 @@ pub struct Tally {
     pub trace: bool,
     /// The requests in flight, if it is asked which are left at the end.
     pub pending: Option<Pending>,
+    /// What the beats have covered, if that is asked for.
+    pub coverage: Option<Coverage>,
     pub requests: u64,
     pub answered: u64,
 }
@@ -74,6 +80,7 @@ impl Tally {
         ensures watch { self.new.watch ≡ self.old.watch }
         ensures trace { self.new.trace ≡ self.old.trace }
         ensures pending { self.new.pending ≡ self.old.pending }
+        ensures coverage { self.new.coverage ≡ self.old.coverage }
         ensures requests { self.new.requests
             ≡ one_more (is_counted self.old.watch.layout.links link && ends_an_ask end)
             self.old.requests }
@@ -83,6 +90,24 @@ impl Tally {
     {
         let links = self.watch.links();
         count_end(links, link, end, &mut self.requests, &mut self.answered);
+    }
+
+    /// Counts what the beat of a row covers that was taken after those before it, and ended this, if that is asked for.
+    fn cover(&mut self, row: &Row, end: Ended) -> Result<(), AllocError>
+        requires { HasLink self.old.watch.layout row.now.link }
+        ensures rest { self.new ≡ record self.old { coverage = self.new.coverage } }
+        ensures covered { is_some self.new.coverage ≡ is_some self.old.coverage }
+        ensures covers { (plan : Plan) (rows : List SeenRow) (lanes : List ℕ)
+            → IfSome self.old.coverage (Covers plan rows)
+            → Keeps plan (beats_of (row_with row.now lanes ∷ rows)) self.old.watch
+            → end ≡ end_of plan rows (row_with row.now lanes)
+            → OnOk result (IfSome self.new.coverage (Covers plan (row_with row.now lanes ∷ rows))) }
+        ensures memory { IfErr result (λ _. is_some self.old.coverage ≡ true) }
+    {
+        match &mut self.coverage {
+            Some(coverage) => coverage.note(&self.watch, row, end),
+            None => Ok(()),
+        }
     }
 
     /// Appends what is told of a beat that ends this.
@@ -120,11 +145,12 @@ impl Tally {
         ensures layout { self.new.watch.layout ≡ self.old.watch.layout }
         ensures trace { self.new.trace ≡ self.old.trace }
         ensures pending { self.new.pending ≡ self.old.pending }
+        ensures covered { is_some self.new.coverage ≡ is_some self.old.coverage }
         ensures keeps { (plan : Plan) (before : List SeenRow) → Tallied plan before self.old
             → IfOk result (λ taken. taken ≡ true → Tallied plan (row_with row.now lanes.now ∷ before) self.new) }
         ensures refused { IfOk result (λ taken. taken ≡ false → self.new ≡ self.old) }
         ensures memory { (plan : Plan) (before : List SeenRow) → Tallied plan before self.old
-            → IfErr result (λ _. MayWantAfter self.old.trace plan before (row_with row.now lanes.now)) }
+            → IfErr result (λ _. MayWantAfter (wants self.old) plan before (row_with row.now lanes.now)) }
     {
         match self
             .watch
@@ -132,6 +158,7 @@ impl Tally {
         {
             Some(end) => {
                 self.count(row.link, end);
+                self.cover(row, end)?;
                 Ok(true)
             }
             None => Ok(false),
@@ -152,6 +179,7 @@ impl Tally {
         ensures layout { self.new.watch.layout ≡ self.old.watch.layout }
         ensures trace { self.new.trace ≡ self.old.trace }
         ensures pending { self.new.pending ≡ self.old.pending }
+        ensures covered { is_some self.new.coverage ≡ is_some self.old.coverage }
         ensures keeps { (plan : Plan) (before : List SeenRow) → Tallied plan before self.old
             → OnOk result (Tallied plan (row_with row.now lanes.now ∷ before) self.new) }
         ensures told { (plan : Plan) (before : List SeenRow) → Tallied plan before self.old
@@ -160,9 +188,10 @@ impl Tally {
         ensures fault { (plan : Plan) (before : List SeenRow) → Tallied plan before self.old
             → IfErr result (OfUnlawful (IsUnlawfulAfter plan before (row_with row.now lanes.now))) }
         ensures quiet { IfErr result (OfUnlawful (λ _. text.new.items ≡ text.old.items)) }
+        ensures uncovered { IfErr result (OfUnlawful (λ _. self.new.coverage ≡ self.old.coverage)) }
         ensures memory { (plan : Plan) (before : List SeenRow) → Tallied plan before self.old
             → IfErr result (λ why. why ≡ Refusal.Memory
-            → MayWantAfter self.old.trace plan before (row_with row.now lanes.now)) }
+            → MayWantAfter (wants self.old) plan before (row_with row.now lanes.now)) }
     {
         let seen = match self
             .watch
@@ -174,7 +203,11 @@ impl Tally {
             }
             Err(StepError::Memory) => return Err(Refusal::Memory),
         };
-        self.count(row.link, seen.ended());
+        let end = seen.ended();
+        self.count(row.link, end);
+        let Ok(()) = self.cover(row, end) else {
+            return Err(Refusal::Memory);
+        };
         match self.tell(row.link, &row.beat, &seen, text) {
             Ok(()) => Ok(()),
             Err(_) => Err(Refusal::Memory),
@@ -196,6 +229,7 @@ impl Tally {
         ensures layout { self.new.watch.layout ≡ self.old.watch.layout }
         ensures trace { self.new.trace ≡ self.old.trace }
         ensures pending { self.new.pending ≡ self.old.pending }
+        ensures covered { is_some self.new.coverage ≡ is_some self.old.coverage }
         ensures keeps { (plan : Plan) (before : List SeenRow) → Tallied plan before self.old
             → OnOk result (Tallied plan (row_with row.now lanes.now ∷ before) self.new) }
         ensures told { (plan : Plan) (before : List SeenRow) → Tallied plan before self.old
@@ -204,9 +238,10 @@ impl Tally {
         ensures fault { (plan : Plan) (before : List SeenRow) → Tallied plan before self.old
             → IfErr result (OfUnlawful (IsUnlawfulAfter plan before (row_with row.now lanes.now))) }
         ensures quiet { IfErr result (OfUnlawful (λ _. text.new.items ≡ text.old.items)) }
+        ensures uncovered { IfErr result (OfUnlawful (λ _. self.new.coverage ≡ self.old.coverage)) }
         ensures memory { (plan : Plan) (before : List SeenRow) → Tallied plan before self.old
             → IfErr result (λ why. why ≡ Refusal.Memory
-            → MayWantAfter self.old.trace plan before (row_with row.now lanes.now)) }
+            → MayWantAfter (wants self.old) plan before (row_with row.now lanes.now)) }
     {
         if self.trace {
             return self.tell_row(alloc, row, lanes, text);
@@ -237,6 +272,7 @@ impl Tally {
     fn note(&mut self, change: Option<Change>, row: &Row)
         ensures layout { self.new.watch.layout ≡ self.old.watch.layout }
         ensures trace { self.new.trace ≡ self.old.trace }
+        ensures coverage { self.new.coverage ≡ self.old.coverage }
         ensures tallied { (plan : Plan) (before : List SeenRow) → Tallied plan before self.old → Tallied plan before self.new }
         ensures asked { is_some self.new.pending ≡ is_some self.old.pending }
         ensures holds { (plan : Plan) (rows : List SeenRow) (lanes : List ℕ)
@@ -274,6 +310,7 @@ impl Tally {
         ensures layout { self.new.watch.layout ≡ self.old.watch.layout }
         ensures trace { self.new.trace ≡ self.old.trace }
         ensures asked { is_some self.new.pending ≡ is_some self.old.pending }
+        ensures covered { is_some self.new.coverage ≡ is_some self.old.coverage }
         ensures keeps { (plan : Plan) (before : List SeenRow) → Kept plan before self.old
             → OnOk result (Kept plan (row_with row.now lanes.now ∷ before) self.new) }
         ensures told { (plan : Plan) (before : List SeenRow) → Kept plan before self.old
@@ -282,9 +319,10 @@ impl Tally {
         ensures fault { (plan : Plan) (before : List SeenRow) → Kept plan before self.old
             → IfErr result (OfUnlawful (IsUnlawfulAfter plan before (row_with row.now lanes.now))) }
         ensures quiet { IfErr result (OfUnlawful (λ _. text.new.items ≡ text.old.items)) }
+        ensures uncovered { IfErr result (OfUnlawful (λ _. self.new.coverage ≡ self.old.coverage)) }
         ensures memory { (plan : Plan) (before : List SeenRow) → Kept plan before self.old
             → IfErr result (λ why. why ≡ Refusal.Memory
-            → MayWantAfter self.old.trace plan before (row_with row.now lanes.now)) }
+            → MayWantAfter (wants self.old) plan before (row_with row.now lanes.now)) }
     {
         if !self.watch.watches(row.link) {
             return Ok(());
@@ -304,11 +342,12 @@ impl Tally {
         ensures layout { self.new.watch.layout ≡ self.old.watch.layout }
         ensures trace { self.new.trace ≡ self.old.trace }
         ensures asked { is_some self.new.pending ≡ is_some self.old.pending }
+        ensures covered { is_some self.new.coverage ≡ is_some self.old.coverage }
         ensures keeps { (plan : Plan) (before : List SeenRow) → Kept plan before self.old
             → IfOk result (λ passed. passed ≡ true → Kept plan (row_with row.now lanes.now ∷ before) self.new) }
         ensures refused { IfOk result (λ passed. passed ≡ false → self.new ≡ self.old) }
         ensures memory { (plan : Plan) (before : List SeenRow) → Kept plan before self.old
-            → IfErr result (λ _. MayWantAfter self.old.trace plan before (row_with row.now lanes.now)) }
+            → IfErr result (λ _. MayWantAfter (wants self.old) plan before (row_with row.now lanes.now)) }
     {
         if !self.watch.watches(row.link) {
             return Ok(true);
@@ -329,6 +368,7 @@ impl Tally {
         ensures layout { self.new.watch.layout ≡ self.old.watch.layout }
         ensures trace { self.new.trace ≡ self.old.trace }
         ensures asked { is_some self.new.pending ≡ is_some self.old.pending }
+        ensures covered { is_some self.new.coverage ≡ is_some self.old.coverage }
         ensures keeps { (plan : Plan) (before : List SeenRow) → Kept plan before self.old
             → IfOk result (λ passed. passed ≡ true → Kept plan (reverse moment.now.rows ++ before) self.new) }
         ensures told { (plan : Plan) (before : List SeenRow) (text : List ℕ) → Kept plan before self.old
@@ -336,7 +376,7 @@ impl Tally {
             (seen plan.layout (reverse moment.now.rows ++ before)) text text) }
         ensures refused { IfOk result (λ passed. passed ≡ false → self.new ≡ self.old) }
         ensures memory { (plan : Plan) (before : List SeenRow) → Kept plan before self.old
-            → IfErr result (λ _. MayWantAmong self.old.trace plan moment.now.rows before) }
+            → IfErr result (λ _. MayWantAmong (wants self.old) plan moment.now.rows before) }
     {
         if self.trace || moment.len() != 1 {
             return Ok(false);
@@ -357,6 +397,7 @@ impl Tally {
         ensures layout { self.new.watch.layout ≡ self.old.watch.layout }
         ensures trace { self.new.trace ≡ self.old.trace }
         ensures asked { is_some self.new.pending ≡ is_some self.old.pending }
+        ensures covered { is_some self.new.coverage ≡ is_some self.old.coverage }
         ensures keeps { (plan : Plan) (before : List SeenRow) → Kept plan before self.old
             → OnOk result (Kept plan (reverse moment.now.rows ++ before) self.new) }
         ensures told { (plan : Plan) (before : List SeenRow) → Kept plan before self.old
@@ -365,9 +406,11 @@ impl Tally {
         ensures fault { (plan : Plan) (before : List SeenRow) → Kept plan before self.old
             → IfErr result (OfUnlawful (StopsTelling self.old.trace plan moment.now.rows before
             text.old.items text.new.items)) }
+        ensures fault_covered { (plan : Plan) (before : List SeenRow) → Kept plan before self.old
+            → IfErr result (OfUnlawful (StopsCovering plan moment.now.rows before self.new)) }
         ensures memory { (plan : Plan) (before : List SeenRow) → Kept plan before self.old
             → IfErr result (λ why. why ≡ Refusal.Memory
-            → MayWantAmong self.old.trace plan moment.now.rows before) }
+            → MayWantAmong (wants self.old) plan moment.now.rows before) }
     {
         for place in 0..moment.len() {
             let (row, lanes) = moment.get(place);

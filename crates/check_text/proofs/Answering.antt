@@ -5,20 +5,22 @@ use Rattle.std.specs.Io.KnownBytes.{Appends, Keeps}
 use Rattle.csv.specs.Reading.{strip_bom}
 use Rattle.check_rows.specs.Row.{SeenRow}
 use Rattle.check_review.specs.Verdict.{HasCounts, HasLeft, IsFirstUnlawful, IsLawfulFile, IsToldBefore, IsToldEarlier, IsToldFile, IsToldPart, OfUnlawful}
+use Rattle.check_review.specs.Covered.{IsCoveredBefore, IsCoveredFile}
 use Rattle.check_review.specs.View.{HasTold, Judges, is_asked, is_traced}
 use Rattle.check_review.specs.View.{JudgeView}
 use Rattle.check_lines.specs.declared.verdict.Counts.{Counts}
 use Rattle.check_review.specs.declared.stop.Refusal.{Refusal}
 use Rattle.check_review.specs.declared.stop.Refusal.TheVariants as refusal
+use Rattle.check_review.specs.declared.tally.Tally.{Tally}
 use Rattle.check_review.proofs.Judging.{part_before, part_of_file, told_earlier}
 use Rattle.check_records.specs.Source.{Between, Left}
 use Rattle.check_records.specs.Text.{Ends, Place, start_of}
 use Rattle.tl_streams.specs.Streams.{AppendsPart}
 use Rattle.check_sides.specs.Plan.{Plan}
 use Rattle.check_unanswered.specs.declared.request.Left.{Left as LeftOver}
-use Rattle.check_text.specs.Capture.{HasHeader, IsFault, IsVerdict, IsWritten, IsWrittenOf}
+use Rattle.check_text.specs.Capture.{HasHeader, IsCovered, IsFault, IsVerdict, IsWritten, IsWrittenOf, OfCapture}
 use Rattle.check_text.specs.Out.{Finishes, WritesPart, is_cut}
-use Rattle.check_text.specs.Rows.{AllTaken, IsAnswer, IsJudged, IsJudgedAt, IsOut, IsToldBy, WroteBy, ended_with, refused}
+use Rattle.check_text.specs.Rows.{AllTaken, AreJudged, IsAnswer, IsCountedBy, IsJudged, IsJudgedAt, IsOut, IsToldBy, OfJudged, WroteBy, ended_with, refused}
 use Rattle.check_text.specs.declared.fault.CaptureFault.{CaptureFault}
 use Rattle.check_text.specs.declared.fault.CaptureFault.TheVariants as fault
 use Rattle.check_text.specs.declared.fault.Verdict.{Verdict}
@@ -46,19 +48,26 @@ told_end : (trace : Bool) (plan : Plan) (rows : List SeenRow) (text : List ℕ) 
 told_end trace plan rows text counts None told = told
 told_end trace plan rows text counts (Some over) told = told
 
-module _ (buses : LinkBuses) (first now : JudgeView) (old mid : Option (List ℕ)) (text grown : List ℕ) (a b : Left)
+-- and what was counted of them
+covered_end : (plan : Plan) (rows : List SeenRow) (tally : Tally) (counts : Counts) (left : Option LeftOver)
+    → IsCoveredFile plan rows tally → IsCountedBy plan (Ok (ended_with counts left)) rows tally
+covered_end plan rows tally counts None covered = covered
+covered_end plan rows tally counts (Some over) covered = covered
+
+module _ (buses : LinkBuses) (first now : JudgeView) (tally : Tally) (old mid : Option (List ℕ)) (text grown : List ℕ) (a b : Left)
     (all : Between a b (AllTaken buses first now old mid text)) where
   pub ends_lawful : (counts : Counts) (left : Option LeftOver)
       → ((plan : Plan) (rows : List SeenRow) → Judges plan rows now
       → IsLawfulFile plan rows × HasCounts plan rows counts × HasLeft (is_asked now) plan rows left)
+      → ((plan : Plan) (rows : List SeenRow) → Judges plan rows now → IsCoveredFile plan rows tally)
       → ((plan : Plan) (rows : List SeenRow) (so_far : List ℕ) → HasTold plan rows now so_far
       → TellsFile (is_traced now) plan rows so_far text grown)
-      → IsJudged buses first old mid grown a (Ok (ended_with counts left))
-  ends_lawful counts left lawful tells =
+      → IsJudged buses first tally old mid grown a (Ok (ended_with counts left))
+  ends_lawful counts left lawful covers tells =
       let v : Verdict = ended_with counts left in
-      at_start a b (IsJudgedAt buses first old mid grown (Ok v))
+      at_start a b (IsJudgedAt buses first tally old mid grown (Ok v))
       (between_map a b (AllTaken buses first now old mid text)
-      (λ from to. IsJudgedAt buses first old mid grown (Ok v) from) (λ x y taken.
+      (λ from to. IsJudgedAt buses first tally old mid grown (Ok v) from) (λ x y taken.
       let took = taken.1 in record {
         rows = took.rows;
         last = taken.0;
@@ -67,6 +76,8 @@ module _ (buses : LinkBuses) (first now : JudgeView) (old mid : Option (List ℕ
             let is = lawful plan took.rows wrote.holds.judges in
             answers_end (is_asked first) plan buses took.rows taken.0 y counts left taken.2 is.0 is.1
             (subst (λ asked. HasLeft asked plan took.rows left) took.asked is.2);
+        covered = λ plan start.
+            covered_end plan took.rows tally counts left (covers plan took.rows (took.told plan start).holds.judges);
         told = λ plan start.
             let wrote = took.told plan start in
             let on = tells plan took.rows wrote.told wrote.holds in
@@ -78,20 +89,22 @@ module _ (buses : LinkBuses) (first now : JudgeView) (old mid : Option (List ℕ
 
   pub ends_refused : (why : Refusal)
       → ((plan : Plan) (rows : List SeenRow) → Judges plan rows now → OfUnlawful (IsFirstUnlawful plan rows) why)
+      → ((plan : Plan) (rows : List SeenRow) → Judges plan rows now → OfUnlawful (IsCoveredBefore plan rows tally) why)
       → ((plan : Plan) (rows : List SeenRow) (so_far : List ℕ) → HasTold plan rows now so_far
       → OfUnlawful (λ found. (more : List ℕ) × (grown ≡ text ++ more)
       × IsToldBefore (is_traced now) plan rows (so_far ++ more) found) why)
-      → IsJudged buses first old mid grown a (refused why)
-  ends_refused (refusal.Unlawful found) unlawful tells =
-      at_start a b (IsJudgedAt buses first old mid grown (refused (refusal.Unlawful found)))
+      → IsJudged buses first tally old mid grown a (refused why)
+  ends_refused (refusal.Unlawful found) unlawful covers tells =
+      at_start a b (IsJudgedAt buses first tally old mid grown (refused (refusal.Unlawful found)))
       (between_map a b (AllTaken buses first now old mid text)
-      (λ from to. IsJudgedAt buses first old mid grown (refused (refusal.Unlawful found)) from) (λ x y taken.
+      (λ from to. IsJudgedAt buses first tally old mid grown (refused (refusal.Unlawful found)) from) (λ x y taken.
       let took = taken.1 in record {
         rows = took.rows;
         last = taken.0;
         has = took.has;
         answers = λ plan start. let wrote =
             took.told plan start in (inl (y, taken.2), unlawful plan took.rows wrote.holds.judges);
+        covered = λ plan start. covers plan took.rows (took.told plan start).holds.judges;
         told = λ plan start.
             let wrote = took.told plan start in
             let on = tells plan took.rows wrote.told wrote.holds in
@@ -99,15 +112,16 @@ module _ (buses : LinkBuses) (first now : JudgeView) (old mid : Option (List ℕ
             (λ t. IsToldBefore (is_traced first) plan took.rows t found) on.0 grown on.1
             (subst (λ t. IsToldBefore t plan took.rows (wrote.told ++ on.0) found) took.traced on.2);
       }) all)
-  ends_refused refusal.Memory unlawful tells =
-      at_start a b (IsJudgedAt buses first old mid grown (refused refusal.Memory))
+  ends_refused refusal.Memory unlawful covers tells =
+      at_start a b (IsJudgedAt buses first tally old mid grown (refused refusal.Memory))
       (between_map a b (AllTaken buses first now old mid text)
-      (λ from to. IsJudgedAt buses first old mid grown (refused refusal.Memory) from) (λ x y taken.
+      (λ from to. IsJudgedAt buses first tally old mid grown (refused refusal.Memory) from) (λ x y taken.
       let took = taken.1 in record {
         rows = took.rows;
         last = taken.0;
         has = took.has;
         answers = λ plan start. tt;
+        covered = λ plan start. tt;
         told = λ plan start.
             let wrote = took.told plan start in
             wrote_so_far (HasTold plan took.rows now) old mid text wrote (IsToldPart (is_traced first) plan took.rows)
@@ -220,11 +234,11 @@ says_behind asked trace plan buses old new (Err fault.Memory) from is = record {
 says_behind asked trace plan buses old new (Err fault.Write) from is = record { verdict = tt; fault = tt; written = is }
 
 finished : (trace : Bool) (plan : Plan) (buses : LinkBuses) (from behind : Place) (old mid new : Option (List ℕ))
-    (text : List ℕ) (answer result : Result Verdict CaptureFault) (first : JudgeView)
+    (text : List ℕ) (answer result : Result Verdict CaptureFault) (first : JudgeView) (tally : Tally)
     → is_traced first ≡ trace → Judges plan [] first → HasHeader from behind
-    → IsJudgedAt buses first old mid text answer behind → Finishes mid new text answer result
+    → IsJudgedAt buses first tally old mid text answer behind → Finishes mid new text answer result
     → IsWrittenOf (is_asked first) trace plan buses from old new result
-finished trace plan buses from behind old mid new text answer result first traced start top judged (inl cut) =
+finished trace plan buses from behind old mid new text answer result first tally traced start top judged (inl cut) =
     let P : Result Verdict CaptureFault → Type 0 = λ r. IsWrittenOf (is_asked first) trace plan buses from old new r in
     subst P (sym cut.1) (record {
       rows = judged.rows;
@@ -235,7 +249,7 @@ finished trace plan buses from behind old mid new text answer result first trace
           (cut_out trace plan answer judged.rows old mid text cut.0
           (subst (λ t. WroteBy t plan answer judged.rows old mid text) traced (judged.told plan start)));
     })
-finished trace plan buses from behind old mid new text answer result first traced start top judged (inr whole) =
+finished trace plan buses from behind old mid new text answer result first tally traced start top judged (inr whole) =
     go whole.1
   where
     wrote : WroteBy trace plan answer judged.rows old mid text
@@ -263,16 +277,60 @@ finished trace plan buses from behind old mid new text answer result first trace
         })
 
 pub says_judged : (plan : Plan) (buses : LinkBuses) (a b : Left) (old mid new : Option (List ℕ)) (text : List ℕ)
-    (answer result : Result Verdict CaptureFault) (first : JudgeView)
-    → Judges plan [] first → Between a b HasHeader → IsJudged buses first old mid text b answer
+    (answer result : Result Verdict CaptureFault) (first : JudgeView) (tally : Tally)
+    → Judges plan [] first → Between a b HasHeader → IsJudged buses first tally old mid text b answer
     → Finishes mid new text answer result
     → IfSome a.text (λ t. Says (is_asked first) (is_traced first) plan buses old new result (record { line = a.line; text = t }))
-says_judged plan buses a b old mid new text answer result first start header judged finishes =
-    behind_start a b HasHeader (IsJudgedAt buses first old mid text answer)
+says_judged plan buses a b old mid new text answer result first tally start header judged finishes =
+    behind_start a b HasHeader (IsJudgedAt buses first tally old mid text answer)
     (Says (is_asked first) (is_traced first) plan buses old new result)
     (λ x y top is. says_behind (is_asked first) (is_traced first) plan buses old new result x
-    (finished (is_traced first) plan buses x y old mid new text answer result first refl start top is finishes))
+    (finished (is_traced first) plan buses x y old mid new text answer result first tally refl start top is finishes))
     header judged
+
+-- ---- what was counted
+
+-- the rows of an answer are those that it is of
+are_judged : (asked : Bool) (plan : Plan) (buses : LinkBuses) (v : Verdict) (rows : List SeenRow) (at : Place)
+    → IsAnswer asked plan buses (Ok v) rows at → AreJudged buses v rows at
+are_judged asked plan buses (verdict.Lawful counts) rows at is = is.0
+are_judged asked plan buses (verdict.Incomplete left) rows at is = is.0
+are_judged asked plan buses (verdict.Unlawful found) rows at is = is.0
+
+covered_behind : (plan : Plan) (buses : LinkBuses) (from behind : Place) (old mid : Option (List ℕ)) (text : List ℕ)
+    (answer : Result Verdict CaptureFault) (first : JudgeView) (tally : Tally) → Judges plan [] first
+    → HasHeader from behind → IsJudgedAt buses first tally old mid text answer behind
+    → IfOk answer (IsCovered plan buses from tally)
+covered_behind plan buses from behind old mid text (Ok v) first tally start top judged = record {
+  rows = judged.rows;
+  at = judged.last;
+  begins = record { behind = behind; top = top; has = judged.has };
+  judged = are_judged (is_asked first) plan buses v judged.rows judged.last (judged.answers plan start);
+  holds = judged.covered plan start;
+}
+covered_behind plan buses from behind old mid text (Err why) first tally start top judged = tt
+
+-- an answer that is given in the end is the one before it, or a write failed
+covered_finished : (P : Verdict → Type 0) (mid new : Option (List ℕ)) (text : List ℕ)
+    (answer result : Result Verdict CaptureFault) → Finishes mid new text answer result → IfOk answer P → IfOk result P
+covered_finished P mid new text answer result (inl cut) is = subst (λ r. IfOk r P) (sym cut.1) is
+covered_finished P mid new text answer result (inr whole) is = go whole.1
+  where
+    go : ((result ≡ answer) × Appends mid new text) ⊎ ((result ≡ Err fault.Write) × AppendsPart mid new text)
+        → IfOk result P
+    go (inl all) = subst (λ r. IfOk r P) (sym all.0) is
+    go (inr front) = subst (λ r. IfOk r P) (sym front.0) tt
+
+pub covered_judged : (plan : Plan) (buses : LinkBuses) (a b : Left) (old mid new : Option (List ℕ)) (text : List ℕ)
+    (answer result : Result Verdict CaptureFault) (first : JudgeView) (tally : Tally)
+    → Judges plan [] first → Between a b HasHeader → IsJudged buses first tally old mid text b answer
+    → Finishes mid new text answer result
+    → IfSome a.text (λ t. IfOk result (IsCovered plan buses (record { line = a.line; text = t }) tally))
+covered_judged plan buses a b old mid new text answer result first tally start header judged finishes =
+    behind_start a b HasHeader (IsJudgedAt buses first tally old mid text answer)
+    (λ from. IfOk result (IsCovered plan buses from tally))
+    (λ x y top is. covered_finished (IsCovered plan buses x tally) mid new text answer result finishes
+    (covered_behind plan buses x y old mid text answer first tally start top is)) header judged
 
 -- is said of the start of what a reader gives
 pub told : (known : Option (List ℕ)) (a : Left) (Q : Place → Type 0) → Keeps (option_map strip_bom known) a.text
@@ -320,3 +378,28 @@ module _ (asked trace : Bool) (plan : Plan) (buses : LinkBuses) (old new : Optio
           → IfSome known (λ text. IsWritten asked trace plan buses (start_of text) old new answer)
       go None says = tt
       go (Some text) says = says.written
+
+pub says_covered : (plan : Plan) (buses : LinkBuses) (tally : Tally) (known : Option (List ℕ))
+    (answer : Result Verdict CaptureFault) → IfSome known (λ text. IfOk answer (IsCovered plan buses (start_of text) tally))
+    → IfOk answer (λ v. IfSome known (λ text. IsCovered plan buses (start_of text) tally v))
+says_covered plan buses tally known (Err why) says = tt
+says_covered plan buses tally None (Ok v) says = tt
+says_covered plan buses tally (Some text) (Ok v) says = says
+
+-- ---- what follows of the rows of a verdict
+
+of_judged : (plan : Plan) (v : Verdict) (rows : List SeenRow) (P Q : List SeenRow → Type 0)
+    → ((crossed : List SeenRow) → P crossed → Q crossed) → OfJudged plan v rows P → OfJudged plan v rows Q
+of_judged plan (verdict.Lawful counts) rows P Q to is = record { lawful = is.lawful; holds = to is.lawful.crossed is.holds }
+of_judged plan (verdict.Incomplete left) rows P Q to is = record { lawful = is.lawful; holds = to is.lawful.crossed is.holds }
+of_judged plan (verdict.Unlawful found) rows P Q to is = record { first = is.first; holds = to is.first.before is.holds }
+
+pub of_capture : (plan : Plan) (buses : LinkBuses) (from : Place) (v : Verdict) (P Q : List SeenRow → Type 0)
+    → ((crossed : List SeenRow) → P crossed → Q crossed) → OfCapture plan buses from v P → OfCapture plan buses from v Q
+of_capture plan buses from v P Q to is = record {
+  rows = is.rows;
+  at = is.at;
+  begins = is.begins;
+  judged = is.judged;
+  holds = of_judged plan v is.rows P Q to is.holds;
+}

@@ -6,11 +6,13 @@ use Rattle.check_rows.specs.Row.{row_of}
 use Rattle.check_rows.specs.declared.fault.RowFault.{RowFault}
 use Rattle.check_review.specs.Order.{HasRowFault, IsLater}
 use Rattle.check_review.specs.Verdict.{IsFirstUnlawful, IsStop, IsToldBefore, IsToldEarlier, IsToldPart}
+use Rattle.check_review.specs.Covered.{CoversStop, IsCoveredBefore}
 use Rattle.check_review.specs.View.{HasTold, Judges, TellsStop, is_traced}
 use Rattle.check_review.specs.View.{JudgeView}
 use Rattle.check_review.specs.declared.stop.Stop.{Stop}
 use Rattle.check_review.specs.declared.stop.Stop.TheVariants as stop
 use Rattle.check_review.specs.declared.stop.Unlawful.{Unlawful}
+use Rattle.check_review.specs.declared.tally.Tally.{Tally}
 use Rattle.check_review.proofs.Judging.{told_earlier, told_none}
 use Rattle.check_records.specs.Reading.{StopsLong}
 use Rattle.check_records.specs.Source.{Between, Left}
@@ -112,26 +114,26 @@ module _ (buses : LinkBuses) (r : Record) (row : SeenRow) (spells : Spells buses
       between_map a b (λ from to. Gives from r to) (TakesNext buses old new text grown true)
       (λ x y g. (row, record { next = r; gives = g; spells = spells }, took)) gives
 
-  pub row_refused : (judge : JudgeView) (text grown : List ℕ) (why : RowFault)
+  pub row_refused : (judge : JudgeView) (tally : Tally) (text grown : List ℕ) (why : RowFault)
       → ((plan : Plan) (rows : List SeenRow) (so_far : List ℕ) → HasTold plan rows judge so_far → HasRowFault rows row why
       × (grown ≡ text))
-      → StopsAt buses judge text grown a b (halt.Fault (fault.Row r.line why))
-  row_refused judge text grown why refused =
+      → StopsAt buses judge tally text grown a b (halt.Fault (fault.Row r.line why))
+  row_refused judge tally text grown why refused =
       between_map a b (λ from to. Gives from r to)
       (λ from to. (plan : Plan) (rows : List SeenRow) (so_far : List ℕ) → HasTold plan rows judge so_far
       → HasNoRow buses rows r.line why from to × (grown ≡ text))
       (λ x y g plan rows so_far has. let is = refused plan rows so_far has in
       (record { next = r; gives = g; on_line = refl; no_row = inr (row, spells, is.0) }, is.1)) gives
 
-  pub row_unlawful : (judge : JudgeView) (text grown : List ℕ) (found : Unlawful)
+  pub row_unlawful : (judge : JudgeView) (tally : Tally) (text grown : List ℕ) (found : Unlawful)
       → ((plan : Plan) (rows : List SeenRow) (so_far : List ℕ) → HasTold plan rows judge so_far
-      → (IsLater rows row × IsFirstUnlawful plan rows found)
+      → (IsLater rows row × IsFirstUnlawful plan rows found) × IsCoveredBefore plan rows tally found
       × TellsBefore (is_traced judge) plan rows so_far text grown found)
-      → StopsAt buses judge text grown a b (halt.Unlawful found)
-  row_unlawful judge text grown found unlawful =
+      → StopsAt buses judge tally text grown a b (halt.Unlawful found)
+  row_unlawful judge tally text grown found unlawful =
       between_map a b (λ from to. Gives from r to)
       (λ from to. (plan : Plan) (rows : List SeenRow) (so_far : List ℕ) → HasTold plan rows judge so_far
-      → IsUnlawfulBefore plan buses rows found from to
+      → IsUnlawfulBefore plan buses rows found from to × IsCoveredBefore plan rows tally found
       × TellsBefore (is_traced judge) plan rows so_far text grown found)
       (λ x y g plan rows so_far has. let is = unlawful plan rows so_far has in (
         record {
@@ -141,35 +143,39 @@ module _ (buses : LinkBuses) (r : Record) (row : SeenRow) (spells : Spells buses
           first = is.0.1;
         },
         is.1,
+        is.2,
       )) gives
 
   -- the judge refuses it
-  pub row_stops : (judge : JudgeView) (text grown : List ℕ) (why : Stop)
+  pub row_stops : (judge : JudgeView) (tally : Tally) (text grown : List ℕ) (why : Stop)
       → ((plan : Plan) (rows : List SeenRow) (so_far : List ℕ) → HasTold plan rows judge so_far
-      → IsStop plan rows row why × TellsStop (is_traced judge) plan rows so_far text grown why)
-      → StopsAt buses judge text grown a b (halt_of r.line why)
-  row_stops judge text grown (stop.Row kind) stops = row_refused judge text grown kind stops
-  row_stops judge text grown (stop.Beat found) stops = row_unlawful judge text grown found stops
-  row_stops judge text grown stop.Memory stops = tt
+      → IsStop plan rows row why × CoversStop plan rows tally why
+      × TellsStop (is_traced judge) plan rows so_far text grown why)
+      → StopsAt buses judge tally text grown a b (halt_of r.line why)
+  row_stops judge tally text grown (stop.Row kind) stops =
+      row_refused judge tally text grown kind
+      (λ plan rows so_far has. let is = stops plan rows so_far has in (is.0, is.2))
+  row_stops judge tally text grown (stop.Beat found) stops = row_unlawful judge tally text grown found stops
+  row_stops judge tally text grown stop.Memory stops = tt
 
 -- a record that spells no row
-pub no_row : (buses : LinkBuses) (r : Record) (why : RowFault) (a b : Left) (judge : JudgeView) (text : List ℕ)
+pub no_row : (buses : LinkBuses) (r : Record) (why : RowFault) (a b : Left) (judge : JudgeView) (tally : Tally) (text : List ℕ)
     → Between a b (λ from to. Gives from r to)
     → row_of buses.masters buses.ports r.line r.fields ≡ Err why
-    → StopsAt buses judge text text a b (halt.Fault (fault.Row r.line why))
-no_row buses r why a b judge text gives is =
+    → StopsAt buses judge tally text text a b (halt.Fault (fault.Row r.line why))
+no_row buses r why a b judge tally text gives is =
     between_map a b (λ from to. Gives from r to)
     (λ from to. (plan : Plan) (rows : List SeenRow) (so_far : List ℕ) → HasTold plan rows judge so_far
     → HasNoRow buses rows r.line why from to × (text ≡ text))
     (λ x y g plan rows so_far has. (record { next = r; gives = g; on_line = refl; no_row = inl is }, refl)) gives
 
 -- a record that is not read
-pub read_stops : (buses : LinkBuses) (judge : JudgeView) (text : List ℕ) (a b : Left) (why : RecordFault)
+pub read_stops : (buses : LinkBuses) (judge : JudgeView) (tally : Tally) (text : List ℕ) (a b : Left) (why : RecordFault)
     → ((line : ℕ) → why ≡ record_fault.TooLong line → StopsLong a line)
-    → StopsAt buses judge text text a b (halt.Fault (of_record why))
-read_stops buses judge text a b (record_fault.TooLong line) long = (long line refl, refl)
-read_stops buses judge text a b record_fault.Read long = refl
-read_stops buses judge text a b record_fault.Memory long = tt
+    → StopsAt buses judge tally text text a b (halt.Fault (of_record why))
+read_stops buses judge tally text a b (record_fault.TooLong line) long = (long line refl, refl)
+read_stops buses judge tally text a b record_fault.Read long = refl
+read_stops buses judge tally text a b record_fault.Memory long = tt
 
 -- ---- the loop
 
@@ -229,18 +235,19 @@ module _ (buses : LinkBuses) (first : JudgeView) (old : Option (List ℕ)) where
       subst (λ t. IsToldEarlier t plan rows text) traced (told_earlier plan rows now text has)
 
   -- a write fails
-  pub fails : (now next : JudgeView) (mid new : Option (List ℕ)) (text grown left : List ℕ) (a b c : Left)
+  pub fails : (tally : Tally) (now next : JudgeView) (mid new : Option (List ℕ)) (text grown left : List ℕ) (a b c : Left)
       → Between a b (TookRows buses first now old mid text)
       → Between b c (TakesNext buses now next text grown true) → AppendsPart mid new grown
-      → IsJudged buses first old new left a (Err fault.Write)
-  fails now next mid new text grown left a b c so_far one front =
-      at_start a c (IsJudgedAt buses first old new left (Err fault.Write))
+      → IsJudged buses first tally old new left a (Err fault.Write)
+  fails tally now next mid new text grown left a b c so_far one front =
+      at_start a c (IsJudgedAt buses first tally old new left (Err fault.Write))
       (between-trans a b c (TookRows buses first now old mid text) (TakesNext buses now next text grown true)
-      (λ from to. IsJudgedAt buses first old new left (Err fault.Write) from) (λ x y z took more. record {
+      (λ from to. IsJudgedAt buses first tally old new left (Err fault.Write) from) (λ x y z took more. record {
         rows = took.rows ++ more.0 ∷ [];
         last = z;
         has = rows_more buses took.rows more.0 x y z took.has more.1;
         answers = λ plan start. tt;
+        covered = λ plan start. tt;
         told = λ plan start.
             let wrote = took.told plan start in
             let rows = took.rows ++ more.0 ∷ [] in
@@ -259,15 +266,16 @@ module _ (buses : LinkBuses) (first : JudgeView) (old : Option (List ℕ)) where
   rest now mid text a b S so_far to =
       at_start a b S (between_map a b (TookRows buses first now old mid text) (λ from at. S from) to so_far)
 
-  pub read_fails : (now : JudgeView) (mid : Option (List ℕ)) (text grown : List ℕ) (a b : Left)
+  pub read_fails : (tally : Tally) (now : JudgeView) (mid : Option (List ℕ)) (text grown : List ℕ) (a b : Left)
       → Between a b (TookRows buses first now old mid text) → grown ≡ text
-      → IsJudged buses first old mid grown a (Err fault.Read)
-  read_fails now mid text grown a b so_far same =
-      rest now mid text a b (IsJudgedAt buses first old mid grown (Err fault.Read)) so_far (λ x y took. record {
+      → IsJudged buses first tally old mid grown a (Err fault.Read)
+  read_fails tally now mid text grown a b so_far same =
+      rest now mid text a b (IsJudgedAt buses first tally old mid grown (Err fault.Read)) so_far (λ x y took. record {
         rows = took.rows;
         last = y;
         has = took.has;
         answers = λ plan start. tt;
+        covered = λ plan start. tt;
         told = λ plan start.
             let wrote = took.told plan start in
             wrote_as (HasTold plan took.rows now) old mid text wrote
@@ -283,16 +291,16 @@ module _ (buses : LinkBuses) (first : JudgeView) (old : Option (List ℕ)) where
       wrote_so_far (HasTold plan took.rows now) old mid text wrote (IsToldPart (is_traced first) plan took.rows)
       (earlier plan took.rows now wrote.told took.traced wrote.holds).part
 
-  pub halts : (now : JudgeView) (mid : Option (List ℕ)) (text grown : List ℕ) (a b c : Left) (why : Halt)
+  pub halts : (tally : Tally) (now : JudgeView) (mid : Option (List ℕ)) (text grown : List ℕ) (a b c : Left) (why : Halt)
       → Between a b (TookRows buses first now old mid text)
-      → StopsAt buses now text grown b c why → IsJudged buses first old mid grown a (answer_of why)
-  halts now mid text grown a b c (halt.Unlawful found) so_far stop =
-      at_start a c (IsJudgedAt buses first old mid grown (answer_of (halt.Unlawful found)))
+      → StopsAt buses now tally text grown b c why → IsJudged buses first tally old mid grown a (answer_of why)
+  halts tally now mid text grown a b c (halt.Unlawful found) so_far stop =
+      at_start a c (IsJudgedAt buses first tally old mid grown (answer_of (halt.Unlawful found)))
       (between-trans a b c (TookRows buses first now old mid text)
       (λ from to. (plan : Plan) (rows : List SeenRow) (told : List ℕ) → HasTold plan rows now told
-      → IsUnlawfulBefore plan buses rows found from to
+      → IsUnlawfulBefore plan buses rows found from to × IsCoveredBefore plan rows tally found
       × TellsBefore (is_traced now) plan rows told text grown found)
-      (λ from to. IsJudgedAt buses first old mid grown (answer_of (halt.Unlawful found)) from)
+      (λ from to. IsJudgedAt buses first tally old mid grown (answer_of (halt.Unlawful found)) from)
       (λ x y z took stopped. record {
         rows = took.rows;
         last = y;
@@ -301,51 +309,55 @@ module _ (buses : LinkBuses) (first : JudgeView) (old : Option (List ℕ)) where
             let wrote = took.told plan start in
             let is = (stopped plan took.rows wrote.told wrote.holds).0 in
             (inr (is.row, z, is.next, is.later), is.first);
+        covered = λ plan start. let wrote = took.told plan start in (stopped plan took.rows wrote.told wrote.holds).1;
         told = λ plan start.
             let wrote = took.told plan start in
-            let tells = (stopped plan took.rows wrote.told wrote.holds).1 in
+            let tells = (stopped plan took.rows wrote.told wrote.holds).2 in
             wrote_more (HasTold plan took.rows now) old mid text wrote
             (λ t. IsToldBefore (is_traced first) plan took.rows t found) tells.0 grown tells.1
             (subst (λ t. IsToldBefore t plan took.rows (wrote.told ++ tells.0) found) took.traced tells.2);
       }) so_far stop)
-  halts now mid text grown a b c (halt.Fault (fault.Row line kind)) so_far stop =
-      at_start a c (IsJudgedAt buses first old mid grown (Err (fault.Row line kind)))
+  halts tally now mid text grown a b c (halt.Fault (fault.Row line kind)) so_far stop =
+      at_start a c (IsJudgedAt buses first tally old mid grown (Err (fault.Row line kind)))
       (between-trans a b c (TookRows buses first now old mid text)
       (λ from to. (plan : Plan) (rows : List SeenRow) (told : List ℕ) → HasTold plan rows now told
       → HasNoRow buses rows line kind from to × (grown ≡ text))
-      (λ from to. IsJudgedAt buses first old mid grown (Err (fault.Row line kind)) from) (λ x y z took stopped. record {
+      (λ from to. IsJudgedAt buses first tally old mid grown (Err (fault.Row line kind)) from) (λ x y z took stopped. record {
         rows = took.rows;
         last = y;
         has = took.has;
         answers = λ plan start. let wrote =
             took.told plan start in (z, (stopped plan took.rows wrote.told wrote.holds).0);
+        covered = λ plan start. tt;
         told = λ plan start.
             let wrote = took.told plan start in
             wrote_as (HasTold plan took.rows now) old mid text wrote
             (IsToldEarlier (is_traced first) plan took.rows) grown (stopped plan took.rows wrote.told wrote.holds).1
             (earlier plan took.rows now wrote.told took.traced wrote.holds);
       }) so_far stop)
-  halts now mid text grown a b c (halt.Fault (fault.TooLong line)) so_far stop =
+  halts tally now mid text grown a b c (halt.Fault (fault.TooLong line)) so_far stop =
       behind_start a b (TookRows buses first now old mid text) (λ at. IsTooLong at line)
-      (IsJudgedAt buses first old mid grown (Err (fault.TooLong line))) (λ x y took long. record {
+      (IsJudgedAt buses first tally old mid grown (Err (fault.TooLong line))) (λ x y took long. record {
         rows = took.rows;
         last = y;
         has = took.has;
         answers = λ plan start. long;
+        covered = λ plan start. tt;
         told = λ plan start.
             let wrote = took.told plan start in
             wrote_as (HasTold plan took.rows now) old mid text wrote
             (IsToldEarlier (is_traced first) plan took.rows) grown stop.1
             (earlier plan took.rows now wrote.told took.traced wrote.holds);
       }) so_far stop.0
-  halts now mid text grown a b c (halt.Fault (fault.Header line)) so_far stop = absurd stop
-  halts now mid text grown a b c (halt.Fault fault.Read) so_far stop = read_fails now mid text grown a b so_far stop
-  halts now mid text grown a b c (halt.Fault fault.Memory) so_far stop =
-      rest now mid text a b (IsJudgedAt buses first old mid grown (Err fault.Memory)) so_far (λ x y took. record {
+  halts tally now mid text grown a b c (halt.Fault (fault.Header line)) so_far stop = absurd stop
+  halts tally now mid text grown a b c (halt.Fault fault.Read) so_far stop = read_fails tally now mid text grown a b so_far stop
+  halts tally now mid text grown a b c (halt.Fault fault.Memory) so_far stop =
+      rest now mid text a b (IsJudgedAt buses first tally old mid grown (Err fault.Memory)) so_far (λ x y took. record {
         rows = took.rows;
         last = y;
         has = took.has;
         answers = λ plan start. tt;
+        covered = λ plan start. tt;
         told = λ plan start. so_far_part now mid text x y took plan start;
       })
-  halts now mid text grown a b c (halt.Fault fault.Write) so_far stop = absurd stop
+  halts tally now mid text grown a b c (halt.Fault fault.Write) so_far stop = absurd stop

@@ -3,6 +3,7 @@
 use Rattle.std.specs.Prelude.{◌≡◌, ◌≢◌, ◌⊎◌, ℕ, Bool, List, [], Option, Some, None, Result, Ok, Err, ⊤}
 use Rattle.std.specs.Io.KnownBytes.{Appends}
 use Rattle.check_rows.specs.Row.{SeenRow}
+use Rattle.check_review.specs.Covered.{AppendsCoverage, HasCovered}
 use Rattle.check_review.specs.Verdict.{HasCounts, HasLeft, IsFirstUnlawful, IsLawfulFile}
 use Rattle.check_records.specs.Reading.{StopsLong}
 use Rattle.check_records.specs.Source.{Between, Left}
@@ -10,7 +11,8 @@ use Rattle.check_records.specs.Text.{Ends, Gives, IsTooLong, Place}
 use Rattle.check_records.specs.Text.{Row as Record}
 use Rattle.check_sides.specs.Plan.{Plan}
 use Rattle.check_rows.specs.Column.{header}
-use Rattle.check_text.specs.Rows.{HasNoRow, HasRows, IsAnswer, IsOut, IsTimeOver}
+use Rattle.check_review.specs.declared.tally.Tally.{Tally}
+use Rattle.check_text.specs.Rows.{AreJudged, HasNoRow, HasRows, IsAnswer, IsOut, IsTimeOver, OfJudged}
 use Rattle.check_text.specs.declared.fault.CaptureFault.{CaptureFault}
 use Rattle.check_text.specs.declared.fault.CaptureFault.TheVariants as fault
 use Rattle.check_text.specs.declared.fault.Verdict.{Verdict}
@@ -88,6 +90,25 @@ IsWritten asked trace plan buses from old new (Err fault.Read) =
 IsWritten asked trace plan buses from old new (Err fault.Memory) =
     Appends old new [] ⊎ IsWrittenOf asked trace plan buses from old new (Err fault.Memory)
 IsWritten asked trace plan buses from old new (Err fault.Write) = IsWrittenOf asked trace plan buses from old new (Err fault.Write)
+
+-- something holds of the rows of a text that a verdict is of, as far as they are lawful
+pub record OfCapture (plan : Plan) (buses : LinkBuses) (from : Place) (verdict : Verdict) (Holds : List SeenRow → Type 0)
+    : Type 0 where
+  pub rows : List SeenRow
+  pub at : Place
+  pub begins : Begins buses from rows at
+  pub judged : AreJudged buses verdict rows at
+  pub holds : OfJudged plan verdict rows Holds
+
+-- this was counted of them
+abbrev pub IsCovered : Plan → LinkBuses → Place → Tally → Verdict → Type 0
+IsCovered plan buses from tally verdict =
+    OfCapture plan buses from verdict (λ crossed. HasCovered plan crossed tally)
+
+-- a text grew by what they cover, if that is asked for
+abbrev pub TellsCovered : Bool → Plan → LinkBuses → Place → List ℕ → List ℕ → Verdict → Type 0
+TellsCovered asked plan buses from old new verdict =
+    OfCapture plan buses from verdict (λ crossed. AppendsCoverage asked plan crossed old new)
 
 -- ---- for the proofs
 

@@ -8,6 +8,7 @@ use Rattle.check_rows.specs.Row.{SeenRow, seen_row}
 use Rattle.check_rows.specs.declared.row.Row.{Row}
 use Rattle.check_review.specs.Order.{HasRowFault, IsLater}
 use Rattle.check_review.specs.Verdict.{HasCounts, HasLeft, IsFirstUnlawful, IsLawfulFile, IsToldBefore, IsToldEarlier, IsToldFile, IsToldPart}
+use Rattle.check_review.specs.Covered.{HasCovered, IsCoveredBefore, OfBefore, OfLawful}
 use Rattle.check_review.specs.View.{HasTold, Judges, TellsOn, is_asked, is_traced}
 use Rattle.check_review.specs.View.{JudgeView}
 use Rattle.check_lines.specs.declared.verdict.Counts.{Counts}
@@ -17,6 +18,7 @@ use Rattle.check_review.specs.declared.stop.Refusal.TheVariants as refusal
 use Rattle.check_review.specs.declared.stop.Stop.{Stop}
 use Rattle.check_review.specs.declared.stop.Stop.TheVariants as stop
 use Rattle.check_review.specs.declared.stop.Unlawful.{Unlawful}
+use Rattle.check_review.specs.declared.tally.Tally.{Tally}
 use Rattle.check_records.specs.Source.{Between, Left}
 use Rattle.check_records.specs.Text.{Ends, Gives, IsTooLong, Place, Reads}
 use Rattle.check_records.specs.Text.{Row as Record}
@@ -109,6 +111,19 @@ IsOut trace plan (Err fault.Read) rows old new = WritesAll (IsToldEarlier trace 
 IsOut trace plan (Err fault.Memory) rows old new = WritesFront (IsToldPart trace plan rows) old new
 IsOut trace plan (Err fault.Write) rows old new = WritesPart (IsToldPart trace plan rows) old new
 
+-- something holds of the rows of a verdict that are lawful, in the order in which they cross: of lawful rows of all, also
+-- if requests are left; of unlawful ones of what crosses before the first that is
+abbrev pub OfJudged : Plan → Verdict → List SeenRow → (List SeenRow → Type 0) → Type 0
+OfJudged plan (Lawful counts) rows Holds = OfLawful plan rows Holds
+OfJudged plan (Incomplete left) rows Holds = OfLawful plan rows Holds
+OfJudged plan (NotLawful found) rows Holds = OfBefore plan rows found Holds
+
+-- the rows up to a place are those that a verdict is of: all of the text, or all to the end of some time
+abbrev pub AreJudged : LinkBuses → Verdict → List SeenRow → Place → Type 0
+AreJudged buses (Lawful counts) rows at = (end : Place) × Ends at end
+AreJudged buses (Incomplete left) rows at = (end : Place) × Ends at end
+AreJudged buses (NotLawful found) rows at = IsTimeOver buses rows at
+
 -- ---- for the proofs: a judge that takes rows
 
 -- rows are unlawful, the first by this one, and the next row is of a later time
@@ -136,19 +151,20 @@ abbrev pub TellsBefore : Bool → Plan → List SeenRow → List ℕ → List �
 TellsBefore trace plan rows so_far text grown found =
     (more : List ℕ) × (grown ≡ text ++ more) × IsToldBefore trace plan rows (so_far ++ more) found
 
--- why it did not, whatever rows it had taken
-abbrev pub StopsAt : LinkBuses → JudgeView → List ℕ → List ℕ → Left → Left → Halt → Type 0
-StopsAt buses judge text grown old new (halt.Unlawful found) =
+-- why it did not, whatever rows it had taken, and what was counted of them
+abbrev pub StopsAt : LinkBuses → JudgeView → Tally → List ℕ → List ℕ → Left → Left → Halt → Type 0
+StopsAt buses judge tally text grown old new (halt.Unlawful found) =
     Between old new (λ from to. (plan : Plan) (rows : List SeenRow) (so_far : List ℕ) → HasTold plan rows judge so_far
-    → IsUnlawfulBefore plan buses rows found from to × TellsBefore (is_traced judge) plan rows so_far text grown found)
-StopsAt buses judge text grown old new (halt.Fault (fault.Row line why)) =
+    → IsUnlawfulBefore plan buses rows found from to × IsCoveredBefore plan rows tally found
+    × TellsBefore (is_traced judge) plan rows so_far text grown found)
+StopsAt buses judge tally text grown old new (halt.Fault (fault.Row line why)) =
     Between old new (λ from to. (plan : Plan) (rows : List SeenRow) (so_far : List ℕ) → HasTold plan rows judge so_far
     → HasNoRow buses rows line why from to × (grown ≡ text))
-StopsAt buses judge text grown old new (halt.Fault (fault.TooLong line)) = StopsLong old line × (grown ≡ text)
-StopsAt buses judge text grown old new (halt.Fault (fault.Header line)) = ⊥
-StopsAt buses judge text grown old new (halt.Fault fault.Read) = grown ≡ text
-StopsAt buses judge text grown old new (halt.Fault fault.Memory) = ⊤
-StopsAt buses judge text grown old new (halt.Fault fault.Write) = ⊥
+StopsAt buses judge tally text grown old new (halt.Fault (fault.TooLong line)) = StopsLong old line × (grown ≡ text)
+StopsAt buses judge tally text grown old new (halt.Fault (fault.Header line)) = ⊥
+StopsAt buses judge tally text grown old new (halt.Fault fault.Read) = grown ≡ text
+StopsAt buses judge tally text grown old new (halt.Fault fault.Memory) = ⊤
+StopsAt buses judge tally text grown old new (halt.Fault fault.Write) = ⊥
 
 -- what becomes of the next row, which this record spells, while nothing is told and no row is refused: the judge took it,
 -- it is left with its lanes in the first places of a buffer, there is none, or it stops the judge
@@ -160,7 +176,7 @@ IsNext buses old new from to r lanes (next.Left row) =
     Between from to (λ a b. Gives a r b) × Spells buses r (seen_row row lanes) × (new ≡ old)
 IsNext buses old new from to r lanes next.End = Between from to Ends × (new ≡ old)
 IsNext buses old new from to r lanes (next.Fault why) =
-    (text : List ℕ) → StopsAt buses old text text from to (halt.Fault why)
+    (text : List ℕ) → StopsAt buses old new.tally text text from to (halt.Fault why)
 
 -- a row that is left is one that a judge can take: of a link that a system can have, with that link's bus
 pub record IsTakable (buses : LinkBuses) (row : Row) : Type 0 where
@@ -205,19 +221,25 @@ WroteBy trace plan (Err fault.Read) rows old new text = Wrote (IsToldEarlier tra
 WroteBy trace plan (Err fault.Memory) rows old new text = WritesFront (IsToldPart trace plan rows) old new
 WroteBy trace plan (Err fault.Write) rows old new text = WritesPart (IsToldPart trace plan rows) old new
 
+-- what was counted, if this is answered
+abbrev pub IsCountedBy : Plan → Result Verdict CaptureFault → List SeenRow → Tally → Type 0
+IsCountedBy plan (Ok verdict) rows tally = OfJudged plan verdict rows (λ crossed. HasCovered plan crossed tally)
+IsCountedBy plan (Err why) rows tally = ⊤
+
 -- a judge of no rows took some and answers this
-pub record IsJudgedAt (buses : LinkBuses) (first : JudgeView) (old new : Option (List ℕ)) (text : List ℕ)
+pub record IsJudgedAt (buses : LinkBuses) (first : JudgeView) (tally : Tally) (old new : Option (List ℕ)) (text : List ℕ)
     (answer : Result Verdict CaptureFault) (from : Place) : Type 0 where
   pub rows : List SeenRow
   pub last : Place
   pub has : HasRows buses rows from last
   pub answers : (plan : Plan) → Judges plan [] first → IsAnswer (is_asked first) plan buses answer rows last
+  pub covered : (plan : Plan) → Judges plan [] first → IsCountedBy plan answer rows tally
   pub told : (plan : Plan) → Judges plan [] first → WroteBy (is_traced first) plan answer rows old new text
 
-abbrev pub IsJudged : LinkBuses → JudgeView → Option (List ℕ) → Option (List ℕ) → List ℕ → Left → Result Verdict CaptureFault
+abbrev pub IsJudged : LinkBuses → JudgeView → Tally → Option (List ℕ) → Option (List ℕ) → List ℕ → Left → Result Verdict CaptureFault
     → Type 0
-IsJudged buses first old new text at answer =
-    IfSome at.text (λ left. IsJudgedAt buses first old new text answer (record { line = at.line; text = left }))
+IsJudged buses first tally old new text at answer =
+    IfSome at.text (λ left. IsJudgedAt buses first tally old new text answer (record { line = at.line; text = left }))
 
 -- what is answered where no more rows are taken, and where the last ones are refused
 abbrev pub answer_of : Halt → Result Verdict CaptureFault

@@ -3,9 +3,9 @@ ghost use Rattle.std.specs.Prelude.{◌≡◌, ◌≤◌, [], None, length, OnOk
 ghost use Rattle.check_records.specs.Source.{Between};
 ghost use Rattle.check_records.specs.Text.{start_of};
 ghost use Rattle.check_sides.specs.Plan.{Plan};
-ghost use Rattle.check_review.specs.View.{Judges, is_asked, is_traced};
+ghost use Rattle.check_review.specs.View.{Judges, is_asked, is_covered, is_traced};
 ghost use Rattle.check_text.specs.Buses.{HasBuses, link_buses};
-ghost use Rattle.check_text.specs.Capture.{HasHeader, HasHeaderFault, IsFault, IsVerdict, IsWritten};
+ghost use Rattle.check_text.specs.Capture.{HasHeader, HasHeaderFault, IsCovered, IsFault, IsVerdict, IsWritten};
 
 use crate::fault::{CaptureFault, Verdict};
 use crate::header::is_header;
@@ -37,26 +37,31 @@ fn read_header<R: Read + Drop>(records: &mut Records<R>) -> Result<(), CaptureFa
 
 /// Judges a capture that a reader gives, of a system whose links have these buses, by a judge that has taken no row.
 /// It reads to the end, or to the first row of a later time than one that is unlawful, or to the first record that is
-/// no row; what the judge tells of the rows by then is written.
+/// no row; what the judge tells of the rows by then is written. After a verdict the judge has counted what is covered, if
+/// that is asked for.
 pub fn judge_capture<R: Read + Drop, W: Write>(
     alloc: Global,
     reader: R,
     writer: &mut LimitedWriter<'_, W>,
-    judge: Judge,
+    judge: &mut Judge,
     buses: &Buses<'_>,
 ) -> Result<Verdict, CaptureFault>
     requires masters { length buses.now.masters.now ≤ MAX_MASTERS }
     requires ports { length buses.now.ports.now ≤ MAX_PORTS }
-    requires buses { HasBuses judge.tally.watch.layout (link_buses buses.now) }
-    ensures verdict { (plan : Plan) → Judges plan [] judge
+    requires buses { HasBuses judge.old.tally.watch.layout (link_buses buses.now) }
+    ensures verdict { (plan : Plan) → Judges plan [] judge.old
         → IfOk result (λ verdict. IfSome (R.remaining reader) (λ text.
-        IsVerdict (is_asked judge) plan (link_buses buses.now) (start_of text) verdict)) }
-    ensures fault { (plan : Plan) → Judges plan [] judge
+        IsVerdict (is_asked judge.old) plan (link_buses buses.now) (start_of text) verdict)) }
+    ensures fault { (plan : Plan) → Judges plan [] judge.old
         → IfErr result (λ fault. IfSome (R.remaining reader) (λ text.
         IsFault plan (link_buses buses.now) (start_of text) fault)) }
+    ensures covered { is_covered judge.new ≡ is_covered judge.old }
+    ensures covers { (plan : Plan) → Judges plan [] judge.old
+        → IfOk result (λ verdict. IfSome (R.remaining reader) (λ text.
+        IsCovered plan (link_buses buses.now) (start_of text) judge.new.tally verdict)) }
     ensures same { writer.new.writer.ghost_name ≡ writer.old.writer.ghost_name }
-    ensures told { (plan : Plan) → Judges plan [] judge → IfSome (R.remaining reader) (λ text.
-        IsWritten (is_asked judge) (is_traced judge) plan (link_buses buses.now) (start_of text)
+    ensures told { (plan : Plan) → Judges plan [] judge.old → IfSome (R.remaining reader) (λ text.
+        IsWritten (is_asked judge.old) (is_traced judge.old) plan (link_buses buses.now) (start_of text)
         (W.contents writer.old.writer.now) (W.contents writer.new.writer.now) result) }
 {
     let mut records = Records::new(alloc, reader)?;

@@ -4,6 +4,7 @@ ghost use Rattle.check_records.specs.Source.{Between};
 ghost use Rattle.check_rows.specs.Buses.{HasBus};
 ghost use Rattle.check_rows.specs.Moment.{IsLink};
 ghost use Rattle.check_rows.specs.Row.{row_in, row_of};
+ghost use Rattle.check_review.specs.View.{is_covered};
 ghost use Rattle.check_text.specs.Buses.{HasBuses, link_buses};
 ghost use Rattle.check_text.specs.Rows.{AllTaken, GoesOn, IsJudged, IsNext, answer_of, ended, halt_of, refused};
 
@@ -74,6 +75,7 @@ fn take_next<R: Read + Drop>(
         records.new.row lanes.new result }
     ensures goes_on { GoesOn (link_buses buses.now) records.new result }
     ensures layout { judge.new.tally.watch.layout ≡ judge.old.tally.watch.layout }
+    ensures covered { is_covered judge.new ≡ is_covered judge.old }
 {
     match records.read_in_place() {
         Ok(true) => {}
@@ -117,10 +119,11 @@ fn take_rows<R: Read + Drop, W: Write>(
     requires buses { HasBuses judge.old.tally.watch.layout (link_buses buses.now) }
     requires empty { text.old.items ≡ [] }
     ensures same { writer.new.writer.ghost_name ≡ writer.old.writer.ghost_name }
+    ensures covered { is_covered judge.new ≡ is_covered judge.old }
     ensures ok { OnOk result (Between records.old.left records.new.left
         (AllTaken (link_buses buses.now) judge.old judge.new (W.contents writer.old.writer.now)
         (W.contents writer.new.writer.now) text.new.items)) }
-    ensures halt { IfErr result (λ halt. IsJudged (link_buses buses.now) judge.old
+    ensures halt { IfErr result (λ halt. IsJudged (link_buses buses.now) judge.old judge.new.tally
         (W.contents writer.old.writer.now) (W.contents writer.new.writer.now) text.new.items
         records.old.left (answer_of halt)) }
 {
@@ -177,7 +180,7 @@ fn ended(ending: Ending) -> Verdict
 pub fn judge_rows<R: Read + Drop, W: Write>(
     alloc: Global,
     records: &mut Records<R>,
-    mut judge: Judge,
+    judge: &mut Judge,
     buses: &Buses<'_>,
     writer: &mut LimitedWriter<'_, W>,
     text: &mut Vec<u8>,
@@ -185,13 +188,14 @@ pub fn judge_rows<R: Read + Drop, W: Write>(
     requires fresh { records.old.fault ≡ None }
     requires masters { length buses.now.masters.now ≤ MAX_MASTERS }
     requires ports { length buses.now.ports.now ≤ MAX_PORTS }
-    requires buses { HasBuses judge.tally.watch.layout (link_buses buses.now) }
+    requires buses { HasBuses judge.old.tally.watch.layout (link_buses buses.now) }
     requires empty { text.old.items ≡ [] }
     ensures same { writer.new.writer.ghost_name ≡ writer.old.writer.ghost_name }
-    ensures judged { IsJudged (link_buses buses.now) judge (W.contents writer.old.writer.now)
+    ensures covered { is_covered judge.new ≡ is_covered judge.old }
+    ensures judged { IsJudged (link_buses buses.now) judge.old judge.new.tally (W.contents writer.old.writer.now)
         (W.contents writer.new.writer.now) text.new.items records.old.left result }
 {
-    if let Err(halt) = take_rows(alloc, records, &mut judge, buses, writer, text) {
+    if let Err(halt) = take_rows(alloc, records, judge, buses, writer, text) {
         return answer_of(halt);
     }
     match judge.end(alloc, text) {

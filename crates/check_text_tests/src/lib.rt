@@ -11,6 +11,7 @@
 //! - `slaves`: tables of sizes, devices and registers;
 //! - `sources`: sources in low bits and in blocks, names of links, and the most links;
 //! - `sides`: the links that are watched, and what crosses between them;
+//! - `covered`: what captures cover;
 //! - `told`: lines of replies, requests that are left, and counts;
 //! - `texts`: texts that are no captures;
 //! - `refused`: what is answered if memory is refused.

@@ -1,4 +1,5 @@
 mod buses;
+mod covered;
 mod memories;
 mod orders;
 mod refused;

@@ -209,6 +209,7 @@ fn asked(links: Links, trace: bool) -> Asked {
         order: Order::Any,
         trace,
         complete: false,
+        coverage: false,
     }
 }
 

@@ -1,6 +1,6 @@
 //! What is answered if memory is refused. These tests hold whether their requests for memory are granted or not, so that
 //! each request may be refused in turn (`rt try --test --fail-alloc N`): what is printed is right, or memory was refused.
-use super::scene::{Asked, Capture, try_print};
+use super::scene::{Asked, Capture, try_print, watching};
 use check_flight::Order;
 use check_keys::SystemFault;
 use check_sides::Links;
@@ -179,6 +179,34 @@ const EACH: [Capture; 2] = [
     ),
 ];
 
+/// What a capture covers, after its verdict.
+const COVERED: [Capture; 1] = [(
+    &[
+        "1,m0,A,0,0,2,0,1000,f,00000001,,",
+        "3,m0,D,0,,2,0,,,,0,0",
+        "4,m0,A,4,0,2,1,1000,f,,,",
+    ],
+    "lawful: 3 rows, 2 requests, 1 answered
+coverage 1
+asked m0 p0 putfull 2 aligned 1
+asked m0 p0 get 2 aligned 1
+answered m0 p0 putfull 2 given 1
+beats m0 p0 A 1 2
+beats m0 p0 D 1 1
+in_flight m0 1 2
+at_port p0 1 2
+",
+)];
+
+#[test]
+fn what_is_covered_is_right_or_memory_is_refused(rt: HostRuntime) {
+    let asked = Asked {
+        coverage: true,
+        ..watching(Links::Masters)
+    };
+    expect_each_or_none(&rt, rt.alloc(), asked, &COVERED);
+}
+
 #[test]
 fn the_verdict_is_right_or_memory_is_refused(rt: HostRuntime) {
     // requests come one at a time, so any order is that of acceptance
@@ -188,6 +216,7 @@ fn the_verdict_is_right_or_memory_is_refused(rt: HostRuntime) {
             order,
             trace: true,
             complete: true,
+            coverage: false,
         };
         expect_each_or_none(&rt, rt.alloc(), asked, &BOTH);
     }
@@ -200,6 +229,7 @@ fn each_side_is_judged_or_memory_is_refused(rt: HostRuntime) {
         order: Order::Reply,
         trace: false,
         complete: false,
+        coverage: false,
     };
     expect_each_or_none(&rt, rt.alloc(), asked, &EACH);
 }

@@ -1,4 +1,5 @@
 //! A system and a capture, as texts, through the judge to the lines that are printed.
+use check_coverage::Coverage;
 use check_description::{Description, describe, read_parts};
 use check_flight::Order;
 use check_keys::SystemFault;
@@ -23,6 +24,7 @@ pub struct Asked {
     pub order: Order,
     pub trace: bool,
     pub complete: bool,
+    pub coverage: bool,
 }
 
 /// These links are watched, and nothing else is asked for.
@@ -32,6 +34,7 @@ pub fn watching(links: Links) -> Asked {
         order: Order::Accept,
         trace: false,
         complete: false,
+        coverage: false,
     }
 }
 
@@ -69,6 +72,15 @@ fn pending_if(alloc: Global, asked: bool, watch: &Watch) -> Result<Option<Pendin
     Ok(Some(pending_of(alloc, watch)?))
 }
 
+/// What is covered, if it is asked for.
+fn coverage_if(alloc: Global, asked: bool) -> Option<Coverage> {
+    if asked {
+        Some(Coverage::new(alloc))
+    } else {
+        None
+    }
+}
+
 /// Appends what is printed at last. What is traced goes to a `Vec`, whose writes fail only if memory is refused.
 fn push_end(
     alloc: Global,
@@ -85,7 +97,7 @@ fn push_end(
     }
 }
 
-/// What is printed of a capture of a system.
+/// What is printed of a capture of a system; after a verdict also what it covers, if that is asked for.
 fn judge_text(
     alloc: Global,
     asked: Asked,
@@ -99,15 +111,20 @@ fn judge_text(
     };
     let begun = begin(alloc, system, images, terms)?;
     let pending = pending_if(alloc, asked.complete, &begun.watch)?;
-    let judge = Judge::new(begun.watch, asked.trace, pending);
+    let coverage = coverage_if(alloc, asked.coverage);
+    let mut judge = Judge::new(begun.watch, asked.trace, pending, coverage);
     let buses = Buses {
         masters: &begun.master_buses,
         ports: &begun.port_buses,
     };
     let mut out = Vec::new(alloc);
     let mut writer = LimitedWriter::new(&mut out);
-    let answer = judge_capture(alloc, text.as_bytes(), &mut writer, judge, &buses);
+    let answer = judge_capture(alloc, text.as_bytes(), &mut writer, &mut judge, &buses);
+    let is_judged = answer.is_ok();
     push_end(alloc, &mut out, &begun.names, answer)?;
+    if is_judged {
+        judge.append_coverage(&mut out)?;
+    }
     Ok(out)
 }
 

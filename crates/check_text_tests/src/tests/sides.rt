@@ -599,6 +599,7 @@ const BY_REPLY: Asked = Asked {
     order: Order::Reply,
     trace: false,
     complete: false,
+    coverage: false,
 };
 
 #[test]

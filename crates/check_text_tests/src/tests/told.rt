@@ -35,6 +35,7 @@ fn tracing(links: Links) -> Asked {
         order: Order::Accept,
         trace: true,
         complete: false,
+        coverage: false,
     }
 }
 
@@ -45,6 +46,7 @@ fn asking(links: Links, trace: bool) -> Asked {
         order: Order::Accept,
         trace,
         complete: true,
+        coverage: false,
     }
 }
 

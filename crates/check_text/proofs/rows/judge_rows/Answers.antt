@@ -8,7 +8,7 @@ pub returns-in-Ok-clause-judged : goal.returns-in-Ok-clause-judged
 returns-in-Ok-clause-judged g c =
     let contents = g.W.Write.contents in
     rw c.ended.ensures
-    (ends_lawful (link_buses c.args.buses.now) c.args.judge c.take_rows.new.judge (contents c.args.writer.now.writer.now)
+    (ends_lawful (link_buses c.args.buses.now) c.args.judge.now c.take_rows.new.judge c.end.new.self.tally (contents c.args.writer.now.writer.now)
     (contents c.take_rows.new.writer.writer.now)
     c.take_rows.new.text.items c.end.new.text.items c.args.records.now.left c.take_rows.new.records.left c.in_default.ensures.ok c.in-Ok.ending.counts c.in-Ok.ending.left
     (λ plan rows judges. (
@@ -16,14 +16,16 @@ returns-in-Ok-clause-judged g c =
       c.in-Ok.ensures.counts plan rows judges,
       c.in-Ok.ensures.left plan rows judges,
     ))
+    (λ plan rows judges. c.in-Ok.ensures.covers plan rows judges)
     (λ plan rows so_far has. c.in-Ok.ensures.told plan rows so_far has))
 
 pub returns-in-Err-end-clause-judged : goal.returns-in-Err-end-clause-judged
 returns-in-Err-end-clause-judged g c =
     let contents = g.W.Write.contents in
     rw c.refused.ensures
-    (ends_refused (link_buses c.args.buses.now) c.args.judge c.take_rows.new.judge (contents c.args.writer.now.writer.now)
+    (ends_refused (link_buses c.args.buses.now) c.args.judge.now c.take_rows.new.judge c.end.new.self.tally (contents c.args.writer.now.writer.now)
     (contents c.take_rows.new.writer.writer.now)
     c.take_rows.new.text.items c.end.new.text.items c.args.records.now.left c.take_rows.new.records.left c.in_default.ensures.ok c.in-Err-end.refusal
     (λ plan rows judges. c.in-Err-end.ensures.fault plan rows judges)
+    (λ plan rows judges. c.in-Err-end.ensures.fault_covers plan rows judges)
     (λ plan rows so_far has. c.in-Err-end.ensures.fault_told plan rows so_far has))

@@ -15,7 +15,7 @@ returns-in-Ok-false-clause-next g c = (rw c.in-Ok-false.field-0-test at c.in-Ok-
 
 pub returns-in-Err-clause-next : goal.returns-in-Err-clause-next
 returns-in-Err-clause-next g c = λ text.
-    rw c.from.ensures (read_stops (link_buses c.args.buses.now) c.args.judge.now text c.args.records.now.left c.read_in_place.new.self.left c.in-Err.fault
+    rw c.from.ensures (read_stops (link_buses c.args.buses.now) c.args.judge.now c.args.judge.now.tally text c.args.records.now.left c.read_in_place.new.self.left c.in-Err.fault
     (λ line is. c.in-Err.ensures.long line (ap Err is) c.requires.fresh))
 
 pub returns-in-Err-row_at_hand-clause-next : goal.returns-in-Err-row_at_hand-clause-next
@@ -26,7 +26,7 @@ returns-in-Err-row_at_hand-clause-next g c = λ text.
     let gives : Between old new (λ from to. Gives from r to) =
     rw c.in-Ok-true.field-0-test at c.in-Ok-true.ensures.ok in
     rw c.line.ensures
-    (no_row (link_buses c.args.buses.now) r c.in-Err-row_at_hand.fault old new c.args.judge.now text gives
+    (no_row (link_buses c.args.buses.now) r c.in-Err-row_at_hand.fault old new c.args.judge.now c.args.judge.now.tally text gives
     (sym c.in-Err-row_at_hand.ensures.value))
 
 pub returns-in-Ok-true-take_quietly-clause-next : goal.returns-in-Ok-true-take_quietly-clause-next

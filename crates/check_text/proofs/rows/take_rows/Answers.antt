@@ -17,6 +17,7 @@ loop-init g c =
     (TookRows (link_buses c.args.buses.now) c.args.judge.now c.args.judge.now old old text) in
     record {
       fresh = c.requires.fresh;
+      covered = refl;
       layout = refl;
       same = refl;
       taken = subst P (sym c.requires.empty) (took_none (link_buses c.args.buses.now) c.args.judge.now old c.args.records.now.left);
@@ -25,7 +26,8 @@ loop-init g c =
 pub returns-clause-halt : goal.returns-clause-halt
 returns-clause-halt g c =
     let contents = g.W.Write.contents in
-    read_fails (link_buses c.args.buses.now) c.args.judge.now (contents c.args.writer.now.writer.now) c.loop.judge
+    read_fails (link_buses c.args.buses.now) c.args.judge.now (contents c.args.writer.now.writer.now) c.loop.judge.tally
+    c.loop.judge
     (contents c.loop.writer.writer.now)
     c.loop.text.items c.loop.text.items c.args.records.now.left c.loop.records.left c.loop.invariant.taken refl
 
@@ -33,8 +35,8 @@ pub returns-in-Fault-clause-halt : goal.returns-in-Fault-clause-halt
 returns-in-Fault-clause-halt g c =
     let contents = g.W.Write.contents in
     let text = c.loop.text.items in
-    halts (link_buses c.args.buses.now) c.args.judge.now (contents c.args.writer.now.writer.now) c.loop.judge
-    (contents c.loop.writer.writer.now)
+    halts (link_buses c.args.buses.now) c.args.judge.now (contents c.args.writer.now.writer.now) c.take_next.new.judge.tally
+    c.loop.judge (contents c.loop.writer.writer.now)
     text text c.args.records.now.left c.loop.records.left c.take_next.new.records.left (halt.Fault c.in-Fault.fault)
     c.loop.invariant.taken (c.in-Fault.ensures.next text)
 
@@ -47,14 +49,15 @@ returns-in-Err-clause-halt g c =
     let text = c.loop.text.items in
     let grown = c.take.new.text.items in
     let next = c.in-Left.ensures.next in
-    let S : JudgeView → Type 0 = λ judge. StopsAt (link_buses c.args.buses.now) judge text grown at to (halt_of r.line c.in-Err.stop) in
+    let S : JudgeView → Type 0 = λ judge. StopsAt (link_buses c.args.buses.now) judge c.take.new.self.tally text grown at to (halt_of r.line c.in-Err.stop) in
     rw (c.halt_of.ensures, c.line.ensures)
-    (halts (link_buses c.args.buses.now) c.args.judge.now (contents c.args.writer.now.writer.now) c.loop.judge
-    (contents c.loop.writer.writer.now)
+    (halts (link_buses c.args.buses.now) c.args.judge.now (contents c.args.writer.now.writer.now) c.take.new.self.tally
+    c.loop.judge (contents c.loop.writer.writer.now)
     text grown c.args.records.now.left at to (halt_of r.line c.in-Err.stop) c.loop.invariant.taken
-    (subst S next.2 (row_stops (link_buses c.args.buses.now) r (seen_row c.in-Left.row c.take_next.new.lanes) next.1 at to next.0 c.take_next.new.judge text grown c.in-Err.stop
+    (subst S next.2 (row_stops (link_buses c.args.buses.now) r (seen_row c.in-Left.row c.take_next.new.lanes) next.1 at to next.0 c.take_next.new.judge c.take.new.self.tally text grown c.in-Err.stop
     (λ plan rows so_far has. (
       c.in-Err.ensures.stop plan rows has.judges,
+      c.in-Err.ensures.stop_covered plan rows has.judges,
       c.in-Err.ensures.stop_told plan rows so_far has,
     )))))
 
@@ -69,7 +72,8 @@ returns-in-Err-write_long-clause-halt g c =
     let next = c.in-Left.ensures.next in
     let T : JudgeView → Type 0 = λ judge. Took judge (seen_row c.in-Left.row c.take_next.new.lanes) c.take.new.self text grown in
     rw c.in-Err-write_long.ensures.fault
-    (fails (link_buses c.args.buses.now) c.args.judge.now (contents c.args.writer.now.writer.now) c.loop.judge c.take.new.self
+    (fails (link_buses c.args.buses.now) c.args.judge.now (contents c.args.writer.now.writer.now) c.take.new.self.tally
+    c.loop.judge c.take.new.self
     (contents c.loop.writer.writer.now) (contents c.write_long.new.writer.writer.now)
     text grown c.write_long.new.text.items c.args.records.now.left at to c.loop.invariant.taken
     (row_taken (link_buses c.args.buses.now) r (seen_row c.in-Left.row c.take_next.new.lanes) next.1 at to next.0 c.loop.judge c.take.new.self text grown
@@ -93,6 +97,7 @@ loop-preserved g c =
           let next = w.in-Taken.ensures.next in
           rw (w.judge-is, w.writer-is, w.text-is) (record {
             fresh = w.in-Taken.ensures.goes_on;
+            covered = w.in-Taken.ensures.covered ∙ c.loop.invariant.covered;
             layout = w.in-Taken.ensures.layout ∙ c.loop.invariant.layout;
             same = c.loop.invariant.same;
             taken = took_quietly (link_buses c.args.buses.now) c.args.judge.now (contents c.args.writer.now.writer.now) c.loop.judge c.take_next.new.judge
@@ -105,6 +110,7 @@ loop-preserved g c =
           let T : JudgeView → Type 0 = λ judge. Took judge (seen_row w.in-Left.row c.take_next.new.lanes) w.take.new.self text grown in
           rw (w.judge-is, w.writer-is, w.text-is) (record {
             fresh = w.in-Left.ensures.goes_on.0;
+            covered = w.in_default.ensures.covered ∙ w.in-Left.ensures.covered ∙ c.loop.invariant.covered;
             layout = w.in_default.ensures.layout ∙ w.in-Left.ensures.layout ∙ c.loop.invariant.layout;
             same = w.in_default-write_long.ensures.same ∙ c.loop.invariant.same;
             taken = took_more (link_buses c.args.buses.now) c.args.judge.now (contents c.args.writer.now.writer.now) c.loop.judge w.take.new.self

@@ -2,9 +2,11 @@
 use Rattle.std.proofs.Common.{◌≡◌, ◌↔◌, ◌++◌, Bool, Err, IsOk, IfErr, List, ℕ, ap, reverse, subst}
 use Rattle.check_rows.specs.Row.{SeenRow}
 use Rattle.check_review.specs.Order.{watched}
-use Rattle.check_review.specs.View.{HasTold, JudgeView, Judges, is_asked, is_traced}
+use Rattle.check_review.specs.Covered.{IsCoveredBefore, IsCoveredFile}
+use Rattle.check_review.specs.View.{HasTold, JudgeView, Judges, is_asked, is_traced, wants}
 use Rattle.check_review.specs.Verdict.{HasCounts, HasLeft, IsFirstUnlawful, IsLawfulFile, IsToldBefore, IsToldFile, IsWhatIsLeft, MayWantMemory, OfUnlawful}
 use Rattle.check_review.specs.declared.stop.Refusal.TheVariants as refusals
+use Rattle.check_review.proofs.Covering.{covered_before, covered_file}
 use Rattle.check_review.proofs.Judging.{first_unlawful, may_want, refused_is_not_lawful, told_before, told_file}
 use Rattle.check_review.proofs.Keeping.{of_unlawful}
 use Rattle.check_review.proofs.judge.Judge.end.Goals as goal
@@ -37,8 +39,8 @@ returns-in-Err-clause-fault_told c plan file so_far =
 pub returns-in-Err-clause-memory : goal.returns-in-Err-clause-memory
 returns-in-Err-clause-memory c plan file =
     subst (λ (judge : JudgeView). Judges plan file judge → c.in-Err.refusal ≡ refusals.Memory
-    → MayWantMemory (is_traced judge) plan file) c.self.view_is
-    (λ judges is. may_want c.self.inside.tally.trace plan file _ judges
+    → MayWantMemory (wants judge.tally) plan file) c.self.view_is
+    (λ judges is. may_want (wants c.self.inside.tally) plan file _ judges
     (c.in-Err.ensures.memory plan judges.before judges.kept is))
 
 pub returns-clause-told : goal.returns-clause-told
@@ -80,3 +82,17 @@ returns-clause-counts c plan file =
       requests = kept.tallied.requests;
       answered = kept.tallied.answered;
     })
+
+pub returns-in-Err-clause-fault_covers : goal.returns-in-Err-clause-fault_covers
+returns-in-Err-clause-fault_covers c plan file =
+    let tally = c.judge_rows.new.self in
+    subst (λ (judge : JudgeView). Judges plan file judge → OfUnlawful (IsCoveredBefore plan file tally) c.in-Err.refusal)
+    c.self.view_is
+    (λ judges. of_unlawful _ _ c.in-Err.refusal (λ found stops. covered_before plan file _ tally found judges stops)
+    (c.in-Err.ensures.fault_covered plan judges.before judges.kept))
+
+pub returns-clause-covers : goal.returns-clause-covers
+returns-clause-covers c plan file =
+    let tally = c.judge_rows.new.self in
+    subst (λ (judge : JudgeView). Judges plan file judge → IsCoveredFile plan file tally) c.self.view_is
+    (λ judges. covered_file plan file _ tally judges (c.in_default.ensures.keeps plan judges.before judges.kept))

@@ -3,8 +3,10 @@ use Rattle.std.proofs.Common.{◌≡◌, ◌∙◌, ◌<◌, ◌++◌, ◌∷◌
 use Rattle.check_rows.specs.Row.{SeenRow, seen_row}
 use Rattle.check_review.specs.declared.tally.Tally.{Tally}
 use Rattle.check_review.specs.Verdict.{IsStop, MayWantMemory}
-use Rattle.check_review.specs.View.{HasTold, JudgeView, Judges, Kept, TellsOn, TellsStop, is_traced}
+use Rattle.check_review.specs.Covered.{CoversStop}
+use Rattle.check_review.specs.View.{HasTold, JudgeView, Judges, Kept, TellsOn, TellsStop, is_traced, wants}
 use Rattle.check_review.specs.declared.stop.Stop.TheVariants as stops
+use Rattle.check_review.proofs.Covering.{covered_before, covers_so}
 use Rattle.check_review.proofs.Judging.{first_unlawful, judges_later, later_all, may_want, stops_so, tells_so, told_before, told_later, wants_so}
 use Rattle.check_review.proofs.Keeping.{of_unlawful}
 use Rattle.check_review.proofs.judge.Judge.go_on.Goals as goal
@@ -33,9 +35,9 @@ returns-in-Err-clause-stop_told c plan file so_far =
 pub returns-in-Err-clause-memory : goal.returns-in-Err-clause-memory
 returns-in-Err-clause-memory c plan file =
     subst (λ (judge : JudgeView). Judges plan file judge → c.stop_of.result ≡ stops.Memory
-    → MayWantMemory (is_traced judge) plan file) c.self.view_is
+    → MayWantMemory (wants judge.tally) plan file) c.self.view_is
     (λ judges is. wants_so c.in-Err.refusal (sym c.stop_of.ensures ∙ is) (λ refused.
-    may_want c.self.inside.tally.trace plan file _ judges (c.in-Err.ensures.memory plan judges.before judges.kept refused)))
+    may_want (wants c.self.inside.tally) plan file _ judges (c.in-Err.ensures.memory plan judges.before judges.kept refused)))
 
 pub returns-clause-keeps : goal.returns-clause-keeps
 returns-clause-keeps c plan file =
@@ -76,3 +78,11 @@ returns-clause-told c plan file so_far =
     (ap (λ (judge : JudgeView). judge.tally.trace) c.begin_moment.ensures ∙ c.in_default.ensures.trace)
     (c.in_default.ensures.told plan has.judges.before has.judges.kept))
     c.requires.later
+
+pub returns-in-Err-clause-stop_covered : goal.returns-in-Err-clause-stop_covered
+returns-in-Err-clause-stop_covered c plan file =
+    let tally = c.judge_rows.new.self in
+    subst (λ (judge : JudgeView). Judges plan file judge → CoversStop plan file tally c.stop_of.result) c.self.view_is
+    (λ judges. rw c.stop_of.ensures (covers_so plan file tally c.in-Err.refusal
+    (of_unlawful _ _ c.in-Err.refusal (λ found stops. covered_before plan file _ tally found judges stops)
+    (c.in-Err.ensures.fault_covered plan judges.before judges.kept))))

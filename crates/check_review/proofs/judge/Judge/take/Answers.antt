@@ -2,7 +2,7 @@
 use Rattle.std.proofs.Common.{◌≡◌, IfErr, sym, subst}
 use Rattle.check_rows.specs.Row.{seen_row}
 use Rattle.check_review.specs.Verdict.{MayWantMemory}
-use Rattle.check_review.specs.View.{JudgeView, Judges, is_traced}
+use Rattle.check_review.specs.View.{JudgeView, Judges, wants}
 use Rattle.check_review.specs.declared.stop.Stop.TheVariants as stops
 use Rattle.check_review.proofs.Judging.{judges_now, fault_of, told_now}
 use Rattle.check_review.proofs.judge.Judge.take.Goals as goal
@@ -40,5 +40,5 @@ pub returns-in-Ok-false-clause-memory : goal.returns-in-Ok-false-clause-memory
 returns-in-Ok-false-clause-memory c plan file judges =
     let same = c.in-Ok-false.ensures.left c.in-Ok-false.field-0-test in
     subst (λ (judge : JudgeView). IfErr c.go_on.result (λ stop. stop ≡ stops.Memory
-    → MayWantMemory (is_traced judge) plan file)) same
+    → MayWantMemory (wants judge.tally) plan file)) same
     (c.go_on.ensures.memory plan file (subst (λ (judge : JudgeView). Judges plan file judge) (sym same) judges))

@@ -6,8 +6,9 @@ use Rattle.check_unanswered.specs.Began.{row_with}
 use Rattle.check_review.specs.Order.{seen}
 use Rattle.check_review.specs.Told.{AppendsTold}
 use Rattle.check_review.specs.Verdict.{MayWantAfter}
-use Rattle.check_review.specs.View.{Kept}
+use Rattle.check_review.specs.View.{Kept, wants}
 use Rattle.check_review.proofs.Keeping.{one_more, row_at, stops_there, wants_there}
+use Rattle.check_review.proofs.Covering.{covers_there, wants_same}
 use Rattle.check_review.proofs.Telling.{tells_then}
 use Rattle.check_review.proofs.tally.Tally.judge_rows.Goals as goal
 
@@ -30,9 +31,22 @@ returns-in-Err-clause-memory c plan before kept = λ is.
     let row = row_with c.get.result.0.now c.get.result.1.now in
     let inside : i < length rows = omega (arith, c.loop-place-test.true, c.len-place-end.ensures.value) in
     let here = row_at rows i c.get.result.0.now c.get.result.1.now c.get.ensures.lanes c.get.ensures.row in
-    wants_there c.args.self.now.trace plan rows before i row inside here
-    (subst (λ t. MayWantAfter t plan (reverse (take i rows) ++ before) row) c.loop-place.invariant.trace
+    wants_there (wants c.args.self.now) plan rows before i row inside here
+    (subst (λ t. MayWantAfter t plan (reverse (take i rows) ++ before) row)
+    (wants_same c.args.self.now c.loop-place.self c.loop-place.invariant.trace c.loop-place.invariant.covered)
     (c.in-Err.ensures.memory plan (reverse (take i rows) ++ before) (c.loop-place.invariant.keeps plan before kept) is))
+
+pub returns-in-Err-clause-fault_covered : goal.returns-in-Err-clause-fault_covered
+returns-in-Err-clause-fault_covered c plan before kept =
+    let rows = c.args.moment.now.rows in
+    let i = c.loop-place.place in
+    let row = row_with c.get.result.0.now c.get.result.1.now in
+    let inside : i < length rows = omega (arith, c.loop-place-test.true, c.len-place-end.ensures.value) in
+    let here = row_at rows i c.get.result.0.now c.get.result.1.now c.get.ensures.lanes c.get.ensures.row in
+    let so_far = c.loop-place.invariant.keeps plan before kept in
+    covers_there plan rows before i row c.loop-place.self c.judge_row.new.self c.in-Err.refusal inside here
+    (c.in-Err.ensures.fault plan (reverse (take i rows) ++ before) so_far) so_far c.in-Err.ensures.layout
+    c.in-Err.ensures.uncovered
 
 pub loop-place-preserved : goal.loop-place-preserved
 loop-place-preserved c =
@@ -45,6 +59,7 @@ loop-place-preserved c =
       layout = c.in_default.ensures.layout ∙ c.loop-place.invariant.layout;
       trace = c.in_default.ensures.trace ∙ c.loop-place.invariant.trace;
       asked = c.in_default.ensures.asked ∙ c.loop-place.invariant.asked;
+      covered = c.in_default.ensures.covered ∙ c.loop-place.invariant.covered;
       keeps = λ plan before kept. subst (λ l. Kept plan l c.judge_row.new.self) (sym (one_more rows before i row inside here))
           (c.in_default.ensures.keeps plan (reverse (take i rows) ++ before)
           (c.loop-place.invariant.keeps plan before kept));

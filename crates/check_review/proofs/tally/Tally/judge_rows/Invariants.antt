@@ -12,6 +12,7 @@ invariant-loop-place l = record {
   layout : l.self.watch.layout ≡ l.initial.self.watch.layout;
   trace : l.self.trace ≡ l.initial.self.trace;
   asked : is_some l.self.pending ≡ is_some l.initial.self.pending;
+  covered : is_some l.self.coverage ≡ is_some l.initial.self.coverage;
   keeps : (plan : Plan) (before : List SeenRow) → Kept plan before l.initial.self
       → Kept plan (reverse (take l.place l.moment.rows) ++ before) l.self;
   told : (plan : Plan) (before : List SeenRow) → Kept plan before l.initial.self

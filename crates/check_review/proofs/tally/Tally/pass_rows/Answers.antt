@@ -4,7 +4,7 @@ use Rattle.check_rows.specs.Row.{SeenRow}
 use Rattle.check_unanswered.specs.Began.{row_with}
 use Rattle.check_review.specs.Order.{seen}
 use Rattle.check_review.specs.Told.{AppendsTold}
-use Rattle.check_review.specs.View.{Kept}
+use Rattle.check_review.specs.View.{Kept, wants}
 use Rattle.check_review.proofs.Keeping.{alone, if_err, if_ok, row_at, wants_there}
 use Rattle.check_review.proofs.Telling.{tells_none}
 use Rattle.check_review.proofs.tally.Tally.pass_rows.Goals as goal
@@ -36,5 +36,5 @@ returns-clause-memory c plan before kept =
     let row = row_with c.get.result.0.now c.get.result.1.now in
     let one : length rows ≡ 1 = omega (arith, c.if-len-ne1.false, c.len.ensures.value) in
     let here = row_at rows 0 c.get.result.0.now c.get.result.1.now c.get.ensures.lanes c.get.ensures.row in
-    if_err c.pass_row.result (wants_there c.args.self.now.trace plan rows before 0 row (omega (arith, one)) here)
+    if_err c.pass_row.result (wants_there (wants c.args.self.now) plan rows before 0 row (omega (arith, one)) here)
     (c.pass_row.ensures.memory plan before kept)
