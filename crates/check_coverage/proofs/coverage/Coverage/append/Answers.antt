@@ -1,5 +1,5 @@
 -- The first line, and those of all bins.
-use Rattle.std.proofs.Common.{◌≡◌, ap, arith, length, List}
+use Rattle.std.proofs.Common.{◌≡◌, ◌∙◌, ap, arith, length, List}
 use Rattle.tl_map.specs.declared.map.Range.{Range}
 use Rattle.check_sides.specs.Plan.{Layout}
 use Rattle.check_coverage.proofs.Covered.{covered_text}
