@@ -10,16 +10,8 @@ use Rattle.check_coverage.specs.declared.coverage.Coverage.{Coverage}
 use Rattle.check_coverage.specs.Bins.{bins, bins_by, bins_of}
 use Rattle.check_coverage.specs.Flights.{InFlight, answered_at, end_of, ends_reply, flights_after, in_flight, is_counted, kept, wide_at}
 use Rattle.check_coverage.specs.Text.{TellsCoverage, bin_line}
-use Rattle.check_coverage.specs.View.{Covers, IsNoted, IsSameSystem, Suits, bin_cmp, capped, how_often}
+use Rattle.check_coverage.specs.View.{Covers, IsNoted, bin_cmp, capped, how_often}
 use Rattle.check_coverage.proofs.Counted.{how_often-append}
-
-pub suits_same : (plan : Plan) (old new : Coverage) → IsSameSystem old new → Suits plan old → Suits plan new
-suits_same plan old new same suits = record {
-  lawful = suits.lawful;
-  links = same.links ∙ suits.links;
-  owners = same.sources ∙ suits.owners;
-  ports = same.map ∙ suits.ports;
-}
 
 module _ (plan : Plan) (before : List SeenRow) (row : SeenRow) where
   abbrev flights_by : Bool → List InFlight
@@ -46,7 +38,6 @@ module _ (plan : Plan) (before : List SeenRow) (row : SeenRow) where
   pub covers_uncounted : (coverage : Coverage) → Covers plan before coverage
       → is_counted plan.layout.links row.sighting.link ≡ false → Covers plan (row ∷ before) coverage
   covers_uncounted coverage covers is = record {
-    suits = covers.suits;
     flights = covers.flights ∙ ap (λ b. map kept (flights_by b)) (sym is);
     answered = λ wide. covers.answered wide ∙ ap (λ b. answered_by wide b) (sym is);
     counts = λ bin. covers.counts bin ∙ ap (λ b. capped (how_often bin (bins_with b ++ bins plan before))) (sym is);
@@ -55,11 +46,10 @@ module _ (plan : Plan) (before : List SeenRow) (row : SeenRow) where
   -- else it is what was noted
   pub covers_counted : (old new : Coverage) (bus : ℕ) → Covers plan before old
       → is_counted plan.layout.links row.sighting.link ≡ true → bus ≡ bus_of plan.layout row.sighting.link
-      → IsNoted bus (wide_at plan row.sighting) row.time row.sighting.beat (end_of plan before row) old new
+      → IsNoted plan bus (wide_at plan row.sighting) row.time row.sighting.beat (end_of plan before row) old new
       → Covers plan (row ∷ before) new
   covers_counted old new bus covers is is_bus noted = record {
-    suits = suits_same plan old new noted.same covers.suits;
-    flights = noted.flights plan (in_flight plan before) covers.suits covers.flights
+    flights = noted.flights (in_flight plan before) covers.flights
         ∙ ap (λ b. map kept (flights_after plan b (wide_at plan row.sighting) (in_flight plan before)
         row.sighting.beat (end_of plan before row))) is_bus
         ∙ ap (λ b. map kept (flights_by b)) (sym is);
@@ -70,7 +60,7 @@ module _ (plan : Plan) (before : List SeenRow) (row : SeenRow) where
     counts = λ bin.
         let wide = wide_at plan row.sighting in
         let now = in_flight plan before in
-        let added = noted.counts plan now covers.suits covers.flights bin (how_often bin (bins plan before))
+        let added = noted.counts now covers.flights bin (how_often bin (bins plan before))
         (covers.counts bin) in
         let by : ℕ → Option ℕ → List Bin =
         λ (b : ℕ) (o : Option ℕ). bins_by plan b wide now row.time o row.sighting.beat (end_of plan before row) in

@@ -16,7 +16,7 @@ use Rattle.check_coverage.specs.declared.coverage.Coverage.{Coverage}
 use Rattle.check_coverage.specs.declared.flight.Flight.{Flight}
 use Rattle.check_coverage.specs.Bins.{first_bins, last_bins, of_found, reply_bins}
 use Rattle.check_coverage.specs.Flights.{InFlight, flights_after, is_of, is_whole_ask, kept, with_beat, with_begun}
-use Rattle.check_coverage.specs.View.{Adds, IsNoted, IsSameSystem, Suits}
+use Rattle.check_coverage.specs.View.{Adds, IsNoted}
 use Rattle.check_coverage.proofs.Counted.{adds_then}
 use Rattle.check_coverage.proofs.Places.{filter_kept}
 
@@ -24,49 +24,36 @@ pub ok_then : {E P Q : Type 0} (r : Result (Unit {0}) E) → (P → Q) → OnOk 
 ok_then (Ok done) next first = next first
 ok_then (Err fault) next first = tt
 
-same_then : (old mid new : Coverage) → IsSameSystem old mid → IsSameSystem mid new → IsSameSystem old new
-same_then old mid new first second = record {
-  links = second.links ∙ first.links;
-  sources = second.sources ∙ first.sources;
-  map = second.map ∙ first.map;
-}
-
 -- ---- a beat of channel A: its request begins if none is in flight, has one beat more, and ends
 
-module _ (bus wide time : ℕ) (beat : AskHead) (end : Ended) (old mid : Coverage) (grown : Vec Flight Global) (whole : Bool)
-    (new : Coverage) (same : IsSameSystem old mid) (answered : mid.answered ≡ old.answered)
-    (flights : (plan : Plan) (before : List InFlight) → Suits plan old → old.flights.items ≡ map kept before
+module _ (plan : Plan) (bus wide time : ℕ) (beat : AskHead) (end : Ended) (old mid : Coverage)
+    (grown : Vec Flight Global) (whole : Bool) (new : Coverage) (answered : mid.answered ≡ old.answered)
+    (flights : (before : List InFlight) → old.flights.items ≡ map kept before
     → mid.flights.items ≡ map kept (with_begun plan wide beat before))
-    (counts : (plan : Plan) (before : List InFlight) → Suits plan old → old.flights.items ≡ map kept before
+    (counts : (before : List InFlight) → old.flights.items ≡ map kept before
     → Adds old.counts mid.counts (first_bins plan wide before time (get nat_cmp old.answered wide) beat))
     (grows : (before : List InFlight) → mid.flights.items ≡ map kept before
     → grown.items ≡ map kept (map (with_beat bus wide beat whole) before))
     (is_whole : whole ≡ is_whole_ask end) where
-  after_grown : (plan : Plan) (before : List InFlight) → Suits plan old → old.flights.items ≡ map kept before
+  after_grown : (before : List InFlight) → old.flights.items ≡ map kept before
       → grown.items ≡ map kept (flights_after plan bus wide before (A beat) end)
-  after_grown plan before suits is =
-      grows (with_begun plan wide beat before) (flights plan before suits is)
+  after_grown before is =
+      grows (with_begun plan wide beat before) (flights before is)
       ∙ ap (λ w. map kept (map (with_beat bus wide beat w) (with_begun plan wide beat before))) is_whole
 
-  pub ask_noted : {E : Type 0} (r : Result (Unit {0}) E) → IsSameSystem (record mid { flights = grown }) new
-      → new.answered ≡ mid.answered → new.flights ≡ grown
+  pub ask_noted : {E : Type 0} (r : Result (Unit {0}) E) → new.answered ≡ mid.answered → new.flights ≡ grown
       → ((after : List InFlight) → grown.items ≡ map kept after
       → OnOk r (Adds mid.counts new.counts (last_bins bus wide after beat end)))
-      → OnOk r (IsNoted bus wide time (A beat) end old new)
-  ask_noted (Err fault) same_new kept_answered kept_flights ended = tt
-  ask_noted (Ok done) same_new kept_answered kept_flights ended = record {
-    same = record {
-      links = same_new.links ∙ same.links;
-      sources = same_new.sources ∙ same.sources;
-      map = same_new.map ∙ same.map;
-    };
+      → OnOk r (IsNoted plan bus wide time (A beat) end old new)
+  ask_noted (Err fault) kept_answered kept_flights ended = tt
+  ask_noted (Ok done) kept_answered kept_flights ended = record {
     answered = λ other. ap (λ m. get nat_cmp m other) (kept_answered ∙ answered);
-    flights = λ plan before suits is. ap (λ v. v.items) kept_flights ∙ after_grown plan before suits is;
-    counts = λ plan before suits is. adds_then old.counts mid.counts new.counts
+    flights = λ before is. ap (λ v. v.items) kept_flights ∙ after_grown before is;
+    counts = λ before is. adds_then old.counts mid.counts new.counts
         (first_bins plan wide before time (get nat_cmp old.answered wide) beat)
         (last_bins bus wide (flights_after plan bus wide before (A beat) end) beat end)
-        (counts plan before suits is)
-        (ended (flights_after plan bus wide before (A beat) end) (after_grown plan before suits is));
+        (counts before is)
+        (ended (flights_after plan bus wide before (A beat) end) (after_grown before is));
   }
 
 -- ---- the last beat of a reply: its request is answered, and is no more in flight
@@ -85,20 +72,19 @@ same_number a b = go (cases_lt a b)
     go (inr above) =
         ap (λ t. is_eq (cond t Less (cond (a == b) Equal Greater))) (le-ltb a b above) ∙ equal_is (a == b)
 
-pub reply_noted : (bus wide time : ℕ) (beat : ReplyHead) (old mid : Coverage) (left : Vec Flight Global)
-    (times : BTreeMap ℕ ℕ) → IsSameSystem old mid → mid.answered ≡ old.answered → mid.flights ≡ old.flights
+pub reply_noted : (plan : Plan) (bus wide time : ℕ) (beat : ReplyHead) (old mid : Coverage) (left : Vec Flight Global)
+    (times : BTreeMap ℕ ℕ) → mid.answered ≡ old.answered → mid.flights ≡ old.flights
     → ((before : List InFlight) → old.flights.items ≡ map kept before
     → Adds old.counts mid.counts (of_found (find (is_of wide) before) (reply_bins bus before beat)))
     → left.items ≡ filter (λ (flight : Flight). not (flight.wide == wide)) mid.flights.items
     → Updates nat_cmp mid.answered times wide (Some time)
-    → IsNoted bus wide time (D beat) ends.Reply old (record mid { flights = left; answered = times })
-reply_noted bus wide time beat old mid left times same answered flights counts lefts updates = record {
-  same = record { links = same.links; sources = same.sources; map = same.map };
+    → IsNoted plan bus wide time (D beat) ends.Reply old (record mid { flights = left; answered = times })
+reply_noted plan bus wide time beat old mid left times answered flights counts lefts updates = record {
   answered = λ other. updates.0 other
       ∙ ap (λ b. cond b (Some time) (get nat_cmp mid.answered other)) (same_number wide other)
       ∙ ap (λ m. cond (wide == other) (Some time) (get nat_cmp m other)) answered;
-  flights = λ plan before suits is. lefts
+  flights = λ before is. lefts
       ∙ ap (filter (λ (flight : Flight). not (flight.wide == wide))) (ap (λ v. v.items) flights ∙ is)
       ∙ filter_kept (λ flight. not (flight.wide == wide)) before;
-  counts = λ plan before suits is. counts before is;
+  counts = counts;
 }

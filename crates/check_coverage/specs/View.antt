@@ -5,7 +5,7 @@ use Rattle.std.specs.BTreeMap.{get}
 use Rattle.std.specs.declared.cmp.Ordering.{Ordering}
 use Rattle.check_watch.specs.declared.beat.Beat.{Beat}
 use Rattle.check_watch.specs.declared.seen.Ended.{Ended}
-use Rattle.check_sides.specs.Plan.{IsPlan, Plan}
+use Rattle.check_sides.specs.Plan.{Plan}
 use Rattle.check_rows.specs.Row.{SeenRow}
 use Rattle.check_coverage.specs.Bins.{bins, bins_by}
 use Rattle.check_coverage.specs.Flights.{InFlight, answered_at, ends_reply, flights_after, in_flight, kept}
@@ -37,33 +37,18 @@ Adds old new bins =
     (bin : Bin) (before : ℕ) → count_of old bin ≡ capped before
     → count_of new bin ≡ capped (before + how_often bin bins)
 
--- it is one of a crossbar of this plan
-pub record Suits (plan : Plan) (coverage : Coverage) : Type 0 where
-  pub lawful : IsPlan plan
-  pub links : coverage.links ≡ plan.layout.links
-  pub owners : coverage.sources ≡ plan.layout.owners
-  pub ports : coverage.map ≡ plan.layout.ports
-
--- it is one of the same crossbar as another
-pub record IsSameSystem (old new : Coverage) : Type 0 where
-  pub links : new.links ≡ old.links
-  pub sources : new.sources ≡ old.sources
-  pub map : new.map ≡ old.map
-
 -- one beat more was noted, of a wide source and at a link that is counted: its bus has so many bytes, and it ends this
-pub record IsNoted (bus wide time : ℕ) (beat : Beat) (end : Ended) (old new : Coverage) : Type 0 where
-  pub same : IsSameSystem old new
+pub record IsNoted (plan : Plan) (bus wide time : ℕ) (beat : Beat) (end : Ended) (old new : Coverage) : Type 0 where
   pub answered : (other : ℕ) → get nat_cmp new.answered other
       ≡ (if ends_reply beat end && (wide == other) then Some time else get nat_cmp old.answered other)
-  pub flights : (plan : Plan) (before : List InFlight) → Suits plan old → old.flights.items ≡ map kept before
+  pub flights : (before : List InFlight) → old.flights.items ≡ map kept before
       → new.flights.items ≡ map kept (flights_after plan bus wide before beat end)
-  pub counts : (plan : Plan) (before : List InFlight) → Suits plan old → old.flights.items ≡ map kept before
+  pub counts : (before : List InFlight) → old.flights.items ≡ map kept before
       → Adds old.counts new.counts (bins_by plan bus wide before time (get nat_cmp old.answered wide) beat end)
 
--- this is what is kept of these rows: of each bin how often they add it, up to 2 ^ 64 - 1, and which requests are in
--- flight after them
+-- this is what is kept of these rows: of each bin how often they add it, up to 2 ^ 64 - 1, which requests are in flight
+-- after them, and when the last reply to each source ended
 pub record Covers (plan : Plan) (rows : List SeenRow) (coverage : Coverage) : Type 0 where
-  pub suits : Suits plan coverage
   pub flights : coverage.flights.items ≡ map kept (in_flight plan rows)
   pub answered : (wide : ℕ) → get nat_cmp coverage.answered wide ≡ answered_at plan rows wide
   pub counts : (bin : Bin) → count_of coverage.counts bin ≡ capped (how_often bin (bins plan rows))

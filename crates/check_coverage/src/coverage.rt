@@ -5,15 +5,15 @@ ghost use Rattle.std.specs.BTreeMap.{get};
 ghost use Rattle.check_beats.specs.Bus.{beat_count, bus_bytes};
 ghost use Rattle.check_map.specs.Owner.{IsWide};
 ghost use Rattle.check_rows.specs.Row.{SeenRow};
-ghost use Rattle.check_sides.specs.Lawful.{IsLawful};
-ghost use Rattle.check_sides.specs.Plan.{IsPlan, Plan, bus_of};
+ghost use Rattle.check_sides.specs.Plan.{HasLink, Plan};
+ghost use Rattle.check_sides.specs.View.{Keeps, Suits};
 ghost use Rattle.check_unanswered.specs.Began.{beats_of, row_with};
 ghost use Rattle.check_watch.specs.Plan.{source_of};
 ghost use Rattle.check_watch.specs.declared.beat.Beat.TheVariants.{A, D};
 ghost use Rattle.check_coverage.specs.Bins.{ask_bins, begin_bins, contested_bins, first_bins, last_bins, mask_bins, of_found, reply_bins, step_of, with_one};
 ghost use Rattle.check_coverage.specs.Flights.{HasSize, InFlight, begun, end_of, is_counted, is_of, is_whole_ask, kept, master_of, with_begun};
 ghost use Rattle.check_coverage.specs.Text.{TellsCoverage};
-ghost use Rattle.check_coverage.specs.View.{Adds, Covers, IsNoted, IsSameSystem, Suits};
+ghost use Rattle.check_coverage.specs.View.{Adds, Covers, IsNoted};
 
 use crate::bin::{Bin, Channel};
 use crate::counts::Counts;
@@ -23,9 +23,9 @@ use crate::lists::{
 };
 use crate::marks::Marks;
 use check_beats::{AskHead, Bus, ReplyHead};
-use check_map::{Map, Sources};
+use check_map::Sources;
 use check_rows::Row;
-use check_sides::{Beat, Ended, Link, Links};
+use check_sides::{Beat, Ended, Link, Links, Watch};
 use std::alloc::{AllocError, Global};
 use std::collections::BTreeMap;
 use tl_types::{MAX_SIZE, width};
@@ -36,9 +36,6 @@ pub const MOST_IN_FLIGHT: usize = 64;
 /// What the rows that were judged have covered.
 #[derive(Drop)]
 pub struct Coverage {
-    links: Links,
-    sources: Sources,
-    map: Map,
     /// Those that are counted, the one that began first in front.
     flights: Vec<Flight>,
     /// When the last reply to each wide source ended.
@@ -84,6 +81,36 @@ fn master_of(sources: &Sources, wide: u16) -> usize
     match sources.owner(wide) {
         Some((master, _)) => master,
         None => masters,
+    }
+}
+
+/// The wide source of a source at a link, if the link has it.
+fn wide_source(sources: &Sources, link: Link, source: u16) -> Option<u16>
+    ensures master { (number wide : ℕ) → link ≡ Link.Master number
+        → (result ≡ Some wide) ↔ IsWide sources.now number source wide }
+    ensures port { (number : ℕ) → link ≡ Link.Port number → result ≡ Some source }
+{
+    match link {
+        Link::Master(master) => sources.widen(master, source),
+        Link::Port(_) => Some(source),
+    }
+}
+
+/// The request that begins with a beat.
+fn begun(watch: &Watch, wide: u16, beat: &AskHead) -> Flight
+    requires { beat.now.size ≤ MAX_SIZE }
+    ensures { (plan : Plan) → Suits plan watch.now → result ≡ kept (begun plan wide beat.now) }
+{
+    let span = width(beat.size) as u64;
+    Flight {
+        wide,
+        master: master_of(watch.sources(), wide),
+        port: watch.map().route_bytes(beat.address, beat.size),
+        first: *beat,
+        span,
+        is_unaligned: beat.address % span != 0,
+        marks: Marks::new(),
+        is_whole: false,
     }
 }
 
@@ -217,60 +244,31 @@ fn count_reply(
 }
 
 impl Coverage {
-    /// Nothing is covered of a crossbar with these sources and ports, where these links are watched.
-    pub fn new(alloc: Global, links: Links, sources: Sources, map: Map) -> Coverage
-        ensures { (plan : Plan) → IsPlan plan → plan.layout.links ≡ links → plan.layout.owners ≡ sources
-            → plan.layout.ports ≡ map → Covers plan [] result }
+    /// Nothing is covered.
+    pub fn new(alloc: Global) -> Coverage
+        ensures { (plan : Plan) → Covers plan [] result }
     {
         Coverage {
-            links,
-            sources,
-            map,
             flights: Vec::new(alloc),
             answered: BTreeMap::new(alloc),
             counts: Counts::new(alloc),
         }
     }
 
-    /// The wide source of a source at a link, if the link has it.
-    fn wide(&self, link: Link, source: u16) -> Option<u16>
-        ensures master { (number wide : ℕ) → link ≡ Link.Master number
-            → (result ≡ Some wide) ↔ IsWide self.now.sources number source wide }
-        ensures port { (number : ℕ) → link ≡ Link.Port number → result ≡ Some source }
-    {
-        match link {
-            Link::Master(master) => self.sources.widen(master, source),
-            Link::Port(_) => Some(source),
-        }
-    }
-
-    /// The request that begins with a beat.
-    fn begun(&self, wide: u16, beat: &AskHead) -> Flight
-        requires { beat.now.size ≤ MAX_SIZE }
-        ensures { (plan : Plan) → Suits plan self.now → result ≡ kept (begun plan wide beat.now) }
-    {
-        let span = width(beat.size) as u64;
-        Flight {
-            wide,
-            master: master_of(&self.sources, wide),
-            port: self.map.route_bytes(beat.address, beat.size),
-            first: *beat,
-            span,
-            is_unaligned: beat.address % span != 0,
-            marks: Marks::new(),
-            is_whole: false,
-        }
-    }
-
     /// Counts the first beat of a request and keeps the request, if none of its source is in flight.
-    fn begin(&mut self, wide: u16, time: u64, beat: &AskHead) -> Result<(), AllocError>
+    fn begin(
+        &mut self,
+        watch: &Watch,
+        wide: u16,
+        time: u64,
+        beat: &AskHead,
+    ) -> Result<(), AllocError>
         requires { beat.now.size ≤ MAX_SIZE }
-        ensures same { IsSameSystem self.old self.new }
         ensures answered { self.new.answered ≡ self.old.answered }
-        ensures flights { (plan : Plan) (before : List InFlight) → Suits plan self.old
+        ensures flights { (plan : Plan) (before : List InFlight) → Suits plan watch.now
             → self.old.flights.items ≡ map kept before
             → OnOk result (self.new.flights.items ≡ map kept (with_begun plan wide beat.now before)) }
-        ensures counts { (plan : Plan) (before : List InFlight) → Suits plan self.old
+        ensures counts { (plan : Plan) (before : List InFlight) → Suits plan watch.now
             → self.old.flights.items ≡ map kept before
             → OnOk result (Adds self.old.counts self.new.counts
             (first_bins plan wide before time (get nat_cmp self.old.answered wide) beat.now)) }
@@ -278,7 +276,7 @@ impl Coverage {
         if find_of(&self.flights, wide).is_some() {
             return Ok(());
         }
-        let flight = self.begun(wide, beat);
+        let flight = begun(watch, wide, beat);
         let answered = self.answered.get(&wide).copied();
         count_begin(&mut self.counts, &self.flights, &flight, time, answered)?;
         self.flights.push(flight)?;
@@ -288,7 +286,6 @@ impl Coverage {
     /// Counts the last beat of a request, if it is that.
     fn end(&mut self, wide: u16, beat: &AskHead, bus: Bus, end: Ended) -> Result<(), AllocError>
         requires { beat.now.size ≤ MAX_SIZE }
-        ensures same { IsSameSystem self.old self.new }
         ensures answered { self.new.answered ≡ self.old.answered }
         ensures flights { self.new.flights ≡ self.old.flights }
         ensures counts { (after : List InFlight) → self.old.flights.items ≡ map kept after
@@ -307,6 +304,7 @@ impl Coverage {
     /// Notes a beat of channel A.
     fn note_ask(
         &mut self,
+        watch: &Watch,
         wide: u16,
         time: u64,
         beat: &AskHead,
@@ -314,9 +312,10 @@ impl Coverage {
         end: Ended,
     ) -> Result<(), AllocError>
         requires { beat.now.size ≤ MAX_SIZE }
-        ensures { OnOk result (IsNoted (bus_bytes bus) wide time (A beat.now) end self.old self.new) }
+        ensures { (plan : Plan) → Suits plan watch.now
+            → OnOk result (IsNoted plan (bus_bytes bus) wide time (A beat.now) end self.old self.new) }
     {
-        self.begin(wide, time, beat)?;
+        self.begin(watch, wide, time, beat)?;
         grow(&mut self.flights, wide, bus, beat, is_whole_ask(end));
         self.end(wide, beat, bus, end)
     }
@@ -324,7 +323,6 @@ impl Coverage {
     /// Counts the last beat of a reply.
     fn answer(&mut self, wide: u16, beat: &ReplyHead, bus: Bus) -> Result<(), AllocError>
         requires { beat.now.size ≤ MAX_SIZE }
-        ensures same { IsSameSystem self.old self.new }
         ensures answered { self.new.answered ≡ self.old.answered }
         ensures flights { self.new.flights ≡ self.old.flights }
         ensures counts { (before : List InFlight) → self.old.flights.items ≡ map kept before
@@ -346,7 +344,8 @@ impl Coverage {
         bus: Bus,
     ) -> Result<(), AllocError>
         requires { beat.now.size ≤ MAX_SIZE }
-        ensures { OnOk result (IsNoted (bus_bytes bus) wide time (D beat.now) Ended.Reply self.old self.new) }
+        ensures { (plan : Plan)
+            → OnOk result (IsNoted plan (bus_bytes bus) wide time (D beat.now) Ended.Reply self.old self.new) }
     {
         self.answer(wide, beat, bus)?;
         remove(&mut self.flights, wide);
@@ -364,7 +363,8 @@ impl Coverage {
         end: Ended,
     ) -> Result<(), AllocError>
         requires { beat.now.size ≤ MAX_SIZE }
-        ensures { OnOk result (IsNoted (bus_bytes bus) wide time (D beat.now) end self.old self.new) }
+        ensures { (plan : Plan)
+            → OnOk result (IsNoted plan (bus_bytes bus) wide time (D beat.now) end self.old self.new) }
     {
         match end {
             Ended::Reply => self.note_reply(wide, time, beat, bus),
@@ -375,17 +375,20 @@ impl Coverage {
     /// Notes a beat at a link that is counted, if its size is within the limit, as that of a lawful beat is.
     fn note_beat(
         &mut self,
+        watch: &Watch,
         wide: u16,
         time: u64,
         beat: &Beat,
         bus: Bus,
         end: Ended,
     ) -> Result<(), AllocError>
-        ensures { HasSize beat.now
-            → OnOk result (IsNoted (bus_bytes bus) wide time beat.now end self.old self.new) }
+        ensures { (plan : Plan) → Suits plan watch.now → HasSize beat.now
+            → OnOk result (IsNoted plan (bus_bytes bus) wide time beat.now end self.old self.new) }
     {
         match beat {
-            Beat::A(beat) if beat.size <= MAX_SIZE => self.note_ask(wide, time, beat, bus, end),
+            Beat::A(beat) if beat.size <= MAX_SIZE => {
+                self.note_ask(watch, wide, time, beat, bus, end)
+            }
             Beat::D(beat) if beat.size <= MAX_SIZE => {
                 self.note_reply_beat(wide, time, beat, bus, end)
             }
@@ -393,29 +396,30 @@ impl Coverage {
         }
     }
 
-    /// Counts what a row covers that was judged after those before it, and ended this. Its link has this bus.
-    pub fn note(&mut self, row: &Row, bus: Bus, end: Ended) -> Result<(), AllocError>
+    /// Counts what a row covers that the judge has taken after those before it, and that ended this.
+    pub fn note(&mut self, watch: &Watch, row: &Row, end: Ended) -> Result<(), AllocError>
+        requires { HasLink watch.now.layout row.now.link }
         ensures { (plan : Plan) (rows : List SeenRow) (lanes : List ℕ) → Covers plan rows self.old
-            → IsLawful plan (beats_of (row_with row.now lanes ∷ rows))
-            → bus_bytes bus ≡ bus_of plan.layout row.now.link
+            → Keeps plan (beats_of (row_with row.now lanes ∷ rows)) watch.now
             → end ≡ end_of plan rows (row_with row.now lanes)
             → OnOk result (Covers plan (row_with row.now lanes ∷ rows) self.new) }
     {
-        if !is_counted(self.links, row.link) {
+        if !is_counted(watch.links(), row.link) {
             return Ok(());
         }
-        match self.wide(row.link, source_of(&row.beat)) {
-            Some(wide) => self.note_beat(wide, row.time, &row.beat, bus, end),
+        let bus = watch.bus(row.link);
+        match wide_source(watch.sources(), row.link, source_of(&row.beat)) {
+            Some(wide) => self.note_beat(watch, wide, row.time, &row.beat, bus, end),
             None => Ok(()),
         }
     }
 
-    /// Appends the text of what was covered.
-    pub fn append(&self, text: &mut Vec<u8>) -> Result<(), AllocError>
-        ensures { (plan : Plan) (rows : List SeenRow) → Covers plan rows self.now
+    /// Appends the text of what was covered of the judge's crossbar.
+    pub fn append(&self, watch: &Watch, text: &mut Vec<u8>) -> Result<(), AllocError>
+        ensures { (plan : Plan) (rows : List SeenRow) → Covers plan rows self.now → watch.now.layout ≡ plan.layout
             → OnOk result (TellsCoverage plan rows text.old.items text.new.items) }
     {
         text.extend_from_slice(b"coverage 1\n")?;
-        self.counts.append(self.map.ports() - 1, text)
+        self.counts.append(watch.map().ports() - 1, text)
     }
 }

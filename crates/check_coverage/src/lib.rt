@@ -3,7 +3,8 @@
 //! A bin ([`Bin`]) is a thing that a capture may show, as a request of this operation and size from this master to this
 //! port. Each row that was judged adds some bins after the rows before it (`specs/Bins.antt`). [`Coverage::note`] counts
 //! those of one row more, and keeps which requests are in flight (`specs/Flights.antt`). [`Coverage::append`] appends the
-//! counts as a text, a line for each bin that occurred, in the order of [`Bin`] (`specs/Text.antt`).
+//! counts as a text, a line for each bin that occurred, in the order of [`Bin`] (`specs/Text.antt`). What the links,
+//! sources and ports are is read from the judge that took the rows (`check_sides::Watch`), which both calls borrow.
 //!
 //! Messages are counted at the masters' links if these are watched, else at the ports'. A count stops at 2^64 - 1.
 //!

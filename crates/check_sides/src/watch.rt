@@ -155,6 +155,13 @@ impl Watch {
         self.shared.sources()
     }
 
+    /// The ports and their addresses.
+    pub fn map(&self) -> &Map
+        ensures { result.now ≡ self.now.layout.ports }
+    {
+        self.shared.map()
+    }
+
     /// The bus of a link.
     pub fn bus(&self, link: Link) -> Bus
         requires { HasLink self.now.layout link }

@@ -1,13 +1,15 @@
 //! What a capture covers, worked out by hand.
 //!
 //! A partial put leaves out a byte, and an unaligned get meets it. A get goes to nobody's address. The first get's reply
-//! overtakes the put's. Then a get of two beats begins 3 after the last reply to its source, and a put 25 after it.
-use super::scene::map_of;
+//! overtakes the put's. Then a get of two beats begins 3 after the last reply to its source, and a put 25 after it. The
+//! judge takes each row before it is noted, and says what it ends.
+use super::scene::{map_of, slaves_of};
 use check_beats::{Bus, MAX_LANES};
 use check_coverage::Coverage;
 use check_map::{Owner, Sources};
 use check_rows::{Buses, read_bare_row};
-use check_sides::{Ended, Links};
+use check_sides::{Ended, Links, Watch};
+use std::alloc::Global;
 use std::process::Abort;
 
 /// Rows, and what each ends.
@@ -66,27 +68,64 @@ const fn owner(first: u16, count: u32) -> Owner {
     }
 }
 
-/// Notes a row.
-fn note(rt: &impl Abort, coverage: &mut Coverage, line: &str, end: Ended) {
-    let buses = Buses {
-        masters: &[Bus::Eight; 2],
-        ports: &[Bus::Eight; 2],
-    };
+const BUSES: Buses<'static> = Buses {
+    masters: &[Bus::Eight; 2],
+    ports: &[Bus::Eight; 2],
+};
+
+/// The judge of a crossbar of two masters, at their links.
+fn watch_of(rt: &impl Abort, alloc: Global) -> Watch {
+    let map = map_of(rt, alloc);
+    let sources = Sources::new(alloc, &[owner(0, 2), owner(2, 1)]).expect(rt, "sources");
+    let masters = Vec::from_slice(alloc, &[Bus::Eight; 2]).expect(rt, "memory");
+    let ports = Vec::from_slice(alloc, &[Bus::Eight; 2]).expect(rt, "memory");
+    let slaves = slaves_of(rt, alloc, true);
+    let own = Vec::new(alloc);
+    assert!(rt; slaves.len() == map.ports());
+    assert!(rt; masters.len() == sources.masters());
+    assert!(rt; ports.len() == map.ports() - 1);
+    Watch::new(
+        alloc,
+        Links::Masters,
+        map,
+        sources,
+        masters,
+        ports,
+        slaves,
+        own,
+    )
+    .expect(rt, "memory")
+}
+
+/// The judge takes a row, which ends this, and then the row is noted.
+fn note(
+    rt: &impl Abort,
+    alloc: Global,
+    watch: &mut Watch,
+    coverage: &mut Coverage,
+    line: &str,
+    end: Ended,
+) {
     let mut lanes = [0; MAX_LANES];
-    let row = read_bare_row(&buses, 1, line.as_bytes(), &mut lanes).expect(rt, "a row");
-    coverage.note(&row, row.bus, end).expect(rt, "memory");
+    let row = read_bare_row(&BUSES, 1, line.as_bytes(), &mut lanes).expect(rt, "a row");
+    assert!(rt; watch.watches(row.link));
+    assert!(rt; watch.bus(row.link).bytes() <= lanes.len());
+    let seen = watch
+        .take(alloc, row.link, &row.beat, row.known, &lanes)
+        .expect(rt, "memory");
+    assert!(rt; seen == Some(end));
+    coverage.note(watch, &row, end).expect(rt, "memory");
 }
 
 #[test]
 fn a_capture_covers_what_was_worked_out(rt: HostRuntime) {
     let alloc = rt.alloc();
-    let sources = Sources::new(alloc, &[owner(0, 2), owner(2, 1)]).expect(&rt, "sources");
-    let map = map_of(&rt, alloc);
-    let mut coverage = Coverage::new(alloc, Links::Masters, sources, map);
+    let mut watch = watch_of(&rt, alloc);
+    let mut coverage = Coverage::new(alloc);
     for (line, end) in ROWS {
-        note(&rt, &mut coverage, line, end);
+        note(&rt, alloc, &mut watch, &mut coverage, line, end);
     }
     let mut text = Vec::new(alloc);
-    coverage.append(&mut text).expect(&rt, "memory");
+    coverage.append(&watch, &mut text).expect(&rt, "memory");
     assert!(&rt; text.as_slice() == COVERED.as_bytes());
 }

@@ -6,6 +6,7 @@ use Rattle.check_beats.specs.Bus.{bus_bytes}
 use Rattle.check_map.specs.Owner.{IsWide}
 use Rattle.check_watch.specs.declared.seen.Ended.{Ended}
 use Rattle.check_sides.specs.declared.links.Links.{Links}
+use Rattle.check_sides.specs.Plan.{Layout, bus_of}
 use Rattle.check_unanswered.specs.Began.{beats_of, row_with}
 use Rattle.check_coverage.specs.Flights.{is_counted, wide_at}
 use Rattle.check_coverage.specs.View.{IsNoted}
@@ -15,43 +16,52 @@ use Rattle.check_coverage.proofs.Noted.{ok_then}
 use Rattle.check_coverage.proofs.coverage.Coverage.note.Goals as goal
 
 pub returns-then-not-is_counted : goal.returns-then-not-is_counted
-returns-then-not-is_counted c = λ plan rows lanes covers lawful is_bus is_end.
+returns-then-not-is_counted c = λ plan rows lanes covers keeps is_end.
     let link = c.args.row.now.link in
+    let links : c.links.result ≡ plan.layout.links = c.links.ensures ∙ ap (λ (l : Layout). l.links) keeps.suits.layout in
     covers_uncounted plan rows (row_with c.args.row.now lanes) c.args.self.now covers
-    (ap (λ (l : Links). is_counted l link) (sym covers.suits.links) ∙ sym c.is_counted.ensures ∙ c.if-not-is_counted.true)
+    (ap (λ (l : Links). is_counted l link) (sym links) ∙ sym c.is_counted.ensures ∙ c.if-not-is_counted.true)
 
 pub returns-in-Some : goal.returns-in-Some
-returns-in-Some c = λ plan rows lanes covers lawful is_bus is_end.
+returns-in-Some c = λ plan rows lanes covers keeps is_end.
     let row = row_with c.args.row.now lanes in
     let link = c.args.row.now.link in
+    let links : c.links.result ≡ plan.layout.links = c.links.ensures ∙ ap (λ (l : Layout). l.links) keeps.suits.layout in
+    let owners : c.sources.result.now ≡ plan.layout.owners =
+    c.sources.ensures ∙ ap (λ (l : Layout). l.owners) keeps.suits.layout in
+    let bus : bus_bytes c.bus-bus.result ≡ bus_of plan.layout link =
+    c.bus-bus.ensures ∙ ap (λ (l : Layout). bus_of l link) keeps.suits.layout in
     let counted : is_counted plan.layout.links link ≡ true =
-    ap (λ (l : Links). is_counted l link) (sym covers.suits.links) ∙ sym c.is_counted.ensures ∙ c.if-not-is_counted.false in
-    let found : c.wide.result ≡ Some (wide_at plan row.sighting) =
-    found_wide plan (beats_of rows) row.sighting covers.suits.lawful lawful counted c.args.self.now.sources c.wide.result
-    covers.suits.owners
-    (λ number wide is. subst (λ (s : ℕ). (c.wide.result ≡ Some wide) ↔ IsWide c.args.self.now.sources number s wide)
-    c.source_of.ensures (c.wide.ensures.master number wide is))
-    (λ number is. c.wide.ensures.port number is ∙ ap (λ (s : ℕ). Some s) c.source_of.ensures) in
+    ap (λ (l : Links). is_counted l link) (sym links) ∙ sym c.is_counted.ensures ∙ c.if-not-is_counted.false in
+    let found : c.wide_source.result ≡ Some (wide_at plan row.sighting) =
+    found_wide plan (beats_of rows) row.sighting keeps.suits.lawful keeps.lawful counted c.sources.result.now
+    c.wide_source.result owners
+    (λ number wide is. subst (λ (s : ℕ). (c.wide_source.result ≡ Some wide) ↔ IsWide c.sources.result.now number s wide)
+    c.source_of.ensures (c.wide_source.ensures.master number wide is))
+    (λ number is. c.wide_source.ensures.port number is ∙ ap (λ (s : ℕ). Some s) c.source_of.ensures) in
     let wide : c.in-Some.wide ≡ wide_at plan row.sighting =
     same_Some c.in-Some.wide (wide_at plan row.sighting) (sym c.in-Some.is ∙ found) in
     ok_then c.note_beat.result
-    (λ noted. covers_counted plan rows row c.args.self.now c.note_beat.new.self (bus_bytes c.args.bus) covers counted is_bus
-    (subst (λ (e : Ended). IsNoted (bus_bytes c.args.bus) (wide_at plan row.sighting) c.args.row.now.time
+    (λ noted. covers_counted plan rows row c.args.self.now c.note_beat.new.self (bus_bytes c.bus-bus.result) covers counted bus
+    (subst (λ (e : Ended). IsNoted plan (bus_bytes c.bus-bus.result) (wide_at plan row.sighting) c.args.row.now.time
     c.args.row.now.beat e c.args.self.now c.note_beat.new.self) is_end
-    (subst (λ (w : ℕ). IsNoted (bus_bytes c.args.bus) w c.args.row.now.time
+    (subst (λ (w : ℕ). IsNoted plan (bus_bytes c.bus-bus.result) w c.args.row.now.time
     c.args.row.now.beat c.args.end c.args.self.now c.note_beat.new.self) wide noted)))
-    (c.note_beat.ensures (lawful_size plan (beats_of rows) row.sighting lawful))
+    (c.note_beat.ensures plan keeps.suits (lawful_size plan (beats_of rows) row.sighting keeps.lawful))
 
 pub returns-in-None : goal.returns-in-None
-returns-in-None c = λ plan rows lanes covers lawful is_bus is_end.
+returns-in-None c = λ plan rows lanes covers keeps is_end.
     let row = row_with c.args.row.now lanes in
     let link = c.args.row.now.link in
+    let links : c.links.result ≡ plan.layout.links = c.links.ensures ∙ ap (λ (l : Layout). l.links) keeps.suits.layout in
+    let owners : c.sources.result.now ≡ plan.layout.owners =
+    c.sources.ensures ∙ ap (λ (l : Layout). l.owners) keeps.suits.layout in
     let counted : is_counted plan.layout.links link ≡ true =
-    ap (λ (l : Links). is_counted l link) (sym covers.suits.links) ∙ sym c.is_counted.ensures ∙ c.if-not-is_counted.false in
-    let found : c.wide.result ≡ Some (wide_at plan row.sighting) =
-    found_wide plan (beats_of rows) row.sighting covers.suits.lawful lawful counted c.args.self.now.sources c.wide.result
-    covers.suits.owners
-    (λ number wide is. subst (λ (s : ℕ). (c.wide.result ≡ Some wide) ↔ IsWide c.args.self.now.sources number s wide)
-    c.source_of.ensures (c.wide.ensures.master number wide is))
-    (λ number is. c.wide.ensures.port number is ∙ ap (λ (s : ℕ). Some s) c.source_of.ensures) in
+    ap (λ (l : Links). is_counted l link) (sym links) ∙ sym c.is_counted.ensures ∙ c.if-not-is_counted.false in
+    let found : c.wide_source.result ≡ Some (wide_at plan row.sighting) =
+    found_wide plan (beats_of rows) row.sighting keeps.suits.lawful keeps.lawful counted c.sources.result.now
+    c.wide_source.result owners
+    (λ number wide is. subst (λ (s : ℕ). (c.wide_source.result ≡ Some wide) ↔ IsWide c.sources.result.now number s wide)
+    c.source_of.ensures (c.wide_source.ensures.master number wide is))
+    (λ number is. c.wide_source.ensures.port number is ∙ ap (λ (s : ℕ). Some s) c.source_of.ensures) in
     absurd (none-some (wide_at plan row.sighting) (sym c.in-None.is ∙ found))
