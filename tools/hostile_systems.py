@@ -2,7 +2,8 @@
 
 The system of a seed is random bytes, random words, an example with bytes or lines changed, or one of random values, lawful ones up to each limit
 or also some beyond. It may name images that are not there, are a folder, are longer than their range, or can't be read. Its capture is an
-example's, or has random rows, with bytes and lines changed. The program must end within a minute, with a status and lines of docs/CAPTURE.md.
+example's, or has random rows, with bytes and lines changed. The program must end within a minute, with a status and lines of docs/CAPTURE.md. If it
+is asked what was covered, it writes that with a verdict, and not without one.
 """
 
 import os
@@ -10,6 +11,7 @@ import random
 import re
 import subprocess
 
+import coverage_text
 from common import GROUPS, HEADER, LONGEST_SCRIPT, OPERATIONS, ORDERS, REPLIES, SECONDS, SYSTEM_KEYS, SYSTEM_KINDS, TLCHECK, TOP, system_of
 
 KEY = "|".join(sorted({key for keys in SYSTEM_KEYS.values() for key in keys}))
@@ -183,6 +185,20 @@ def is_right(status, out, err, traces):
     return bool(fault) and all(TRACE.fullmatch(line) for line in lines) and (traces or not lines)
 
 
+def wrong_coverage(path, is_wanted):
+    """What is wrong with the coverage that runs have left, which is removed; nothing if none is there and none is wanted."""
+    if not os.path.exists(path):
+        return "no coverage" if is_wanted else ""
+    with open(path, encoding="utf-8", errors="replace") as file:
+        text = file.read()
+    os.remove(path)
+    try:
+        coverage_text.read(text)
+    except coverage_text.NoCoverage as fault:
+        return f"coverage: {fault}"
+    return "" if is_wanted else "a coverage that nobody asked for, or without a verdict"
+
+
 def judge(seed, found, folder):
     """What is wrong with the runs of a seed, and the status that they ended with: the capture is a file, and standard input."""
     rng = random.Random(f"words {seed}")
@@ -193,9 +209,14 @@ def judge(seed, found, folder):
             file.write(text)
     words = ["--links", rng.choice(["both", "masters", "ports", "each"]), "--order", rng.choice(ORDERS)]
     words += [word for word in ("--trace", "--complete") if rng.random() < 0.5]
+    coverage = os.path.join(folder, f"{seed}.cov")
+    words += ["--coverage", coverage] * (rng.random() < 0.5)
     read_file, read_input = run([*words, *paths], b""), run([*words, paths[0], "-"], capture)
     for path in paths:
         os.remove(path)
+    wrong = wrong_coverage(coverage, coverage in words and read_file[0] in ENDS)
+    if wrong:
+        return f"{words}: {read_file}, {wrong}", read_file[0]
     if read_file != read_input:
         return f"{words}: of a file {read_file}, of standard input {read_input}", read_file[0]
     return "" if is_right(*read_file, "--trace" in words) else f"{words}: {read_file}", read_file[0]

@@ -1,6 +1,6 @@
 -- The command line of tlcheck: the options and words that there are, what the words ask for, and the status that the
 -- program ends with if they ask for nothing. This project's own.
-use Rattle.std.specs.Prelude.{◌≡◌, ℕ, List, [], ◌∷◌, Bool, true, false, Option, Some, None, Result, IfOk, codes, map, option_map, if◌then◌else◌, unwrap_or}
+use Rattle.std.specs.Prelude.{◌≡◌, List, [], ◌∷◌, Bool, true, false, Option, Some, None, Result, IfOk, codes, map, option_map, if◌then◌else◌, unwrap_or}
 use Rattle.std.specs.Borrow.{Bor}
 use Rattle.std.specs.Str.{bytes_eq}
 use Rattle.clap.specs.Words.{App, FailsBy, Row, Rule, Text, fault_of, first_of, matches_of, new_app, new_rule, with_rule}
@@ -54,6 +54,14 @@ order_rule names = record (new_rule (codes "order")) {
 abbrev pub flag_rule : Text → Rule
 flag_rule name = record (new_rule name) { long = Some name; action = Some SetTrue; parser = Some values.Bool }
 
+-- `--coverage`, with the name of a file
+abbrev pub coverage_rule : Rule
+coverage_rule = record (new_rule (codes "coverage")) {
+  long = Some (codes "coverage");
+  action = Some Set;
+  value_names = 1;
+}
+
 -- SYSTEM, a word that there must be
 abbrev pub system_rule : Rule
 system_rule = record (new_rule (codes "system")) { action = Some Set; value_names = 1; required = true }
@@ -70,12 +78,19 @@ program = let plain = new_app (codes "tlcheck") in record plain { top = record p
 abbrev pub with_flag : App → Text → App
 with_flag app name = with_rule app (flag_rule name)
 
--- these seven, and `--help` and `--version`, which clap adds
+-- the two options that have one of a list of words; the flags; and the option and the words that name a file
+abbrev pub with_choices : App → Names → Names → App
+with_choices app links orders = with_rule (with_rule app (links_rule links)) (order_rule orders)
+
+abbrev pub with_flags : App → App
+with_flags app = with_flag (with_flag (with_flag app (codes "trace")) (codes "complete")) (codes "quiet")
+
+abbrev pub with_files : App → App
+with_files app = with_rule (with_rule (with_rule app coverage_rule) system_rule) capture_rule
+
+-- these eight, and `--help` and `--version`, which clap adds
 abbrev pub with_rules : Names → Names → App
-with_rules links orders =
-    let valued = with_rule (with_rule program (links_rule links)) (order_rule orders) in
-    let options = with_flag (with_flag (with_flag valued (codes "trace")) (codes "complete")) (codes "quiet") in
-    with_rule (with_rule options system_rule) capture_rule
+with_rules links orders = with_files (with_flags (with_choices program links orders))
 
 -- the rule is that of `--links`, or of `--order`, wherever its list of words lies
 pub record IsLinksRule (rule : Rule) : Type 0 where
@@ -105,6 +120,7 @@ pub record Asked : Type 0 where
   pub trace : Bool
   pub complete : Bool
   pub quiet : Bool
+  pub coverage : Option Text
   pub system : Text
   pub capture : Option Text
 
@@ -115,6 +131,7 @@ asked_of options = record {
   trace = options.trace;
   complete = options.complete;
   quiet = options.quiet;
+  coverage = option_map (λ name. name.now) options.coverage;
   system = options.system.now;
   capture = option_map (λ name. name.now) options.capture;
 }
@@ -150,6 +167,7 @@ asked_from rows = record {
   trace = flag_of (value_of rows (codes "trace"));
   complete = flag_of (value_of rows (codes "complete"));
   quiet = flag_of (value_of rows (codes "quiet"));
+  coverage = first_of (codes "coverage") rows;
   system = value_of rows (codes "system");
   capture = file_of (first_of (codes "capture") rows);
 }
@@ -177,6 +195,7 @@ plain = record {
   trace = false;
   complete = false;
   quiet = false;
+  coverage = None;
   system = codes "s.toml";
   capture = None;
 }

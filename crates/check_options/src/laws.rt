@@ -1,7 +1,7 @@
 //! Laws of the command line, each on a function that does nothing but carry it: what lines that the documents name ask
 //! for, or are refused as. What clap's rules say of a line is computed.
 ghost use Rattle.std.specs.Prelude.{[], ◌∷◌, codes, true, false, Some, None};
-ghost use Rattle.clap.specs.declared.error.ErrorKind.TheVariants.{DisplayHelp, DisplayVersion, InvalidValue, MissingRequiredArgument, TooManyValues, UnknownArgument};
+ghost use Rattle.clap.specs.declared.error.ErrorKind.TheVariants.{ArgumentConflict, DisplayHelp, DisplayVersion, InvalidValue, MissingRequiredArgument, TooManyValues, UnknownArgument};
 ghost use Rattle.check_sides.specs.declared.links.Links.TheVariants.{Both, Masters, Ports, Each};
 ghost use Rattle.check_flight.specs.declared.order.Order.TheVariants.{Accept, Reply, Any};
 ghost use Rattle.check_options.specs.Options.{AskFor, AreRefusedAs, plain};
@@ -65,6 +65,15 @@ pub fn lines_ask_for_quiet()
         (codes "tlcheck" ∷ codes "s.toml" ∷ codes "c.csv" ∷ codes "--quiet" ∷ codes "--complete" ∷ []) }
 {}
 
+/// The lines with `--coverage`, before SYSTEM, and after it with another option.
+pub fn lines_ask_for_coverage()
+    ensures coverage { AskFor (record plain { coverage = Some (codes "c.cov"); capture = Some (codes "c.csv") })
+        (codes "tlcheck" ∷ codes "--coverage" ∷ codes "c.cov" ∷ codes "s.toml" ∷ codes "c.csv" ∷ []) }
+    ensures coverage_behind { AskFor (record plain { links = Masters; coverage = Some (codes "c.cov") })
+        (codes "tlcheck" ∷ codes "s.toml" ∷ codes "--coverage=c.cov" ∷ codes "--links"
+        ∷ codes "masters" ∷ []) }
+{}
+
 /// The lines that ask for help or the version, and mistakes.
 pub fn lines_are_refused()
     ensures help { AreRefusedAs DisplayHelp (codes "tlcheck" ∷ codes "--help" ∷ []) }
@@ -80,4 +89,13 @@ pub fn lines_are_refused()
         (codes "tlcheck" ∷ codes "--trace=true" ∷ codes "s.toml" ∷ []) }
     ensures unknown { AreRefusedAs UnknownArgument
         (codes "tlcheck" ∷ codes "--verbose" ∷ codes "s.toml" ∷ []) }
+{}
+
+/// The lines with `--coverage` and no file, and with two.
+pub fn coverage_is_refused()
+    ensures missing { AreRefusedAs InvalidValue
+        (codes "tlcheck" ∷ codes "s.toml" ∷ codes "--coverage" ∷ []) }
+    ensures twice { AreRefusedAs ArgumentConflict
+        (codes "tlcheck" ∷ codes "--coverage" ∷ codes "c.cov" ∷ codes "s.toml"
+        ∷ codes "--coverage=d.cov" ∷ []) }
 {}

@@ -1,5 +1,5 @@
 //! The command line of tlcheck: `tlcheck [--links both|masters|ports|each] [--order accept|reply|any] [--trace]
-//! [--complete] [--quiet] SYSTEM [CAPTURE]`.
+//! [--complete] [--quiet] [--coverage FILE] SYSTEM [CAPTURE]`.
 //!
 //! [`read_options`] carries the promise: the words are taken or refused just as the command line says, by clap's own
 //! definitions (`IsCommandLine`, `specs/Options.antt`), and if they are taken the answer is what they ask for. The

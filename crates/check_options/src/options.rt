@@ -1,7 +1,7 @@
-//! The command line: `tlcheck [--links both|masters|ports|each] [--order accept|reply|any] [--trace] [--complete] [--quiet] SYSTEM [CAPTURE]`.
+//! The command line: `tlcheck [--links both|masters|ports|each] [--order accept|reply|any] [--trace] [--complete] [--quiet] [--coverage FILE] SYSTEM [CAPTURE]`.
 ghost use Rattle.std.specs.Prelude.{◌≡◌, IfOk, [], map, false, option_map, unwrap_or};
 ghost use Rattle.clap.specs.Words.{app_of, first_value, found_of, rule_of};
-ghost use Rattle.check_options.specs.Options.{Answers, IsCommandLine, IsLinksRule, IsOrderRule, capture_rule, file_of, flag_of, flag_rule, links_of, order_of, program, system_rule};
+ghost use Rattle.check_options.specs.Options.{Answers, IsCommandLine, IsLinksRule, IsOrderRule, capture_rule, coverage_rule, file_of, flag_of, flag_rule, links_of, order_of, program, system_rule, with_files, with_flags};
 
 use check_flight::Order;
 use check_sides::Links;
@@ -39,6 +39,8 @@ pub struct Options<'a> {
     pub complete: bool,
     /// Whether no progress is shown.
     pub quiet: bool,
+    /// The file to which what was covered is written, if it is asked for.
+    pub coverage: Option<&'a str>,
     /// The file with the system.
     pub system: &'a str,
     /// The file with the capture; if there is none it comes on standard input.
@@ -47,8 +49,8 @@ pub struct Options<'a> {
 
 /// Reads the command line, whose first word is the program's name.
 ///
-/// Errors: help or the version that was asked for, an unknown option, a value that an option does not have, no SYSTEM,
-/// or a stray word; each is clap's own text.
+/// Errors: help or the version that was asked for, an unknown option, a value that an option does not have or lacks, an
+/// option that is given twice, no SYSTEM, or a stray word; each is clap's own text.
 pub fn read_options<'a>(alloc: Global, words: &'a [&'a str]) -> Result<Options<'a>, Error>
     // The words are taken or refused as the command line says; the options are those that they ask for.
     ensures answer { Answers (map (λ word. word.now) words.now) result }
@@ -60,6 +62,7 @@ pub fn read_options<'a>(alloc: Global, words: &'a [&'a str]) -> Result<Options<'
         trace: read_flag(value(&matches, "trace")),
         complete: read_flag(value(&matches, "complete")),
         quiet: read_flag(value(&matches, "quiet")),
+        coverage: matches.get_str("coverage"),
         system: value(&matches, "system"),
         capture: read_file(matches.get_str("capture")),
     })
@@ -165,6 +168,18 @@ fn flag<'a>(alloc: Global, name: &'a str, help: &'a str) -> Arg<'a>
         .help(help)
 }
 
+/// `--coverage`.
+fn coverage_option<'a>(alloc: Global) -> Arg<'a>
+    ensures rule { rule_of result ≡ coverage_rule }
+    ensures local { result.global ≡ false }
+{
+    Arg::new(alloc, "coverage")
+        .long("coverage")
+        .action(ArgAction::Set)
+        .value_name("FILE")
+        .help("Write what the capture has covered to FILE")
+}
+
 /// SYSTEM.
 fn system_word<'a>(alloc: Global) -> Arg<'a>
     ensures rule { rule_of result ≡ system_rule }
@@ -188,16 +203,32 @@ fn capture_word<'a>(alloc: Global) -> Arg<'a>
         .help("The file with the capture; standard input if there is none, or -")
 }
 
+/// The flags, added to a command.
+fn add_flags<'a>(alloc: Global, command: Command<'a>) -> Result<Command<'a>, AllocError>
+    ensures { IfOk result (λ more. app_of more ≡ with_flags (app_of command.entry)) }
+{
+    command
+        .arg(flag(alloc, "trace", TRACE_HELP))?
+        .arg(flag(alloc, "complete", COMPLETE_HELP))?
+        .arg(flag(alloc, "quiet", QUIET_HELP))
+}
+
+/// The option and the words that name a file, added to a command.
+fn add_files<'a>(alloc: Global, command: Command<'a>) -> Result<Command<'a>, AllocError>
+    ensures { IfOk result (λ more. app_of more ≡ with_files (app_of command.entry)) }
+{
+    command
+        .arg(coverage_option(alloc))?
+        .arg(system_word(alloc))?
+        .arg(capture_word(alloc))
+}
+
 /// The options and words that there are.
 fn command<'a>(alloc: Global) -> Result<Command<'a>, AllocError>
     ensures { IfOk result (λ command. IsCommandLine (app_of command)) }
 {
-    program(alloc)
+    let choices = program(alloc)
         .arg(links_option(alloc))?
-        .arg(order_option(alloc))?
-        .arg(flag(alloc, "trace", TRACE_HELP))?
-        .arg(flag(alloc, "complete", COMPLETE_HELP))?
-        .arg(flag(alloc, "quiet", QUIET_HELP))?
-        .arg(system_word(alloc))?
-        .arg(capture_word(alloc))
+        .arg(order_option(alloc))?;
+    add_files(alloc, add_flags(alloc, choices)?)
 }

@@ -1,5 +1,5 @@
 -- What the program asks of a capture, and how it ends. This project's own.
-use Rattle.std.specs.Prelude.{ℕ, Bool, true, false}
+use Rattle.std.specs.Prelude.{ℕ, Bool, true, false, is_some}
 use Rattle.check_options.specs.declared.options.Options.{Options}
 use Rattle.check_engine.specs.declared.asked.Asked.{Asked}
 
@@ -9,6 +9,7 @@ asked_of options = record {
   terms = record { links = options.links; order = options.order };
   trace = options.trace;
   complete = options.complete;
+  coverage = is_some options.coverage;
 }
 
 -- the status of a verdict: whether the capture is lawful

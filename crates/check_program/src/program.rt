@@ -18,7 +18,8 @@ use tl_streams::fail;
 /// The status of a capture that is not lawful, or incomplete.
 const UNLAWFUL: u8 = 3;
 
-/// Judges a capture as the command line asks, for the system of these parts and images.
+/// Judges a capture as the command line asks, for the system of these parts and images. The text of what the capture has
+/// covered is added to `covered` if a file for it was named and there is a verdict.
 pub fn check_as_asked<C: Read + Drop, W: Write>(
     alloc: Global,
     parts: Parts,
@@ -26,6 +27,7 @@ pub fn check_as_asked<C: Read + Drop, W: Write>(
     capture: C,
     writer: &mut W,
     options: &Options<'_>,
+    covered: &mut Vec<u8>,
 ) -> Result<bool, CheckFault>
     ensures { IsChecked (asked_of options.now) (record {
       parts = parts_view parts;
@@ -40,8 +42,9 @@ pub fn check_as_asked<C: Read + Drop, W: Write>(
         },
         trace: options.trace,
         complete: options.complete,
+        coverage: options.coverage.is_some(),
     };
-    check(alloc, parts, images, capture, writer, asked)
+    check(alloc, parts, images, capture, writer, asked, covered)
 }
 
 /// Ends the program after a verdict, or with the line and the status of a fault.

@@ -5,8 +5,9 @@
 //! - `progress`: the progress of a capture (`check_progress`);
 //! - `program`: a system, its images and a capture with the verdict, its lines and its faults; readers and writers that
 //!   are slow or fail (`check_engine`);
+//! - `coverage`: what a capture has covered, and the file that it is written to (`check_program`);
 //! - `dumps`: a system and a dump with the capture, and its faults (`check_waves`);
-//! - `ends`, `streams`: the ends of runs of these two, and their readers and writers;
+//! - `ends`, `streams`, `files`: the ends of runs of these two, and their readers, writers and files;
 //! - `records`: texts with their records (`check_records`);
 //! - `map`, `sources`: addresses with their ports, and sources with their masters (`check_map`);
 //! - `refused`: what is answered of these two if memory is refused.

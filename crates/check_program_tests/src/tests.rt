@@ -1,5 +1,7 @@
+mod coverage;
 mod dumps;
 mod ends;
+mod files;
 mod map;
 mod options;
 mod program;

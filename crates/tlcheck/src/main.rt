@@ -3,10 +3,16 @@
 //! SYSTEM is a system file, and says what the crossbar is, with the images that it names. CAPTURE has a row for each beat
 //! that crossed one of its links. Standard output ends with one line, the verdict: lawful, with counts, or the first row
 //! that makes the capture unlawful, and why. With `--complete` it can be incomplete too, if requests are left at its end.
-//! With `--trace` a line for each reply stands before the verdict. Nothing else is written to it. A fault is one line on
-//! standard error; then nothing was written but those replies, or a part of it if a write failed. A command line that is
-//! refused is answered by clap's text. If standard error is a terminal, it shows the progress of a capture that takes more
-//! than a second, unless `--quiet` is given.
+//! With `--trace` a line for each reply stands before the verdict. Nothing else is written to it.
+//!
+//! With `--coverage FILE` the text of what the capture has covered is written to FILE, after the verdict's line. FILE is
+//! left alone if there is no verdict.
+//!
+//! A fault is one line on standard error. If there is no verdict, nothing was written but the lines of replies, or a part
+//! of these and the verdict's line if a write failed. If FILE can't be written, the verdict stands on standard output
+//! already, and the fault is `write failed`; FILE may then hold a part of its text. A command line that is refused is
+//! answered by clap's text. If standard error is a terminal, it shows the progress of a capture that takes more than a
+//! second, unless `--quiet` is given.
 //!
 //! The crates `check_engine` and `check_program` carry the theorem: what is written, and the status. Here the program's
 //! words, files and memory are handed to them. It is a crate of its own, so that its proof is not done again for the tests.
@@ -14,9 +20,9 @@
 
 use check_engine::{CheckFault, read_system};
 use check_options::{Options, read_options};
-use check_program::{check_as_asked, ended, read_images};
+use check_program::{check_as_asked, ended, read_images, write_coverage};
 use check_progress::{Meter, Shown};
-use std::io::IsTerminal;
+use std::io::{IsTerminal, Read};
 use std::process::ExitCode;
 use std::{env, fs};
 use tl_streams::{NamedFile, no_memory, refused, unread};
@@ -39,22 +45,40 @@ fn main(rt: HostRuntime) -> ExitCode {
     }
 }
 
-/// Reads the system with its images, and judges the capture that was named, or the one on standard input.
+/// Judges the capture that was named, or the one on standard input.
 fn run(rt: &HostRuntime, options: &Options<'_>) -> Result<bool, CheckFault> {
+    match options.capture {
+        Some(name) => judge(rt, options, NamedFile::new(rt, name)),
+        None => judge(rt, options, rt.stdin()),
+    }
+}
+
+/// Reads the system with its images and judges a capture. After the verdict, what was covered is written to the file that
+/// was named for it.
+fn judge<C: Read + Drop>(
+    rt: &HostRuntime,
+    options: &Options<'_>,
+    capture: C,
+) -> Result<bool, CheckFault> {
     let mut system = NamedFile::new(rt, options.system);
     let parts = read_system(rt.alloc(), &mut system)?;
     let images = read_images(rt.alloc(), rt, options.system, &parts)?;
     let mut writer = rt.stdout();
-    match options.capture {
-        Some(name) => {
-            let capture = Shown::new(NamedFile::new(rt, name), meter(rt, options));
-            check_as_asked(rt.alloc(), parts, &images, capture, &mut writer, options)
-        }
-        None => {
-            let capture = Shown::new(rt.stdin(), meter(rt, options));
-            check_as_asked(rt.alloc(), parts, &images, capture, &mut writer, options)
-        }
+    let capture = Shown::new(capture, meter(rt, options));
+    let mut covered = Vec::new(rt.alloc());
+    let lawful = check_as_asked(
+        rt.alloc(),
+        parts,
+        &images,
+        capture,
+        &mut writer,
+        options,
+        &mut covered,
+    )?;
+    if let Some(name) = options.coverage {
+        write_coverage(rt, name, &covered)?;
     }
+    Ok(lawful)
 }
 
 /// What shows the progress of the capture, if it is shown.

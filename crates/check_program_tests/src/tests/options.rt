@@ -11,12 +11,13 @@ const PLAIN: Options<'static> = Options {
     trace: false,
     complete: false,
     quiet: false,
+    coverage: None,
     system: "s",
     capture: None,
 };
 
 /// The words of a command line, and the options that they ask for.
-const LINES: [(&[&str], Options<'static>); 11] = [
+const LINES: [(&[&str], Options<'static>); 14] = [
     (&["tlcheck", "s"], PLAIN),
     (
         &["tlcheck", "s", "c"],
@@ -90,6 +91,31 @@ const LINES: [(&[&str], Options<'static>); 11] = [
             ..PLAIN
         },
     ),
+    (
+        &["tlcheck", "--coverage", "f", "s", "c"],
+        Options {
+            coverage: Some("f"),
+            capture: Some("c"),
+            ..PLAIN
+        },
+    ),
+    (
+        &["tlcheck", "s", "--coverage=f", "--complete", "-"],
+        Options {
+            complete: true,
+            coverage: Some("f"),
+            ..PLAIN
+        },
+    ),
+    // a hyphen is a name like others here
+    (
+        &["tlcheck", "s", "c", "--coverage", "-"],
+        Options {
+            coverage: Some("-"),
+            capture: Some("c"),
+            ..PLAIN
+        },
+    ),
 ];
 
 #[test]
@@ -101,7 +127,7 @@ fn words_give_options(rt: HostRuntime) {
 }
 
 /// Other words, and the status that the program ends with.
-const OTHERS: [(&[&str], u8); 14] = [
+const OTHERS: [(&[&str], u8); 17] = [
     (&["tlcheck"], 2),
     (&["tlcheck", "s", "c", "stray"], 2),
     (&["tlcheck", "--links", "all", "s"], 2),
@@ -113,6 +139,9 @@ const OTHERS: [(&[&str], u8); 14] = [
     (&["tlcheck", "--complete=yes", "s"], 2),
     (&["tlcheck", "--complete", "s", "--complete"], 2),
     (&["tlcheck", "--quiet=yes", "s"], 2),
+    (&["tlcheck", "s", "--coverage"], 2),
+    (&["tlcheck", "--coverage", "f", "s", "--coverage=g"], 2),
+    (&["tlcheck", "--coverage", "f"], 2),
     (&["tlcheck", "--verbose", "s"], 2),
     (&["tlcheck", "--version"], 0),
     (&["tlcheck", "--help"], 0),

@@ -44,6 +44,7 @@ fn judge(
     capture: Trickle,
     writer: &mut Drips,
     trace: bool,
+    covered: &mut Vec<u8>,
 ) -> Result<bool, CheckFault> {
     let parts = match read_system(alloc, system) {
         Ok(parts) => parts,
@@ -56,8 +57,9 @@ fn judge(
         },
         trace,
         complete: false,
+        coverage: false,
     };
-    check(alloc, parts, &[], capture, writer, asked)
+    check(alloc, parts, &[], capture, writer, asked, covered)
 }
 
 /// The line and the status of a fault.
@@ -66,15 +68,24 @@ fn line_of(rt: &impl Abort, alloc: Global, fault: &CheckFault) -> (String, u8) {
     (line, fault.status())
 }
 
-/// A run has this end.
+/// A run has this end, and no text of what was covered, for which it does not ask.
 fn expect(rt: &impl Abort, alloc: Global, run: &Run, end: &End) {
     let mut system = Trickle::new(run.system, run.reading_system);
     let capture = Trickle::new(run.input, run.reading_input);
     let mut writer = Drips::new(alloc, run.writing);
-    let answer = match judge(alloc, &mut system, capture, &mut writer, run.trace) {
+    let mut covered = Vec::new(alloc);
+    let answer = match judge(
+        alloc,
+        &mut system,
+        capture,
+        &mut writer,
+        run.trace,
+        &mut covered,
+    ) {
         Ok(lawful) => Ok(lawful),
         Err(fault) => Err(line_of(rt, alloc, &fault)),
     };
+    assert!(rt; covered.is_empty());
     let outcome = Outcome {
         answer,
         written: writer.held,

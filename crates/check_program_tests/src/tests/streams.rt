@@ -17,7 +17,7 @@ pub enum Trouble {
 }
 
 impl Trouble {
-    fn strikes(self, call: u32) -> Option<ErrorKind> {
+    pub(super) fn strikes(self, call: u32) -> Option<ErrorKind> {
         match self {
             Trouble::Never => None,
             Trouble::At(at) => (at == call).then_some(ErrorKind::BrokenPipe),

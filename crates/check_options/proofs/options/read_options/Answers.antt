@@ -33,16 +33,18 @@ returns c =
     c.read_flag-2.ensures ∙ ap flag_of (c.value-4.ensures ∙ ap or_none (read (codes "complete"))) in
     let quiet : c.read_flag-3.result ≡ flag_of (value_of rows (codes "quiet")) =
     c.read_flag-3.ensures ∙ ap flag_of (c.value-5.ensures ∙ ap or_none (read (codes "quiet"))) in
+    let coverage : option_map (λ name. name.now) c.get_str.result ≡ first_of (codes "coverage") rows =
+    c.get_str.ensures ∙ read (codes "coverage") in
     let system : c.value-6.result.now ≡ value_of rows (codes "system") =
     c.value-6.ensures ∙ ap or_none (read (codes "system")) in
     let capture : option_map (λ name. name.now) c.read_file.result
     ≡ file_of (first_of (codes "capture") rows) =
-    c.read_file.ensures ∙ ap file_of (c.get_str.ensures ∙ read (codes "capture")) in
+    c.read_file.ensures ∙ ap file_of (c.get_str-2.ensures ∙ read (codes "capture")) in
     record {
       answer = record {
         app = app_of command;
         is = line;
         faults = c.in_ok-matches.ensures.kinds (is_free_line _ line);
-        asked = rw (links, order, trace, complete, quiet, system, capture) refl;
+        asked = rw (links, order, trace, complete, quiet, coverage, system, capture) refl;
       };
     }

@@ -1,0 +1,17 @@
+use Rattle.std.proofs.Common.{refl, codes, Some}
+use Rattle.clap.proofs.OnLiterals.{clap_on_literals}
+use Rattle.check_sides.specs.declared.links.Links.TheVariants.{Masters}
+use Rattle.check_options.specs.Options.{plain}
+use Rattle.check_options.proofs.CommandLine.{asks}
+use Rattle.check_options.proofs.laws.lines_ask_for_coverage.Goals as goal
+
+pub returns : goal.returns
+unfolding clap_on_literals
+returns c = record {
+  coverage =
+      asks (record plain { coverage = Some (codes "c.cov"); capture = Some (codes "c.csv") }) _
+      (λ l a b c f o d e g. refl) (λ l a b c f o d e g. refl);
+  coverage_behind =
+      asks (record plain { links = Masters; coverage = Some (codes "c.cov") }) _
+      (λ l a b c f o d e g. refl) (λ l a b c f o d e g. refl);
+}
