@@ -2,7 +2,7 @@
 ghost use Rattle.std.specs.Prelude.{◌≡◌, IfOk, IfErr, map};
 ghost use Rattle.std.specs.Process.{exit_status};
 ghost use Rattle.check_description.specs.File.{parts_view};
-ghost use Rattle.check_engine.specs.Engine.{IsChecked};
+ghost use Rattle.check_engine.specs.Engine.{IsChecked, IsCounted};
 ghost use Rattle.check_engine.specs.Fault.{status_of};
 ghost use Rattle.check_program.specs.Program.{asked_of, status_of_verdict};
 
@@ -29,11 +29,16 @@ pub fn check_as_asked<C: Read + Drop, W: Write>(
     options: &Options<'_>,
     covered: &mut Vec<u8>,
 ) -> Result<bool, CheckFault>
-    ensures { IsChecked (asked_of options.now) (record {
+    ensures checked { IsChecked (asked_of options.now) (record {
       parts = parts_view parts;
       images = map (λ image. image.items) images.now;
       capture = C.remaining capture;
     }) (W.contents writer.old) (W.contents writer.new) result }
+    ensures covered { IfOk result (IsCounted (asked_of options.now) (record {
+      parts = parts_view parts;
+      images = map (λ image. image.items) images.now;
+      capture = C.remaining capture;
+    }) covered.old.items covered.new.items) }
 {
     let asked = Asked {
         terms: Terms {
