@@ -81,20 +81,13 @@ const ASKED: Options<'static> = Options {
     capture: None,
 };
 
-/// The system, the end of the capture, what is asked, the writer's trouble; whether the capture is lawful if there is a
-/// verdict, and what is added.
-const JUDGED: [(&[u8], &[u8], Options<'static>, Trouble, Option<bool>, &[u8]); 9] = [
-    (SYSTEM, REPLY, ASKED, Trouble::Never, Some(true), LAWFUL),
-    (
-        SYSTEM,
-        WRONG,
-        ASKED,
-        Trouble::Never,
-        Some(false),
-        UNANSWERED,
-    ),
+/// The system, the end of the capture, and what is asked; whether the capture is lawful if there is a verdict, and what is
+/// added.
+const JUDGED: [(&[u8], &[u8], Options<'static>, Option<bool>, &[u8]); 7] = [
+    (SYSTEM, REPLY, ASKED, Some(true), LAWFUL),
+    (SYSTEM, WRONG, ASKED, Some(false), UNANSWERED),
     // lawful as far as it goes, and incomplete if all is to be answered
-    (SYSTEM, b"", ASKED, Trouble::Never, Some(true), UNANSWERED),
+    (SYSTEM, b"", ASKED, Some(true), UNANSWERED),
     (
         SYSTEM,
         b"",
@@ -102,7 +95,6 @@ const JUDGED: [(&[u8], &[u8], Options<'static>, Trouble, Option<bool>, &[u8]); 9
             complete: true,
             ..ASKED
         },
-        Trouble::Never,
         Some(false),
         UNANSWERED,
     ),
@@ -114,15 +106,12 @@ const JUDGED: [(&[u8], &[u8], Options<'static>, Trouble, Option<bool>, &[u8]); 9
             coverage: None,
             ..ASKED
         },
-        Trouble::Never,
         Some(true),
         b"",
     ),
-    // a time that falls, no system, and a writer that fails
-    (SYSTEM, EARLY, ASKED, Trouble::Never, None, b""),
-    (OVERLAP, REPLY, ASKED, Trouble::Never, None, b""),
-    (SYSTEM, REPLY, ASKED, Trouble::At(0), None, b""),
-    (SYSTEM, WRONG, ASKED, Trouble::At(9), None, b""),
+    // a time that falls, and no system
+    (SYSTEM, EARLY, ASKED, None, b""),
+    (OVERLAP, REPLY, ASKED, None, b""),
 ];
 
 /// These bytes and those after them.
@@ -148,11 +137,11 @@ fn is_answer(answer: Result<bool, CheckFault>, lawful: Option<bool>) -> bool {
 
 #[test]
 fn what_was_covered_is_added_to_a_verdict(rt: HostRuntime) {
-    for (system, end, options, writing, lawful, added) in &JUDGED {
+    for (system, end, options, lawful, added) in &JUDGED {
         let parts = parts_of(&rt, rt.alloc(), system);
         let text = joined(&rt, rt.alloc(), ROWS, end);
         let capture = Trickle::new(&text, Trouble::Never);
-        let mut writer = Drips::new(rt.alloc(), *writing);
+        let mut writer = Drips::new(rt.alloc(), Trouble::Never);
         let mut covered = joined(&rt, rt.alloc(), HELD, b"");
         let answer = check_as_asked(
             rt.alloc(),
