@@ -7,15 +7,16 @@ use Rattle.check_review.specs.View.{Judges, is_asked, is_covered, is_traced}
 use Rattle.check_review.specs.declared.judge.Judge.{Judge}
 use Rattle.check_review.specs.declared.tally.Tally.{Tally}
 use Rattle.check_rows.specs.Row.{SeenRow}
-use Rattle.check_records.specs.Text.{start_of}
+use Rattle.check_records.specs.Text.{Place, start_of}
 use Rattle.check_start.specs.Start.{ByThePlan, master_buses, port_buses}
 use Rattle.check_text.specs.Buses.{LinkBuses}
-use Rattle.check_text.specs.Capture.{IsCovered, IsFault, IsVerdict, IsWritten, TellsCovered}
+use Rattle.check_text.specs.Capture.{IsCovered, IsFault, IsVerdict, IsWritten, OfCapture, TellsCovered}
+use Rattle.check_text.specs.Rows.{OfJudged}
 use Rattle.check_text.specs.declared.fault.CaptureFault.{CaptureFault}
 use Rattle.check_text.specs.declared.fault.Verdict.{Verdict}
+use Rattle.check_text.specs.declared.fault.Verdict.TheVariants as verdicts
 use Rattle.check_sides.specs.Plan.{Plan}
 use Rattle.check_engine.specs.declared.asked.Asked.{Asked}
-use Rattle.check_text.proofs.Answering.{of_capture}
 use Rattle.check_engine.specs.Engine.{Given, HasVerdict, IsCounted, IsStopped, IsVerdictOf, IsWrittenOf, buses_of, is_lawful}
 
 abbrev with_buses : List Bus → List Bus → LinkBuses
@@ -111,6 +112,23 @@ is_stopped asked given system judge buses old new fault of_it made found tells =
 }
 
 -- ---- what is covered
+
+-- what follows of the rows of a verdict that are lawful
+of_judged : (plan : Plan) (v : Verdict) (rows : List SeenRow) (P Q : List SeenRow → Type 0)
+    → ((crossed : List SeenRow) → P crossed → Q crossed) → OfJudged plan v rows P → OfJudged plan v rows Q
+of_judged plan (verdicts.Lawful counts) rows P Q to is = record { lawful = is.lawful; holds = to is.lawful.crossed is.holds }
+of_judged plan (verdicts.Incomplete left) rows P Q to is = record { lawful = is.lawful; holds = to is.lawful.crossed is.holds }
+of_judged plan (verdicts.Unlawful found) rows P Q to is = record { first = is.first; holds = to is.first.before is.holds }
+
+of_capture : (plan : Plan) (buses : LinkBuses) (from : Place) (v : Verdict) (P Q : List SeenRow → Type 0)
+    → ((crossed : List SeenRow) → P crossed → Q crossed) → OfCapture plan buses from v P → OfCapture plan buses from v Q
+of_capture plan buses from v P Q to is = record {
+  rows = is.rows;
+  at = is.at;
+  begins = is.begins;
+  judged = is.judged;
+  holds = of_judged plan v is.rows P Q to is.holds;
+}
 
 of_known : (known : Option (List ℕ)) (P Q : List ℕ → Type 0) → ((text : List ℕ) → P text → Q text) → IfSome known P
     → IfSome known Q

@@ -18,9 +18,9 @@ use Rattle.check_records.specs.Text.{Ends, Place, start_of}
 use Rattle.tl_streams.specs.Streams.{AppendsPart}
 use Rattle.check_sides.specs.Plan.{Plan}
 use Rattle.check_unanswered.specs.declared.request.Left.{Left as LeftOver}
-use Rattle.check_text.specs.Capture.{HasHeader, IsCovered, IsFault, IsVerdict, IsWritten, IsWrittenOf, OfCapture}
+use Rattle.check_text.specs.Capture.{HasHeader, IsCovered, IsFault, IsVerdict, IsWritten, IsWrittenOf}
 use Rattle.check_text.specs.Out.{Finishes, WritesPart, is_cut}
-use Rattle.check_text.specs.Rows.{AllTaken, AreJudged, IsAnswer, IsCountedBy, IsJudged, IsJudgedAt, IsOut, IsToldBy, OfJudged, WroteBy, ended_with, refused}
+use Rattle.check_text.specs.Rows.{AllTaken, AreJudged, IsAnswer, IsCountedBy, IsJudged, IsJudgedAt, IsOut, IsToldBy, WroteBy, ended_with, refused}
 use Rattle.check_text.specs.declared.fault.CaptureFault.{CaptureFault}
 use Rattle.check_text.specs.declared.fault.CaptureFault.TheVariants as fault
 use Rattle.check_text.specs.declared.fault.Verdict.{Verdict}
@@ -385,21 +385,3 @@ pub says_covered : (plan : Plan) (buses : LinkBuses) (tally : Tally) (known : Op
 says_covered plan buses tally known (Err why) says = tt
 says_covered plan buses tally None (Ok v) says = tt
 says_covered plan buses tally (Some text) (Ok v) says = says
-
--- ---- what follows of the rows of a verdict
-
-of_judged : (plan : Plan) (v : Verdict) (rows : List SeenRow) (P Q : List SeenRow → Type 0)
-    → ((crossed : List SeenRow) → P crossed → Q crossed) → OfJudged plan v rows P → OfJudged plan v rows Q
-of_judged plan (verdict.Lawful counts) rows P Q to is = record { lawful = is.lawful; holds = to is.lawful.crossed is.holds }
-of_judged plan (verdict.Incomplete left) rows P Q to is = record { lawful = is.lawful; holds = to is.lawful.crossed is.holds }
-of_judged plan (verdict.Unlawful found) rows P Q to is = record { first = is.first; holds = to is.first.before is.holds }
-
-pub of_capture : (plan : Plan) (buses : LinkBuses) (from : Place) (v : Verdict) (P Q : List SeenRow → Type 0)
-    → ((crossed : List SeenRow) → P crossed → Q crossed) → OfCapture plan buses from v P → OfCapture plan buses from v Q
-of_capture plan buses from v P Q to is = record {
-  rows = is.rows;
-  at = is.at;
-  begins = is.begins;
-  judged = is.judged;
-  holds = of_judged plan v is.rows P Q to is.holds;
-}
