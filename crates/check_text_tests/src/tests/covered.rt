@@ -49,7 +49,10 @@ again m0 4 1
 ",
     ),
     // a text that is no capture has no verdict
-    (&["1,m0,A,4,0,2,0,1000,0f,,,", "2,m0"], "capture: line 3: wrong count of columns\n"),
+    (
+        &["1,m0,A,4,0,2,0,1000,0f,,,", "2,m0"],
+        "capture: line 3: wrong count of columns\n",
+    ),
 ];
 
 /// At the ports' links.
