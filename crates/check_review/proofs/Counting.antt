@@ -4,7 +4,7 @@ use Rattle.check_watch.specs.Scene.{ended}
 use Rattle.check_watch.specs.declared.seen.Ended.{Ended}
 use Rattle.check_watch.specs.declared.seen.Seen.{Seen}
 use Rattle.check_sides.specs.Lawful.{what_is_seen}
-use Rattle.check_sides.specs.Plan.{Layout, Plan}
+use Rattle.check_sides.specs.Plan.{Plan}
 use Rattle.check_sides.specs.View.{Keeps, View}
 use Rattle.check_rows.specs.Row.{SeenRow}
 use Rattle.check_coverage.specs.Flights.{end_of}

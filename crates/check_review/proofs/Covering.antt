@@ -1,5 +1,5 @@
 -- What is counted of rows, if what they cover is asked for.
-use Rattle.std.proofs.Common.{◌≡◌, ◌∙◌, ◌||◌, ℕ, ◌<◌, Bool, List, ◌∷◌, ◌++◌, IfSome, Option, is_some, length, get_or, reverse, take, sym, subst}
+use Rattle.std.proofs.Common.{◌≡◌, ◌∙◌, ◌||◌, ℕ, ◌<◌, List, ◌++◌, IfSome, Option, is_some, length, get_or, reverse, take, sym, subst}
 use Rattle.check_sides.specs.Plan.{Plan}
 use Rattle.check_rows.specs.Row.{SeenRow}
 use Rattle.check_coverage.specs.View.{Covers}

@@ -1,5 +1,5 @@
 -- The requests that are left, if these are asked for.
-use Rattle.std.proofs.Common.{◌≡◌, ◌∙◌, Bool, true, false, List, ◌∷◌, Option, Some, None, IfNone, IfSome, is_some, ap, sym, subst}
+use Rattle.std.proofs.Common.{◌≡◌, ◌∙◌, true, false, List, ◌∷◌, Option, Some, None, IfNone, IfSome, is_some, ap, sym, subst}
 use Rattle.check_watch.specs.declared.pending.Change.{Change}
 use Rattle.check_sides.specs.Lawful.{IsLawful}
 use Rattle.check_sides.specs.Pending.{IsChange}
@@ -7,7 +7,7 @@ use Rattle.check_sides.specs.Plan.{Plan}
 use Rattle.check_sides.specs.View.{Keeps}
 use Rattle.check_rows.specs.Row.{SeenRow}
 use Rattle.check_coverage.specs.View.{Covers}
-use Rattle.check_unanswered.specs.Began.{IsComplete, IsLeft, beats_of}
+use Rattle.check_unanswered.specs.Began.{IsComplete, IsLeft}
 use Rattle.check_unanswered.specs.View.{Holds, PendingView}
 use Rattle.check_unanswered.specs.declared.request.Left.{Left}
 use Rattle.check_review.specs.declared.tally.Tally.{Tally}

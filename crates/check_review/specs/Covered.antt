@@ -1,6 +1,6 @@
 -- What the rows that were judged have covered, if it is asked for. Lists of what crossed have the latest first. This
 -- project's own.
-use Rattle.std.specs.Prelude.{◌≡◌, ℕ, Bool, true, false, List, ◌∷◌, ◌++◌, reverse, IfSome}
+use Rattle.std.specs.Prelude.{◌≡◌, ℕ, Bool, true, false, List, ◌++◌, reverse, IfSome}
 use Rattle.check_sides.specs.Plan.{Plan}
 use Rattle.check_rows.specs.Row.{SeenRow}
 use Rattle.check_coverage.specs.Text.{TellsCoverage}

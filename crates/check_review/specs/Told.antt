@@ -3,7 +3,6 @@
 use Rattle.std.specs.Prelude.{◌≡◌, ℕ, Bool, true, false, ◌&&◌, List, [], ◌∷◌, ◌++◌}
 use Rattle.check_map.specs.declared.sources.Owner.{Owner}
 use Rattle.check_watch.specs.declared.beat.Link.{Link}
-use Rattle.check_watch.specs.declared.beat.Link.TheVariants.{Master, Port}
 use Rattle.check_watch.specs.Plan.{Sighting}
 use Rattle.check_watch.specs.declared.seen.Seen.{Seen}
 use Rattle.check_watch.specs.declared.seen.Seen.TheVariants.{Part, WholeAsk, WholeReply}

@@ -5,7 +5,8 @@
 //! first row that makes them unlawful, with its first fault; or they are lawful and requests are left at their end, if the
 //! judge was to say so. A text that is no capture is a [`CaptureFault`]: the first record that is no row, or none that may
 //! stand there, by its line (`specs/Capture.antt`). What the judge reports of the rows by then goes to a writer: in parts, as
-//! it grows long, and the rest before the answer (`specs/Out.antt`).
+//! it grows long, and the rest before the answer (`specs/Out.antt`). After a verdict the judge has counted what the rows
+//! cover, if it was to.
 //!
 //! Nothing here keeps a row: memory is that of the judge, of one record, and of what is reported of one time. Read on in
 //! `docs/CAPTURE.md`.

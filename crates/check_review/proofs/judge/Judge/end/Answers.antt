@@ -1,10 +1,10 @@
 -- The last rows are not lawful, and what is told.
-use Rattle.std.proofs.Common.{◌≡◌, ◌↔◌, ◌++◌, Bool, Err, IsOk, IfErr, List, ℕ, ap, reverse, subst}
+use Rattle.std.proofs.Common.{◌≡◌, ◌++◌, Bool, Err, List, ℕ, ap, reverse, subst}
 use Rattle.check_rows.specs.Row.{SeenRow}
 use Rattle.check_review.specs.Order.{watched}
 use Rattle.check_review.specs.Covered.{IsCoveredBefore, IsCoveredFile}
 use Rattle.check_review.specs.View.{HasTold, JudgeView, Judges, is_asked, is_traced, wants}
-use Rattle.check_review.specs.Verdict.{HasCounts, HasLeft, IsFirstUnlawful, IsLawfulFile, IsToldBefore, IsToldFile, IsWhatIsLeft, MayWantMemory, OfUnlawful}
+use Rattle.check_review.specs.Verdict.{HasCounts, HasLeft, IsFirstUnlawful, IsToldBefore, IsToldFile, IsWhatIsLeft, MayWantMemory, OfUnlawful}
 use Rattle.check_review.specs.declared.stop.Refusal.TheVariants as refusals
 use Rattle.check_review.proofs.Covering.{covered_before, covered_file}
 use Rattle.check_review.proofs.Judging.{first_unlawful, may_want, refused_is_not_lawful, told_before, told_file}

@@ -1,6 +1,6 @@
 -- The rows before are judged, or are not lawful, and what is told of them.
-use Rattle.std.proofs.Common.{◌≡◌, ◌∙◌, ◌<◌, ◌++◌, ◌∷◌, [], IfErr, List, ℕ, ap, reverse, sym, subst}
-use Rattle.check_rows.specs.Row.{SeenRow, seen_row}
+use Rattle.std.proofs.Common.{◌≡◌, ◌∙◌, ◌<◌, ◌++◌, ◌∷◌, [], ap, reverse, sym, subst}
+use Rattle.check_rows.specs.Row.{seen_row}
 use Rattle.check_review.specs.declared.tally.Tally.{Tally}
 use Rattle.check_review.specs.Verdict.{IsStop, MayWantMemory}
 use Rattle.check_review.specs.Covered.{CoversStop}

@@ -1,10 +1,9 @@
 -- The row before is judged, and nothing is told of it.
-use Rattle.std.proofs.Common.{◌≡◌, ◌∙◌, ◌<◌, ◌++◌, ◌∷◌, [], List, ℕ, ap, reverse, sym, subst}
-use Rattle.check_rows.specs.Row.{SeenRow, seen_row}
+use Rattle.std.proofs.Common.{◌∙◌, ◌<◌, ◌++◌, ◌∷◌, [], ap, reverse, sym, subst}
+use Rattle.check_rows.specs.Row.{seen_row}
 use Rattle.check_review.specs.declared.tally.Tally.{Tally}
-use Rattle.check_review.specs.Verdict.{MayWantMemory}
-use Rattle.check_review.specs.View.{HasTold, JudgeView, Judges, Kept, TellsOn, is_traced}
-use Rattle.check_review.proofs.Judging.{may_want, told_later}
+use Rattle.check_review.specs.View.{HasTold, JudgeView, Kept, TellsOn}
+use Rattle.check_review.proofs.Judging.{told_later}
 use Rattle.check_review.proofs.judge.Judge.go_on_quietly.Goals as goal
 
 pub returns-clause-told : goal.returns-clause-told

@@ -1,5 +1,5 @@
 -- What is kept after a row, and of its request.
-use Rattle.std.proofs.Common.{◌≡◌, ◌∙◌, ◌∷◌, true, false, sym, subst}
+use Rattle.std.proofs.Common.{◌≡◌, ◌∙◌, ◌∷◌, false, sym, subst}
 use Rattle.check_unanswered.specs.Began.{row_with}
 use Rattle.check_sides.specs.Plan.{HasLink, IsWatched, Layout}
 use Rattle.check_review.specs.Order.{is_watched, seen, watched}

@@ -1,6 +1,5 @@
 -- The moment has one row, and nothing is told of it.
-use Rattle.std.proofs.Common.{◌≡◌, ◌++◌, ◌∷◌, false, true, List, ℕ, IfOk, length, reverse, sym, subst, arith}
-use Rattle.check_rows.specs.Row.{SeenRow}
+use Rattle.std.proofs.Common.{◌≡◌, ◌++◌, false, true, IfOk, length, reverse, sym, subst, arith}
 use Rattle.check_unanswered.specs.Began.{row_with}
 use Rattle.check_review.specs.Order.{seen}
 use Rattle.check_review.specs.Told.{AppendsTold}
