@@ -8,7 +8,7 @@ STYLE = """
 body { font: 14px/1.4 sans-serif; margin: 2em; max-width: 72em }
 h2 { margin-top: 2em }
 table { border-collapse: collapse; margin: .5em 0 1.5em }
-caption { text-align: left; padding: .3em 0 }
+caption { text-align: left; padding: .3em 0; white-space: nowrap }
 th, td { border: 1px solid #ccc; padding: .15em .5em; text-align: right }
 th { background: #f3f3f3; font-weight: normal }
 td.none { color: #ccc }

@@ -45,6 +45,14 @@ def words_of(port, lanes):
     return [held[at:at + lanes][::-1].hex() for at in range(0, len(held), lanes)]
 
 
+def write_operations(lines, bus, directory):
+    """Writes operations_N.hex for the lines of each master, of links with this bus."""
+    for n, operations in enumerate(lines):
+        with open(os.path.join(directory, f"operations_{n}.hex"), "w", encoding="ascii") as file:
+            file.writelines(operation_of(line, bus) + "\n" for line in operations)
+            file.write(f"{END:02x}{0:0602x}\n")
+
+
 def write_stimulus(script, directory):
     """Writes what the bench reads of a script."""
     system = tomllib.loads(script)
@@ -55,8 +63,8 @@ def write_stimulus(script, directory):
         defines[f"BASE_{n}"], defines[f"LENGTH_{n}"] = f"64'h{port['base']:x}", f"64'h{port['length']:x}"
         files[f"ram_{n}.hex"] = words_of(port, bus.width)
     for n, master in enumerate(system["master"]):
-        files[f"operations_{n}.hex"] = [operation_of(line, bus) for line in master["ops"]] + [f"{END:02x}{0:0602x}"]
         defines[f"OPERATIONS_{n}"] = len(master["ops"])
+    write_operations([master["ops"] for master in system["master"]], bus, directory)
     files["system.vh"] = [f"`define {name} {value}" for name, value in defines.items()]
     for name, lines in files.items():
         with open(os.path.join(directory, name), "w", encoding="ascii") as file:

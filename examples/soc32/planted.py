@@ -1,7 +1,7 @@
 """A design in Verilog before tlcheck: without a bug it is lawful, and of each planted bug tlcheck says what a table expects.
 
-`main` is the check of a folder with bugs.vh, bugs.txt and system.toml; this folder's and examples/soc128's call it. TLCHECK and TLVCD name
-other programs than the launchers at the top. The bench takes +seed=, +capture=, +dump= and +images=.
+`main` is the check of a folder with bugs.vh, bugs.txt, mix.toml and system.toml; this folder's and examples/soc128's call it. TLCHECK and TLVCD
+name other programs than the launchers at the top. The bench takes +seed=, +operations=, +capture=, +dump= and +images=.
 """
 
 import concurrent.futures
@@ -32,6 +32,8 @@ ORDERS = ("accept", "reply", "any")
 # No queue, arbiter or register makes a design unlawful if the order of requests is left open.
 WHATEVER_THE_ORDER = [(view, "any") for view in VIEWS]
 SEEDS, BUG_SEEDS, DUMPED_SEEDS = range(1, 21), range(1, 5), (1, 2)
+# How many operations a script of tools/stimulate has.
+OPERATIONS = 400
 UNLAWFUL = re.compile(r"unlawful: line (\d+), time (\d+), (\S+) ([AD]: .*)\n")
 
 
@@ -47,6 +49,8 @@ class Folder:
             system = tomllib.load(file)
         self.hosts = [master["name"] for master in system["master"]]
         self.ports = [port["name"] for port in system["port"]]
+        self.ranges = [pair for port in system["port"] for pair in port.get("ranges", [(port.get("base"), port.get("length"))])]
+        self.bus = rtl.stimulus.Bus(system["bus"])
 
     def build(self, name, *defines):
         """Builds the bench in a directory of its own."""
@@ -62,12 +66,34 @@ class Folder:
         options = ["--lint-only", "--timing", "-Wno-fatal", "-Wno-WIDTH", "--top-module", "tb", f"-I{self.folder}"]
         return subprocess.run(["verilator", *options, *self.sources], stderr=subprocess.DEVNULL).returncode == 0
 
-    def run(self, bench, seed, dumped=False):
-        """Runs a bench under a seed; its capture, beside which the dump lies if there is one."""
-        name = f"seed_{seed}"
+    def run(self, bench, seed, dumped=False, operations=None):
+        """Runs a bench under a seed; its capture, beside which the dump lies if there is one. Operations are a folder with those of a script."""
+        name = f"script_{seed}" if operations else f"seed_{seed}"
         arguments = [f"+seed={seed}", f"+capture={name}.csv", f"+images={self.folder}"] + [f"+dump={name}.vcd"] * dumped
+        arguments += [f"+operations={operations}"] if operations else []
         subprocess.run(["vvp", "-n", bench, *arguments], cwd=os.path.dirname(bench), check=True, stdout=subprocess.DEVNULL)
         return os.path.join(os.path.dirname(bench), name + ".csv")
+
+    def can_send(self, line, reaches):
+        """Whether a host that reaches addresses below a limit alone can send an operation. Its bytes lie in one range, or in none."""
+        if line == "wait":
+            return True
+        first, size = int(line.split()[2], 16), 1 << int(line.split()[3])
+        held = [base <= first and first + size <= base + length for base, length in self.ranges]
+        met = [base < first + size and first < base + length for base, length in self.ranges]
+        return first + size <= reaches and held == met
+
+    def stimulate(self, seed, reach):
+        """Writes the operations of a script of tools/stimulate into a folder of its own: the folder, and how many they are. Those that no host can
+        send are left out."""
+        words = [self.system, "--seed", str(seed), "--ops", str(OPERATIONS), "--limits", "judge", "--mix", os.path.join(self.folder, "mix.toml")]
+        script = subprocess.run([os.path.join(TOP, "tools", "stimulate"), *words], stdout=subprocess.PIPE, text=True, check=True).stdout
+        asked = [master["ops"] for master in tomllib.loads(script)["master"]]
+        sent = [[line for line in lines if self.can_send(line, reach.get(name, 1 << 32))] for name, lines in zip(self.hosts, asked)]
+        directory = os.path.join(self.directory, f"operations_{seed}")
+        os.makedirs(directory, exist_ok=True)
+        rtl.stimulus.write_operations(sent, self.bus, directory)
+        return directory, sum(line != "wait" for lines in sent for line in lines)
 
     def judge(self, capture, view, order="accept"):
         """What tlcheck says of a capture, requests without replies included."""
@@ -130,6 +156,34 @@ def check_design(folder, pool, name, defines, lawful):
     print(f"{name}: {runs[0][2]['both', 'accept'].rstrip()}")
 
 
+def run_script(folder, bench, seed, reach):
+    """One run of a script: how many operations it has, what each view says of it in any order, and the file of what it covers."""
+    directory, count = folder.stimulate(seed, reach)
+    capture = folder.run(bench, seed, operations=directory)
+    coverage = os.path.join(directory, "coverage")
+    rtl.judge_of(folder.system, capture, "--coverage", coverage)
+    return count, {view: folder.judge(capture, view, "any") for view in VIEWS}, coverage
+
+
+def check_scripts(folder, pool, name, defines, reach):
+    """A design without a bug is lawful under scripts of tools/stimulate, and each of their operations is asked and answered."""
+    bench = folder.build(name, *defines)
+    runs = [*pool.map(lambda seed: (seed, *run_script(folder, bench, seed, reach)), SEEDS)]
+    for seed, count, verdicts, _ in runs:
+        for view, verdict in verdicts.items():
+            # what an error responder answers comes to no port
+            ends = "answered\n" if view == "ports" else f" {count} requests, {count} answered\n"
+            rtl.tell(f"{name}, script {seed}, links {view}: {verdict}", rtl.is_whole(verdict) and verdict.endswith(ends))
+    tool = os.path.join(TOP, "tools", "coverage")
+    merged = os.path.join(folder.directory, "coverage")
+    with open(merged, "w", encoding="ascii") as file:
+        done = subprocess.run([tool, "merge", *(coverage for *_, coverage in runs)], stdout=file, check=False)
+    report = subprocess.run([tool, "report", folder.system, merged], stdout=subprocess.PIPE, text=True, check=False)
+    total = re.search(r"^all: .*", report.stdout, re.M)
+    rtl.tell(f"{name}: no report of what the scripts cover", done.returncode == 0 and total)
+    print(f"{name}: {sum(count for _, count, *_ in runs)} operations of {len(runs)} scripts; {total and total[0]}")
+
+
 def front_is_lawful(folder, capture, verdict, view):
     """The row that a verdict names is of that time and link, and all rows of earlier times are lawful."""
     line, time, name, fault = UNLAWFUL.fullmatch(verdict).groups()
@@ -189,8 +243,8 @@ def check_readme(folder, table):
         rtl.tell(f"{path}: {done.stdout}", done.stdout.splitlines()[-1:] == [expected])
 
 
-def main(where, sources, designs):
-    """The check of a folder: its status."""
+def main(where, sources, designs, reach):
+    """The check of a folder: its status. `reach` has the first address that a host does not reach, for those that do not reach all."""
     for program in ("iverilog", "verilator"):
         if shutil.which(program) is None:
             print(f"{program} is missing; on Debian and Ubuntu: apt-get install {program}", file=sys.stderr)
@@ -205,6 +259,8 @@ def main(where, sources, designs):
         rtl.tell("not taken by verilator", folder.is_taken_by_verilator())
         for design in designs:
             check_design(folder, pool, *design)
+        for name, defines, _ in designs:
+            check_scripts(folder, pool, name, defines, reach)
         for bug, runs in zip(table, pool.map(lambda bug: judge_bug(folder, bug), table)):
             check_bug(folder, bug, table[bug], runs)
         check_readme(folder, table)
