@@ -18,9 +18,11 @@ mod column;
 mod columns;
 mod digit;
 mod fault;
+mod front;
 mod lanes;
 mod moment;
 mod number;
+mod quick;
 mod row;
 
 pub use buses::Buses;
