@@ -3,3 +3,4 @@ pub mod Numbers
 pub mod Shown
 pub mod ColumnLemmas
 pub mod MomentLemmas
+pub mod FrontLemmas

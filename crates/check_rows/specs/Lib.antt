@@ -7,3 +7,4 @@ pub mod Column
 pub mod Columns
 pub mod Row
 pub mod Moment
+pub mod Front

@@ -98,10 +98,13 @@ row_of masters ports line columns =
 
 -- ---- what is read
 
--- a beat and the bits of its known lanes are the answer, and the lanes stand in the first places of a buffer
+-- a beat and the bits of its known lanes, whose bytes stand in the first places of a buffer
+abbrev pub seen_beat : ℕ → List ℕ → Beat × ℕ → SeenBeat
+seen_beat bus buffer seen = record { beat = seen.0; lanes = record { known = seen.1; bytes = take bus buffer } }
+
+-- the same of an answer
 abbrev pub beat_in : ℕ → List ℕ → Result (Beat × ℕ) RowFault → Result SeenBeat RowFault
-beat_in bus buffer (Ok seen) =
-    Ok (record { beat = seen.0; lanes = record { known = seen.1; bytes = take bus buffer } })
+beat_in bus buffer (Ok seen) = Ok (seen_beat bus buffer seen)
 beat_in bus buffer (Err fault) = Err fault
 
 -- a row with its lanes, which stand in the first places of a buffer

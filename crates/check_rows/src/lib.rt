@@ -3,8 +3,8 @@
 //!
 //! [`read_row`] answers the row that a record's columns spell, or the first fault that they have (`specs/Row.antt`).
 //! The bus of the row's link ([`Buses`]) decides how many digits its mask and its data have. [`read_bare_row`] does so
-//! for a line without quotes, which it cuts at the commas and does not copy. A [`Row`] holds no lanes. They stand apart,
-//! in a buffer that is lent. A [`Moment`] takes the rows of one time with their lanes, and has them in the order in
+//! for a line without quotes, which it does not copy. It reads a line as most are in one pass (`quick`), and cuts any
+//! other at the commas first. A [`Row`] holds no lanes. They stand apart, in a buffer that is lent. A [`Moment`] takes the rows of one time with their lanes, and has them in the order in
 //! which their beats cross. It refuses a row whose time falls, and a second beat of one channel of one link
 //! (`specs/Moment.antt`).
 //!
@@ -18,9 +18,11 @@ mod column;
 mod columns;
 mod digit;
 mod fault;
+mod front;
 mod lanes;
 mod moment;
 mod number;
+mod quick;
 mod row;
 
 pub use buses::Buses;

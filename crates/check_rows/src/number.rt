@@ -9,7 +9,7 @@ use check_beats::{Bus, MAX_LANES};
 use tl_text::read_digits;
 
 /// The most digits of an address.
-const ADDRESS_DIGITS: usize = 16;
+pub(crate) const ADDRESS_DIGITS: usize = 16;
 
 /// The number that decimal digits spell, which is `most` at most.
 #[tactic(auto, unfolding(crate::specs::Number::decimal_of))]
@@ -45,7 +45,7 @@ pub fn all_lanes(bus: Bus) -> u64
 }
 
 /// How many digits the mask of a bus has.
-fn mask_digits(bus: Bus) -> usize
+pub(crate) fn mask_digits(bus: Bus) -> usize
     ensures value { result ≡ mask_digits (bus_bytes bus) }
     ensures few { result ≤ 16 }
 {

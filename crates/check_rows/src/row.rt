@@ -12,15 +12,16 @@ use crate::columns::{Channel, read_channel, read_flag, read_link, read_nothing};
 use crate::fault::RowFault;
 use crate::lanes::read_lanes;
 use crate::number::{read_address, read_decimal, read_mask};
+use crate::quick::quick_row;
 use check_beats::{AskHead, Bus, MAX_LANES, ReplyHead};
 use check_watch::{Beat, Link};
 use csv::ByteRecord;
 
 /// The largest opcode, parameter and size that a beat can have.
-const MAX_FIELD: u64 = u8::MAX as u64;
+pub(crate) const MAX_FIELD: u64 = u8::MAX as u64;
 
 /// The largest source that a beat can have.
-const MAX_SOURCE: u64 = u16::MAX as u64;
+pub(crate) const MAX_SOURCE: u64 = u16::MAX as u64;
 
 /// A row of a capture, but for its lanes: the line on which it begins, and what was seen when, at a link with this bus.
 /// Bit k of `known` belongs to lane k.
@@ -189,6 +190,9 @@ pub fn read_bare_row(
     ensures bus { IfOk result (λ row.
         HasBus buses.now.masters.now buses.now.ports.now row.link row.bus) }
 {
+    if let Some(row) = quick_row(buses, line, text, lanes) {
+        return Ok(row);
+    }
     match cut_line(text) {
         Some(columns) => read_columns(buses, line, &columns, lanes),
         None => Err(RowFault::Columns),
