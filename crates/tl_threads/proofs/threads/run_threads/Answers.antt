@@ -8,12 +8,12 @@ use Rattle.tl_threads.proofs.threads.run_threads.Goals as goal
 pub returns : goal.returns
 returns g c =
     let s = c.args.system.now in
-    let arena = c.in_ok-arena.ensures in
+    let arena = c.in-Ok-arena_of.ensures in
     let run = c.in_ok-run.run' in
     let ran = c.in_ok-run.ensures in
     let ports = resets_length s c.devices.ensures.lawful in
-    let banks : length c.in_ok-banks.banks.items ≡ length (resets s) =
-    ap (λ (l : List Store). length l) (c.in_ok-banks.ensures
+    let banks : length c.in-Ok.banks.items ≡ length (resets s) =
+    ap (λ (l : List Store). length l) (c.in-Ok.ensures
     ∙ ap (λ (l : List Store). l ++ error_store ∷ []) c.devices.ensures.value) in
     let books : length run.books.items ≡ length s.ranges + 1 = grind (arith, common_steps) in
-    threaded s c.in_ok-arena.field-0.arena run.traces.items run.books.items run.account.free.items run.account.held.items run.account.left.items arena.arena ran.traces.all ran.traces.each books ran.books ran.account
+    threaded s c.in-Ok-arena_of.field-0.arena run.traces.items run.books.items run.account.free.items run.account.held.items run.account.left.items arena.arena ran.traces.all ran.traces.each books ran.books ran.account
