@@ -1,5 +1,6 @@
 -- What is written into a room twice, and the numbers of faults that are told.
-use Rattle.std.proofs.Common.{◌≡◌, ◌≢◌, ◌<◌, ◌∙◌, ℕ, List, [], ◌∷◌, length, refl, sym, ap, subst, arith}
+use Rattle.std.proofs.Common.{◌≡◌, ◌≢◌, ◌<◌, ◌∙◌, ℕ, List, [], ◌∷◌, length, Option, None, Some, refl, sym, ap, subst, arith}
+use Rattle.std.specs.Prelude.{IfNone}
 use Rattle.check_description.specs.Description.{IsFirstFaultOf}
 use Rattle.check_description.specs.Name.{IsFirstPartFault}
 use Rattle.check_keys.specs.declared.fault.SystemFault.{SystemFault}
@@ -24,6 +25,10 @@ then_written a b d n m p q = record {
 }
 
 -- ---- faults
+
+pub if_none : {P : Type 0} (found : Option ℕ) → IfNone found P → found ≡ None → P
+if_none None p is = p
+if_none (Some x) p is = absurd cc
 
 -- a fault whose number is above that of want of memory is another
 is_other : (fault : SystemFault) (number : ℕ) → number ≡ file_number fault → 4 < number → fault ≢ Memory
