@@ -1,14 +1,19 @@
 -- What is written into a room twice, and the numbers of faults that are told.
 use Rattle.std.proofs.Common.{◌≡◌, ◌≢◌, ◌<◌, ◌∙◌, ℕ, List, [], ◌∷◌, length, Option, None, Some, refl, sym, ap, subst, arith}
 use Rattle.std.specs.Prelude.{IfNone}
+use mathlib.Core.Logic.{dite}
+use native.Mathlib.Decide.{ℕ_discrete}
+use Rattle.check_start.specs.declared.start.Terms.{Terms}
 use Rattle.check_description.specs.Description.{IsFirstFaultOf}
 use Rattle.check_description.specs.Name.{IsFirstPartFault}
 use Rattle.check_keys.specs.declared.fault.SystemFault.{SystemFault}
 use Rattle.check_keys.specs.declared.fault.SystemFault.TheVariants.{TooLong, NotToml, Missing, WrongType, OutOfRange, TwoCalled, ImageUnreadable, ImageTooLong, Map, Sources, Memory}
 use Rattle.tl_c.specs.Calls.{IsFaultOfDraft, IsFileAnswer, IsPartsAnswer}
 use Rattle.tl_c.specs.Draft.{DraftView, IsDraftFault, IsFirstFileFault, LacksNone}
+use Rattle.tl_c.specs.Judging.{ByTerms, links_of, order_of}
 use Rattle.tl_c.specs.Numbers.{file_number}
 use Rattle.tl_c.specs.Text.{IsWritten}
+use Rattle.tl_c.specs.declared.fault.TheConstants.{MEMORY, OK}
 
 -- ---- a room
 
@@ -42,6 +47,15 @@ pub of_file : (file : List ℕ) (fault : SystemFault) (number : ℕ) → number 
     → (fault ≢ Memory → IsFirstFileFault file fault) → IsFileAnswer file number
 of_file file fault number is first =
     λ more. (fault, is, first (is_other fault number is (omega (arith, more))))
+
+-- neither a judge nor want of memory is a fault of a file
+pub no_file : (file : List ℕ) (number : ℕ) → (number ≢ OK → number ≡ MEMORY) → IsFileAnswer file number
+no_file file number only = λ more. dite (ℕ_discrete number 0) (λ none. absurd (omega (arith, more, none)))
+    (λ some. let four = only some in absurd (omega (arith, more, four)))
+
+pub by_terms : (links order : ℕ) (terms : Terms) (Is : Terms → Type 0) → links_of links ≡ Some terms.links
+    → order_of order ≡ Some terms.order → Is terms → ByTerms links order Is
+by_terms links order terms Is l o is = rw (l, o) is
 
 -- a fault of the parts is one of the draft, if no image lacks
 pub parts_fault : (draft : DraftView) (fault : SystemFault) → LacksNone draft → IsFirstFaultOf draft.parts fault

@@ -30,7 +30,7 @@ pub(crate) fn take_draft(alloc: Global, handle: &mut Handle) -> Option<Draft>
     }
     match Box::into_inner(held) {
         Held::Draft(draft) => Some(draft),
-        Held::System(_) | Held::Model(_) | Held::Judge(_) => None,
+        Held::System(_) | Held::Model(_) | Held::Judge(_) => unreachable!(),
     }
 }
 
