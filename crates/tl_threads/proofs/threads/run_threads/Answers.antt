@@ -1,6 +1,6 @@
 use Rattle.std.proofs.Common.{◌≡◌, ◌+◌, ℕ, List, [], ◌∷◌, ◌++◌, length, ap, sym, ◌∙◌}
 use Rattle.tl_ops.specs.Store.{Store}
-use Rattle.tl_script.specs.System.{resets, error_store}
+use Rattle.tl_script.specs.System.{error_store}
 use Rattle.tl_threads.proofs.Whole.{banks_many, books_many, reached, resets_length, seats_many, threaded}
 use Rattle.tl_threads.proofs.threads.run_threads.Goals as goal
 

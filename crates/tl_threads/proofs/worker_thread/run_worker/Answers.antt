@@ -1,5 +1,5 @@
 -- The bells stay, and only masters are owed a ring.
-use Rattle.std.proofs.Common.{◌≡◌, ◌≤◌, ◌∙◌, length, vec_len, arith}
+use Rattle.std.proofs.Common.{◌≤◌, ◌∙◌, length, vec_len, arith}
 use Rattle.tl_threads.proofs.worker_thread.run_worker.Goals as goal
 
 pub loop-preserved : goal.loop-preserved
