@@ -2,3 +2,4 @@ pub mod Handles
 pub mod Values
 pub mod Requests
 pub mod Drafts
+pub mod Told

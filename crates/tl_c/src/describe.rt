@@ -2,6 +2,7 @@
 ghost use Rattle.std.specs.Prelude.{◌≡◌, ◌≢◌, ◌≤◌, ◌↔◌, [], IfNone, IfSome, None, Some, length, unwrap_or};
 ghost use Rattle.tl_c.specs.Calls.{HasDraft, HoldsDraft, IsImageAnswer, IsPartsAnswer};
 ghost use Rattle.tl_c.specs.Draft.{DraftView, IsDraftOf, IsFirstLacking, LacksNone, image_fault, image_file, with_image};
+ghost use Rattle.tl_c.specs.Numbers.{file_number};
 ghost use Rattle.tl_c.specs.Text.{IsTextOf, IsWritten};
 ghost use Rattle.tl_c.specs.declared.held.Held.TheVariants as held;
 
@@ -12,6 +13,7 @@ use crate::held::Held;
 use crate::system::{hold, is_full, put_fault, take};
 use crate::text::put_text;
 use crate::version::VERSION;
+use check_keys::SystemFault;
 use std::alloc::Global;
 
 /// What a handle holds for a judge, which is empty from then on. What is none stays there.
@@ -28,7 +30,7 @@ pub(crate) fn take_draft(alloc: Global, handle: &mut Handle) -> Option<Draft>
     }
     match Box::into_inner(held) {
         Held::Draft(draft) => Some(draft),
-        Held::System(_) | Held::Model(_) | Held::Judge(_) => None,
+        Held::System(_) | Held::Model(_) | Held::Judge(_) => unreachable!(),
     }
 }
 
@@ -45,6 +47,15 @@ pub(crate) fn lacking_in(alloc: Global, handle: &mut Handle) -> Option<usize>
     };
     *handle = Handle::of(held);
     lacking
+}
+
+/// Writes the line of a fault of a system file. The answer is its number.
+pub(crate) fn refuse(alloc: Global, room: &mut [u8], written: &mut usize, fault: SystemFault) -> u32
+    ensures number { result ≡ file_number fault }
+    ensures written { IsWritten room.old room.new written.new }
+{
+    *written = put_fault(alloc, room, &fault);
+    file_number(&fault)
 }
 
 /// `tlx_system_describe_at` of the header: what a system file names.
@@ -75,10 +86,7 @@ pub extern "C" fn tlx_system_describe_at(
     }
     match Draft::read(alloc, file) {
         Ok(draft) => hold(alloc, system, Held::Draft(draft)),
-        Err(fault) => {
-            *written = put_fault(alloc, room, &fault);
-            file_number(&fault)
-        }
+        Err(fault) => refuse(alloc, room, written, fault),
     }
 }
 

@@ -7,11 +7,9 @@ ghost use Rattle.tl_c.specs.Draft.{IsFirstFileFault, LacksNone, LacksSome};
 ghost use Rattle.tl_c.specs.Judging.{AreTerms, ByTerms, IsJudgeOf, IsJudgeOfFile, links_of, order_of};
 ghost use Rattle.tl_c.specs.Text.{IsWritten};
 
-use crate::describe::{lacking_in, take_draft};
+use crate::describe::{lacking_in, refuse, take_draft};
 use crate::draft::Draft;
-use crate::fault::{
-    BAD_ARGUMENT, EMPTY, FULL, IMAGE_UNREADABLE, MEMORY, OK, OTHER_VERSION, file_number,
-};
+use crate::fault::{BAD_ARGUMENT, EMPTY, FULL, IMAGE_UNREADABLE, MEMORY, OK, OTHER_VERSION};
 use crate::handle::Handle;
 use crate::held::{Held, Judge};
 use crate::system::{hold, is_full, put_fault};
@@ -147,10 +145,7 @@ pub extern "C" fn tlx_judge_make_at(
     };
     match make_judge(alloc, draft, terms) {
         Ok(made) => hold(alloc, judge, Held::Judge(made)),
-        Err(fault) => {
-            *written = put_fault(alloc, room, &fault);
-            file_number(&fault)
-        }
+        Err(fault) => refuse(alloc, room, written, fault),
     }
 }
 
@@ -189,9 +184,6 @@ pub extern "C" fn tlx_judge_read_at(
     }
     match read_judge(alloc, file, terms) {
         Ok(made) => hold(alloc, judge, Held::Judge(made)),
-        Err(fault) => {
-            *written = put_fault(alloc, room, &fault);
-            file_number(&fault)
-        }
+        Err(fault) => refuse(alloc, room, written, fault),
     }
 }

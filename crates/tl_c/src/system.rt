@@ -51,7 +51,7 @@ pub(crate) fn take_system(alloc: Global, handle: &mut Handle) -> Option<System>
     }
     match Box::into_inner(held) {
         Held::System(made) => Some(made),
-        Held::Draft(_) | Held::Model(_) | Held::Judge(_) => None,
+        Held::Draft(_) | Held::Model(_) | Held::Judge(_) => unreachable!(),
     }
 }
 

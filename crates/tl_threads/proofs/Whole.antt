@@ -1,13 +1,15 @@
 -- The parts of a run, put together.
-use Rattle.std.proofs.Common.{◌≡◌, ℕ, ◌+◌, List, [], ◌∷◌, length, slice_get, Option, Some, None, option_map, refl, sym, ap, subst, ◌∙◌, arith, length-append}
+use Rattle.std.proofs.Common.{◌≡◌, ℕ, ◌+◌, ◌≤◌, List, [], ◌∷◌, length, slice_get, Option, Some, None, option_map, Vec, Global, vec_len, refl, sym, ap, subst, ◌∙◌, arith, length-append}
+use Rattle.std.proofs.lemmas.Grind.{common_steps}
 use Rattle.std.proofs.lemmas.List.{length-map}
 use Rattle.std.proofs.lemmas.Option.{slice_get-map}
 use Rattle.tl_types.specs.declared.trace.Entry.{Entry}
 use Rattle.tl_journal.specs.Trace.{TraceView, entries_in}
 use Rattle.tl_map.specs.declared.map.Range.{Range}
+use Rattle.tl_ops.specs.Store.{Store}
 use Rattle.tl_script.specs.declared.operation.Job.{Job}
 use Rattle.tl_script.specs.System.{System, IsLawfulSystem, resets, error_store, range_of}
-use Rattle.tl_arena.specs.Views.{ArenaId, about_of}
+use Rattle.tl_arena.specs.Views.{ArenaId, PortView, about_of}
 use Rattle.tl_arena.specs.Account.{IsClosing}
 use Rattle.tl_arena.specs.declared.account.HeldSlot.{HeldSlot}
 use Rattle.tl_port.specs.Book.{BookView}
@@ -22,6 +24,26 @@ resets_length s lawful =
     let each : length s.stores ≡ length s.ranges =
     sym (length-map s.stores range_of) ∙ ap (λ (l : List Range). length l) lawful.ranges in
     length-append s.stores (error_store ∷ []) ∙ ap (λ (n : ℕ). n + 1) each
+
+-- so an arena of the system has all its ports
+pub reached : (s : System) (a : ArenaId) → IsLawfulSystem s → a.about ≡ about_of s.slots s.counts (resets s)
+    → length s.ranges + 1 ≤ a.about.ports
+reached s a lawful about = let ports = resets_length s lawful in rw about (omega (arith, ports))
+
+pub banks_many : (s : System) (banks : Vec Store Global) → IsLawfulSystem s → banks.items ≡ resets s
+    → vec_len banks ≡ length s.ranges + 1
+banks_many s banks lawful is =
+    let many = ap (λ (l : List Store). length l) is ∙ resets_length s lawful in
+    grind (arith, common_steps, many)
+
+-- as many books as seats
+pub seats_many : (n : ℕ) (books : Vec BookView Global) (seats : Vec PortView Global) → vec_len books ≡ vec_len seats
+    → length seats.items ≡ n → vec_len books ≡ n
+seats_many n books seats all many = grind (arith, common_steps)
+
+pub books_many : (n : ℕ) (books given : Vec BookView Global) → vec_len books ≡ vec_len given → vec_len given ≡ n
+    → length books.items ≡ n
+books_many n books given all many = grind (arith, common_steps)
 
 -- whose trace a list is
 traced_at : (a : ArenaId) (ranges : List Range) (jobs : List (List Job)) (m : ℕ) (its_jobs : List Job)

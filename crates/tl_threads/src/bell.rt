@@ -70,25 +70,36 @@ impl Ringer {
         ensures many { IfOk result (λ made. vec_len made.1 ≡ listeners) }
         ensures room { IfOk result (λ made. All (HasRoom room) made.1.items) }
     {
-        let (sender, receiver, mut pass) = bounded_with::<Ring, (), Free, Global>(
+        let Ok((sender, receiver, mut pass)) = bounded_with::<Ring, (), Free, Global>(
             alloc,
             room.max(1),
-        )?;
-        let mut made = Vec::with_capacity(alloc, listeners)?;
+        ) else {
+            return Err(Memory);
+        };
+        let Ok(mut made) = Vec::with_capacity(alloc, listeners) else {
+            return Err(Memory);
+        };
         for _ in 0..listeners {
+            let Ok(receiver) = receiver.try_clone() else {
+                return Err(Memory);
+            };
             let listener = Listener {
-                receiver: receiver.try_clone()?,
+                receiver,
                 pass: sender.another::<Halves>(&mut pass),
                 heard: 0,
             };
-            made.push(listener)?;
+            let Ok(()) = made.push(listener) else {
+                return Err(Memory);
+            };
         }
         Ok((Ringer { sender, pass }, made))
     }
 
     /// Another end that rings the same bell.
     pub(crate) fn again(&mut self) -> Result<Ringer, Memory> {
-        let sender = self.sender.try_clone()?;
+        let Ok(sender) = self.sender.try_clone() else {
+            return Err(Memory);
+        };
         let pass = self.sender.another::<Halves>(&mut self.pass);
         Ok(Ringer { sender, pass })
     }

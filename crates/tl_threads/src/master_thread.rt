@@ -27,12 +27,24 @@ fn look_at_all<N: ArenaName, G: Gate>(shared: &Shared<'_, N, G>, master: &mut Ma
     }
 }
 
+/// Polls a source.
+fn poll_one<N: ArenaName, G: Gate>(
+    shared: &Shared<'_, N, G>,
+    master: &mut Master,
+    source: u16,
+) -> Polled
+    requires { master.old.seat.arena ≡ shared.now.arena.now }
+    ensures { IsSame master.old master.new }
+{
+    master.poll(shared.arena, source)
+}
+
 /// Collects the reply to what is out for a source, if it is there.
 fn look_at<N: ArenaName, G: Gate>(shared: &Shared<'_, N, G>, master: &mut Master, source: u16)
     requires { master.old.seat.arena ≡ shared.now.arena.now }
     ensures { IsSame master.old master.new }
 {
-    if let Polled::Done(place) = master.poll(shared.arena, source) {
+    if let Polled::Done(place) = poll_one(shared, master, source) {
         if let Some(port) = master.port_at(place) {
             shared.gate.collected(master.number(), port);
         }

@@ -32,7 +32,9 @@ fn ports_of<N: ArenaName>(alloc: Global, books: Vec<Book>) -> Result<Vec<Port<N>
     requires { AreFrom (IsBookIn N.arena) 0 books.items }
     ensures { IfOk result (λ ports. vec_len ports ≡ vec_len books) }
 {
-    let mut ports = Vec::with_capacity(alloc, books.len())?;
+    let Ok(mut ports) = Vec::with_capacity(alloc, books.len()) else {
+        return Err(Memory);
+    };
     for book in books {
         ports.push_reserved(Port::<N>::new(book));
     }
@@ -117,8 +119,12 @@ pub(crate) fn run_named<N: ArenaName + Send + Sync, R: Threads + Wait + Sync, G:
     ensures account { IfOk result (λ run. IsClosing arena.about run.account.free.items
         run.account.held.items run.account.left.items) }
 {
-    let room = Vec::with_capacity(alloc, books.len())?;
-    let ports = ports_of::<N>(alloc, books)?;
+    let Ok(room) = Vec::with_capacity(alloc, books.len()) else {
+        return Err(ThreadFault::Memory);
+    };
+    let Ok(ports) = ports_of::<N>(alloc, books) else {
+        return Err(ThreadFault::Memory);
+    };
     let shared = Shared {
         system,
         arena: &arena,
@@ -126,7 +132,9 @@ pub(crate) fn run_named<N: ArenaName + Send + Sync, R: Threads + Wait + Sync, G:
         gate,
     };
     let Ended { traces, held } = run_scope(rt, alloc, &shared, threads)?;
-    let account = arena.close(alloc)?;
+    let Ok(account) = arena.close(alloc) else {
+        return Err(ThreadFault::Memory);
+    };
     let books = books_of::<N>(ports, room)?;
     if let Some(port) = held {
         return Err(ThreadFault::GateHeld(port));

@@ -198,9 +198,15 @@ pub(crate) fn run_in<
         port_bells,
         workers_per_port,
     } = threads;
-    let handles = Vec::with_capacity(alloc, masters.len())?;
-    let traces = Vec::with_capacity(alloc, masters.len())?;
-    let serving = Vec::with_capacity(alloc, workers.len())?;
+    let Ok(handles) = Vec::with_capacity(alloc, masters.len()) else {
+        return Err(ThreadFault::Memory);
+    };
+    let Ok(traces) = Vec::with_capacity(alloc, masters.len()) else {
+        return Err(ThreadFault::Memory);
+    };
+    let Ok(serving) = Vec::with_capacity(alloc, workers.len()) else {
+        return Err(ThreadFault::Memory);
+    };
     let serving = start_workers(scope, rt, shared, workers, serving);
     if !serving.all {
         stop_workers(rt, serving.handles, port_bells, workers_per_port);

@@ -43,7 +43,9 @@ pub(crate) fn journals_of(alloc: Global, system: &System) -> Result<Vec<usize>, 
 {
     let _few_masters = system.sources().masters();
     let map = system.map();
-    let mut counts = Vec::from_elem(alloc, 0usize, map.ports())?;
+    let Ok(mut counts) = Vec::from_elem(alloc, 0usize, map.ports()) else {
+        return Err(Memory);
+    };
     for jobs in system.jobs() {
         count_sends(map, jobs, &mut counts);
     }
@@ -86,14 +88,18 @@ pub(crate) fn books_of(
     ensures many { IfOk result (λ books. vec_len books ≡ vec_len seats) }
     ensures books { IfOk result (λ books. AreFrom (IsNewBook arena.now system.now) 0 books.items) }
 {
-    let mut books = Vec::with_capacity(alloc, seats.len())?;
+    let Ok(mut books) = Vec::with_capacity(alloc, seats.len()) else {
+        return Err(Memory);
+    };
     let mut banks = banks.into_iter();
     for seat in seats {
         let Some(bank) = banks.next() else {
             unreachable!()
         };
         let number = books.len();
-        let book = book_of(alloc, arena, number, seat, bank, journals[number])?;
+        let Ok(book) = book_of(alloc, arena, number, seat, bank, journals[number]) else {
+            return Err(Memory);
+        };
         books.push_reserved(book);
     }
     Ok(books)
@@ -103,9 +109,16 @@ pub(crate) fn books_of(
 fn ringers_of(alloc: Global, bells: &mut [Ringer]) -> Result<Vec<Ringer>, Memory>
     ensures { IfOk result (λ ringers. vec_len ringers ≡ length bells.old) }
 {
-    let mut ringers = Vec::with_capacity(alloc, bells.len())?;
+    let Ok(mut ringers) = Vec::with_capacity(alloc, bells.len()) else {
+        return Err(Memory);
+    };
     for bell in bells {
-        ringers.push(bell.again()?)?;
+        let Ok(ringer) = bell.again() else {
+            return Err(Memory);
+        };
+        let Ok(()) = ringers.push(ringer) else {
+            return Err(Memory);
+        };
     }
     Ok(ringers)
 }
@@ -127,12 +140,18 @@ fn master_thread_of(
     ensures { IfOk result (λ made. IsNewMasterThread arena.now system.now number made.0) }
 {
     let limit = system.jobs()[number].requests();
-    let (ringer, listeners) = Ringer::new(alloc, limit, 1)?;
+    let Ok((ringer, listeners)) = Ringer::new(alloc, limit, 1) else {
+        return Err(Memory);
+    };
     let Some(own) = listeners.into_iter().next() else {
         unreachable!()
     };
-    let master = master_of(alloc, arena, number, seat, system, limit)?;
-    let others = ringers_of(alloc, port_bells)?;
+    let Ok(master) = master_of(alloc, arena, number, seat, system, limit) else {
+        return Err(Memory);
+    };
+    let Ok(others) = ringers_of(alloc, port_bells) else {
+        return Err(Memory);
+    };
     let thread = MasterThread {
         master,
         bells: Bells { own, others },
@@ -177,19 +196,22 @@ fn master_threads_of(
         0 made.0.items) }
     ensures bells { IfOk result (λ made. vec_len made.1 ≡ length system.now.jobs) }
 {
-    let mut threads = Vec::with_capacity(alloc, seats.len())?;
-    let mut bells = Vec::with_capacity(alloc, seats.len())?;
+    let Ok(mut threads) = Vec::with_capacity(alloc, seats.len()) else {
+        return Err(Memory);
+    };
+    let Ok(mut bells) = Vec::with_capacity(alloc, seats.len()) else {
+        return Err(Memory);
+    };
     for seat in seats {
-        let (thread, ringer) = master_thread_of(
-            alloc,
-            arena,
-            threads.len(),
-            seat,
-            system,
-            port_bells,
-        )?;
+        let number = threads.len();
+        let Ok((thread, ringer)) = master_thread_of(alloc, arena, number, seat, system, port_bells)
+        else {
+            return Err(Memory);
+        };
         threads.push_reserved(thread);
-        bells.push(ringer)?;
+        let Ok(()) = bells.push(ringer) else {
+            return Err(Memory);
+        };
     }
     Ok((threads, bells))
 }
@@ -213,12 +235,22 @@ fn port_bells_of(
     ensures bells { IfOk result (λ made. vec_len made.0 ≡ length journals.now) }
     ensures heard { IfOk result (λ made. All (IsHeardAt journals.now workers) made.1.items) }
 {
-    let mut bells = Vec::with_capacity(alloc, journals.len())?;
-    let mut heard = Vec::with_capacity(alloc, journals.len())?;
+    let Ok(mut bells) = Vec::with_capacity(alloc, journals.len()) else {
+        return Err(Memory);
+    };
+    let Ok(mut heard) = Vec::with_capacity(alloc, journals.len()) else {
+        return Err(Memory);
+    };
     for (port, journal) in journals.iter().enumerate() {
-        let (ringer, listeners) = Ringer::new(alloc, *journal + workers, workers)?;
-        bells.push(ringer)?;
-        heard.push(PortListeners { port, listeners })?;
+        let Ok((ringer, listeners)) = Ringer::new(alloc, *journal + workers, workers) else {
+            return Err(Memory);
+        };
+        let Ok(()) = bells.push(ringer) else {
+            return Err(Memory);
+        };
+        let Ok(()) = heard.push(PortListeners { port, listeners }) else {
+            return Err(Memory);
+        };
     }
     Ok((bells, heard))
 }
@@ -236,11 +268,13 @@ fn push_workers(
 {
     let PortListeners { port, listeners } = heard;
     for own in listeners {
-        let others = ringers_of(alloc, master_bells)?;
-        threads.push(WorkerThread {
-            port,
-            bells: Bells { own, others },
-        })?;
+        let Ok(others) = ringers_of(alloc, master_bells) else {
+            return Err(Memory);
+        };
+        let bells = Bells { own, others };
+        let Ok(()) = threads.push(WorkerThread { port, bells }) else {
+            return Err(Memory);
+        };
     }
     Ok(())
 }
@@ -257,9 +291,14 @@ fn worker_threads_of(
     ensures { IfOk result (λ threads. All
         (IsNewWorkerThread (length journals.now) (length master_bells.old)) threads.items) }
 {
-    let mut threads = Vec::with_capacity(alloc, usize::saturating_mul(journals.len(), workers))?;
+    let many = usize::saturating_mul(journals.len(), workers);
+    let Ok(mut threads) = Vec::with_capacity(alloc, many) else {
+        return Err(Memory);
+    };
     for listeners in heard {
-        push_workers(alloc, &mut threads, listeners, master_bells)?;
+        let Ok(()) = push_workers(alloc, &mut threads, listeners, master_bells) else {
+            return Err(Memory);
+        };
     }
     Ok(threads)
 }
@@ -280,15 +319,21 @@ pub(crate) fn threads_of(
     requires workers { workers ≤ MAX_WORKERS }
     ensures { IfOk result (IsNewThreadSet arena.now system.now) }
 {
-    let (mut port_bells, heard) = port_bells_of(alloc, journals, workers)?;
-    let (masters, mut master_bells) = master_threads_of(
+    let Ok((mut port_bells, heard)) = port_bells_of(alloc, journals, workers) else {
+        return Err(Memory);
+    };
+    let Ok((masters, mut master_bells)) = master_threads_of(
         alloc,
         arena,
         seats,
         system,
         &mut port_bells,
-    )?;
-    let threads = worker_threads_of(alloc, heard, journals, workers, &mut master_bells)?;
+    ) else {
+        return Err(Memory);
+    };
+    let Ok(threads) = worker_threads_of(alloc, heard, journals, workers, &mut master_bells) else {
+        return Err(Memory);
+    };
     Ok(ThreadSet {
         masters,
         workers: threads,

@@ -59,15 +59,28 @@ pub fn run_threads<R: Threads + Wait + Sync, G: Gate + Sync>(
     ensures { IfOk result (λ run. IsThreadedRun system.now (entries_in run.traces.items)
         run.books.items run.account.free.items run.account.held.items run.account.left.items) }
 {
-    let banks = banks_of(alloc, system.devices())?;
-    let Made {
-        arena,
-        masters,
-        ports,
-    } = arena_of(alloc, system, &banks)?;
-    let journals = journals_of(alloc, system)?;
-    let threads = threads_of(alloc, &arena, masters, system, &journals, workers)?;
-    let books = books_of(alloc, &arena, ports, banks, system, &journals)?;
+    let Ok(banks) = banks_of(alloc, system.devices()) else {
+        return Err(ThreadFault::Memory);
+    };
+    let Ok(
+        Made {
+            arena,
+            masters,
+            ports,
+        },
+    ) = arena_of(alloc, system, &banks)
+    else {
+        return Err(ThreadFault::Memory);
+    };
+    let Ok(journals) = journals_of(alloc, system) else {
+        return Err(ThreadFault::Memory);
+    };
+    let Ok(threads) = threads_of(alloc, &arena, masters, system, &journals, workers) else {
+        return Err(ThreadFault::Memory);
+    };
+    let Ok(books) = books_of(alloc, &arena, ports, banks, system, &journals) else {
+        return Err(ThreadFault::Memory);
+    };
     let run = run_named::<Brand, R, G>(rt, alloc, arena, system, books, threads, gate)?;
     Ok(run)
 }

@@ -1,5 +1,5 @@
 //! What a port's thread does.
-ghost use Rattle.std.specs.Prelude.{◌≡◌, ◌+◌, ◌<◌, [], All, IfSome, length, vec_len};
+ghost use Rattle.std.specs.Prelude.{◌≡◌, ◌+◌, ◌<◌, ◌≤◌, ℕ, [], All, IfSome, length, vec_len};
 ghost use Rattle.arrayvec.specs.ArrayVec.{array_vec_len};
 
 use crate::bell::{Bells, Ring, Ringer, ring_at};
@@ -72,6 +72,42 @@ fn master_of(sources: &Sources, wide: u16) -> Option<usize>
     Some(master)
 }
 
+/// Asks the gate, unless it has held the port before. The answer is whether it has held it.
+fn is_held<R: Wait, G: Gate>(
+    rt: &R,
+    gate: &G,
+    port: usize,
+    held: bool,
+    bells: &mut Bells,
+    owed: &mut Owed,
+) -> bool
+    requires room { array_vec_len owed.old < MAX_OWED }
+    requires owed { All (λ master. master < vec_len bells.old.others) owed.old.items }
+    ensures room { array_vec_len owed.new < MAX_OWED }
+    ensures owed { All (λ master. master < vec_len bells.new.others) owed.new.items }
+    ensures bells { vec_len bells.new.others ≡ vec_len bells.old.others }
+{
+    if held {
+        return true;
+    }
+    !may_serve(rt, gate, port, &mut bells.others, owed)
+}
+
+/// Notes the master whose request was answered, if one was.
+fn owe(sources: &Sources, answered: Option<u16>, owed: &mut Owed)
+    requires room { array_vec_len owed.old < MAX_OWED }
+    ensures { (masters : ℕ) → length sources.now ≤ masters
+        → All (λ master. master < masters) owed.old.items
+        → All (λ master. master < masters) owed.new.items }
+{
+    let Some(wide) = answered else {
+        return;
+    };
+    if let Some(master) = master_of(sources, wide) {
+        owed.push(master);
+    }
+}
+
 /// Serves a request at each ring, and rings its master, until it hears a stop. The answer is the port's number where
 /// the gate held it: then it served all the same, and asked no more.
 pub(crate) fn run_worker<N: ArenaName, R: Wait, G: Gate>(
@@ -91,15 +127,9 @@ pub(crate) fn run_worker<N: ArenaName, R: Wait, G: Gate>(
         if next_ring(rt, &mut bells, &mut owed) == Ring::Stop {
             break;
         }
-        if !held {
-            held = !may_serve(rt, shared.gate, number, &mut bells.others, &mut owed);
-        }
+        held = is_held(rt, shared.gate, number, held, &mut bells, &mut owed);
         let step = port.step(rt, shared.arena);
-        if let Some(wide) = step.source {
-            if let Some(master) = master_of(sources, wide) {
-                owed.push(master);
-            }
-        }
+        owe(sources, step.source, &mut owed);
     }
     held.then_some(number)
 }

@@ -2,6 +2,6 @@
 mod account;
 mod limits;
 mod passes;
-mod threads;
+pub(super) mod threads;
 mod turns;
 mod worked;

@@ -7,10 +7,14 @@ use super::agents::book::{BookCall, Keeper, new_keeper};
 use super::agents::caller::{Caller, CallerCall, Read, callers_of};
 use super::agents::desk::{Desk, DeskCall, new_desk};
 use super::agents::master::{Client, MasterCall, clients_of};
+use super::arena::threads::take_turns;
 use super::floor::{Floor, Memory, Ports, open_floor};
 use super::full_arena::walk::walk_along;
+use super::together::threads::{claim_four, lock, step_six};
 use std::alloc::Global;
 use std::process::Abort;
+use std::sync::Wait;
+use std::thread::Threads;
 use tl_arena::{Account, Arena, HeldSlot, MasterSeat};
 use tl_map::{Map, Sources};
 
@@ -46,6 +50,14 @@ pub(super) enum Script {
     Calls(&'static [Call]),
     /// Ten thousand calls, as the dice fall.
     Walk,
+    /// Two masters and two ports on threads of their own.
+    Turns,
+    /// Both masters issue twice, each on a thread of its own.
+    Claims,
+    /// A port behind its lock.
+    Lock,
+    /// Two workers of a port.
+    Workers,
 }
 
 /// The account at the end of a scene: which slots are free, how many are held, and which masters have left.
@@ -118,7 +130,7 @@ fn books_of<'a>(
 }
 
 /// The masters and ports of a cast.
-pub(super) fn stage_of<'a>(
+fn stage_of<'a>(
     rt: &impl Abort,
     alloc: Global,
     arena: &'a Arena,
@@ -214,8 +226,25 @@ impl<'a> Stage<'a> {
     }
 }
 
+/// Plays what is to be played.
+fn play_script<R: Abort + Threads + Wait + Sync>(
+    rt: &R,
+    alloc: Global,
+    mut stage: Stage,
+    script: Script,
+) {
+    match script {
+        Script::Calls(calls) => stage.play_all(rt, calls),
+        Script::Walk => walk_along(rt, alloc, stage),
+        Script::Turns => take_turns(rt, stage),
+        Script::Claims => claim_four(rt, stage),
+        Script::Lock => lock(rt, stage),
+        Script::Workers => step_six(rt, stage),
+    }
+}
+
 /// Plays a scene, and answers the account of its arena.
-fn account_of(rt: &impl Abort, alloc: Global, scene: &Scene) -> Account {
+fn account_of<R: Abort + Threads + Wait + Sync>(rt: &R, alloc: Global, scene: &Scene) -> Account {
     let Floor {
         arena,
         map,
@@ -224,26 +253,19 @@ fn account_of(rt: &impl Abort, alloc: Global, scene: &Scene) -> Account {
         ports,
     } = open_floor(rt, alloc, &scene.setting);
     {
-        let mut stage = stage_of(
-            rt,
-            alloc,
-            &arena,
-            &map,
-            &sources,
-            masters,
-            ports,
-            scene.setting.cast,
-        );
-        match scene.script {
-            Script::Calls(calls) => stage.play_all(rt, calls),
-            Script::Walk => walk_along(rt, alloc, stage),
-        }
+        let cast = scene.setting.cast;
+        let stage = stage_of(rt, alloc, &arena, &map, &sources, masters, ports, cast);
+        play_script(rt, alloc, stage, scene.script);
     }
     arena.close(alloc).expect(rt, "memory")
 }
 
 /// Plays a scene, whose end is the one that it should be. The answer is the slots that are held then.
-pub(super) fn play(rt: &impl Abort, alloc: Global, scene: &Scene) -> Vec<HeldSlot> {
+pub(super) fn play<R: Abort + Threads + Wait + Sync>(
+    rt: &R,
+    alloc: Global,
+    scene: &Scene,
+) -> Vec<HeldSlot> {
     let Account { free, held, left } = account_of(rt, alloc, scene);
     assert!(rt; free.as_slice() == scene.end.free);
     assert!(rt; held.len() == scene.end.held);

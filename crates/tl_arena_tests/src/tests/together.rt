@@ -1,7 +1,7 @@
 //! Masters and ports together over a running arena.
 mod masters;
 mod ports;
-mod threads;
+pub(super) mod threads;
 
 use super::floor::{NO_DEVICE, RAM};
 use super::stage::{Cast, Setting};

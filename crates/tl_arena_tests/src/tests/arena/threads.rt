@@ -1,9 +1,11 @@
 //! Masters and ports on threads of their own.
 use super::turns::TWO_MASTERS;
 use crate::tests::agents::caller::Seat;
-use crate::tests::floor::{BASE, Floor, open_floor};
-use crate::tests::stage::{Setting, Stage, stage_of};
-use std::thread::join;
+use crate::tests::floor::BASE;
+use crate::tests::stage::{End, Scene, Script, Setting, Stage, play};
+use std::process::Abort;
+use std::sync::Wait;
+use std::thread::{Threads, join};
 use tl_types::{Ask, AskOp, Reply, ReplyOp};
 
 /// How many turns each of two masters makes, half of them at each of two ports.
@@ -52,51 +54,46 @@ fn work(seat: &mut Seat, master: u16) -> usize {
     TURNS
 }
 
-/// Two masters with one source each.
-const THREE_SLOTS: Setting = Setting {
-    slots: 3,
-    ..TWO_MASTERS
-};
-
-#[test]
-fn every_reply_of_two_masters_at_two_ports_is_right(rt: HostRuntime) {
-    let alloc = rt.alloc();
-    let Floor {
-        arena,
-        map,
-        sources,
-        masters,
-        ports,
-    } = open_floor(&rt, alloc, &THREE_SLOTS);
+/// Both masters work and both ports serve, each on a thread of its own, and every reply is right.
+pub(in crate::tests) fn take_turns<R: Abort + Threads + Wait + Sync>(rt: &R, stage: Stage) {
     let Stage {
         mut callers,
-        masters: _,
         mut desks,
-        books: _,
-    } = stage_of(
-        &rt,
-        alloc,
-        &arena,
-        &map,
-        &sources,
-        masters,
-        ports,
-        THREE_SLOTS.cast,
-    );
-    let mut second = callers.pop().expect(&rt, "no master").into_seat();
-    let mut first = callers.pop().expect(&rt, "no master").into_seat();
-    let mut far = desks.pop().expect(&rt, "no port");
-    let mut near = desks.pop().expect(&rt, "no port");
+        ..
+    } = stage;
+    let mut second = callers.pop().expect(rt, "no master").into_seat();
+    let mut first = callers.pop().expect(rt, "no master").into_seat();
+    let mut far = desks.pop().expect(rt, "no port");
+    let mut near = desks.pop().expect(rt, "no port");
     let (one, (two, _)) = join(
-        &rt,
+        rt,
         || work(&mut first, 0),
         || {
             join(
-                &rt,
+                rt,
                 || work(&mut second, 1),
-                || join(&rt, || near.serve(&rt, TURNS), || far.serve(&rt, TURNS)),
+                || join(rt, || near.serve(rt, TURNS), || far.serve(rt, TURNS)),
             )
         },
     );
     assert!(rt; (one, two) == (TURNS, TURNS));
+}
+
+/// Two masters with one source each. Each collects all its replies, so all three slots are free at the end.
+const THREE_SLOTS: Scene = Scene {
+    setting: Setting {
+        slots: 3,
+        ..TWO_MASTERS
+    },
+    script: Script::Turns,
+    end: End {
+        free: &[0, 1, 2],
+        held: 0,
+        left: &[],
+    },
+};
+
+#[test]
+fn every_reply_of_two_masters_at_two_ports_is_right(rt: HostRuntime) {
+    play(&rt, rt.alloc(), &THREE_SLOTS);
 }

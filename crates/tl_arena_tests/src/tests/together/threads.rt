@@ -4,8 +4,7 @@ ghost use Rattle.std.specs.Prelude.{◌≡◌, ◌+◌, ◌≤◌, length};
 use super::TWO_MASTERS;
 use crate::tests::agents::book::Keeper;
 use crate::tests::agents::master::{Client, MasterCall, read};
-use crate::tests::floor::{Floor, open_floor};
-use crate::tests::stage::{Call, Cast, Setting, Stage, stage_of};
+use crate::tests::stage::{Call, Cast, End, Scene, Script, Setting, Stage, play};
 use std::marker::Brand;
 use std::process::Abort;
 use std::sync::Wait;
@@ -90,7 +89,7 @@ fn collect_two(rt: &impl Abort, mut client: Client) {
 }
 
 /// Both masters issue twice at once, and collect all.
-fn claim_four<R: Abort + Threads + Wait + Sync>(rt: &R, stage: Stage) {
+pub(in crate::tests) fn claim_four<R: Abort + Threads + Wait + Sync>(rt: &R, stage: Stage) {
     let Stage {
         mut masters,
         mut books,
@@ -107,24 +106,19 @@ fn claim_four<R: Abort + Threads + Wait + Sync>(rt: &R, stage: Stage) {
     collect_two(rt, second);
 }
 
+const FOUR_CLAIMS: Scene = Scene {
+    setting: TWO_MASTERS,
+    script: Script::Claims,
+    end: End {
+        free: &[0, 1, 2, 3],
+        held: 0,
+        left: &[0, 1],
+    },
+};
+
 #[test]
 fn two_threads_claim_four_slots(rt: HostRuntime) {
-    let Floor {
-        arena,
-        map,
-        sources,
-        masters,
-        ports,
-    } = open_floor(&rt, rt.alloc(), &TWO_MASTERS);
-    {
-        let cast = TWO_MASTERS.cast;
-        let alloc = rt.alloc();
-        let stage = stage_of(&rt, alloc, &arena, &map, &sources, masters, ports, cast);
-        claim_four(&rt, stage);
-    }
-    let account = arena.close(rt.alloc()).expect(&rt, "memory");
-    assert!(rt; account.free.as_slice() == [0, 1, 2, 3].as_slice());
-    assert!(rt; (account.held.len(), account.left.len()) == (0, 2));
+    play(&rt, rt.alloc(), &FOUR_CLAIMS);
 }
 
 /// Each call of a port, by one thread: it does what the book's call of that name does.
@@ -145,36 +139,28 @@ fn through_the_lock<N: ArenaName, R: Abort + Wait>(rt: &R, arena: &Arena, book: 
 }
 
 /// One request is posted, and the port's book goes through its lock.
-fn lock<R: Abort + Wait>(rt: &R, mut stage: Stage) {
+pub(in crate::tests) fn lock<R: Abort + Wait>(rt: &R, mut stage: Stage) {
     stage.play_all(rt, &[Call::Master(0, MasterCall::Issue(5, 0))]);
     let Keeper { arena, book } = stage.books.pop().expect(rt, "no book");
     let book = through_the_lock::<Brand, R>(rt, arena, book);
     assert!(rt; (book.history_len(), book.in_flight_len()) == (1, 0));
 }
 
+/// Nobody collects the reply, so its slot is held at the end.
+const ONE_REQUEST: Scene = Scene {
+    setting: TWO_MASTERS,
+    script: Script::Lock,
+    end: End {
+        free: &[1, 2, 3],
+        held: 1,
+        left: &[],
+    },
+};
+
 #[test]
 fn a_port_does_what_its_book_does(rt: HostRuntime) {
-    let Floor {
-        arena,
-        map,
-        sources,
-        masters,
-        ports,
-    } = open_floor(&rt, rt.alloc(), &TWO_MASTERS);
-    let cast = TWO_MASTERS.cast;
-    let alloc = rt.alloc();
-    lock(
-        &rt,
-        stage_of(&rt, alloc, &arena, &map, &sources, masters, ports, cast),
-    );
+    play(&rt, rt.alloc(), &ONE_REQUEST);
 }
-
-/// The same over eight slots, with room for six entries.
-const EIGHT_SLOTS: Setting = Setting {
-    slots: 8,
-    cast: Cast::Book(6),
-    ..TWO_MASTERS
-};
 
 /// Three steps of a worker.
 fn steps<N: ArenaName>(rt: &impl Wait, port: &Port<N>, arena: &Arena)
@@ -200,7 +186,7 @@ fn work<N: ArenaName + Send + Sync, R: Threads + Wait + Sync>(
 }
 
 /// Six requests are posted, and two workers step the port.
-fn step_six<R: Abort + Threads + Wait + Sync>(rt: &R, mut stage: Stage) {
+pub(in crate::tests) fn step_six<R: Abort + Threads + Wait + Sync>(rt: &R, mut stage: Stage) {
     stage.play_all(rt, &[Call::Master(0, MasterCall::IssueUpTo(6))]);
     let Keeper { arena, book } = stage.books.pop().expect(rt, "no book");
     let book = work::<Brand, R>(rt, arena, book);
@@ -208,19 +194,22 @@ fn step_six<R: Abort + Threads + Wait + Sync>(rt: &R, mut stage: Stage) {
     assert!(rt; book.in_flight_len() == 0);
 }
 
+/// The same over eight slots, with room for six entries. Nobody collects a reply.
+const SIX_REQUESTS: Scene = Scene {
+    setting: Setting {
+        slots: 8,
+        cast: Cast::Book(6),
+        ..TWO_MASTERS
+    },
+    script: Script::Workers,
+    end: End {
+        free: &[6, 7],
+        held: 6,
+        left: &[],
+    },
+};
+
 #[test]
 fn two_threads_step_one_port(rt: HostRuntime) {
-    let Floor {
-        arena,
-        map,
-        sources,
-        masters,
-        ports,
-    } = open_floor(&rt, rt.alloc(), &EIGHT_SLOTS);
-    let cast = EIGHT_SLOTS.cast;
-    let alloc = rt.alloc();
-    step_six(
-        &rt,
-        stage_of(&rt, alloc, &arena, &map, &sources, masters, ports, cast),
-    );
+    play(&rt, rt.alloc(), &SIX_REQUESTS);
 }

@@ -31,17 +31,17 @@ loop-seat-preserved c =
     let push = c.push_reserved.ensures in
     let done = c.loop-seat.books.items in
     let after = c.push_reserved.new.self.items in
-    let more = length_more done after c.in_ok-book.book push.items in
+    let more = length_more done after c.in-Ok-book_of.book push.items in
     let s = c.args.system.now in
     let num : c.len-number.result ≡ length done = grind (arith, common_steps) in
     let within : c.len-number.result < length c.args.journals.now = grind (arith, common_steps) in
-    let new = book_is_new a s c.args.journals.now c.len-number.result _ c.in_ok-book.book c.requires.journals within refl c.in_ok-book.ensures in
+    let new = book_is_new a s c.args.journals.now c.len-number.result _ c.in-Ok-book_of.book c.requires.journals within refl c.in-Ok-book_of.ensures in
     record {
       count = omega (arith, step.1, push.len, was.count);
       banks_left = omega (arith, step.1, bank.1, was.banks_left);
       room = rw push.capacity was.room;
       seats = row_tail (IsNewPort a) (length done) (length after) c.in-Some.seat _ _ step.0 more was.seats;
       banks = row_tail (IsResetBank a) (length done) (length after) c.in-Some-next.bank _ _ bank.0 more was.banks;
-      books = row_more (IsNewBook a s) done after c.in_ok-book.book push.items was.books
-          (subst (λ (n : ℕ). IsNewBook a s n c.in_ok-book.book) num new);
+      books = row_more (IsNewBook a s) done after c.in-Ok-book_of.book push.items was.books
+          (subst (λ (n : ℕ). IsNewBook a s n c.in-Ok-book_of.book) num new);
     }

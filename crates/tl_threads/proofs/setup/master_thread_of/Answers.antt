@@ -15,12 +15,12 @@ returns c =
     let heard : HasRoom c.requests-limit.result c.in-Some.own =
     All-head (HasRoom c.requests-limit.result) c.in-Some.own _
     (All-same (HasRoom c.requests-limit.result) _ _ (sym c.in-Some.ensures.items)
-    (All-same (HasRoom c.requests-limit.result) _ _ c.into_iter.ensures.rest c.in_ok-ringer.ensures.room)) in
+    (All-same (HasRoom c.requests-limit.result) _ _ c.into_iter.ensures.rest c.in-Ok.ensures.room)) in
     record {
-      idle = c.in_ok-master.ensures.idle;
+      idle = c.in-Ok-master_of.ensures.idle;
       room = λ its_jobs at.
           let here = listed_here s lists c.args.number c.index-jobs-number.result its_jobs c.jobs.ensures.value within c.index-jobs-number.is at in
-          c.in_ok-master.ensures.room ∙ c.requests-limit.ensures ∙ ap (λ (js : List Job). length (sends js)) here;
-      bell = rw c.in_ok-master.ensures.room heard;
-      rings = c.in_ok-others.ensures ∙ c.requires.ports;
+          c.in-Ok-master_of.ensures.room ∙ c.requests-limit.ensures ∙ ap (λ (js : List Job). length (sends js)) here;
+      bell = rw c.in-Ok-master_of.ensures.room heard;
+      rings = c.in-Ok-ringers_of.ensures ∙ c.requires.ports;
     }

@@ -16,7 +16,7 @@ loop-listeners-preserved c =
     record {
       heard = All-rest heard c.in-Some.listeners _ _ step.0 was.heard;
       threads = subst (λ (n : ℕ). All (IsNewWorkerThread (length journals) n) c.push_workers.new.threads.items) bells
-          (c.in_ok-push_workers.ensures (length journals) here.within
+          (c.in-Ok-push_workers.ensures (length journals) here.within
           (subst (λ (n : ℕ). All (IsNewWorkerThread (length journals) n) c.loop-listeners.threads.items)
           (sym bells) was.threads));
     }
