@@ -1,13 +1,14 @@
 //! The engine: from the parts of a system and the bytes of a capture to the line of the verdict.
-ghost use Rattle.std.specs.Prelude.{◌≡◌, ◌≤◌, [], is_some, length, map, IfOk, IfErr, IfSome};
+ghost use Rattle.std.specs.Prelude.{◌≡◌, ◌≤◌, ℕ, List, [], is_some, length, map, IfOk, IfErr, IfSome};
 ghost use Rattle.std.specs.Io.KnownBytes.{Appends};
-ghost use Rattle.check_description.specs.File.{parts_view};
+ghost use Rattle.check_description.specs.File.{parts_view, Parts as PartsView};
 ghost use Rattle.check_sides.specs.Plan.{Plan};
 ghost use Rattle.check_sides.specs.View.{Keeps};
 ghost use Rattle.check_unanswered.specs.View.{Holds};
 ghost use Rattle.check_coverage.specs.View.{Covers};
 ghost use Rattle.check_review.specs.View.{Judges, is_asked, is_covered, is_traced};
 ghost use Rattle.check_text.specs.Buses.{HasBuses};
+ghost use Rattle.check_engine.specs.declared.asked.Asked.{Asked as AskedFor};
 ghost use Rattle.check_engine.specs.Engine.{IsChecked, IsCounted, IsLineFault, IsPrepared, IsUnprepared, is_lawful, line_of, with_buses};
 
 use crate::asked::Asked;
@@ -140,6 +141,37 @@ fn tell<W: Write>(
     Ok(is_lawful(verdict))
 }
 
+/// The verdict over a capture by what was prepared, with its line.
+fn check_prepared<C: Read + Drop, W: Write>(
+    alloc: Global,
+    prepared: &mut Prepared,
+    capture: C,
+    writer: &mut LimitedWriter<'_, W>,
+    covered: &mut Vec<u8>,
+) -> Result<bool, CheckFault>
+    requires masters { length prepared.old.master_buses.items ≤ MAX_MASTERS }
+    requires ports { length prepared.old.port_buses.items ≤ MAX_PORTS }
+    requires buses { HasBuses prepared.old.judge.tally.watch.layout
+        (with_buses prepared.old.master_buses.items prepared.old.port_buses.items) }
+    ensures same_writer { writer.new.writer.ghost_name ≡ writer.old.writer.ghost_name }
+    ensures checked { (asked : AskedFor) (parts : PartsView) (images : List (List ℕ))
+        → IsPrepared asked parts images prepared.old
+        → IsChecked asked (record { parts = parts; images = images; capture = C.remaining capture })
+        (W.contents writer.old.writer.now) (W.contents writer.new.writer.now) result }
+    ensures covered { (asked : AskedFor) (parts : PartsView) (images : List (List ℕ))
+        → IsPrepared asked parts images prepared.old
+        → IfOk result (IsCounted asked (record { parts = parts; images = images; capture = C.remaining capture })
+        covered.old.items covered.new.items) }
+{
+    let buses = Buses {
+        masters: &prepared.master_buses,
+        ports: &prepared.port_buses,
+    };
+    let verdict = judge_capture(alloc, capture, writer, &mut prepared.judge, &buses)?;
+    prepared.judge.append_coverage(covered)?;
+    tell(alloc, &prepared.names, &verdict, writer)
+}
+
 /// Reads a capture to its end or first fault, and writes the line of the verdict: whether what crossed the watched links
 /// of a crossbar that is the system of these parts is lawful. Images has the bytes of the image of each port by its
 /// number, none of a port that names no image. The answer is the same as the line's. If replies are told, their lines
@@ -192,11 +224,5 @@ fn check_within<C: Read + Drop, W: Write>(
     }) covered.old.items covered.new.items) }
 {
     let mut prepared = prepare(alloc, parts, images, asked)?;
-    let buses = Buses {
-        masters: &prepared.master_buses,
-        ports: &prepared.port_buses,
-    };
-    let verdict = judge_capture(alloc, capture, writer, &mut prepared.judge, &buses)?;
-    prepared.judge.append_coverage(covered)?;
-    tell(alloc, &prepared.names, &verdict, writer)
+    check_prepared(alloc, &mut prepared, capture, writer, covered)
 }
