@@ -1,5 +1,5 @@
 -- What a judge finds by each plan that it judges by is what is found by the plan of its system.
-use Rattle.std.proofs.Common.{◌≡◌, ◌∙◌, ℕ, Bool, List, [], Option, None, Some, Result, Ok, Err, IfSome, ap, refl, subst}
+use Rattle.std.proofs.Common.{◌≡◌, ◌∙◌, ℕ, Bool, List, [], Option, None, Some, Result, Ok, Err, IfOk, IfSome, ap, refl, subst, sym}
 use Rattle.check_beats.specs.declared.bus.Bus.{Bus}
 use Rattle.check_description.specs.Description.{Description, Makes}
 use Rattle.check_review.specs.Covered.{AppendsCoverage, HasCovered}
@@ -17,10 +17,9 @@ use Rattle.check_text.specs.declared.fault.Verdict.{Verdict}
 use Rattle.check_text.specs.declared.fault.Verdict.TheVariants as verdicts
 use Rattle.check_sides.specs.Plan.{Plan}
 use Rattle.check_engine.specs.declared.asked.Asked.{Asked}
-use Rattle.check_engine.specs.Engine.{Given, HasVerdict, IsCounted, IsStopped, IsVerdictOf, IsWrittenOf, buses_of, is_lawful}
-
-abbrev with_buses : List Bus → List Bus → LinkBuses
-with_buses masters ports = record { masters = masters; ports = ports }
+use Rattle.check_engine.specs.declared.fault.CheckFault.{CheckFault}
+use Rattle.check_engine.specs.declared.engine.Prepared.{Prepared}
+use Rattle.check_engine.specs.Engine.{Given, HasVerdict, IsCounted, IsPrepared, IsStopped, IsVerdictOf, IsWrittenOf, buses_of, is_lawful, with_buses}
 
 -- a judge of a system, and the buses of its links
 pub record IsJudgeOf (asked : Asked) (given : Given) (system : Description) (judge : Judge) (buses : LinkBuses)
@@ -39,20 +38,15 @@ buses_are masters ports system of_masters of_ports =
     ap (λ (m : List Bus). with_buses m ports) of_masters
     ∙ ap (λ (p : List Bus). with_buses (master_buses system.masters) p) of_ports
 
--- a judge that is made of a judge of beats, and tells what is asked for
-pub is_judge_of : (asked : Asked) (given : Given) (system : Description) (judge : Judge) (buses : LinkBuses)
-    (Begins : Plan → Type 0) → ByThePlan asked.terms system given.images Begins
-    → ((plan : Plan) → Begins plan → Judges plan [] judge)
-    → is_traced judge ≡ asked.trace → is_asked judge ≡ asked.complete → is_covered judge ≡ asked.coverage
-    → buses ≡ buses_of system → IsJudgeOf asked given system judge buses
-is_judge_of asked given system judge buses Begins begun judges trace complete coverage have = record {
-  judges = record {
-    some = begun.some;
-    each = λ plan is. judges plan (begun.each plan is);
-  };
-  trace = trace;
-  complete = complete;
-  coverage = coverage;
+-- what a judge is that was prepared, with the buses of the system
+pub of_prepared : (asked : Asked) (given : Given) (prepared : Prepared) (buses : LinkBuses)
+    (is : IsPrepared asked given.parts given.images prepared) → buses ≡ buses_of is.system
+    → IsJudgeOf asked given is.system prepared.judge buses
+of_prepared asked given prepared buses is have = record {
+  judges = is.judges;
+  trace = is.trace;
+  complete = is.complete;
+  coverage = is.coverage;
   have = have;
 }
 
@@ -159,3 +153,9 @@ is_counted asked given system judge buses tally covered old new verdict of_it ma
       (λ crossed has. subst (λ a. AppendsCoverage a plan crossed old new) (same ∙ of_it.coverage)
       (appends plan crossed has)) is_covered_there) (covers plan start));
 }
+
+pub counted_if : (asked : Asked) (given : Given) (old new : List ℕ) (lawful : Bool) (result : Result Bool CheckFault)
+    → IfOk result (λ answered. answered ≡ lawful) → IsCounted asked given old new lawful
+    → IfOk result (IsCounted asked given old new)
+counted_if asked given old new lawful (Ok answered) is counted = subst (IsCounted asked given old new) (sym is) counted
+counted_if asked given old new lawful (Err e) is counted = tt

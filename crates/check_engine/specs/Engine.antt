@@ -1,15 +1,18 @@
 -- What a check judges, and what it writes for that. This project's own.
-use Rattle.std.specs.Prelude.{◌≡◌, ◌⊎◌, ℕ, Bool, true, false, List, Option, Result, Ok, Err, IfOk, IfErr, IfSome}
+use Rattle.std.specs.Prelude.{◌≡◌, ◌⊎◌, ℕ, Bool, true, false, List, [], Option, Result, Ok, Err, IfOk, IfErr, IfSome, ⊤}
 use Rattle.std.specs.Io.KnownBytes.{Appends, Keeps}
 use Rattle.tl_streams.specs.Streams.{AppendsPart}
 use Rattle.check_keys.specs.declared.fault.SystemFault.{SystemFault}
 use Rattle.check_description.specs.File.{Parts}
 use Rattle.check_description.specs.Description.{Description, IsFirstFaultOf, Makes}
+use Rattle.check_beats.specs.declared.bus.Bus.{Bus}
+use Rattle.check_review.specs.View.{Judges, is_asked, is_covered, is_traced}
 use Rattle.check_sides.specs.Plan.{Plan}
 use Rattle.check_lines.specs.Names.{NamesView}
 use Rattle.check_lines.specs.Verdict.{incomplete_line, lawful_line, unlawful_line}
 use Rattle.check_records.specs.Text.{start_of}
 use Rattle.check_start.specs.Slaves.{slaves_at_reset}
+use Rattle.check_start.specs.declared.start.Terms.{Terms}
 use Rattle.check_start.specs.Start.{ByThePlan, master_buses, names_of, port_buses}
 use Rattle.check_text.specs.Buses.{LinkBuses}
 use Rattle.check_text.specs.Capture.{IsFault, IsVerdict, IsWritten, TellsCovered}
@@ -20,6 +23,7 @@ use Rattle.check_text.specs.declared.fault.Verdict.TheVariants.{Incomplete, Lawf
 use Rattle.check_engine.specs.declared.fault.CheckFault.{CheckFault}
 use Rattle.check_engine.specs.declared.fault.CheckFault.TheVariants as check
 use Rattle.check_engine.specs.declared.asked.Asked.{Asked}
+use Rattle.check_engine.specs.declared.engine.Prepared.{Prepared}
 
 -- ---- what is judged
 
@@ -145,3 +149,39 @@ pub record IsCounted (asked : Asked) (given : Given) (old new : List ℕ) (lawfu
   pub answered : lawful ≡ is_lawful verdict
   pub covered : OfTheText asked given system
       (λ plan text. TellsCovered asked.coverage plan (buses_of system) (start_of text) old new verdict)
+
+-- ---- for the proofs
+
+abbrev pub with_buses : List Bus → List Bus → LinkBuses
+with_buses masters ports = record { masters = masters; ports = ports }
+
+-- of the system that the parts make: a judge that has seen no beat and tells what is asked for, and the names and the
+-- buses of the links
+pub record IsPrepared (asked : Asked) (parts : Parts) (images : List (List ℕ)) (prepared : Prepared) : Type 0 where
+  pub system : Description
+  pub made : Makes parts system
+  pub judges : ByThePlan asked.terms system images (λ plan. Judges plan [] prepared.judge)
+  pub trace : is_traced prepared.judge ≡ asked.trace
+  pub complete : is_asked prepared.judge ≡ asked.complete
+  pub coverage : is_covered prepared.judge ≡ asked.coverage
+  pub names : prepared.names ≡ names_of system
+  pub masters : prepared.master_buses.items ≡ master_buses system.masters
+  pub ports : prepared.port_buses.items ≡ port_buses system.ports
+
+-- why there is none: the first fault of the parts or of the images, or want of memory
+abbrev pub IsUnprepared : Terms → Parts → List (List ℕ) → CheckFault → Type 0
+IsUnprepared terms parts images (check.System fault) =
+    IsFirstFaultOf parts fault
+    ⊎ (system : Description) × Makes parts system × (slaves_at_reset terms.order images system.ports ≡ Err fault)
+IsUnprepared terms parts images (check.Capture fault) = ⊥
+IsUnprepared terms parts images check.Read = ⊥
+IsUnprepared terms parts images check.Write = ⊥
+IsUnprepared terms parts images check.Memory = ⊤
+
+-- why a line was not written: there was no memory for it, or a write failed
+abbrev pub IsLineFault : Option (List ℕ) → Option (List ℕ) → List ℕ → CheckFault → Type 0
+IsLineFault old new line (check.System fault) = ⊥
+IsLineFault old new line (check.Capture fault) = ⊥
+IsLineFault old new line check.Read = ⊥
+IsLineFault old new line check.Write = AppendsPart old new line
+IsLineFault old new line check.Memory = Keeps old new

@@ -1,18 +1,23 @@
 //! The engine: from the parts of a system and the bytes of a capture to the line of the verdict.
-ghost use Rattle.std.specs.Prelude.{◌≡◌, [], is_some, map, IfOk, IfSome};
-ghost use Rattle.check_description.specs.File.{parts_view};
+ghost use Rattle.std.specs.Prelude.{◌≡◌, ◌≤◌, ℕ, List, [], is_some, length, map, IfOk, IfErr, IfSome};
+ghost use Rattle.std.specs.Io.KnownBytes.{Appends};
+ghost use Rattle.check_description.specs.File.{parts_view, Parts as PartsView};
 ghost use Rattle.check_sides.specs.Plan.{Plan};
 ghost use Rattle.check_sides.specs.View.{Keeps};
 ghost use Rattle.check_unanswered.specs.View.{Holds};
 ghost use Rattle.check_coverage.specs.View.{Covers};
 ghost use Rattle.check_review.specs.View.{Judges, is_asked, is_covered, is_traced};
-ghost use Rattle.check_engine.specs.Engine.{IsChecked, IsCounted, is_lawful, line_of};
+ghost use Rattle.check_text.specs.Buses.{HasBuses};
+ghost use Rattle.check_engine.specs.declared.asked.Asked.{Asked as AskedFor};
+ghost use Rattle.check_engine.specs.Engine.{IsChecked, IsCounted, IsLineFault, IsPrepared, IsUnprepared, is_lawful, line_of, with_buses};
 
 use crate::asked::Asked;
 use crate::fault::CheckFault;
+use check_beats::Bus;
 use check_coverage::Coverage;
 use check_description::{Parts, describe};
 use check_lines::{Names, push_incomplete, push_lawful, push_unlawful};
+use check_map::{MAX_MASTERS, MAX_PORTS};
 use check_review::Judge;
 use check_rows::Buses;
 use check_sides::Watch;
@@ -81,6 +86,92 @@ fn judge_of(alloc: Global, watch: Watch, asked: Asked) -> Result<Judge, AllocErr
     Ok(Judge::new(watch, asked.trace, pending, coverage))
 }
 
+/// What a capture is judged by: a judge that has seen no beat, and the names and the buses of the links of its system.
+#[derive(Drop)]
+struct Prepared {
+    judge: Judge,
+    names: Names,
+    master_buses: Vec<Bus>,
+    port_buses: Vec<Bus>,
+}
+
+/// What a capture is judged by, of a crossbar that is the system of these parts.
+fn prepare(
+    alloc: Global,
+    parts: Parts,
+    images: &[Vec<u8>],
+    asked: Asked,
+) -> Result<Prepared, CheckFault>
+    ensures prepared { IfOk result
+        (IsPrepared asked (parts_view parts) (map (λ image. image.items) images.now)) }
+    ensures masters { IfOk result (λ prepared. length prepared.master_buses.items ≤ MAX_MASTERS) }
+    ensures ports { IfOk result (λ prepared. length prepared.port_buses.items ≤ MAX_PORTS) }
+    ensures buses { IfOk result (λ prepared. HasBuses prepared.judge.tally.watch.layout
+        (with_buses prepared.master_buses.items prepared.port_buses.items)) }
+    ensures fault { IfErr result
+        (IsUnprepared asked.terms (parts_view parts) (map (λ image. image.items) images.now)) }
+{
+    let system = describe(alloc, parts)?;
+    let begun = begin(alloc, system, images, asked.terms)?;
+    let judge = judge_of(alloc, begun.watch, asked)?;
+    Ok(Prepared {
+        judge,
+        names: begun.names,
+        master_buses: begun.master_buses,
+        port_buses: begun.port_buses,
+    })
+}
+
+/// Writes the line of a verdict. The answer is whether the capture is lawful.
+fn tell<W: Write>(
+    alloc: Global,
+    names: &Names,
+    verdict: &Verdict,
+    writer: &mut LimitedWriter<'_, W>,
+) -> Result<bool, CheckFault>
+    ensures same_writer { writer.new.writer.ghost_name ≡ writer.old.writer.ghost_name }
+    ensures answered { IfOk result (λ lawful. lawful ≡ is_lawful verdict.now) }
+    ensures written { IfOk result (λ _. Appends (W.contents writer.old.writer.now)
+        (W.contents writer.new.writer.now) (line_of names.now verdict.now)) }
+    ensures fault { IfErr result (IsLineFault (W.contents writer.old.writer.now)
+        (W.contents writer.new.writer.now) (line_of names.now verdict.now)) }
+{
+    let line = line_of(alloc, names, verdict)?;
+    write_all(writer, &line)?;
+    Ok(is_lawful(verdict))
+}
+
+/// The verdict over a capture by what was prepared, with its line.
+fn check_prepared<C: Read + Drop, W: Write>(
+    alloc: Global,
+    prepared: &mut Prepared,
+    capture: C,
+    writer: &mut LimitedWriter<'_, W>,
+    covered: &mut Vec<u8>,
+) -> Result<bool, CheckFault>
+    requires masters { length prepared.old.master_buses.items ≤ MAX_MASTERS }
+    requires ports { length prepared.old.port_buses.items ≤ MAX_PORTS }
+    requires buses { HasBuses prepared.old.judge.tally.watch.layout
+        (with_buses prepared.old.master_buses.items prepared.old.port_buses.items) }
+    ensures same_writer { writer.new.writer.ghost_name ≡ writer.old.writer.ghost_name }
+    ensures checked { (asked : AskedFor) (parts : PartsView) (images : List (List ℕ))
+        → IsPrepared asked parts images prepared.old
+        → IsChecked asked (record { parts = parts; images = images; capture = C.remaining capture })
+        (W.contents writer.old.writer.now) (W.contents writer.new.writer.now) result }
+    ensures covered { (asked : AskedFor) (parts : PartsView) (images : List (List ℕ))
+        → IsPrepared asked parts images prepared.old
+        → IfOk result (IsCounted asked (record { parts = parts; images = images; capture = C.remaining capture })
+        covered.old.items covered.new.items) }
+{
+    let buses = Buses {
+        masters: &prepared.master_buses,
+        ports: &prepared.port_buses,
+    };
+    let verdict = judge_capture(alloc, capture, writer, &mut prepared.judge, &buses)?;
+    prepared.judge.append_coverage(covered)?;
+    tell(alloc, &prepared.names, &verdict, writer)
+}
+
 /// Reads a capture to its end or first fault, and writes the line of the verdict: whether what crossed the watched links
 /// of a crossbar that is the system of these parts is lawful. Images has the bytes of the image of each port by its
 /// number, none of a port that names no image. The answer is the same as the line's. If replies are told, their lines
@@ -132,16 +223,6 @@ fn check_within<C: Read + Drop, W: Write>(
       capture = C.remaining capture;
     }) covered.old.items covered.new.items) }
 {
-    let system = describe(alloc, parts)?;
-    let begun = begin(alloc, system, images, asked.terms)?;
-    let mut judge = judge_of(alloc, begun.watch, asked)?;
-    let buses = Buses {
-        masters: &begun.master_buses,
-        ports: &begun.port_buses,
-    };
-    let verdict = judge_capture(alloc, capture, writer, &mut judge, &buses)?;
-    judge.append_coverage(covered)?;
-    let line = line_of(alloc, &begun.names, &verdict)?;
-    write_all(writer, &line)?;
-    Ok(is_lawful(&verdict))
+    let mut prepared = prepare(alloc, parts, images, asked)?;
+    check_prepared(alloc, &mut prepared, capture, writer, covered)
 }

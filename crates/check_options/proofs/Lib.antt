@@ -1,1 +1,2 @@
 mod CommandLine
+mod Rules

@@ -30,6 +30,10 @@ links_words = codes "both" ∷ codes "masters" ∷ codes "ports" ∷ codes "each
 abbrev pub order_words : List Text
 order_words = codes "accept" ∷ codes "reply" ∷ codes "any" ∷ []
 
+-- an option or a word that has one value
+abbrev pub valued_rule : Text → Rule
+valued_rule id = record (new_rule id) { action = Some Set; value_names = 1 }
+
 -- `--links`, one of its words, and `both` if it is not given
 abbrev pub links_rule : Names → Rule
 links_rule names = record (new_rule (codes "links")) {

@@ -1,7 +1,7 @@
 //! The command line: `tlcheck [--links both|masters|ports|each] [--order accept|reply|any] [--trace] [--complete] [--quiet] [--coverage FILE] SYSTEM [CAPTURE]`.
 ghost use Rattle.std.specs.Prelude.{◌≡◌, IfOk, [], map, false, option_map, unwrap_or};
 ghost use Rattle.clap.specs.Words.{app_of, first_value, found_of, rule_of};
-ghost use Rattle.check_options.specs.Options.{Answers, IsCommandLine, IsLinksRule, IsOrderRule, capture_rule, coverage_rule, file_of, flag_of, flag_rule, links_of, order_of, program, system_rule, with_files, with_flags};
+ghost use Rattle.check_options.specs.Options.{Answers, IsCommandLine, IsLinksRule, IsOrderRule, capture_rule, coverage_rule, file_of, flag_of, flag_rule, links_of, order_of, program, system_rule, valued_rule, with_files, with_flags};
 
 use check_flight::Order;
 use check_sides::Links;
@@ -126,19 +126,27 @@ fn program<'a>(alloc: Global) -> Command<'a>
         .after_help(AFTER_HELP)
 }
 
+/// An option or a word that has one value: what is the same of each.
+fn valued<'a>(alloc: Global, id: &'a str, value: &'a str, help: &'a str) -> Arg<'a>
+    ensures rule { rule_of result ≡ valued_rule id.now }
+    ensures local { result.global ≡ false }
+{
+    Arg::new(alloc, id)
+        .action(ArgAction::Set)
+        .value_name(value)
+        .help(help)
+}
+
 /// `--links`.
 fn links_option<'a>(alloc: Global) -> Arg<'a>
     ensures rule { IsLinksRule (rule_of result) }
     ensures local { result.global ≡ false }
 {
     let words: &'a [&'a str] = &["both", "masters", "ports", "each"];
-    Arg::new(alloc, "links")
+    valued(alloc, "links", "LINKS", "The links that were watched")
         .long("links")
-        .action(ArgAction::Set)
-        .value_name("LINKS")
         .value_parser(ValueParser::Names(words))
         .default_value("both")
-        .help("The links that were watched")
 }
 
 /// `--order`.
@@ -147,13 +155,15 @@ fn order_option<'a>(alloc: Global) -> Arg<'a>
     ensures local { result.global ≡ false }
 {
     let words: &'a [&'a str] = &["accept", "reply", "any"];
-    Arg::new(alloc, "order")
-        .long("order")
-        .action(ArgAction::Set)
-        .value_name("ORDER")
-        .value_parser(ValueParser::Names(words))
-        .default_value("accept")
-        .help("When a request takes effect at its port")
+    valued(
+        alloc,
+        "order",
+        "ORDER",
+        "When a request takes effect at its port",
+    )
+    .long("order")
+    .value_parser(ValueParser::Names(words))
+    .default_value("accept")
 }
 
 /// A flag, by two dashes and its name.
@@ -173,11 +183,8 @@ fn coverage_option<'a>(alloc: Global) -> Arg<'a>
     ensures rule { rule_of result ≡ coverage_rule }
     ensures local { result.global ≡ false }
 {
-    Arg::new(alloc, "coverage")
-        .long("coverage")
-        .action(ArgAction::Set)
-        .value_name("FILE")
-        .help("Write what the capture has covered to FILE")
+    let help = "Write what the capture has covered to FILE";
+    valued(alloc, "coverage", "FILE", help).long("coverage")
 }
 
 /// SYSTEM.
@@ -185,11 +192,7 @@ fn system_word<'a>(alloc: Global) -> Arg<'a>
     ensures rule { rule_of result ≡ system_rule }
     ensures local { result.global ≡ false }
 {
-    Arg::new(alloc, "system")
-        .action(ArgAction::Set)
-        .value_name("SYSTEM")
-        .required(true)
-        .help("The file with the system")
+    valued(alloc, "system", "SYSTEM", "The file with the system").required(true)
 }
 
 /// CAPTURE.
@@ -197,10 +200,8 @@ fn capture_word<'a>(alloc: Global) -> Arg<'a>
     ensures rule { rule_of result ≡ capture_rule }
     ensures local { result.global ≡ false }
 {
-    Arg::new(alloc, "capture")
-        .action(ArgAction::Set)
-        .value_name("CAPTURE")
-        .help("The file with the capture; standard input if there is none, or -")
+    let help = "The file with the capture; standard input if there is none, or -";
+    valued(alloc, "capture", "CAPTURE", help)
 }
 
 /// The flags, added to a command.

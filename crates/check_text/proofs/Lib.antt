@@ -3,3 +3,4 @@ mod OutLemmas
 mod Taking
 mod Answering
 mod Fitting
+mod Stopped

@@ -1,10 +1,17 @@
-use Rattle.std.proofs.Common.{◌≡◌, ◌∙◌, rules, ap, Some}
-use Rattle.clap.specs.declared.builder.value_parser.ValueParser.TheVariants as values
+use Rattle.std.proofs.Common.{◌∙◌, ap, Some}
+use Rattle.clap.specs.Words.{rule_of}
+use Rattle.clap.specs.declared.builder.arg.Arg.{Arg}
+use Rattle.check_options.proofs.Rules.{flagged}
 use Rattle.check_options.proofs.options.flag.Goals as goal
 
 pub returns : goal.returns
 returns c =
-    let flag = c.value_parser-2.ensures.given in
-    let bool : c.value_parser-2.result.value_parser ≡ Some values.Bool =
-    flag.1 ∙ ap Some (flag.2 ∙ c.value_parser.ensures) in
-    record { rule = search (rules, bool); local = search rules }
+    let given = c.value_parser-2.ensures.given in
+    record {
+      rule = flagged c.new.result c.long.result c.action.result c.value_parser-2.result c.help.result _ _ _ _
+          c.new.ensures.rule c.long.ensures c.action.ensures c.value_parser-2.ensures.others
+          (given.1 ∙ ap Some (given.2 ∙ c.value_parser.ensures)) (ap rule_of c.help.ensures);
+      local = ap (λ (a : Arg). a.global) c.help.ensures ∙ ap (λ (a : Arg). a.global) c.value_parser-2.ensures.others
+          ∙ ap (λ (a : Arg). a.global) c.action.ensures ∙ ap (λ (a : Arg). a.global) c.long.ensures
+          ∙ c.new.ensures.optional.1;
+    }

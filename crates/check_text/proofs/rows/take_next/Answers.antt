@@ -6,7 +6,7 @@ use Rattle.check_rows.specs.Row.{seen_row}
 use Rattle.check_review.specs.View.{TellsOn}
 use Rattle.check_text.specs.Buses.{link_buses}
 use Rattle.check_text.specs.Rows.{Spells}
-use Rattle.check_text.proofs.Fitting.{bus_fits, bus_in_limit}
+use Rattle.check_text.proofs.Fitting.{bus_fits}
 use Rattle.check_text.proofs.Taking.{no_row, read_stops}
 use Rattle.check_text.proofs.rows.take_next.Goals as goal
 
