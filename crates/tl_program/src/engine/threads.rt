@@ -1,5 +1,5 @@
 //! The threaded engine: from the bytes of a script to the text of a run by threads.
-ghost use Rattle.std.specs.Prelude.{◌≡◌, ◌≤◌, ◌++◌, ◌+◌, ℕ, List, Option, IfOk, OnOk, length};
+ghost use Rattle.std.specs.Prelude.{◌≡◌, ◌≤◌, ◌++◌, ◌+◌, ℕ, List, [], Option, IfOk, OnOk, length, if◌then◌else◌};
 ghost use Rattle.tl_audit.specs.Reader.{histories_of};
 ghost use Rattle.tl_journal.specs.Trace.{entries_in};
 ghost use Rattle.tl_script.specs.History.{account_text};
@@ -34,6 +34,18 @@ fn push_histories(text: &mut Vec<u8>, books: &[Book]) -> Result<(), AllocError>
     Ok(())
 }
 
+/// Appends the lines of the books' histories, if they are asked for.
+fn push_asked(text: &mut Vec<u8>, books: &[Book], history: bool) -> Result<(), AllocError>
+    ensures { OnOk result (text.new.items
+        ≡ text.old.items ++ (if history then histories_text (histories_of books.now) else [])) }
+{
+    if history {
+        push_histories(text, books)
+    } else {
+        Ok(())
+    }
+}
+
 /// The text of a run: its traces, its histories where they are asked for, and how many slots are free and how many
 /// held.
 fn text_of(alloc: Global, run: &ThreadedRun, history: bool) -> Result<Vec<u8>, Memory>
@@ -43,14 +55,12 @@ fn text_of(alloc: Global, run: &ThreadedRun, history: bool) -> Result<Vec<u8>, M
 {
     let mut text = Vec::new(alloc);
     push_traces(&mut text, &run.traces)?;
-    if history {
-        push_histories(&mut text, &run.books)?;
-    }
+    push_asked(&mut text, &run.books, history)?;
     push_account(&mut text, run.account.free.len(), run.account.held.len())?;
     Ok(text)
 }
 
-/// Audits a run of a system by threads, and writes its text.
+/// Audits a run of a system by threads, and writes its text: what is promised of any input that gives this system.
 fn write_run<W: Write>(
     alloc: Global,
     system: &System,
