@@ -24,3 +24,8 @@ returns-clause-written g c =
     (subst (λ (text : List ℕ). IfSome c.args.rows.now (λ left. IsPushed answer left text rest old mid)) is
     c.push_rows-answer.ensures.pushed)
     (rw c.deref.ensures.value at c.finish.ensures.finishes)
+
+pub returns-in_err-extend_from_slice-clause-written : goal.returns-in_err-extend_from_slice-clause-written
+returns-in_err-extend_from_slice-clause-written g c =
+    out-none c.args.rows.now c.from_residual-in_err-extend_from_slice.result (g.W.Write.contents c.args.writer.now.writer.now)
+    HEADER.now c.from_residual-in_err-extend_from_slice.ensures.1
