@@ -3,7 +3,8 @@ use Rattle.std.proofs.Common.{rules}
 use Rattle.tl_audit.specs.Agrees.{Agrees}
 use Rattle.tl_audit.specs.Reader.{histories_of}
 use Rattle.tl_journal.specs.Trace.{entries_in}
-use Rattle.tl_program.proofs.Failing.{at_err, told_by}
+use Rattle.tl_program.specs.Engine.{HasThreadedFault, IsThreadedText}
+use Rattle.tl_program.proofs.Failing.{at_err, refused, told_by}
 use Rattle.tl_program.proofs.engine.threads.write_run.Goals as goal
 
 pub returns-in_err-write_all-clause-answered : goal.returns-in_err-write_all-clause-answered
@@ -63,3 +64,9 @@ returns-in_err-audit-clause-answered g c read_old read_new given taken ran =
       quiet = search rules;
       part = search rules;
     }
+
+pub returns-in_err-text-clause-answered : goal.returns-in_err-text-clause-answered
+returns-in_err-text-clause-answered g c read_old read_new given taken ran =
+    refused (IsThreadedText c.args.history) HasThreadedFault read_old read_new
+    (g.W.Write.contents c.args.writer.now.writer.now) c.from_residual-in_err-text.result
+    c.from_residual-in_err-text.ensures.1 taken
