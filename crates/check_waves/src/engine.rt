@@ -1,8 +1,11 @@
 //! The engine: from the bytes of a system and of a dump to the rows of a capture.
-ghost use Rattle.std.specs.Prelude.{◌≡◌, ℕ, List, map, option_map, IfOk, IfErr, IfSome, OnOk, OnErr};
+ghost use Rattle.std.specs.Prelude.{◌≡◌, ℕ, false, List, Option, map, option_map, IfOk, IfErr, IfSome, OnOk, OnErr};
 ghost use Rattle.check_vcd.specs.Codes.{find_in};
+ghost use Rattle.check_vcd.specs.Dump.{Opens};
+ghost use Rattle.check_vcd.specs.Header.{var_view};
+ghost use Rattle.check_samples.specs.Left.{left_in};
 ghost use Rattle.check_signals.specs.Found.{slot_one, slots_from};
-ghost use Rattle.check_waves.specs.Capture.{IsCapture, IsOpened, IsUnopened};
+ghost use Rattle.check_waves.specs.Capture.{GivesLinks, IsCapture, IsOpened, IsUnopened};
 ghost use Rattle.check_waves.specs.Links.{links_view};
 ghost use Rattle.check_waves.specs.Out.{AppendsFront, Finishes, IsEnded, IsOut, IsPushed, Moves, capture_of, is_cut};
 
@@ -11,7 +14,7 @@ use crate::system::{Links, read_links};
 use check_rows::Buses;
 use check_samples::{Progress, Rows, Sampler};
 use check_signals::find_signals;
-use check_vcd::Dump;
+use check_vcd::{Dump, Var};
 use std::alloc::{AllocError, Global};
 use std::io::{Read, Write};
 use tl_streams::{LimitedReader, LimitedWriter, write_all};
@@ -58,6 +61,28 @@ fn keep_all<D: Read + Drop>(
     Ok(())
 }
 
+/// A sampler of what the signals of the links are among those that a dump declares. The dump keeps their values.
+fn sampler_of<D: Read + Drop>(
+    alloc: Global,
+    dump: &mut Dump<D>,
+    vars: &[Var],
+    links: &Links,
+) -> Result<Sampler, WaveFault>
+    ensures ok { (text : Option (List ℕ)) → Opens text (map var_view vars.now) dump.old
+        → IfOk result (λ sampler. IfSome text
+        (IsOpened (links_view links.now) (left_in dump.new sampler false))) }
+    ensures fault { (text : Option (List ℕ)) → Opens text (map var_view vars.now) dump.old
+        → IfErr result (λ fault. IfSome text (IsUnopened (links_view links.now) fault)) }
+{
+    let buses = Buses {
+        masters: &links.master_buses,
+        ports: &links.port_buses,
+    };
+    let resolved = find_signals(alloc, &buses, &links.names, vars)?;
+    keep_all(alloc, dump, &resolved.codes)?;
+    Ok(Sampler::new(resolved.probes, resolved.values))
+}
+
 /// Opens a dump; answers the rows that are to come of it.
 fn open<D: Read + Drop>(alloc: Global, reader: D, links: &Links) -> Result<Rows<D>, WaveFault>
     ensures ok { IfOk result (λ rows. IfSome (D.remaining reader) (IsOpened (links_view links.now) rows)) }
@@ -65,13 +90,7 @@ fn open<D: Read + Drop>(alloc: Global, reader: D, links: &Links) -> Result<Rows<
         (IsUnopened (links_view links.now) fault)) }
 {
     let (vars, mut dump) = Dump::open(alloc, reader)?;
-    let buses = Buses {
-        masters: &links.master_buses,
-        ports: &links.port_buses,
-    };
-    let resolved = find_signals(alloc, &buses, &links.names, &vars)?;
-    keep_all(alloc, &mut dump, &resolved.codes)?;
-    let sampler = Sampler::new(resolved.probes, resolved.values);
+    let sampler = sampler_of(alloc, &mut dump, &vars, links)?;
     Ok(Rows::new(dump, sampler))
 }
 
@@ -159,6 +178,22 @@ fn finish<W: Write>(
     }
 }
 
+/// Writes the header of a capture and the rows that are left of a dump, which is lent.
+fn write_left<D: Read + Drop, W: Write>(
+    alloc: Global,
+    rows: &mut Rows<D>,
+    writer: &mut LimitedWriter<'_, W>,
+) -> Result<(), WaveFault>
+    ensures same { writer.new.writer.ghost_name ≡ writer.old.writer.ghost_name }
+    ensures written { IfSome rows.old (λ left. IsOut result (capture_of left)
+        (W.contents writer.old.writer.now) (W.contents writer.new.writer.now)) }
+{
+    let mut text = Vec::with_capacity(alloc, 2 * ROOM)?;
+    text.extend_from_slice(HEADER)?;
+    let answer = push_rows(rows, writer, &mut text);
+    finish(writer, &text, answer)
+}
+
 /// Writes the header of a capture and the rows that are left of a dump.
 fn write_rows<D: Read + Drop, W: Write>(
     alloc: Global,
@@ -169,10 +204,7 @@ fn write_rows<D: Read + Drop, W: Write>(
     ensures written { IfSome rows (λ left. IsOut result (capture_of left)
         (W.contents writer.old.writer.now) (W.contents writer.new.writer.now)) }
 {
-    let mut text = Vec::with_capacity(alloc, 2 * ROOM)?;
-    text.extend_from_slice(HEADER)?;
-    let answer = push_rows(&mut rows, writer, &mut text);
-    finish(writer, &text, answer)
+    write_left(alloc, &mut rows, writer)
 }
 
 /// Reads a system and then a dump, each to its end or first fault, and writes the capture: the header, and a row for
@@ -206,6 +238,21 @@ fn write_within<S: Read, D: Read + Drop, W: Write>(
         (W.contents writer.old.writer.now) (W.contents writer.new.writer.now)) }
 {
     let links = read_links(alloc, reader)?;
-    let rows = open(alloc, dump, &links)?;
+    write_linked(alloc, dump, &links, writer)
+}
+
+/// The same, of a system with these links.
+fn write_linked<D: Read + Drop, W: Write>(
+    alloc: Global,
+    dump: D,
+    links: &Links,
+    writer: &mut LimitedWriter<'_, W>,
+) -> Result<(), WaveFault>
+    ensures same_writer { writer.new.writer.ghost_name ≡ writer.old.writer.ghost_name }
+    ensures written { (read_old read_new : Option (List ℕ)) → GivesLinks read_old read_new (links_view links.now)
+        → IfSome (D.remaining dump) (λ text. IsCapture read_old read_new result text
+        (W.contents writer.old.writer.now) (W.contents writer.new.writer.now)) }
+{
+    let rows = open(alloc, dump, links)?;
     write_rows(alloc, rows, writer)
 }

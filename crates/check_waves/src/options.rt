@@ -19,23 +19,36 @@ pub struct Options<'a> {
     pub dump: Option<&'a str>,
 }
 
-/// The words that there are.
-fn command<'a>(alloc: Global) -> Result<Command<'a>, AllocError> {
-    let system = Arg::new(alloc, "system")
+/// The word of the file with the system.
+fn system_word<'a>(alloc: Global) -> Arg<'a> {
+    Arg::new(alloc, "system")
         .action(ArgAction::Set)
         .value_name("SYSTEM")
         .required(true)
-        .help("The file with the system");
-    let dump = Arg::new(alloc, "dump")
+        .help("The file with the system")
+}
+
+/// The word of the file with the dump.
+fn dump_word<'a>(alloc: Global) -> Arg<'a> {
+    Arg::new(alloc, "dump")
         .action(ArgAction::Set)
         .value_name("DUMP")
-        .help("The file with the dump; standard input if there is none, or -");
+        .help("The file with the dump; standard input if there is none, or -")
+}
+
+/// The program, before it has words.
+fn program<'a>(alloc: Global) -> Command<'a> {
     Command::new(alloc, "tlvcd")
         .version("0.1.0")
         .about("Writes the capture of a TileLink crossbar from a value change dump")
         .after_help(AFTER_HELP)
-        .arg(system)?
-        .arg(dump)
+}
+
+/// The words that there are.
+fn command<'a>(alloc: Global) -> Result<Command<'a>, AllocError> {
+    program(alloc)
+        .arg(system_word(alloc))?
+        .arg(dump_word(alloc))
 }
 
 /// Reads the command line, whose first word is the program's name.

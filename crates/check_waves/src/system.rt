@@ -1,9 +1,11 @@
 //! What a system file says of its links.
-ghost use Rattle.std.specs.Prelude.{◌≡◌, IfErr, IfOk, map};
+ghost use Rattle.std.specs.Prelude.{◌≡◌, ◌+◌, ℕ, List, Option, IfErr, IfOk, map};
 ghost use Rattle.check_ports.specs.Port.{port_view};
 ghost use Rattle.check_description.specs.Master.{master_view};
+ghost use Rattle.check_description.specs.declared.read.TheConstants.{MAX_SYSTEM};
 ghost use Rattle.check_signals.specs.Names.{names_view};
-ghost use Rattle.check_waves.specs.Capture.{GivesLinks, IsOfSystem};
+ghost use Rattle.tl_streams.specs.Streams.{ReadsUpTo};
+ghost use Rattle.check_waves.specs.Capture.{Describes, GivesLinks, IsOfSystem};
 ghost use Rattle.check_waves.specs.Links.{links_of as links_of_system, links_view, master_buses as buses_of_masters, port_buses as buses_of_ports};
 
 use crate::fault::WaveFault;
@@ -56,6 +58,29 @@ fn links_of(alloc: Global, system: &Description, names: Names) -> Result<Links, 
     })
 }
 
+/// The links of the system that a file describes, with the names that it gives.
+fn named_links(alloc: Global, system: &Description, bytes: &[u8]) -> Result<Links, WaveFault>
+    ensures ok { (old new : Option (List ℕ)) → ReadsUpTo (MAX_SYSTEM + 1) old new bytes.now
+        → Describes bytes.now system.now → IfOk result (λ links. GivesLinks old new (links_view links)) }
+    ensures fault { (old new : Option (List ℕ)) → ReadsUpTo (MAX_SYSTEM + 1) old new bytes.now
+        → Describes bytes.now system.now → IfErr result (IsOfSystem old new) }
+{
+    let names = read_names(alloc, bytes)?;
+    Ok(links_of(alloc, system, names)?)
+}
+
+/// What the bytes of a system file say of its links.
+fn links_in(alloc: Global, bytes: &[u8]) -> Result<Links, WaveFault>
+    ensures ok { (old new : Option (List ℕ)) → ReadsUpTo (MAX_SYSTEM + 1) old new bytes.now
+        → IfOk result (λ links. GivesLinks old new (links_view links)) }
+    ensures fault { (old new : Option (List ℕ)) → ReadsUpTo (MAX_SYSTEM + 1) old new bytes.now
+        → IfErr result (IsOfSystem old new) }
+{
+    let parts = read_parts(alloc, bytes)?;
+    let system = describe(alloc, parts)?;
+    named_links(alloc, &system, bytes)
+}
+
 /// What a system file says of its links. The file has to describe a system, and to say where the signals are. The files
 /// of images are not looked at, so it is no fault here if one is missing.
 pub fn read_links<S: Read>(
@@ -69,8 +94,5 @@ pub fn read_links<S: Read>(
         (S.remaining reader.new.reader.now)) }
 {
     let bytes = read_up_to(alloc, reader, MAX_SYSTEM + 1)?;
-    let parts = read_parts(alloc, &bytes)?;
-    let system = describe(alloc, parts)?;
-    let names = read_names(alloc, &bytes)?;
-    Ok(links_of(alloc, &system, names)?)
+    links_in(alloc, &bytes)
 }

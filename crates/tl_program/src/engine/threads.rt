@@ -1,9 +1,13 @@
 //! The threaded engine: from the bytes of a script to the text of a run by threads.
-ghost use Rattle.std.specs.Prelude.{◌≡◌, ◌≤◌, ◌++◌, IfOk, OnOk, length};
+ghost use Rattle.std.specs.Prelude.{◌≡◌, ◌≤◌, ◌++◌, ◌+◌, ℕ, List, [], Option, IfOk, OnOk, length, if◌then◌else◌};
 ghost use Rattle.tl_audit.specs.Reader.{histories_of};
 ghost use Rattle.tl_journal.specs.Trace.{entries_in};
 ghost use Rattle.tl_script.specs.History.{account_text};
+ghost use Rattle.tl_script.specs.declared.script.TheConstants.{MAX_SCRIPT};
 ghost use Rattle.tl_serial.specs.Text.{histories_text, run_text};
+ghost use Rattle.tl_streams.specs.Input.{GivesSystem};
+ghost use Rattle.tl_streams.specs.Streams.{TakesUpTo};
+ghost use Rattle.tl_threads.specs.Run.{IsThreadedRun};
 ghost use Rattle.tl_program.specs.Engine.{HasThreadedFault, IsAnswered, IsThreadedText};
 
 use crate::fault::RunFault;
@@ -13,7 +17,7 @@ use std::sync::Wait;
 use std::thread::Threads;
 use tl_audit::audit;
 use tl_port::Book;
-use tl_script::{push_account, push_history, push_traces};
+use tl_script::{System, push_account, push_history, push_traces};
 use tl_streams::{LimitedReader, LimitedWriter, read_whole_system, write_all};
 use tl_threads::{OpenGate, ThreadedRun, run_threads};
 use tl_types::{MAX_WORKERS, Memory};
@@ -30,6 +34,18 @@ fn push_histories(text: &mut Vec<u8>, books: &[Book]) -> Result<(), AllocError>
     Ok(())
 }
 
+/// Appends the lines of the books' histories, if they are asked for.
+fn push_asked(text: &mut Vec<u8>, books: &[Book], history: bool) -> Result<(), AllocError>
+    ensures { OnOk result (text.new.items
+        ≡ text.old.items ++ (if history then histories_text (histories_of books.now) else [])) }
+{
+    if history {
+        push_histories(text, books)
+    } else {
+        Ok(())
+    }
+}
+
 /// The text of a run: its traces, its histories where they are asked for, and how many slots are free and how many
 /// held.
 fn text_of(alloc: Global, run: &ThreadedRun, history: bool) -> Result<Vec<u8>, Memory>
@@ -39,11 +55,31 @@ fn text_of(alloc: Global, run: &ThreadedRun, history: bool) -> Result<Vec<u8>, M
 {
     let mut text = Vec::new(alloc);
     push_traces(&mut text, &run.traces)?;
-    if history {
-        push_histories(&mut text, &run.books)?;
-    }
+    push_asked(&mut text, &run.books, history)?;
     push_account(&mut text, run.account.free.len(), run.account.held.len())?;
     Ok(text)
+}
+
+/// Audits a run of a system by threads, and writes its text: what is promised of any input that gives this system.
+fn write_run<W: Write>(
+    alloc: Global,
+    system: &System,
+    run: &ThreadedRun,
+    writer: &mut LimitedWriter<'_, W>,
+    history: bool,
+) -> Result<(), RunFault>
+    ensures same_writer { writer.new.writer.ghost_name ≡ writer.old.writer.ghost_name }
+    ensures answered { (read_old read_new : Option (List ℕ)) → GivesSystem read_old read_new system.now
+        → TakesUpTo (MAX_SCRIPT + 1) read_old read_new
+        → IsThreadedRun system.now (entries_in run.now.traces.items) run.now.books.items run.now.account.free.items
+        run.now.account.held.items run.now.account.left.items
+        → IsAnswered (IsThreadedText history) HasThreadedFault read_old read_new
+        (W.contents writer.old.writer.now) (W.contents writer.new.writer.now) result }
+{
+    audit(alloc, system.sources(), &run.traces, &run.books)?;
+    let text = text_of(alloc, run, history)?;
+    write_all(writer, &text)?;
+    Ok(())
 }
 
 /// Reads a script to its end, runs its system by threads, each master on one of its own and each port on as many as
@@ -88,8 +124,5 @@ fn run_script<R: Read, W: Write, T: Threads + Wait + Sync>(
 {
     let system = read_whole_system(alloc, reader)?;
     let run = run_threads(rt, alloc, &system, workers, &OpenGate)?;
-    audit(alloc, system.sources(), &run.traces, &run.books)?;
-    let text = text_of(alloc, &run, history)?;
-    write_all(writer, &text)?;
-    Ok(())
+    write_run(alloc, &system, &run, writer, history)
 }
