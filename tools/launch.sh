@@ -37,7 +37,7 @@ make_program() {
 make_library() {
   is_fresh "$top/crates/tl_c/out/libtl_c.a" && return
   command -v rt >/dev/null || fail tlx 69 'the toolchain `rt` is not on this machine, and the library is not built yet'
-  (cd "$top/crates/tl_c" && rt lib) >&2 || exit 70
+  "$top/tools/build" tl_c || exit 70
   touch "$top/crates/tl_c/out/libtl_c.a"
 }
 
