@@ -70,7 +70,9 @@ pub(in crate::tests) fn read(rt: &impl Abort, source: u16) -> Ask {
 }
 
 impl<'a> Client<'a> {
-    pub(in crate::tests) fn issue(&mut self, ask: &Ask) -> Result<Issued, IssueFault> {
+    pub(in crate::tests) fn issue(&mut self, ask: &Ask) -> Result<Issued, IssueFault>
+        ensures { self.new.arena.now ≡ self.old.arena.now }
+    {
         self.master.issue(self.arena, self.map, ask)
     }
 

@@ -80,7 +80,7 @@ pub(in crate::tests) fn take_turns<R: Abort + Threads + Wait + Sync>(rt: &R, sta
 }
 
 /// Two masters with one source each. Each collects all its replies, so all three slots are free at the end.
-const THREE_SLOTS: Scene = Scene {
+static THREE_SLOTS: Scene = Scene {
     setting: Setting {
         slots: 3,
         ..TWO_MASTERS

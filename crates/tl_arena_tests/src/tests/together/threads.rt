@@ -13,22 +13,24 @@ use std::thread::Threads;
 use tl_arena::{Arena, ArenaName};
 use tl_map::Map;
 use tl_master::{Master, Polled};
-use tl_port::{Book, Intake, Port};
+use tl_port::{Book, Intake, Port, Step};
 use tl_types::Ask;
 
 /// A master, and the slots of two requests that it issues.
 fn issue_two(
     arena: &Arena,
     map: &Map,
-    mut master: Master,
+    master: Master,
     asks: &[Ask; 2],
 ) -> (Master, Option<[usize; 2]>)
     requires arena { master.seat.arena ≡ arena.now }
     requires ports { length map.now + 1 ≤ arena.now.about.ports }
     ensures { result.0.seat.arena ≡ arena.now }
 {
-    let first = master.issue(arena, map, &asks[0]);
-    let second = master.issue(arena, map, &asks[1]);
+    let mut client = Client { arena, map, master };
+    let first = client.issue(&asks[0]);
+    let second = client.issue(&asks[1]);
+    let Client { master, .. } = client;
     match (first, second) {
         (Ok(first), Ok(second)) => (master, Some([first.slot, second.slot])),
         _ => (master, None),
@@ -106,7 +108,7 @@ pub(in crate::tests) fn claim_four<R: Abort + Threads + Wait + Sync>(rt: &R, sta
     collect_two(rt, second);
 }
 
-const FOUR_CLAIMS: Scene = Scene {
+static FOUR_CLAIMS: Scene = Scene {
     setting: TWO_MASTERS,
     script: Script::Claims,
     end: End {
@@ -121,20 +123,50 @@ fn two_threads_claim_four_slots(rt: HostRuntime) {
     play(&rt, rt.alloc(), &FOUR_CLAIMS);
 }
 
+/// A call of a port, with its answer.
+enum PortCall {
+    Take(Intake),
+    Serve(Option<usize>),
+    InFlightLen(usize),
+    Step(Step),
+}
+
 /// Each call of a port, by one thread: it does what the book's call of that name does.
+static PORT_CALLS: [PortCall; 7] = [
+    PortCall::Take(Intake::Taken(5)),
+    PortCall::Take(Intake::Nothing),
+    PortCall::InFlightLen(1),
+    PortCall::Serve(Some(0)),
+    PortCall::InFlightLen(0),
+    PortCall::Serve(None),
+    PortCall::Step(Step {
+        intake: Intake::Nothing,
+        index: None,
+        source: None,
+    }),
+];
+
+/// Makes a call of a port.
+fn call_port<N: ArenaName, R: Abort + Wait>(rt: &R, port: &Port<N>, arena: &Arena, call: &PortCall)
+    requires { arena.now ≡ N.arena }
+{
+    match call {
+        PortCall::Take(found) => assert!(rt; port.intake(rt, arena) == *found),
+        PortCall::Serve(place) => assert!(rt; port.serve(rt, arena) == *place),
+        PortCall::InFlightLen(count) => assert!(rt; port.in_flight_len(rt) == *count),
+        PortCall::Step(step) => assert!(rt; port.step(rt, arena) == *step),
+    }
+}
+
+/// A book goes through its lock.
 fn through_the_lock<N: ArenaName, R: Abort + Wait>(rt: &R, arena: &Arena, book: Book) -> Book
     requires arena { arena.now ≡ N.arena }
     requires book { book.seat.arena ≡ N.arena }
 {
     let port = Port::<N>::new(book);
-    assert!(rt; port.intake(rt, arena) == Intake::Taken(5));
-    assert!(rt; port.intake(rt, arena) == Intake::Nothing);
-    assert!(rt; port.in_flight_len(rt) == 1);
-    assert!(rt; port.serve(rt, arena) == Some(0));
-    assert!(rt; port.in_flight_len(rt) == 0);
-    assert!(rt; port.serve(rt, arena) == None);
-    let step = port.step(rt, arena);
-    assert!(rt; (step.intake, step.index, step.source) == (Intake::Nothing, None, None));
+    for call in &PORT_CALLS {
+        call_port(rt, &port, arena, call);
+    }
     port.into_book()
 }
 
@@ -147,7 +179,7 @@ pub(in crate::tests) fn lock<R: Abort + Wait>(rt: &R, mut stage: Stage) {
 }
 
 /// Nobody collects the reply, so its slot is held at the end.
-const ONE_REQUEST: Scene = Scene {
+static ONE_REQUEST: Scene = Scene {
     setting: TWO_MASTERS,
     script: Script::Lock,
     end: End {
@@ -195,7 +227,7 @@ pub(in crate::tests) fn step_six<R: Abort + Threads + Wait + Sync>(rt: &R, mut s
 }
 
 /// The same over eight slots, with room for six entries. Nobody collects a reply.
-const SIX_REQUESTS: Scene = Scene {
+static SIX_REQUESTS: Scene = Scene {
     setting: Setting {
         slots: 8,
         cast: Cast::Book(6),
