@@ -4,7 +4,7 @@ ghost use Rattle.std.specs.Prelude.{◌≡◌, ◌+◌, ◌≤◌, length};
 use super::TWO_MASTERS;
 use crate::tests::agents::book::Keeper;
 use crate::tests::agents::master::{Client, MasterCall, read};
-use crate::tests::stage::{Call, Cast, End, Scene, Script, Setting, Stage, play};
+use crate::tests::stage::{Call, Cast, End, Scene, Script, Setting, Stage, last_two, play};
 use std::marker::Brand;
 use std::process::Abort;
 use std::sync::Wait;
@@ -74,11 +74,10 @@ fn issue_at_once<'a, R: Threads + Wait + Sync>(
 }
 
 /// The slots of four requests are all four slots, and the port serves as many requests.
-fn serve_four(rt: &impl Abort, keeper: &mut Keeper, one: [usize; 2], two: [usize; 2]) {
+fn serve_four(rt: &impl Abort, keeper: &mut Keeper, (one, two): ([usize; 2], [usize; 2])) {
     let claimed = [one[0], one[1], two[0], two[1]];
     for slot in 0..4 {
-        assert!(rt; claimed.contains(&slot));
-        keeper.take_and_serve(rt);
+        assert!(rt; claimed.contains(&slot) && keeper.takes_and_serves());
     }
 }
 
@@ -90,20 +89,25 @@ fn collect_two(rt: &impl Abort, mut client: Client) {
     assert!(rt; client.finish(rt).len() == 2);
 }
 
+/// Reads from the first two sources of a master.
+fn two_reads(rt: &impl Abort) -> [Ask; 2] {
+    match (read(0), read(1)) {
+        (Some(first), Some(second)) => [first, second],
+        _ => panic!(rt; "no request"),
+    }
+}
+
 /// Both masters issue twice at once, and collect all.
 pub(in crate::tests) fn claim_four<R: Abort + Threads + Wait + Sync>(rt: &R, stage: Stage) {
     let Stage {
-        mut masters,
+        masters,
         mut books,
         ..
     } = stage;
-    let second = masters.pop().expect(rt, "no master");
-    let first = masters.pop().expect(rt, "no master");
-    let asks = [read(rt, 0), read(rt, 1)];
-    let (first, second, slots) = issue_at_once(rt, first, second, &asks);
-    let (one, two) = slots.expect(rt, "not issued");
+    let (first, second) = last_two(rt, masters);
+    let (first, second, slots) = issue_at_once(rt, first, second, &two_reads(rt));
     let keeper = books.first_mut().expect(rt, "no book");
-    serve_four(rt, keeper, one, two);
+    serve_four(rt, keeper, slots.expect(rt, "not issued"));
     collect_two(rt, first);
     collect_two(rt, second);
 }
@@ -146,15 +150,15 @@ static PORT_CALLS: [PortCall; 7] = [
     }),
 ];
 
-/// Makes a call of a port.
-fn call_port<N: ArenaName, R: Abort + Wait>(rt: &R, port: &Port<N>, arena: &Arena, call: &PortCall)
+/// Makes a call of a port. Its answer is the right one.
+fn call_port<N: ArenaName>(rt: &impl Wait, port: &Port<N>, arena: &Arena, call: &PortCall) -> bool
     requires { arena.now ≡ N.arena }
 {
     match call {
-        PortCall::Take(found) => assert!(rt; port.intake(rt, arena) == *found),
-        PortCall::Serve(place) => assert!(rt; port.serve(rt, arena) == *place),
-        PortCall::InFlightLen(count) => assert!(rt; port.in_flight_len(rt) == *count),
-        PortCall::Step(step) => assert!(rt; port.step(rt, arena) == *step),
+        PortCall::Take(found) => port.intake(rt, arena) == *found,
+        PortCall::Serve(place) => port.serve(rt, arena) == *place,
+        PortCall::InFlightLen(count) => port.in_flight_len(rt) == *count,
+        PortCall::Step(step) => port.step(rt, arena) == *step,
     }
 }
 
@@ -164,15 +168,18 @@ fn through_the_lock<N: ArenaName, R: Abort + Wait>(rt: &R, arena: &Arena, book: 
     requires book { book.seat.arena ≡ N.arena }
 {
     let port = Port::<N>::new(book);
-    for call in &PORT_CALLS {
-        call_port(rt, &port, arena, call);
+    for (row, call) in PORT_CALLS.iter().enumerate() {
+        let right = call_port(rt, &port, arena, call);
+        assert!(rt; right, "call {row}");
     }
     port.into_book()
 }
 
+static ONE_ISSUE: [Call; 1] = [Call::Master(0, MasterCall::Issue(5, 0))];
+
 /// One request is posted, and the port's book goes through its lock.
 pub(in crate::tests) fn lock<R: Abort + Wait>(rt: &R, mut stage: Stage) {
-    stage.play_all(rt, &[Call::Master(0, MasterCall::Issue(5, 0))]);
+    stage.play_all(rt, &ONE_ISSUE);
     let Keeper { arena, book } = stage.books.pop().expect(rt, "no book");
     let book = through_the_lock::<Brand, R>(rt, arena, book);
     assert!(rt; (book.history_len(), book.in_flight_len()) == (1, 0));
@@ -217,9 +224,11 @@ fn work<N: ArenaName + Send + Sync, R: Threads + Wait + Sync>(
     port.into_book()
 }
 
+static SIX_ISSUES: [Call; 1] = [Call::Master(0, MasterCall::IssueUpTo(6))];
+
 /// Six requests are posted, and two workers step the port.
 pub(in crate::tests) fn step_six<R: Abort + Threads + Wait + Sync>(rt: &R, mut stage: Stage) {
-    stage.play_all(rt, &[Call::Master(0, MasterCall::IssueUpTo(6))]);
+    stage.play_all(rt, &SIX_ISSUES);
     let Keeper { arena, book } = stage.books.pop().expect(rt, "no book");
     let book = work::<Brand, R>(rt, arena, book);
     assert!(rt; book.history_len() == 6);
