@@ -168,32 +168,12 @@ fn stage_of<'a>(
 }
 
 impl<'a> Stage<'a> {
-    fn by_seat(&mut self, rt: &impl Abort, number: usize, call: &CallerCall) {
-        let caller = self.callers.get_mut(number).expect(rt, "no such master");
-        caller.play(rt, call);
-    }
-
-    fn send_past(&mut self, rt: &impl Abort, own: Read, port: usize, others: Read) {
+    fn sends_past(&mut self, rt: &impl Abort, own: Read, port: usize, others: Read) -> bool {
         let mut other = self.callers.pop().expect(rt, "no other master");
         let caller = self.callers.first_mut().expect(rt, "no master");
-        let sent = caller.send_past(rt, &mut other, (own, others), port);
-        assert!(rt; sent == Some((0, 1, None)));
+        let sent = caller.send_past(&mut other, (own, others), port);
         self.callers.push(other).expect(rt, "memory");
-    }
-
-    fn by_master(&mut self, rt: &impl Abort, number: usize, call: &MasterCall) {
-        let master = self.masters.get_mut(number).expect(rt, "no such master");
-        master.play(rt, call);
-    }
-
-    fn by_desk(&mut self, rt: &impl Abort, number: usize, call: &DeskCall) {
-        let desk = self.desks.get_mut(number).expect(rt, "no such port");
-        desk.play(rt, call);
-    }
-
-    fn by_book(&mut self, rt: &impl Abort, call: &BookCall) {
-        let book = self.books.first_mut().expect(rt, "no book");
-        book.play(rt, call);
+        sent == Some((0, 1, None))
     }
 
     fn leave(&mut self, rt: &impl Abort) {
@@ -201,29 +181,69 @@ impl<'a> Stage<'a> {
         caller.leave(rt);
     }
 
-    fn finish(&mut self, rt: &impl Abort, number: usize, index: usize) {
+    fn finishes(&mut self, rt: &impl Abort, number: usize, index: usize) -> bool {
         let master = self.masters.pop().expect(rt, "no master is left");
-        master.ends(rt, number, index);
+        master.ends(rt, number, index)
     }
 
-    fn play(&mut self, rt: &impl Abort, call: &Call) {
+    /// Makes a call. Its answer is the right one.
+    fn play(&mut self, rt: &impl Abort, call: &Call) -> bool {
         match call {
-            Call::Seat(number, call) => self.by_seat(rt, *number, call),
-            Call::SendPast(own, port, others) => self.send_past(rt, *own, *port, *others),
-            Call::Master(number, call) => self.by_master(rt, *number, call),
-            Call::Desk(number, call) => self.by_desk(rt, *number, call),
-            Call::Book(call) => self.by_book(rt, call),
-            Call::Leave => self.leave(rt),
-            Call::Finish(number, index) => self.finish(rt, *number, *index),
+            Call::Seat(number, call) => by_seat(&mut self.callers, *number, call),
+            Call::SendPast(own, port, others) => self.sends_past(rt, *own, *port, *others),
+            Call::Master(number, call) => by_master(&mut self.masters, *number, call),
+            Call::Desk(number, call) => by_desk(rt, &mut self.desks, *number, call),
+            Call::Book(call) => by_book(&mut self.books, call),
+            Call::Leave => {
+                self.leave(rt);
+                true
+            }
+            Call::Finish(number, index) => self.finishes(rt, *number, *index),
         }
     }
 
     /// Makes these calls.
     pub(super) fn play_all(&mut self, rt: &impl Abort, calls: &[Call]) {
-        for call in calls {
-            self.play(rt, call);
+        for (row, call) in calls.iter().enumerate() {
+            let right = self.play(rt, call);
+            assert!(rt; right, "call {row}");
         }
     }
+}
+
+fn by_seat(callers: &mut [Caller], number: usize, call: &CallerCall) -> bool {
+    match callers.get_mut(number) {
+        Some(caller) => caller.play(call),
+        None => false,
+    }
+}
+
+fn by_master(masters: &mut [Client], number: usize, call: &MasterCall) -> bool {
+    match masters.get_mut(number) {
+        Some(master) => master.play(call),
+        None => false,
+    }
+}
+
+fn by_desk(rt: &impl Abort, desks: &mut [Desk], number: usize, call: &DeskCall) -> bool {
+    match desks.get_mut(number) {
+        Some(desk) => desk.play(rt, call),
+        None => false,
+    }
+}
+
+fn by_book(books: &mut [Keeper], call: &BookCall) -> bool {
+    match books.first_mut() {
+        Some(book) => book.play(call),
+        None => false,
+    }
+}
+
+/// The last two agents of a stage, in order.
+pub(super) fn last_two<T: Drop>(rt: &impl Abort, mut agents: Vec<T>) -> (T, T) {
+    let second = agents.pop().expect(rt, "no agent");
+    let first = agents.pop().expect(rt, "no second agent");
+    (first, second)
 }
 
 /// Plays what is to be played.

@@ -9,7 +9,7 @@ ghost use Rattle.tl_arena.specs.Promises.{IsIdleSource};
 use crate::tests::floor::BASE;
 use std::alloc::Global;
 use std::process::Abort;
-use tl_arena::{Arena, Claim, MasterSeat, Ticket};
+use tl_arena::{Arena, Claim, MasterSeat, Served, Ticket};
 use tl_map::Sources;
 use tl_types::{Ask, AskOp, Reply, ReplyOp};
 
@@ -34,6 +34,31 @@ pub(in crate::tests) struct Received {
     read: [Option<u8>; 3],
     port: usize,
     index: usize,
+}
+
+impl Received {
+    /// Whether it is this one.
+    fn is(&self, wanted: &Wanted) -> bool {
+        self.port == wanted.port
+            && self.index == wanted.index
+            && self.reply.op() == ReplyOp::AccessAckData
+            && self.reply.bytes() == wanted.bytes
+            && self.read == wanted.read
+    }
+}
+
+/// What is read of a reply.
+fn received_of(served: &Served) -> Received {
+    Received {
+        reply: served.reply(),
+        read: [
+            served.reply_byte(0),
+            served.reply_byte(3),
+            served.reply_byte(4),
+        ],
+        port: served.port(),
+        index: served.index(),
+    }
 }
 
 impl<'a> Seat<'a> {
@@ -82,16 +107,7 @@ impl<'a> Seat<'a> {
             return Err(ticket);
         }
         let served = self.arena.collect(&mut self.seat, ticket)?;
-        let received = Received {
-            reply: served.reply(),
-            read: [
-                served.reply_byte(0),
-                served.reply_byte(3),
-                served.reply_byte(4),
-            ],
-            port: served.port(),
-            index: served.index(),
-        };
+        let received = received_of(&served);
         self.arena.release(&mut self.seat, served);
         Ok(received)
     }
@@ -126,8 +142,8 @@ pub(in crate::tests) struct Read {
 
 impl Read {
     /// The request, at the first address of a memory.
-    fn ask(self, rt: &impl Abort) -> Ask {
-        Ask::new(AskOp::Get, self.size, self.source, BASE, &[]).expect(rt, "a request")
+    fn ask(self) -> Option<Ask> {
+        Ask::new(AskOp::Get, self.size, self.source, BASE, &[]).ok()
     }
 }
 
@@ -175,12 +191,12 @@ pub(in crate::tests) fn callers_of<'a>(
 }
 
 impl<'a> Caller<'a> {
-    /// Posts a request of the caller's own source, if it has a free slot and nothing is out. The answer is the slot.
-    fn send(&mut self, ask: &Ask, port: usize) -> Option<usize> {
+    /// Posts a read of the caller's own source, if it has a free slot and nothing is out. The answer is the slot.
+    fn send(&mut self, read: Read, port: usize) -> Option<usize> {
         if self.out.is_some() {
             return None;
         }
-        let ticket = self.seat.send(ask, port)?;
+        let ticket = self.seat.send(&read.ask()?, port)?;
         let slot = ticket.slot();
         self.out = Some(ticket);
         Some(slot)
@@ -190,7 +206,6 @@ impl<'a> Caller<'a> {
     /// caller owned then, and what the other found.
     pub(in crate::tests) fn send_past(
         &mut self,
-        rt: &impl Abort,
         other: &mut Caller,
         (own, others): (Read, Read),
         port: usize,
@@ -198,10 +213,9 @@ impl<'a> Caller<'a> {
         if self.out.is_some() {
             return None;
         }
-        let (ask, refused) = (own.ask(rt), others.ask(rt));
-        let (claim, wide) = self.seat.claim(&ask, port)?;
+        let (claim, wide) = self.seat.claim(&own.ask()?, port)?;
         let owned = self.seat.seat.owned();
-        let found = other.send(&refused, port);
+        let found = other.send(others, port);
         let ticket = self.seat.post(claim, &wide, port);
         let slot = ticket.slot();
         self.out = Some(ticket);
@@ -220,23 +234,15 @@ impl<'a> Caller<'a> {
         }
     }
 
-    /// The reply is there, and is this one.
-    fn receives(&mut self, rt: &impl Abort, wanted: &Wanted) {
-        let received = self.receive().expect(rt, "there is no reply");
-        assert!(rt; (received.port, received.index) == (wanted.port, wanted.index));
-        assert!(rt; received.reply.op() == ReplyOp::AccessAckData);
-        assert!(rt; received.reply.bytes() == wanted.bytes);
-        assert!(rt; received.read == wanted.read);
-    }
-
-    /// Makes a call.
-    pub(in crate::tests) fn play(&mut self, rt: &impl Abort, call: &CallerCall) {
+    /// Makes a call. Its answer is the right one.
+    pub(in crate::tests) fn play(&mut self, call: &CallerCall) -> bool {
         match call {
-            CallerCall::Send(read, port, slot) => {
-                assert!(rt; self.send(&read.ask(rt), *port) == *slot);
-            }
-            CallerCall::NoReply => assert!(rt; self.receive().is_none()),
-            CallerCall::Receive(wanted) => self.receives(rt, wanted),
+            CallerCall::Send(read, port, slot) => self.send(*read, *port) == *slot,
+            CallerCall::NoReply => self.receive().is_none(),
+            CallerCall::Receive(wanted) => match self.receive() {
+                Some(received) => received.is(wanted),
+                None => false,
+            },
         }
     }
 

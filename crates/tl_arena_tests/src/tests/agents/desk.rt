@@ -97,30 +97,34 @@ impl<'a> Desk<'a> {
         Some(slot)
     }
 
-    /// What was accepted last is this request.
-    fn has_taken(&self, rt: &impl Abort, wanted: &Accept) {
-        let accepted = self.taken.back().expect(rt, "nothing is posted");
-        assert!(rt; accepted.source() == wanted.source);
+    /// Whether what was accepted last is this request.
+    fn has_taken(&self, wanted: &Accept) -> bool {
+        let Some(accepted) = self.taken.back() else {
+            return false;
+        };
         let mut seen = Ask::blank();
         accepted.read_ask(&mut seen);
-        assert!(rt; (seen.op(), seen.size()) == (wanted.op, wanted.size));
-        assert!(rt; (seen.source(), seen.address()) == (wanted.source, wanted.address));
+        accepted.source() == wanted.source
+            && seen.op() == wanted.op
+            && seen.size() == wanted.size
+            && seen.source() == wanted.source
+            && seen.address() == wanted.address
     }
 
-    /// A look at a slot accepts this request, if one.
-    fn look_at(&mut self, rt: &impl Abort, slot: usize, wanted: Option<&Accept>) {
-        assert!(rt; self.accept_at(rt, slot) == wanted.is_some());
-        if let Some(wanted) = wanted {
-            self.has_taken(rt, wanted);
+    /// Whether a look at a slot accepts this request, if one.
+    fn looks_at(&mut self, rt: &impl Abort, slot: usize, wanted: Option<&Accept>) -> bool {
+        match (self.accept_at(rt, slot), wanted) {
+            (true, Some(wanted)) => self.has_taken(wanted),
+            (accepted, wanted) => accepted == wanted.is_some(),
         }
     }
 
-    /// Makes a call.
-    pub(in crate::tests) fn play(&mut self, rt: &impl Abort, call: &DeskCall) {
+    /// Makes a call. Its answer is the right one.
+    pub(in crate::tests) fn play(&mut self, rt: &impl Abort, call: &DeskCall) -> bool {
         match call {
-            DeskCall::Accept(slot) => assert!(rt; self.accept(rt) == *slot),
-            DeskCall::AcceptAt(slot, request) => self.look_at(rt, *slot, request.as_ref()),
-            DeskCall::Answer(slot) => assert!(rt; self.answer() == *slot),
+            DeskCall::Accept(slot) => self.accept(rt) == *slot,
+            DeskCall::AcceptAt(slot, request) => self.looks_at(rt, *slot, request.as_ref()),
+            DeskCall::Answer(slot) => self.answer() == *slot,
         }
     }
 

@@ -7,7 +7,7 @@ use crate::tests::stage::Call::{Desk, Seat};
 use crate::tests::stage::{Cast, End, Scene, Script, Setting, play};
 
 /// Each of four masters over four slots finds the slot of its own number.
-const OF_THE_PORT: Scene = Scene {
+static OF_THE_PORT: Scene = Scene {
     setting: Setting {
         slots: 4,
         sources: &[1; 4],
@@ -45,7 +45,7 @@ const BOTH_HELD: End = End {
     left: &[],
 };
 
-const LAST_SLOT: Scene = Scene {
+static LAST_SLOT: Scene = Scene {
     setting: Setting {
         slots: 2,
         sources: &[1; 2],
@@ -67,7 +67,7 @@ fn a_pass_goes_to_the_last_slot(rt: HostRuntime) {
 }
 
 /// The third and the fourth of four masters look for one of two slots from slot 1 on.
-const FROM_THE_FIRST: Scene = Scene {
+static FROM_THE_FIRST: Scene = Scene {
     setting: Setting {
         slots: 2,
         sources: &[1; 4],

@@ -1,8 +1,9 @@
 //! Masters and ports on threads of their own.
 use super::turns::TWO_MASTERS;
 use crate::tests::agents::caller::Seat;
+use crate::tests::agents::desk::Desk;
 use crate::tests::floor::BASE;
-use crate::tests::stage::{End, Scene, Script, Setting, Stage, play};
+use crate::tests::stage::{End, Scene, Script, Setting, Stage, last_two, play};
 use std::process::Abort;
 use std::sync::Wait;
 use std::thread::{Threads, join};
@@ -54,17 +55,12 @@ fn work(seat: &mut Seat, master: u16) -> usize {
     TURNS
 }
 
-/// Both masters work and both ports serve, each on a thread of its own, and every reply is right.
-pub(in crate::tests) fn take_turns<R: Abort + Threads + Wait + Sync>(rt: &R, stage: Stage) {
-    let Stage {
-        mut callers,
-        mut desks,
-        ..
-    } = stage;
-    let mut second = callers.pop().expect(rt, "no master").into_seat();
-    let mut first = callers.pop().expect(rt, "no master").into_seat();
-    let mut far = desks.pop().expect(rt, "no port");
-    let mut near = desks.pop().expect(rt, "no port");
+/// Both masters work and both ports serve, each on a thread of its own. The answer is how many turns each master made.
+fn work_at_once<R: Abort + Threads + Wait + Sync>(
+    rt: &R,
+    (mut first, mut second): (Seat, Seat),
+    (mut near, mut far): (Desk, Desk),
+) -> (usize, usize) {
     let (one, (two, _)) = join(
         rt,
         || work(&mut first, 0),
@@ -76,11 +72,20 @@ pub(in crate::tests) fn take_turns<R: Abort + Threads + Wait + Sync>(rt: &R, sta
             )
         },
     );
-    assert!(rt; (one, two) == (TURNS, TURNS));
+    (one, two)
+}
+
+/// Every reply of both masters is right.
+pub(in crate::tests) fn take_turns<R: Abort + Threads + Wait + Sync>(rt: &R, stage: Stage) {
+    let Stage { callers, desks, .. } = stage;
+    let (first, second) = last_two(rt, callers);
+    let seats = (first.into_seat(), second.into_seat());
+    let turns = work_at_once(rt, seats, last_two(rt, desks));
+    assert!(rt; turns == (TURNS, TURNS));
 }
 
 /// Two masters with one source each. Each collects all its replies, so all three slots are free at the end.
-const THREE_SLOTS: Scene = Scene {
+static THREE_SLOTS: Scene = Scene {
     setting: Setting {
         slots: 3,
         ..TWO_MASTERS

@@ -35,7 +35,7 @@ const SLOT_2_HELD: End = End {
     left: &[],
 };
 
-const ACCEPTED_ONCE: Scene = Scene {
+static ACCEPTED_ONCE: Scene = Scene {
     setting: TWO_MASTERS,
     script: Script::Calls(&[
         Seat(1, Send(READ, 1, Some(2))),
@@ -60,7 +60,7 @@ const BYTE: Wanted = Wanted {
     read: [Some(1), None, None],
 };
 
-const ANSWERED: Scene = Scene {
+static ANSWERED: Scene = Scene {
     setting: TWO_MASTERS,
     script: Script::Calls(&[
         Seat(1, Send(READ, 1, Some(2))),
@@ -81,7 +81,7 @@ fn a_ticket_comes_back_until_the_answer(rt: HostRuntime) {
     play(&rt, rt.alloc(), &ANSWERED);
 }
 
-const ALL_LEAVE: Scene = Scene {
+static ALL_LEAVE: Scene = Scene {
     setting: TWO_MASTERS,
     script: Script::Calls(&[Leave, Leave]),
     end: End {
@@ -97,7 +97,7 @@ fn all_slots_are_free_after_all_have_left(rt: HostRuntime) {
 }
 
 /// The tickets go with their masters, at the end of a scene.
-const DROPPED: Scene = Scene {
+static DROPPED: Scene = Scene {
     setting: TWO_MASTERS,
     script: Script::Calls(&[Seat(0, Send(READ, 1, Some(0)))]),
     end: End {

@@ -45,7 +45,7 @@ const SECOND_REPLY: Wanted = Wanted {
 };
 
 /// One slot, two masters with 16 sources each, a memory of 64 zero bytes, and the error port.
-const ONE_SLOT: Scene = Scene {
+static ONE_SLOT: Scene = Scene {
     setting: Setting {
         slots: 1,
         sources: &[16, 16],

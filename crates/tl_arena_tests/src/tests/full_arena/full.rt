@@ -9,7 +9,7 @@ use tl_master::Polled::{Done, Idle, NotYet};
 
 /// A master of 256 sources with 256 slots has all of them out. The reply to its first request is collected, which is
 /// its first entry, and its first source issues again.
-const ALL_SLOTS: Scene = Scene {
+static ALL_SLOTS: Scene = Scene {
     setting: Setting {
         slots: 256,
         sources: &[256],
@@ -45,7 +45,7 @@ fn all_slots_and_all_sources_are_used(rt: HostRuntime) {
 }
 
 /// With 255 slots, the request of its last source finds none.
-const ONE_SLOT_TOO_FEW: Scene = Scene {
+static ONE_SLOT_TOO_FEW: Scene = Scene {
     setting: Setting {
         slots: 255,
         sources: &[256],
@@ -82,7 +82,7 @@ fn one_slot_too_few_is_told(rt: HostRuntime) {
 
 /// A master of 16 sources, and room for two entries: a third request is refused, and one that is from a busy source too
 /// is told that. An entry takes room as well.
-const FULL_TRACE: Scene = Scene {
+static FULL_TRACE: Scene = Scene {
     setting: Setting {
         slots: 4,
         sources: &[16],
@@ -118,7 +118,7 @@ fn a_full_trace_is_told_after_a_busy_source(rt: HostRuntime) {
 }
 
 /// Nothing rings here: a master that looks finds every reply.
-const NO_BELL: Scene = Scene {
+static NO_BELL: Scene = Scene {
     setting: Setting {
         slots: 4,
         sources: &[4],

@@ -60,6 +60,10 @@ impl Tally {
             self.refused = self.refused.saturating_add(1);
         }
     }
+
+    fn is_often_both(self) -> bool {
+        self.done >= 100 && self.refused >= 100
+    }
 }
 
 /// A request that is out.
@@ -90,64 +94,108 @@ fn read_at(rt: &impl Abort, port: usize, source: u16) -> Ask {
     Ask::new(AskOp::Get, 0, source, address, &[]).expect(rt, "a request")
 }
 
+/// What is out for a source.
+fn flight_of(out: &[Flight], master: usize, source: u16) -> Option<Flight> {
+    for flight in out {
+        if flight.master == master && flight.source == source {
+            return Some(*flight);
+        }
+    }
+    None
+}
+
+/// What is out in a slot is out no longer.
+fn forget(out: &mut Vec<Flight>, slot: usize) {
+    for place in 0..out.len() {
+        if out[place].slot == slot {
+            out.swap_remove(place);
+            return;
+        }
+    }
+}
+
+/// The free slot that a claim of a master has to find: it goes up from its own part of the slots, which for master
+/// m of three begins at slot 4m / 3, that is m, and then from slot 0.
+fn free_slot(core: &Core, master: usize) -> Option<usize> {
+    for step in 0..SLOTS {
+        let slot = (master % SLOTS + step) % SLOTS;
+        if core.is_free(slot) {
+            return Some(slot);
+        }
+    }
+    None
+}
+
+/// The phases of a request that ports and masters look for.
+#[derive(Clone, Copy)]
+enum Stop {
+    Posted,
+    Serving,
+    Answered,
+}
+
+/// The master whose request to the port is in this phase in this slot.
+fn owner_at(core: &Core, slot: usize, stop: Stop, port: usize) -> Option<usize> {
+    match (stop, core.phase(slot)?) {
+        (Stop::Posted, Phase::Posted(owner, to)) if to == port => Some(owner),
+        (Stop::Serving, Phase::Serving(owner, to)) if to == port => Some(owner),
+        (Stop::Answered, Phase::Answered(owner, to)) if to == port => Some(owner),
+        _ => None,
+    }
+}
+
+/// The lowest slot from which something is posted to the port, and its master.
+fn lowest_posted(core: &Core, port: usize) -> Option<(usize, usize)> {
+    for slot in 0..SLOTS {
+        if let Some(owner) = owner_at(core, slot, Stop::Posted, port) {
+            return Some((slot, owner));
+        }
+    }
+    None
+}
+
+/// What an issue has to answer.
+fn issue_due(
+    core: &Core,
+    flight: Option<Flight>,
+    master: usize,
+    port: usize,
+) -> Result<Issued, IssueFault> {
+    match (flight, free_slot(core, master)) {
+        (Some(_), _) => Err(IssueFault::SourceBusy),
+        (None, None) => Err(IssueFault::NoSlot),
+        (None, Some(slot)) => Ok(Issued { slot, port }),
+    }
+}
+
+/// What a poll has to answer: the reply is there if the core says so, and gets this place.
+fn poll_due(core: &Core, flight: Option<Flight>, place: usize) -> Polled {
+    match flight {
+        None => Polled::Idle,
+        Some(
+            Flight {
+                master,
+                slot,
+                port,
+                ..
+            },
+        ) if owner_at(core, slot, Stop::Answered, port) == Some(master) => Polled::Done(place),
+        Some(_) => Polled::NotYet,
+    }
+}
+
+/// The core is told events, which it allows.
+fn tell(rt: &impl Abort, core: &mut Core, events: &[Event]) {
+    for event in events {
+        assert!(rt; core.apply(*event).is_ok());
+    }
+}
+
 impl<'a> Walk<'a> {
-    /// What is out for a source.
-    fn flight(&self, master: usize, source: u16) -> Option<Flight> {
-        for flight in &self.out {
-            if flight.master == master && flight.source == source {
-                return Some(*flight);
-            }
-        }
-        None
-    }
-
-    /// The free slot that a claim of a master has to find: it goes up from its own part of the slots, which for master
-    /// m of three begins at slot 4m / 3, that is m, and then from slot 0.
-    fn free_slot(&self, master: usize) -> Option<usize> {
-        for step in 0..SLOTS {
-            let slot = (master % SLOTS + step) % SLOTS;
-            if self.core.is_free(slot) {
-                return Some(slot);
-            }
-        }
-        None
-    }
-
-    /// The master that has posted to the port from this slot.
-    fn poster(&self, slot: usize, port: usize) -> Option<usize> {
-        match self.core.phase(slot) {
-            Some(Phase::Posted(owner, to)) if to == port => Some(owner),
-            _ => None,
-        }
-    }
-
-    /// The lowest slot from which something is posted to the port, and its master.
-    fn lowest_posted(&self, port: usize) -> Option<(usize, usize)> {
-        for slot in 0..SLOTS {
-            if let Some(owner) = self.poster(slot, port) {
-                return Some((slot, owner));
-            }
-        }
-        None
-    }
-
-    /// The core is told an event, which it allows.
-    fn tell(&mut self, rt: &impl Abort, event: Event) {
-        self.core.apply(event).expect(rt, "the core refuses");
-    }
-
-    /// What an issue has to answer.
-    fn issue_due(&self, master: usize, source: u16, port: usize) -> Result<Issued, IssueFault> {
-        match (self.flight(master, source), self.free_slot(master)) {
-            (Some(_), _) => Err(IssueFault::SourceBusy),
-            (None, None) => Err(IssueFault::NoSlot),
-            (None, Some(slot)) => Ok(Issued { slot, port }),
-        }
-    }
-
     /// A master claims a slot and posts a request.
     fn issue(&mut self, rt: &impl Abort, number: usize, source: u16, port: usize) {
-        let due = self.issue_due(number, source, port);
+        let flight = flight_of(&self.out, number, source);
+        let due = issue_due(&self.core, flight, number, port);
         let ask = read_at(rt, port, source);
         let master = self.masters.get_mut(number).expect(rt, "no such master");
         assert!(rt; master.issue(&ask) == due);
@@ -168,35 +216,29 @@ impl<'a> Walk<'a> {
 
     /// A request is out.
     fn sent(&mut self, rt: &impl Abort, flight: Flight) {
-        self.tell(rt, Event::Claim(flight.slot, flight.master));
-        self.tell(rt, Event::Post(flight.slot, flight.master, flight.port));
+        let Flight {
+            master,
+            slot,
+            port,
+            ..
+        } = flight;
+        let events = [Event::Claim(slot, master), Event::Post(slot, master, port)];
+        tell(rt, &mut self.core, &events);
         self.out.push(flight).expect(rt, "memory");
         self.claims.note(true);
     }
 
-    /// Whether the reply to what is out is there.
-    fn is_answered(&self, flight: &Flight) -> bool {
-        self.core.phase(flight.slot) == Some(Phase::Answered(flight.master, flight.port))
-    }
-
     /// A master collects the reply to what is out for a source, and releases its slot.
     fn poll(&mut self, rt: &impl Abort, number: usize, source: u16) {
-        let flight = self.flight(number, source);
+        let flight = flight_of(&self.out, number, source);
         let master = self.masters.get_mut(number).expect(rt, "no such master");
         let (_, entries) = master.counts();
-        let polled = master.poll(source);
-        match flight {
-            None => {
-                assert!(rt; polled == Polled::Idle);
-            }
-            Some(flight) if self.is_answered(&flight) => {
-                assert!(rt; polled == Polled::Done(entries));
-                self.collected(rt, flight);
-            }
-            Some(_) => {
-                assert!(rt; polled == Polled::NotYet);
-                self.collections.note(false);
-            }
+        let due = poll_due(&self.core, flight, entries);
+        assert!(rt; master.poll(source) == due);
+        match (due, flight) {
+            (Polled::Done(_), Some(flight)) => self.collected(rt, flight),
+            (Polled::NotYet, _) => self.collections.note(false),
+            _ => (),
         }
     }
 
@@ -208,32 +250,25 @@ impl<'a> Walk<'a> {
             port,
             ..
         } = flight;
-        self.tell(rt, Event::Collect(slot, master, port));
-        self.tell(rt, Event::Release(slot, master, port));
-        self.forget(slot);
+        let events = [
+            Event::Collect(slot, master, port),
+            Event::Release(slot, master, port),
+        ];
+        tell(rt, &mut self.core, &events);
+        forget(&mut self.out, slot);
         self.collections.note(true);
-    }
-
-    /// What is out in a slot is out no longer.
-    fn forget(&mut self, slot: usize) {
-        for place in 0..self.out.len() {
-            if self.out[place].slot == slot {
-                self.out.swap_remove(place);
-                return;
-            }
-        }
     }
 
     /// A port passes over the slots.
     fn accept(&mut self, rt: &impl Abort, number: usize) {
-        let due = self.lowest_posted(number);
+        let due = lowest_posted(&self.core, number);
         let port = self.ports.get_mut(number).expect(rt, "no such port");
         let accepted = port.accept(rt);
         match due {
             None => assert!(rt; accepted.is_none()),
             Some((slot, owner)) => {
                 assert!(rt; accepted == Some(slot));
-                self.tell(rt, Event::Accept(slot, owner, number));
+                tell(rt, &mut self.core, &[Event::Accept(slot, owner, number)]);
             }
         }
         self.passes.note(due.is_some());
@@ -241,30 +276,23 @@ impl<'a> Walk<'a> {
 
     /// A port looks at one slot.
     fn accept_at(&mut self, rt: &impl Abort, number: usize, slot: usize) {
-        let due = self.poster(slot, number);
+        let due = owner_at(&self.core, slot, Stop::Posted, number);
         let port = self.ports.get_mut(number).expect(rt, "no such port");
         let accepted = port.accept_at(rt, slot);
         assert!(rt; accepted == due.is_some());
         if let Some(owner) = due {
-            self.tell(rt, Event::Accept(slot, owner, number));
+            tell(rt, &mut self.core, &[Event::Accept(slot, owner, number)]);
         }
         self.acceptances.note(accepted);
-    }
-
-    /// The master whose request is served in this slot.
-    fn served(&self, rt: &impl Abort, slot: usize) -> usize {
-        match self.core.phase(slot) {
-            Some(Phase::Serving(owner, _)) => owner,
-            _ => panic!(rt; "answered what is not served"),
-        }
     }
 
     /// A port answers the oldest request that it serves, if there is one.
     fn answer(&mut self, rt: &impl Abort, number: usize) {
         let port = self.ports.get_mut(number).expect(rt, "no such port");
         if let Some(slot) = port.answer() {
-            let owner = self.served(rt, slot);
-            self.tell(rt, Event::Answer(slot, owner, number));
+            let owner = owner_at(&self.core, slot, Stop::Serving, number);
+            let owner = owner.expect(rt, "answered what is not served");
+            tell(rt, &mut self.core, &[Event::Answer(slot, owner, number)]);
         }
     }
 
@@ -283,6 +311,14 @@ impl<'a> Walk<'a> {
         }
     }
 
+    /// Makes the calls of the walk.
+    fn go(&mut self, rt: &impl Abort) {
+        let mut dice = Dice(2026);
+        for _ in 0..CALLS {
+            self.call(rt, &mut dice);
+        }
+    }
+
     /// All that is out is served and collected.
     fn settle(&mut self, rt: &impl Abort) {
         for port in 0..PORTS {
@@ -298,28 +334,18 @@ impl<'a> Walk<'a> {
         }
         assert!(rt; self.out.is_empty());
     }
+}
 
-    /// All masters leave. Their traces have an entry for each collection.
-    fn leave(self, rt: &impl Abort) {
-        let Walk {
-            masters,
-            ports: _,
-            mut core,
-            out: _,
-            claims: _,
-            collections,
-            passes: _,
-            acceptances: _,
-        } = self;
-        let mut entries = 0u32;
-        for (number, master) in masters.into_iter().enumerate() {
-            core.apply(Event::Leave(number))
-                .expect(rt, "the core refuses");
-            let trace = master.finish(rt);
-            entries = entries.saturating_add(trace.len().min(100_000) as u32);
-        }
-        assert!(rt; entries == collections.done);
+/// All masters leave. Their traces have an entry for each collection.
+fn all_leave(rt: &impl Abort, masters: Vec<Client>, core: &mut Core, collections: u32) {
+    let mut number = 0usize;
+    let mut entries = 0u32;
+    for master in masters {
+        tell(rt, core, &[Event::Leave(number)]);
+        entries = entries.saturating_add(master.finish(rt).len().min(100_000) as u32);
+        number = number.saturating_add(1);
     }
+    assert!(rt; entries == collections);
 }
 
 /// Makes the calls of the walk, sees that each kind of call was often granted and often refused, and ends all turns.
@@ -335,20 +361,21 @@ pub(in crate::tests) fn walk_along(rt: &impl Abort, alloc: Global, stage: Stage)
         passes: Tally::NONE,
         acceptances: Tally::NONE,
     };
-    let mut dice = Dice(2026);
-    for _ in 0..CALLS {
-        walk.call(rt, &mut dice);
-    }
-    for tally in [walk.claims, walk.collections, walk.passes, walk.acceptances] {
-        let Tally { done, refused } = tally;
-        assert!(rt; done >= 100 && refused >= 100, "{done} and {refused}");
-    }
+    walk.go(rt);
+    assert!(rt; walk.claims.is_often_both() && walk.collections.is_often_both());
+    assert!(rt; walk.passes.is_often_both() && walk.acceptances.is_often_both());
     walk.settle(rt);
-    walk.leave(rt);
+    let Walk {
+        masters,
+        mut core,
+        collections,
+        ..
+    } = walk;
+    all_leave(rt, masters, &mut core, collections.done);
 }
 
 /// Three masters of four sources over four slots: all leave, and all slots are free.
-const SCENE: Scene = Scene {
+static SCENE: Scene = Scene {
     setting: Setting {
         slots: SLOTS,
         sources: &[SOURCES; MASTERS],

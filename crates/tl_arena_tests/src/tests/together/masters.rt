@@ -7,7 +7,7 @@ use crate::tests::stage::{Cast, End, Scene, Script, Setting, play};
 use tl_master::IssueFault::{NoSlot, NoSuchSource, SourceBusy, TraceFull};
 use tl_master::Polled::{Done, Idle, NotYet};
 
-const WAITS: Scene = Scene {
+static WAITS: Scene = Scene {
     setting: Setting {
         slots: 4,
         cast: Cast::Book(2),
@@ -35,7 +35,7 @@ fn a_source_waits_for_its_reply(rt: HostRuntime) {
     play(&rt, rt.alloc(), &WAITS);
 }
 
-const LOOKS: Scene = Scene {
+static LOOKS: Scene = Scene {
     setting: Setting {
         slots: 4,
         cast: Cast::Book(4),
@@ -68,7 +68,7 @@ fn a_look_goes_over_what_is_out_alone(rt: HostRuntime) {
     play(&rt, rt.alloc(), &LOOKS);
 }
 
-const POLLS: Scene = Scene {
+static POLLS: Scene = Scene {
     setting: Setting {
         slots: 4,
         cast: Cast::Book(4),
@@ -96,7 +96,7 @@ fn poll_finds_answer(rt: HostRuntime) {
 }
 
 /// Each master has the only slot once, and each leaves with one entry.
-const ONE_SLOT: Scene = Scene {
+static ONE_SLOT: Scene = Scene {
     setting: Setting {
         slots: 1,
         cast: Cast::Book(4),

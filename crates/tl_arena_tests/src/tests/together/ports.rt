@@ -11,7 +11,7 @@ use tl_port::Flight;
 use tl_port::Intake::{JournalFull, Nothing, Taken};
 
 /// Nothing but the posting tells the port where to look.
-const TAKEN: Scene = Scene {
+static TAKEN: Scene = Scene {
     setting: Setting {
         slots: 4,
         cast: Cast::Book(3),
@@ -42,7 +42,7 @@ fn intake_takes_what_is_posted(rt: HostRuntime) {
     play(&rt, rt.alloc(), &TAKEN);
 }
 
-const FULL: Scene = Scene {
+static FULL: Scene = Scene {
     setting: Setting {
         slots: 4,
         cast: Cast::Book(3),
@@ -78,7 +78,7 @@ fn a_full_journal_takes_no_more(rt: HostRuntime) {
 
 /// Each master's trace has room for one entry too, so the second request is the second master's, whose part of the four
 /// slots begins at slot 2.
-const OF_ONE: Scene = Scene {
+static OF_ONE: Scene = Scene {
     setting: Setting {
         slots: 4,
         cast: Cast::Book(1),
@@ -108,7 +108,7 @@ fn a_journal_of_one_takes_one(rt: HostRuntime) {
     play(&rt, rt.alloc(), &OF_ONE);
 }
 
-const LOWEST: Scene = Scene {
+static LOWEST: Scene = Scene {
     setting: Setting {
         slots: 4,
         cast: Cast::Book(3),
