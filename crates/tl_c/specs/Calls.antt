@@ -68,7 +68,8 @@ IsJudge = HoldsJudge (λ _. ⊤)
 -- the number is that of the script's first fault, or of want of memory, a full handle or another version
 abbrev pub IsScriptAnswer : List ℕ → ℕ → Type 0
 IsScriptAnswer script number =
-    OTHER_VERSION < number → (fault : ScriptFault) × (number ≡ script_number fault) × IsFirstScriptFault script fault
+    MEMORY < number → number ≢ OTHER_VERSION
+    → (fault : ScriptFault) × (number ≡ script_number fault) × IsFirstScriptFault script fault
 
 -- ---- models
 

@@ -1,5 +1,5 @@
 -- The text of a run by threads is one thread's, port by port.
-use Rattle.std.proofs.Common.{subst, ◌≡◌, ◌∙◌, ℕ, ◌+◌, ◌<◌, Bool, List, [], ◌∷◌, length, Option, Some, None, option_map, slice_get, get_or, refl, ap, arith, length-append}
+use Rattle.std.proofs.Common.{subst, ◌≡◌, ◌∙◌, ℕ, ◌+◌, ◌<◌, Bool, List, [], ◌∷◌, ◌++◌, length, Option, Some, None, option_map, slice_get, get_or, refl, ap, arith, length-append}
 use Rattle.std.proofs.lemmas.List.{length-map}
 use Rattle.std.proofs.lemmas.Option.{slice_get-get_or, slice_get-map, slice_get_within}
 use Rattle.tl_types.specs.declared.trace.Entry.{Entry}
@@ -11,8 +11,10 @@ use Rattle.tl_port.specs.Book.{BookView, reset}
 use Rattle.tl_audit.specs.Agrees.{HasEntry}
 use Rattle.tl_audit.specs.Reader.{AreLawful, AreOneThreads, histories_of}
 use Rattle.tl_audit.proofs.Reader.{agreeing_is_one_threads}
+use Rattle.tl_script.specs.History.{account_text}
 use Rattle.tl_script.specs.System.{System, IsLawfulSystem, error_store, range_of, resets}
 use Rattle.tl_script.specs.declared.operation.Job.{Job}
+use Rattle.tl_serial.specs.Text.{run_text}
 use Rattle.tl_program.specs.Engine.{IsThreadedText}
 use Rattle.tl_program.specs.OneThread.{IsOneThreadsText, IsServedByOne}
 use Rattle.tl_program.proofs.Slots.{all_slots}
@@ -84,17 +86,28 @@ module _ (history : Bool) (s : System) (text : List ℕ) (lawful : IsLawfulSyste
         replied = it.replied;
       }
 
+  -- every master has left, so no slot is held, and all slots are free
+  none_held : length t.held ≡ 0
+  none_held = ap (λ (held : List HeldSlot). length held)
+      (t.run.account.all_free (λ m within. t.run.all_left m
+      (subst (λ (about : About). m < about.masters) t.run.about within)))
+
+  all_free : length t.free ≡ s.slots
+  all_free =
+      let all : length t.free + length t.held ≡ s.slots =
+      all_slots t.run.arena.about t.free t.held t.left t.run.account
+      ∙ ap (λ (about : About). about.slots) t.run.about in
+      let none = none_held in
+      omega arith
+
+  account_is : account_text (length t.free) (length t.held) ≡ account_text s.slots 0
+  account_is = ap (λ (free : ℕ). account_text free (length t.held)) all_free
+      ∙ ap (λ (held : ℕ). account_text s.slots held) none_held
+
   pub threaded_is_one_threads : IsOneThreadsText history s text
   threaded_is_one_threads = record {
     traces = t.traces;
     histories = histories_of t.books;
-    free = length t.free;
-    held = length t.held;
-    left = t.left;
-    slots = all_slots t.run.arena.about t.free t.held t.left t.run.account
-        ∙ ap (λ (about : About). about.slots) t.run.about;
-    all_free = λ all. ap (λ (held : List HeldSlot). length held)
-        (t.run.account.all_free (λ m within. all m (subst (λ (about : About). m < about.masters) t.run.about within)));
     run = record {
       masters = t.run.traces_are.many;
       ports = length-map t.books (λ (book : BookView). book.history) ∙ t.run.books_are.many;
@@ -105,5 +118,5 @@ module _ (history : Bool) (s : System) (text : List ℕ) (lawful : IsLawfulSyste
       once = one.once;
       order = one.order;
     };
-    is = t.is;
+    is = t.is ∙ ap (λ (line : List ℕ). run_text history t.traces (histories_of t.books) ++ line) account_is;
   }

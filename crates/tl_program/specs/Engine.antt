@@ -20,7 +20,7 @@ use Rattle.tl_program.specs.declared.fault.RunFault.{RunFault}
 use Rattle.tl_program.specs.declared.fault.RunFault.TheVariants as run
 
 -- the text is that of a run of the system by threads whose traces and histories agree: its traces, its histories where
--- they are asked for, and how many slots are free and how many held at its end
+-- they are asked for, and how many slots are free and how many held at its end, when every master has left
 pub record IsThreadedText (history : Bool) (system : System) (text : List ℕ) : Type 0 where
   pub traces : List (List Entry)
   pub books : List BookView

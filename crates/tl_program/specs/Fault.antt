@@ -7,7 +7,7 @@ use Rattle.tl_streams.specs.declared.input.InputFault.TheVariants as input
 use Rattle.tl_threads.specs.declared.fault.ThreadFault.{ThreadFault}
 use Rattle.tl_threads.specs.declared.fault.ThreadFault.TheVariants as thread
 use Rattle.tl_program.specs.declared.fault.RunFault.{RunFault}
-use Rattle.tl_program.specs.declared.fault.RunFault.TheVariants.{Script, Read, Write, Audit, Memory, NoThread, GateHeld, StrayBook}
+use Rattle.tl_program.specs.declared.fault.RunFault.TheVariants.{Script, Read, Write, Audit, Memory, NoThread, GateHeld, StrayBook, NotLeft}
 
 -- a fault of the input is told as it is
 abbrev pub of_input : InputFault → RunFault
@@ -25,6 +25,7 @@ of_thread thread.Memory = Memory
 of_thread thread.NoThread = NoThread
 of_thread (thread.GateHeld port) = GateHeld port
 of_thread (thread.StrayBook port) = StrayBook port
+of_thread (thread.NotLeft master) = NotLeft master
 
 -- the status that the program ends with
 abbrev pub status_of : RunFault → ℕ
@@ -36,3 +37,4 @@ status_of Memory = 4
 status_of NoThread = 4
 status_of (GateHeld _) = 5
 status_of (StrayBook _) = 5
+status_of (NotLeft _) = 5

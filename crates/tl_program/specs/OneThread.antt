@@ -1,7 +1,7 @@
 -- What the text of a run by threads is, told without threads, arenas or slots: port by port it is one thread's. What a
 -- reply is stands in the chapter "TL-UL and TL-UH operations" of the TileLink specification; the rest is this project's
 -- own.
-use Rattle.std.specs.Prelude.{◌≡◌, ℕ, ◌+◌, ◌<◌, Bool, List, ◌++◌, length, Some, slice_get, Contains}
+use Rattle.std.specs.Prelude.{◌≡◌, ℕ, ◌+◌, Bool, List, ◌++◌, length, Some, slice_get}
 use Rattle.tl_types.specs.Request.{Request}
 use Rattle.tl_types.specs.Response.{Response}
 use Rattle.tl_types.specs.declared.trace.Entry.{Entry}
@@ -54,18 +54,13 @@ pub record IsOneThreadsRun (s : System) (traces : List (List Entry))
   pub once : (p i : ℕ) → HasPlace histories p i → IsTracedOnce traces p i
   pub order : (m : ℕ) (trace : List Entry) → slice_get traces m ≡ Some trace → IsServedInOrder trace
 
--- the text is that of such a run: its traces, its histories where they are asked for, and how many slots are free and
--- how many held, which are all slots; if all masters have left none is held
+-- the text is that of such a run: its traces, its histories where they are asked for, and that all slots are free and
+-- none is held
 pub record IsOneThreadsText (history : Bool) (s : System) (text : List ℕ) : Type 0 where
   pub traces : List (List Entry)
   pub histories : List (List (Request × Response))
-  pub free : ℕ
-  pub held : ℕ
-  pub left : List ℕ
   pub run : IsOneThreadsRun s traces histories
-  pub slots : free + held ≡ s.slots
-  pub all_free : ((m : ℕ) → m < length s.counts → Contains left m) → held ≡ 0
-  pub is : text ≡ run_text history traces histories ++ account_text free held
+  pub is : text ≡ run_text history traces histories ++ account_text s.slots 0
 
 -- a text of a run of the system by threads is such a text
 abbrev pub ThreadedTextIsOneThreads : System → Type 0

@@ -36,6 +36,9 @@ pub enum RunFault {
     /// The lock of this port gave back another port's book.
     #[error("port {0}: stray book")]
     StrayBook(usize),
+    /// The threads of a run had ended, and this master had not left the arena.
+    #[error("master {0} has not left")]
+    NotLeft(usize),
 }
 
 impl RunFault {
@@ -47,7 +50,11 @@ impl RunFault {
             RunFault::Script(_) => 1,
             RunFault::Audit(_) => 3,
             RunFault::Memory | RunFault::NoThread => 4,
-            RunFault::Read | RunFault::Write | RunFault::GateHeld(_) | RunFault::StrayBook(_) => 5,
+            RunFault::Read
+            | RunFault::Write
+            | RunFault::GateHeld(_)
+            | RunFault::StrayBook(_)
+            | RunFault::NotLeft(_) => 5,
         }
     }
 }
@@ -92,6 +99,7 @@ impl From<ThreadFault> for RunFault {
             ThreadFault::NoThread => RunFault::NoThread,
             ThreadFault::GateHeld(port) => RunFault::GateHeld(port),
             ThreadFault::StrayBook(port) => RunFault::StrayBook(port),
+            ThreadFault::NotLeft(master) => RunFault::NotLeft(master),
         }
     }
 }

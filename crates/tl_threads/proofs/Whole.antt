@@ -14,7 +14,7 @@ use Rattle.tl_arena.specs.Account.{IsClosing}
 use Rattle.tl_arena.specs.declared.account.HeldSlot.{HeldSlot}
 use Rattle.tl_port.specs.Book.{BookView}
 use Rattle.tl_threads.specs.Trace.{IsTrace}
-use Rattle.tl_threads.specs.Run.{IsBookOf, AreTraces, AreBooks, IsThreadedRun}
+use Rattle.tl_threads.specs.Run.{IsBookOf, AreTraces, AreBooks, HaveLeft, IsThreadedRun}
 use Rattle.tl_threads.specs.Start.{AreFrom, IsTraceOf}
 use Rattle.tl_threads.proofs.Rows.{one_some}
 
@@ -78,12 +78,13 @@ books_are a ports bs many all =
 pub threaded : (s : System) (a : ArenaId) (ts : List TraceView) (bs : List BookView) (free : List ℕ)
     (held : List HeldSlot) (left : List ℕ) → a.about ≡ about_of s.slots s.counts (resets s)
     → length ts ≡ length s.jobs → AreFrom (IsTraceOf a s.ranges s.jobs) 0 ts → length bs ≡ length s.ranges + 1
-    → AreFrom (IsBookOf a) 0 bs → IsClosing a.about free held left
+    → AreFrom (IsBookOf a) 0 bs → IsClosing a.about free held left → HaveLeft (length s.counts) left
     → IsThreadedRun s (entries_in ts) bs free held left
-threaded s a ts bs free held left about many traces ports books account = record {
+threaded s a ts bs free held left about many traces ports books account gone = record {
   arena = a;
   about = about;
   traces_are = traces_of a s.ranges s.jobs ts many traces;
   books_are = books_are a (length s.ranges + 1) bs ports books;
   account = account;
+  all_left = gone;
 }

@@ -1,5 +1,5 @@
 -- What a run of a system by threads gives. All of it is this project's own.
-use Rattle.std.specs.Prelude.{◌≡◌, ℕ, ◌+◌, List, length, slice_get, Some}
+use Rattle.std.specs.Prelude.{◌≡◌, ℕ, ◌+◌, ◌<◌, List, length, slice_get, Contains, Some}
 use Rattle.tl_types.specs.declared.trace.Entry.{Entry}
 use Rattle.tl_map.specs.declared.map.Range.{Range}
 use Rattle.tl_script.specs.declared.operation.Job.{Job}
@@ -28,7 +28,12 @@ pub record AreBooks (arena : ArenaId) (ports : ℕ) (books : List BookView) : Ty
   pub many : length books ≡ ports
   pub each : (p : ℕ) (book : BookView) → slice_get books p ≡ Some book → IsBookOf arena p book
 
--- the traces, the books and the account are those of a run of the system over one arena
+-- each of so many masters is among those that left
+abbrev pub HaveLeft : ℕ → List ℕ → Type 0
+HaveLeft masters left = (m : ℕ) → m < masters → Contains left m
+
+-- the traces, the books and the account are those of a run of the system over one arena, at whose end every master has
+-- left: so by the account all slots are free and none is held
 pub record IsThreadedRun (s : System) (traces : List (List Entry)) (books : List BookView) (free : List ℕ)
     (held : List HeldSlot) (left : List ℕ) : Type 0 where
   pub arena : ArenaId
@@ -36,3 +41,4 @@ pub record IsThreadedRun (s : System) (traces : List (List Entry)) (books : List
   pub traces_are : AreTraces arena s.ranges s.jobs traces
   pub books_are : AreBooks arena (length s.ranges + 1) books
   pub account : IsClosing arena.about free held left
+  pub all_left : HaveLeft (length s.counts) left

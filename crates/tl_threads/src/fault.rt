@@ -19,6 +19,9 @@ pub enum ThreadFault {
     /// A lock gave back another port's book.
     #[error("port {0}: stray book")]
     StrayBook(usize),
+    /// All threads have ended, and this master has not left the arena.
+    #[error("master {0} has not left")]
+    NotLeft(usize),
 }
 
 impl From<Memory> for ThreadFault {

@@ -1,8 +1,8 @@
 //! A run over one arena, which the ports' locks name.
-ghost use Rattle.std.specs.Prelude.{◌≡◌, ◌+◌, ◌≤◌, All, IfOk, vec_len, vec_capacity, length};
+ghost use Rattle.std.specs.Prelude.{◌≡◌, ◌+◌, ◌<◌, ◌≤◌, All, Contains, IfOk, IfNone, IfSome, vec_len, vec_capacity, length};
 ghost use Rattle.tl_arena.specs.Account.{IsClosing};
 ghost use Rattle.tl_threads.specs.Context.{AreShared};
-ghost use Rattle.tl_threads.specs.Run.{IsBookOf};
+ghost use Rattle.tl_threads.specs.Run.{HaveLeft, IsBookOf};
 ghost use Rattle.tl_threads.specs.Start.{AreFrom, AreTracesOf, IsBookIn, IsNewBook, IsNewThreadSet};
 
 use crate::context::Shared;
@@ -58,6 +58,20 @@ fn books_of<N: ArenaName>(ports: Vec<Port<N>>, room: Vec<Book>) -> Result<Vec<Bo
         books.push_reserved(book);
     }
     Ok(books)
+}
+
+/// The first master of a system that by the account has not left.
+fn first_not_left(system: &System, account: &Account) -> Option<usize>
+    ensures some { IfSome result (λ m. (m < length system.now.counts)
+        × (Contains account.now.left.items m → ⊥)) }
+    ensures none { IfNone result (HaveLeft (length system.now.counts) account.now.left.items) }
+{
+    for master in 0..system.sources().masters() {
+        if !account.left.contains(&master) {
+            return Some(master);
+        }
+    }
+    None
 }
 
 /// Runs the threads in a scope, so that all have ended when it does.
@@ -118,6 +132,7 @@ pub(crate) fn run_named<N: ArenaName + Send + Sync, R: Threads + Wait + Sync, G:
     ensures books { IfOk result (λ run. AreFrom (IsBookOf arena) 0 run.books.items) }
     ensures account { IfOk result (λ run. IsClosing arena.about run.account.free.items
         run.account.held.items run.account.left.items) }
+    ensures left { IfOk result (λ run. HaveLeft (length system.now.counts) run.account.left.items) }
 {
     let Ok(room) = Vec::with_capacity(alloc, books.len()) else {
         return Err(ThreadFault::Memory);
@@ -135,6 +150,9 @@ pub(crate) fn run_named<N: ArenaName + Send + Sync, R: Threads + Wait + Sync, G:
     let Ok(account) = arena.close(alloc) else {
         return Err(ThreadFault::Memory);
     };
+    if let Some(master) = first_not_left(system, &account) {
+        return Err(ThreadFault::NotLeft(master));
+    }
     let books = books_of::<N>(ports, room)?;
     if let Some(port) = held {
         return Err(ThreadFault::GateHeld(port));

@@ -45,8 +45,8 @@ fn arena_of(alloc: Global, system: &System, banks: &[Bank]) -> Result<Made, Memo
 /// have ended.
 ///
 /// Errors, the first that applies: [`ThreadFault::Memory`] if memory is refused; [`ThreadFault::NoThread`] if a
-/// thread is; [`ThreadFault::StrayBook`] if a lock gave back another port's book; and [`ThreadFault::GateHeld`]
-/// if the gate let a worker wait for ever.
+/// thread is; [`ThreadFault::NotLeft`] if a master had not left when all threads had ended; [`ThreadFault::StrayBook`] if
+/// a lock gave back another port's book; and [`ThreadFault::GateHeld`] if the gate let a worker wait for ever.
 pub fn run_threads<R: Threads + Wait + Sync, G: Gate + Sync>(
     rt: &R,
     alloc: Global,

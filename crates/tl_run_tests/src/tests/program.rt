@@ -142,7 +142,7 @@ fn first_run(rt: HostRuntime) {
     }
 }
 
-const LINES: [(RunFault, &str, u8); 10] = [
+const LINES: [(RunFault, &str, u8); 11] = [
     (
         RunFault::Script(ScriptFault::BadOp(0, 2)),
         "script: master 0 operation 2: bad operation",
@@ -169,6 +169,7 @@ const LINES: [(RunFault, &str, u8); 10] = [
     (RunFault::NoThread, "thread refused", 4),
     (RunFault::GateHeld(2), "gate of port 2 held", 5),
     (RunFault::StrayBook(3), "port 3: stray book", 5),
+    (RunFault::NotLeft(1), "master 1 has not left", 5),
 ];
 
 #[test]

@@ -42,4 +42,4 @@ returns g c =
     let given = seats_many (length s.ranges + 1) c.in-Ok-books_of.books c.in-Ok-arena_of.field-0.ports
     c.in-Ok-books_of.ensures.many (arena.ports.many ∙ many) in
     let books = books_many (length s.ranges + 1) run.books c.in-Ok-books_of.books ran.all given in
-    threaded s c.in-Ok-arena_of.field-0.arena run.traces.items run.books.items run.account.free.items run.account.held.items run.account.left.items arena.arena ran.traces.all ran.traces.each books ran.books ran.account
+    threaded s c.in-Ok-arena_of.field-0.arena run.traces.items run.books.items run.account.free.items run.account.held.items run.account.left.items arena.arena ran.traces.all ran.traces.each books ran.books ran.account ran.left
