@@ -13,19 +13,25 @@ MOST_AT_ONCE = 10
 
 @dataclasses.dataclass(frozen=True)
 class Edit:
-    """A wrong body: the crate that it changes, and its file."""
+    """A wrong body: the crate that it changes, its file, and the text that the file had when it was read."""
 
     crate: str
     path: str
+    text: str
+
+    @classmethod
+    def read(cls, crate, path):
+        """The edit of a file."""
+        with open(path, encoding="utf-8") as it:
+            return cls(crate, path, it.read())
 
     @property
     def name(self):
         return os.path.basename(self.path).removesuffix(".edit")
 
     def lines(self):
-        """The file's lines, each with the word that it begins with."""
-        with open(self.path, encoding="utf-8") as it:
-            return [line.partition(":")[::2] for line in it.read().split("\n") if line]
+        """The text's lines, each with the word that it begins with."""
+        return [line.partition(":")[::2] for line in self.text.split("\n") if line]
 
     def goal(self):
         """The goal that has to stay open, if the edit has a line that names it."""
@@ -83,7 +89,8 @@ def function_with(folder, file, text):
 def edits_of(crate):
     """The edits of a crate, of both folders."""
     folders = [os.path.join(TOP, "crates", crate, "must-fail"), os.path.join(TOP, "planted", crate)]
-    return [Edit(crate, os.path.join(at, file)) for at in folders if os.path.isdir(at) for file in sorted(os.listdir(at)) if file.endswith(".edit")]
+    files = [os.path.join(at, file) for at in folders if os.path.isdir(at) for file in sorted(os.listdir(at))]
+    return [Edit.read(crate, path) for path in files if path.endswith(".edit")]
 
 
 def crates_with_edits():

@@ -104,8 +104,8 @@ def sum_below(crate):
 
 
 def line_of(edit, date, goal):
-    """The line of an edit that was refused by this goal, of the files as they are now."""
-    return Line(edit.crate, edit.name, sum_of(read(edit.path)), sum_of_crate(edit.crate), sum_below(edit.crate), date, goal)
+    """The line of an edit that was refused by this goal. The sums of its crate are those of their first use here."""
+    return Line(edit.crate, edit.name, sum_of(edit.text.encode()), sum_of_crate(edit.crate), sum_below(edit.crate), date, goal)
 
 
 def load():
@@ -128,7 +128,7 @@ def fault_of(edit, line):
     """Why the line does not speak of the edit as it is now, or None."""
     if line is None:
         return "it was never refused by an open goal"
-    if line.of_edit != sum_of(read(edit.path)):
+    if line.of_edit != sum_of(edit.text.encode()):
         return "it has changed since it was tried"
     if line.of_crate != sum_of_crate(edit.crate):
         return "its crate has changed since it was tried"
@@ -138,3 +138,8 @@ def fault_of(edit, line):
 def is_stale(edit, line):
     """Whether only what stands below the edit's crate has changed since it was tried."""
     return fault_of(edit, line) is None and line.of_below != sum_below(edit.crate)
+
+
+def is_old(edit, line):
+    """Whether anything has changed since the edit was tried."""
+    return fault_of(edit, line) is not None or is_stale(edit, line)
