@@ -16,5 +16,5 @@ mod images;
 mod program;
 
 pub use coverage::write_coverage;
-pub use images::read_images;
+pub use images::{ImageFiles, read_images};
 pub use program::{check_as_asked, ended};

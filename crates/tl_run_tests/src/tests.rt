@@ -1,4 +1,5 @@
 mod audit;
+mod audits;
 mod model;
 mod options;
 mod program;

@@ -208,22 +208,6 @@ fn the_lowest_place_is_named(rt: HostRuntime) {
     audits(&rt, rt.alloc(), &LOWEST);
 }
 
-/// One put.
-const ONE_PUT: Case = Case {
-    source: 0,
-    masters: &[&[(Put, 0)]],
-    ports: &[&[(Put, 0)]],
-    answer: Ok(()),
-};
-
-/// The audit's own requests for memory may be refused (`rt try --test --fail-alloc N`, after those that make what it
-/// audits): it answers what is right, or that memory was refused.
-#[test]
-fn an_audit_says_yes_or_memory_is_refused(rt: HostRuntime) {
-    let answer = audit_of(&rt, rt.alloc(), &ONE_PUT);
-    assert!(rt; answer == ONE_PUT.answer || answer == Err(AuditFault::Memory));
-}
-
 const LINES: [(AuditFault, &str); 5] = [
     (
         AuditFault::Missing(1, 2),

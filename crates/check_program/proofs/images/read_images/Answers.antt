@@ -3,7 +3,7 @@ use Rattle.std.proofs.Common.{rules, ◌≡◌, ◌∙◌, ◌++◌, ◌∷◌, 
 use Rattle.std.proofs.lemmas.List.{length-map, length-append}
 use Rattle.check_ports.specs.Port.{port_view}
 use Rattle.check_engine.specs.declared.fault.CheckFault.TheVariants.{Memory}
-use Rattle.check_program.specs.Images.{IsFaultOfImages}
+use Rattle.check_program.specs.Images.{IsFaultOfImages, IsImageOf}
 use Rattle.check_program.proofs.Fitting.{fault_of_one, fit_none, if_err, one_more, seen_at}
 use Rattle.check_program.proofs.images.read_images.Goals as goal
 
@@ -13,7 +13,12 @@ returns-in_err-images-clause-fault g c =
     c.from_residual.ensures.1 (inl refl)
 
 pub loop-number-init : goal.loop-number-init
-loop-number-init g c = rw c.in_ok-images.ensures.items (refl, fit_none (map port_view c.deref-port-items.result.now))
+loop-number-init g c =
+    rw c.in_ok-images.ensures.items (
+      refl,
+      fit_none (IsImageOf (g.F.ImageFiles.opens c.args.files.now) g.F.File.Read.remaining c.args.system.now)
+          (map port_view c.deref-port-items.result.now),
+    )
 
 pub returns-in_err-image-clause-fault : goal.returns-in_err-image-clause-fault
 returns-in_err-image-clause-fault g c =
@@ -40,8 +45,8 @@ loop-number-preserved g c =
     rw c.loop-number.invariant.0 at in
     rw pushed (
       omega (arith, length-append images (image ∷ []), c.loop-number.invariant.0),
-      one_more (map port_view ports) images image (port_view port) c.loop-number.invariant.1 here
-          c.in_ok-image.ensures.ok,
+      one_more (IsImageOf (g.F.ImageFiles.opens c.args.files.now) g.F.File.Read.remaining c.args.system.now)
+          (map port_view ports) images image (port_view port) c.loop-number.invariant.1 here c.in_ok-image.ensures.ok,
     )
 
 pub returns-clause-ok : goal.returns-clause-ok
