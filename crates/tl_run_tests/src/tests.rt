@@ -5,4 +5,5 @@ mod options;
 mod program;
 mod serial;
 mod streams;
+mod texts;
 mod threads;

@@ -17,17 +17,13 @@ const DATA: [u8; 4] = [0x11, 0x22, 0x33, 0x44];
 
 fn pair(rt: &impl Abort, message: Message, source: u16) -> (Ask, Reply) {
     let data = [Some(0x11), Some(0x22), Some(0x33), Some(0x44)];
-    let (ask, reply) = match message {
-        Message::Put => (
-            Ask::new(AskOp::PutFull, 2, source, 0x1000, &data),
-            Reply::new(ReplyOp::AccessAck, 2, source, false, &[]),
-        ),
-        Message::Got => (
-            Ask::new(AskOp::Get, 2, source, 0x1000, &[]),
-            Reply::new(ReplyOp::AccessAckData, 2, source, false, &DATA),
-        ),
+    let (op, given, reply, read): (AskOp, &[Option<u8>], ReplyOp, &[u8]) = match message {
+        Message::Put => (AskOp::PutFull, &data, ReplyOp::AccessAck, &[]),
+        Message::Got => (AskOp::Get, &[], ReplyOp::AccessAckData, &DATA),
     };
-    (ask.expect(rt, "a request"), reply.expect(rt, "a reply"))
+    let ask = Ask::new(op, 2, source, 0x1000, given).expect(rt, "a request");
+    let reply = Reply::new(reply, 2, source, false, read).expect(rt, "a reply");
+    (ask, reply)
 }
 
 /// The trace of a master whose source this is: messages at port 0 with their indexes.
@@ -70,7 +66,7 @@ use Message::{Got, Put};
 const BOTH: &[(Message, u16)] = &[(Put, 0), (Got, 0)];
 
 /// The entries of one master, and the history of one port.
-const ONE_MASTER: [Case; 9] = [
+static ONE_MASTER: [Case; 9] = [
     Case {
         source: 0,
         masters: &[&[(Put, 0), (Got, 1)]],
@@ -166,7 +162,7 @@ fn small_runs_are_audited(rt: HostRuntime) {
 }
 
 /// Both masters have put once, from their sources 1: the second one's wide source is 17. Port 1 has served nothing.
-const TWO_MASTERS: [Case; 2] = [
+static TWO_MASTERS: [Case; 2] = [
     Case {
         source: 1,
         masters: &[&[(Put, 1)], &[(Put, 0)]],
@@ -188,7 +184,7 @@ fn masters_are_told_apart_by_wide_sources(rt: HostRuntime) {
 
 /// Of the first kind of fault that there is, the lowest master and port are named, and there the lowest place. Port 0
 /// has served nothing.
-const LOWEST: [Case; 2] = [
+static LOWEST: [Case; 2] = [
     Case {
         source: 1,
         masters: &[&[(Put, 7), (Put, 8)], &[(Put, 7), (Put, 8)]],
@@ -208,7 +204,7 @@ fn the_lowest_place_is_named(rt: HostRuntime) {
     audits(&rt, rt.alloc(), &LOWEST);
 }
 
-const LINES: [(AuditFault, &str); 5] = [
+static LINES: [(AuditFault, &str); 5] = [
     (
         AuditFault::Missing(1, 2),
         "audit: master 1 entry 2: not in its history",

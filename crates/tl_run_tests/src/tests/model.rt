@@ -1,5 +1,5 @@
 //! The model of a crossbar, call by call: the same texts as those of the serial run, refusals, and bytes.
-use super::serial::{OPERATIONS, SYSTEM};
+use super::serial::{OPERATIONS, script_of};
 use std::alloc::Global;
 use std::process::Abort;
 use tl_model::{Crossbar, ServeFault};
@@ -8,7 +8,7 @@ use tl_types::{Ask, AskOp};
 
 /// The system whose master 0 has these operations.
 fn system_of(rt: &impl Abort, alloc: Global, operations: &str) -> System {
-    let script = format!(in alloc; "{SYSTEM}{operations}] }}]").expect(rt, "memory");
+    let script = script_of(rt, alloc, operations);
     read_system(alloc, script.as_bytes()).expect(rt, "a system")
 }
 
@@ -51,7 +51,7 @@ fn read_from(rt: &impl Abort, source: u16) -> Ask {
 }
 
 /// A master, its source, and why the request is refused.
-const REFUSED: [(usize, u16, ServeFault); 5] = [
+static REFUSED: [(usize, u16, ServeFault); 5] = [
     (1, 0, ServeFault::NoSuchMaster),
     (1, 16, ServeFault::NoSuchMaster),
     (usize::MAX, 0, ServeFault::NoSuchMaster),
@@ -62,9 +62,8 @@ const REFUSED: [(usize, u16, ServeFault); 5] = [
 /// The byte at 0x2001 is read, at this place of port 1's history.
 fn is_read(rt: &impl Abort, crossbar: &mut Crossbar, place: usize) {
     let answer = crossbar.serve(0, &read_from(rt, 15)).expect(rt, "refused");
-    assert!(rt; (answer.port, answer.place) == (1, place));
-    assert!(rt; answer.reply.bytes() == [1].as_slice());
-    assert!(rt; answer.reply.source() == 15);
+    assert!(rt; answer.port == 1 && answer.place == place);
+    assert!(rt; answer.reply.bytes() == [1].as_slice() && answer.reply.source() == 15);
 }
 
 #[test]
@@ -81,7 +80,7 @@ fn refused_requests_change_nothing(rt: HostRuntime) {
 }
 
 /// Addresses, and the bytes there once the last of port 0 is written.
-const BYTES: [(u64, Option<u8>); 10] = [
+static BYTES: [(u64, Option<u8>); 10] = [
     (0x0fff, None),
     (0x1000, Some(0)),
     (0x103f, Some(0xa5)),

@@ -1,9 +1,10 @@
 //! The command line.
+use std::alloc::Global;
 use tl_options::read_options;
 use tl_streams::line_status;
 
 /// The words of a command line, and whether they ask for a serial run and for histories, and for how many workers.
-const LINES: [(&[&str], bool, bool, usize); 9] = [
+static LINES: [(&[&str], bool, bool, usize); 9] = [
     (&["tlx"], false, false, 1),
     (&["tlx", "--serial"], true, false, 1),
     (&["tlx", "--history"], false, true, 1),
@@ -20,17 +21,23 @@ const LINES: [(&[&str], bool, bool, usize); 9] = [
     ),
 ];
 
+/// What a command line asks for, in that order, or the status that the program ends with.
+fn asked(alloc: Global, words: &[&str]) -> Result<(bool, bool, usize), u8> {
+    match read_options(alloc, words) {
+        Ok(options) => Ok((options.serial, options.history, options.workers)),
+        Err(error) => Err(line_status(&error)),
+    }
+}
+
 #[test]
 fn words_give_options(rt: HostRuntime) {
     for (words, serial, history, workers) in &LINES {
-        let options = read_options(rt.alloc(), words).expect(&rt, "options");
-        assert!(rt; (options.serial, options.history) == (*serial, *history));
-        assert!(rt; options.workers == *workers);
+        assert!(rt; asked(rt.alloc(), words) == Ok((*serial, *history, *workers)));
     }
 }
 
 /// Other words, and the status that the program ends with.
-const OTHERS: [(&[&str], u8); 13] = [
+static OTHERS: [(&[&str], u8); 13] = [
     (&["tlx", "--workers", "5"], 2),
     (&["tlx", "--workers", "0"], 2),
     (&["tlx", "--workers", "-1"], 2),
@@ -49,9 +56,6 @@ const OTHERS: [(&[&str], u8); 13] = [
 #[test]
 fn other_words_have_a_status(rt: HostRuntime) {
     for (words, status) in &OTHERS {
-        match read_options(rt.alloc(), words) {
-            Ok(_) => panic!(&rt; "options"),
-            Err(error) => assert!(rt; line_status(&error) == *status),
-        }
+        assert!(rt; asked(rt.alloc(), words) == Err(*status));
     }
 }

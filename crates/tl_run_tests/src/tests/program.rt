@@ -142,7 +142,7 @@ fn first_run(rt: HostRuntime) {
     }
 }
 
-const LINES: [(RunFault, &str, u8); 11] = [
+static LINES: [(RunFault, &str, u8); 11] = [
     (
         RunFault::Script(ScriptFault::BadOp(0, 2)),
         "script: master 0 operation 2: bad operation",

@@ -16,8 +16,13 @@ pub(super) const FIRST_WITH_HISTORY: &[u8] =
     b"m0 s0 putfull 0x1000 2 11223344 -> AccessAck p0 #0\nm0 s0 get 0x1000 2 -> AccessAckData 11223344 p0 #1\np0 #0 w0 putfull 0x1000 2 11223344 -> AccessAck\np0 #1 w0 get 0x1000 2 -> AccessAckData 11223344\n";
 
 /// A RAM, a ROM and registers, and one master whose operations follow.
-pub(super) const SYSTEM: &str =
+const SYSTEM: &str =
     "slots = 4\nport = [{ kind = 'ram', base = 0x1000, length = 64 }, { kind = 'rom', base = 0x2000, length = 32, reset = '00010203' }, { kind = 'regs', base = 0x3000, length = 16 }]\nmaster = [{ sources = 16, ops = [";
+
+/// The script of that system, whose master has these operations.
+pub(super) fn script_of(rt: &impl Abort, alloc: Global, operations: &str) -> String {
+    format!(in alloc; "{SYSTEM}{operations}] }}]").expect(rt, "memory")
+}
 
 /// What the serial run of a script prints.
 fn printed(rt: &impl Abort, alloc: Global, script: &[u8], history: bool) -> Vec<u8> {
@@ -34,7 +39,7 @@ fn first_run(rt: HostRuntime) {
 }
 
 /// Operations, and their trace.
-pub(super) const OPERATIONS: [(&str, &str); 8] = [
+pub(super) static OPERATIONS: [(&str, &str); 8] = [
     ("", ""),
     (
         "'0 get 0x103f 0', '0 get 0x103f 1', '0 get 0x1001 1'",
@@ -69,7 +74,7 @@ pub(super) const OPERATIONS: [(&str, &str); 8] = [
 #[test]
 fn operations_are_answered_by_their_ports(rt: HostRuntime) {
     for (operations, trace) in &OPERATIONS {
-        let script = format!(in rt.alloc(); "{SYSTEM}{operations}] }}]").expect(&rt, "memory");
+        let script = script_of(&rt, rt.alloc(), operations);
         let text = printed(&rt, rt.alloc(), script.as_bytes(), false);
         assert!(rt; text.as_slice() == trace.as_bytes());
     }

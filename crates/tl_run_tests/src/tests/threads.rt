@@ -191,7 +191,7 @@ struct Held {
     asked: [usize; 3],
 }
 
-const HELD: [Held; 5] = [
+static HELD: [Held; 5] = [
     Held {
         noes: [0, 0, 0],
         fault: None,

@@ -25,7 +25,7 @@ fn tells<R: Abort + Threads + Wait + Sync>(
     }
 }
 
-const BAD: [(&[u8], &'static str); 4] = [
+static BAD: [(&[u8], &'static str); 4] = [
     (b"\xff", "script: not TOML"),
     (b"slots = \"4\"", "script: wrong type of slots"),
     (b"slots = 257", "script: slots out of range"),
@@ -34,7 +34,7 @@ const BAD: [(&[u8], &'static str); 4] = [
 
 #[test]
 fn bad_scripts_have_a_line_and_a_status(rt: HostRuntime) {
-    for (script, line) in BAD {
+    for (script, line) in &BAD {
         tells(&rt, rt.alloc(), script, line);
     }
 }
@@ -58,7 +58,7 @@ const BAD_SECOND: &str = "script: master 0 operation 1: bad operation";
 
 /// The key of the port, the sources and the operations in place of the first example's, and the line that it is told
 /// by.
-const CHANGED: [(&str, u32, &str, &'static str); 5] = [
+static CHANGED: [(&str, u32, &str, &'static str); 5] = [
     (
         "reset = \"0\"\n",
         16,
@@ -73,8 +73,8 @@ const CHANGED: [(&str, u32, &str, &'static str); 5] = [
 
 #[test]
 fn the_first_example_with_one_thing_wrong(rt: HostRuntime) {
-    for (reset, sources, operations, line) in CHANGED {
-        let script = changed_first(&rt, rt.alloc(), reset, sources, operations);
+    for (reset, sources, operations, line) in &CHANGED {
+        let script = changed_first(&rt, rt.alloc(), reset, *sources, operations);
         tells(&rt, rt.alloc(), script.as_bytes(), line);
     }
 }

@@ -1,6 +1,6 @@
 //! Runs by threads.
 use super::{Engine, NO_SLOTS, bad_script, expect, text, whole};
-use crate::tests::serial::{FIRST, SYSTEM};
+use crate::tests::serial::{FIRST, script_of};
 
 /// The first example's traces, and the account of its four slots.
 pub(super) const FIRST_OUTPUT: &[u8] =
@@ -12,7 +12,7 @@ const FIRST_OUTPUT_WITH_HISTORY: &[u8] =
 
 #[test]
 fn a_run_by_threads_has_an_account(rt: HostRuntime) {
-    let empty = format!(in rt.alloc(); "{SYSTEM}] }}]").expect(&rt, "memory");
+    let empty = script_of(&rt, rt.alloc(), "");
     for (script, history, written) in [
         (FIRST, false, FIRST_OUTPUT),
         (FIRST, true, FIRST_OUTPUT_WITH_HISTORY),

@@ -2,6 +2,7 @@
 ghost use Rattle.std.specs.Prelude.{◌<◌, ◌≤◌};
 
 use super::{expect_account, expect_book, run};
+use crate::tests::texts::{additions, head, one_slot, push_master};
 use std::alloc::Global;
 use std::process::Abort;
 use std::sync::Wait;
@@ -9,30 +10,8 @@ use std::thread::Threads;
 use tl_journal::Trace;
 use tl_threads::{OpenGate, ThreadedRun};
 
-/// The start of a script: a RAM of 64 bytes at 0x1000.
-fn head(rt: &impl Abort, alloc: Global, slots: usize) -> String {
-    format!(in alloc;
-        "slots = {slots}\nport = [{{ kind = 'ram', base = 0x1000, length = 64 }}]\n"
-    ).expect(rt, "memory")
-}
-
-/// Appends a master of two sources with these operations.
-fn push_master(rt: &impl Abort, script: &mut String, operations: &str) {
-    write!(script, "[[master]]\nsources = 2\nops = [{operations}]\n").expect(rt, "memory");
-}
-
-/// Puts each number up to 250 at an address, and gets it again.
-fn puts_and_gets(rt: &impl Abort, alloc: Global, address: u64) -> String {
-    let mut operations = String::new(alloc);
-    for k in 1..=250u32 {
-        write!(
-            &mut operations,
-            "'0 putfull {address} 2 {k:02x}000000', 'wait', '0 get {address} 2', 'wait', "
-        )
-        .expect(rt, "memory");
-    }
-    operations
-}
+/// A RAM of 64 bytes at 0x1000.
+const RAM: &str = "{ kind = 'ram', base = 0x1000, length = 64 }";
 
 /// The first byte of each reply that has bytes, in the order of a trace.
 fn read_in(rt: &impl Abort, alloc: Global, trace: &Trace) -> Vec<u8> {
@@ -58,9 +37,7 @@ fn expect_numbers(rt: &impl Abort, alloc: Global, run: &ThreadedRun) {
 
 #[test]
 fn two_masters_share_one_slot(rt: HostRuntime) {
-    let mut script = head(&rt, rt.alloc(), 1);
-    push_master(&rt, &mut script, &puts_and_gets(&rt, rt.alloc(), 0x1000));
-    push_master(&rt, &mut script, &puts_and_gets(&rt, rt.alloc(), 0x1020));
+    let script = one_slot(&rt, rt.alloc(), RAM, 2);
     for workers in [1, 4] {
         let run = run(&rt, rt.alloc(), script.as_bytes(), workers, &OpenGate);
         expect_numbers(&rt, rt.alloc(), &run);
@@ -84,12 +61,7 @@ fn leaves<R: Abort + Threads + Wait + Sync>(
 
 #[test]
 fn two_masters_add_to_one_word(rt: HostRuntime) {
-    let additions = "'0 add 0x1000 2 01000000', 'wait', "
-        .repeat(rt.alloc(), 100)
-        .expect(&rt, "memory");
-    let mut script = head(&rt, rt.alloc(), 2);
-    push_master(&rt, &mut script, &additions);
-    push_master(&rt, &mut script, &additions);
+    let script = additions(&rt, rt.alloc(), RAM, 2);
     let left = [(0x1000, 200), (0x1001, 0), (0x1002, 0), (0x1003, 0)];
     leaves(&rt, rt.alloc(), &script, 200, &left);
 }
@@ -134,9 +106,9 @@ impl Dice {
 
     /// A script of four masters.
     fn script(&mut self, rt: &impl Abort, alloc: Global) -> String {
-        let mut script = head(rt, alloc, 2);
+        let mut script = head(rt, alloc, 2, RAM);
         for _ in 0..4u32 {
-            push_master(rt, &mut script, &self.operations(rt, alloc));
+            push_master(rt, &mut script, 2, &self.operations(rt, alloc));
         }
         script
     }
