@@ -2,10 +2,11 @@
 //! worked out by hand from the formats. Captures with their verdicts stand in `check_text_tests`.
 //!
 //! - `options`: the command line (`check_options`);
-//! - `progress`: the progress of a capture (`check_progress`);
+//! - `progress`, `erasing`: the progress of a capture, and what stands on a terminal after it (`check_progress`);
 //! - `program`: a system, its images and a capture with the verdict, its lines and its faults; readers and writers that
 //!   are slow or fail (`check_engine`);
-//! - `coverage`: what a capture has covered, and the file that it is written to (`check_program`);
+//! - `coverage`, `images`: what a capture has covered, and the file that it is written to; the images of ports
+//!   (`check_program`);
 //! - `dumps`: a system and a dump with the capture, and its faults (`check_waves`);
 //! - `ends`, `streams`, `files`: the ends of runs of these two, and their readers, writers and files;
 //! - `records`: texts with their records (`check_records`);

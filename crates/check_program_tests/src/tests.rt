@@ -1,7 +1,9 @@
 mod coverage;
 mod dumps;
 mod ends;
+mod erasing;
 mod files;
+mod images;
 mod map;
 mod options;
 mod program;

@@ -21,7 +21,7 @@
 use check_engine::{CheckFault, read_system};
 use check_options::{Options, read_options};
 use check_program::{check_as_asked, ended, read_images, write_coverage};
-use check_progress::{Meter, Shown};
+use check_progress::{Erasing, Meter, Shown};
 use std::io::{IsTerminal, Read};
 use std::process::ExitCode;
 use std::{env, fs};
@@ -63,10 +63,11 @@ fn judge<C: Read + Drop>(
     let mut system = NamedFile::new(rt, options.system);
     let parts = read_system(rt.alloc(), &mut system)?;
     let images = read_images(rt.alloc(), rt, options.system, &parts)?;
-    let mut writer = rt.stdout();
-    let capture = Shown::new(capture, meter(rt, options));
+    let meter = meter(rt, options);
+    let mut writer = Erasing::new(rt.stdout(), meter.as_ref());
+    let capture = Shown::new(capture, meter.as_ref());
     let mut covered = Vec::new(rt.alloc());
-    let lawful = check_as_asked(
+    let outcome = check_as_asked(
         rt.alloc(),
         parts,
         &images,
@@ -74,7 +75,12 @@ fn judge<C: Read + Drop>(
         &mut writer,
         options,
         &mut covered,
-    )?;
+    );
+    // so that the line of a fault stands alone
+    if let Some(meter) = &meter {
+        meter.erase();
+    }
+    let lawful = outcome?;
     if let Some(name) = options.coverage {
         write_coverage(rt, name, &covered)?;
     }

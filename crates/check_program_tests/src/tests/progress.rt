@@ -78,7 +78,7 @@ const LONG: [Moment; 5] = [
 /// Whether a capture of 40 bytes prints this at these moments.
 fn prints(alloc: Global, moments: &[Moment]) -> bool {
     let desk = Desk::new(alloc);
-    let Some(mut meter) = Meter::new(&desk, Some(40)) else {
+    let Some(meter) = Meter::new(&desk, Some(40)) else {
         return false;
     };
     let mut is_so = true;
@@ -175,7 +175,8 @@ fn take(rt: &impl Abort, reader: &mut impl Read, buffer: &mut [u8], count: usize
 #[test]
 fn what_is_read_is_handed_on(rt: HostRuntime) {
     let desk = Desk::new(rt.alloc());
-    let mut shown = Shown::new(b"12345".as_slice(), Meter::new(&desk, Some(5)));
+    let meter = Meter::new(&desk, Some(5));
+    let mut shown = Shown::new(b"12345".as_slice(), meter.as_ref());
     let mut buffer = [0u8; 3];
     desk.millis.set(2_000);
     take(&rt, &mut shown, &mut buffer, 3);
