@@ -23,7 +23,9 @@ from kit import command, kit_crate  # noqa: E402
 MEMORY = 4 * 1024 * 1024
 # More processors than this make the check of one crate hardly faster.
 MOST_JOBS = 2
-PARTS = ("src", "specs", "proofs")
+# How much there is to check of a byte in each folder of a crate, and of what stands below it.
+PARTS = {"src": 8, "specs": 1, "proofs": 1}
+READING = 60_000
 
 
 def lane_count():
@@ -44,9 +46,13 @@ def is_program(name):
 
 
 def weight(name):
-    """How much there is to check of a crate: the bytes of its files."""
-    parts = [os.path.join(folder_of(name), part) for part in PARTS]
-    return sum(os.path.getsize(os.path.join(at, file)) for part in parts for at, _, files in os.walk(part) for file in files)
+    """How much there is to check of a crate, in bytes of a proof."""
+    return READING + sum(times * size(os.path.join(folder_of(name), part)) for part, times in PARTS.items())
+
+
+def size(folder):
+    """The bytes of all files in a folder, or 0 if there is none."""
+    return sum(os.path.getsize(os.path.join(at, file)) for at, _, files in os.walk(folder) for file in files)
 
 
 def chains(names, all_crates):
@@ -165,15 +171,19 @@ class Lanes:
         with locked(wanted):
             left = {name for name in wanted if is_program(name) or not kit_crate(name).is_built()}
             long = chains(left, self.all_crates)
-            return self.schedule(sorted(left, key=lambda name: -long[name]), wanted - left)
+            return self.schedule(long, wanted - left)
 
-    def schedule(self, waiting, done):
-        """Builds the crates that wait, each after those below it, and answers the first that could not be built."""
+    def schedule(self, long, done):
+        """Builds these crates, each after those below it, and answers the first that could not be built."""
+        waiting = sorted(long, key=lambda name: -long[name])
         number, running, failed = len(waiting), {}, None
         with self.pool() as pool:
             while running or (waiting and not failed):
                 if not failed:
-                    for name, jobs in self.next_ones(waiting, done, sum(jobs for _, _, jobs in running.values())):
+                    idle = self.count - sum(jobs for _, _, jobs in running.values())
+                    last = max((long[name] for name, _, _ in running.values()), default=0)
+                    ready = [name for name in waiting if below(name, self.all_crates) <= done]
+                    for name, jobs in self.next_ones(ready, idle, last, long):
                         waiting.remove(name)
                         self.say(f"crate {number - len(waiting)} of {number}: {name}")
                         lane = self.free.pop()
@@ -186,15 +196,14 @@ class Lanes:
                     done.add(name)
         return failed
 
-    def next_ones(self, waiting, done, busy):
-        """The crates to start now, each with its number of processors: one that no other crate waits for helps it."""
-        ready, idle, found = [name for name in waiting if below(name, self.all_crates) <= done], self.count - busy, []
+    def next_ones(self, ready, idle, last, long):
+        """The crates of those that are ready to start now, each with its number of processors. One with a chain as long as any that runs
+        gets as many as help it, and so does each that no other crate is ready beside."""
         for at, name in enumerate(ready):
             if idle > 0:
-                jobs = max(1, min(MOST_JOBS, idle // (len(ready) - at)))
-                idle -= jobs
-                found.append((name, jobs))
-        return found
+                jobs = max(1, min(MOST_JOBS, idle if long[name] >= last else idle // (len(ready) - at)))
+                idle, last = idle - jobs, max(last, long[name])
+                yield name, jobs
 
 
 @contextlib.contextmanager

@@ -1,6 +1,6 @@
 -- What is kept as one row more is judged.
 use Rattle.std.proofs.Common.{◌≡◌, ◌∙◌, ℕ, ◌+◌, Bool, true, false, ◌&&◌, List, [], ◌∷◌, ◌++◌, Option, Some, ap, sym, arith, append_assoc, length}
-use Rattle.std.specs.Prelude.{if◌then◌else◌, ◌==◌, map, codes, flat_map, Result, Ok, Err, OnOk}
+use Rattle.std.specs.Prelude.{if◌then◌else◌, ◌==◌, map, codes, flat_map, Result, Ok, Err, OnErr, OnOk}
 use Rattle.std.specs.Ordering.{nat_cmp}
 use Rattle.std.specs.BTreeMap.{IsOrdered, get}
 use Rattle.check_sides.specs.Plan.{Plan, bus_of}
@@ -75,6 +75,11 @@ module _ (plan : Plan) (before : List SeenRow) (row : SeenRow) where
   }
 
 -- ---- the text
+
+-- what holds, holds if there is an error
+pub on_err : {T E : Type 0} {P : Type 0} (r : Result T E) → P → OnErr r P
+on_err (Ok done) holds = tt
+on_err (Err fault) holds = holds
 
 pub covered_text : {E : Type 0} (plan : Plan) (rows : List SeenRow) (coverage : Coverage) (old mid new : List ℕ) (ports : ℕ)
     (r : Result (Unit {0}) E) → Covers plan rows coverage → mid ≡ old ++ codes "coverage 1\n"

@@ -7,3 +7,4 @@ pub mod Adding
 pub mod Noted
 pub mod Covered
 pub mod Exact
+pub mod Numbers

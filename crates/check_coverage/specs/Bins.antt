@@ -1,6 +1,6 @@
 -- Which bins a row adds after the rows before it. Lists of rows have the latest first; they are rows of links that are
 -- watched. This project's own.
-use Rattle.std.specs.Prelude.{ℕ, ◌+◌, ◌-◌, ◌^◌, ◌&&◌, ◌||◌, ◌==◌, Bool, false, not, nat_lt, min, if◌then◌else◌, List, [], ◌∷◌, ◌++◌, length, filter, find, Option, Some, None}
+use Rattle.std.specs.Prelude.{ℕ, ◌+◌, ◌-◌, ◌^◌, ◌≤◌, ◌&&◌, ◌||◌, ◌==◌, Bool, false, not, nat_lt, min, if◌then◌else◌, List, [], ◌∷◌, ◌++◌, length, filter, find, Option, Some, None}
 use Rattle.std.specs.List.{list_any}
 use Rattle.check_beats.specs.Message.{ask_beats, reply_beats}
 use Rattle.check_beats.specs.declared.beat.AskHead.{AskHead}
@@ -15,7 +15,6 @@ use Rattle.check_coverage.specs.declared.bin.Bin.TheVariants as bin
 use Rattle.check_coverage.specs.declared.bin.Channel.TheVariants as channel
 use Rattle.check_coverage.specs.declared.bin.Operation.{Operation}
 use Rattle.check_coverage.specs.declared.bin.Pair.{Pair}
-use Rattle.check_coverage.specs.declared.coverage.TheConstants.{MOST_IN_FLIGHT}
 use Rattle.check_coverage.specs.Flights.{InFlight, answered_at, begun, end_of, flights_after, in_flight, is_counted, is_of, is_unaligned, is_whole_ask, is_whole_reply, wide_at}
 use Rattle.check_coverage.specs.Shape.{shape_of}
 
@@ -27,9 +26,9 @@ is_of_master master flight = flight.master == master
 abbrev pub is_of_port : ℕ → InFlight → Bool
 is_of_port port flight = flight.port == port
 
--- how many are in flight with one more, up to the most that are told apart
+-- how many are in flight with one more; 64 is 64 or more
 abbrev pub with_one : List InFlight → ℕ
-with_one flights = min (length flights + 1) MOST_IN_FLIGHT
+with_one flights = min (length flights + 1) 64
 
 -- the least time of the step that a time is in: 0, 1, 2, 3, 4, 8, 16
 abbrev pub step_of : ℕ → ℕ
@@ -140,3 +139,17 @@ bins_of plan before row =
 abbrev pub bins : Plan → List SeenRow → List Bin
 bins plan [] = []
 bins plan (row ∷ before) = bins_of plan before row ++ bins plan before
+
+-- ---- numbers of requests in flight
+
+-- the number of requests in flight that a bin tells, if it tells one, is at least 1 and at most 64
+abbrev pub IsUpTo64 : Bin → Type 0
+IsUpTo64 (bin.InFlight master requests) = (1 ≤ requests) × (requests ≤ 64)
+IsUpTo64 (bin.AtPort port requests) = (1 ≤ requests) × (requests ≤ 64)
+IsUpTo64 (bin.Asked pair operation is_unaligned) = Unit {0}
+IsUpTo64 (bin.Answered pair operation is_denied) = Unit {0}
+IsUpTo64 (bin.Beats pair channel beats) = Unit {0}
+IsUpTo64 (bin.Mask pair shape) = Unit {0}
+IsUpTo64 (bin.Overtook pair) = Unit {0}
+IsUpTo64 (bin.Again master least) = Unit {0}
+IsUpTo64 (bin.Contested port) = Unit {0}

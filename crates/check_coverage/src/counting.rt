@@ -1,6 +1,7 @@
 //! Bins, as they are counted and told.
-ghost use Rattle.std.specs.Prelude.{◌≡◌, ◌++◌, [], ◌∷◌, flat_map, OnOk};
+ghost use Rattle.std.specs.Prelude.{◌≡◌, ◌++◌, [], ◌∷◌, flat_map, OnErr, OnOk};
 ghost use Rattle.std.specs.BTreeMap.{IsOrdered};
+ghost use Rattle.tl_text.specs.Text.{BeginsWith};
 ghost use Rattle.check_coverage.specs.Text.{bin_line};
 ghost use Rattle.check_coverage.specs.View.{Adds, bin_cmp, count_of};
 ghost use Rattle.check_coverage.specs.declared.bin.Bin.{Bin as IsBin};
@@ -39,10 +40,12 @@ impl Counts {
     }
 
     /// Appends a line for each bin that occurred, in the order of bins, of a system of so many ports.
+    #[tactic(auto, using(tl_text::proofs::TextLemmas::begins))]
     pub fn append(&self, ports: usize, text: &mut Vec<u8>) -> Result<(), AllocError>
         ensures told { OnOk result (text.new.items
             ≡ text.old.items ++ flat_map (bin_line ports) self.now.counts.entries) }
         ensures ordered { OnOk result (IsOrdered bin_cmp self.now.counts) }
+        ensures err { OnErr result (BeginsWith text.old.items text.new.items) }
     {
         for (bin, count) in self.counts.iter() {
             push_line(text, ports, bin, *count)?;

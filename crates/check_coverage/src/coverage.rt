@@ -1,7 +1,8 @@
 //! What the rows that were judged have covered.
-ghost use Rattle.std.specs.Prelude.{◌≡◌, ◌≤◌, ◌↔◌, [], ◌∷◌, ℕ, List, find, length, map, OnOk};
+ghost use Rattle.std.specs.Prelude.{◌≡◌, ◌≤◌, ◌↔◌, [], ◌∷◌, ℕ, List, find, length, map, OnErr, OnOk};
 ghost use Rattle.std.specs.Ordering.{nat_cmp};
 ghost use Rattle.std.specs.BTreeMap.{get};
+ghost use Rattle.tl_text.specs.Text.{BeginsWith};
 ghost use Rattle.check_beats.specs.Bus.{beat_count, bus_bytes};
 ghost use Rattle.check_map.specs.Owner.{IsWide};
 ghost use Rattle.check_rows.specs.Row.{SeenRow};
@@ -415,9 +416,11 @@ impl Coverage {
     }
 
     /// Appends the text of what was covered of the judge's crossbar.
+    #[tactic(auto, using(tl_text::proofs::TextLemmas::begins))]
     pub fn append(&self, watch: &Watch, text: &mut Vec<u8>) -> Result<(), AllocError>
-        ensures { (plan : Plan) (rows : List SeenRow) → Covers plan rows self.now → watch.now.layout ≡ plan.layout
+        ensures told { (plan : Plan) (rows : List SeenRow) → Covers plan rows self.now → watch.now.layout ≡ plan.layout
             → OnOk result (TellsCoverage plan rows text.old.items text.new.items) }
+        ensures err { OnErr result (BeginsWith text.old.items text.new.items) }
     {
         text.extend_from_slice(b"coverage 1\n")?;
         self.counts.append(watch.map().ports() - 1, text)

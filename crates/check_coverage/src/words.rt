@@ -1,6 +1,7 @@
 //! The words of a bin.
-ghost use Rattle.std.specs.Prelude.{◌≡◌, ◌++◌, codes, OnOk, if◌then◌else◌};
+ghost use Rattle.std.specs.Prelude.{◌≡◌, ◌++◌, codes, OnErr, OnOk, if◌then◌else◌};
 ghost use Rattle.std.specs.Fmt.{decimal};
+ghost use Rattle.tl_text.specs.Text.{BeginsWith};
 ghost use Rattle.check_beats.specs.Message.{arith_of, logic_of, op_of};
 ghost use Rattle.check_coverage.specs.Text.{bin_line, bin_text, channel_text, master_text, operation_text, pair_text, port_text, shape_text};
 
@@ -72,20 +73,26 @@ fn channel_words(channel: Channel) -> &'static [u8]
     }
 }
 
+#[tactic(auto, using(tl_text::proofs::TextLemmas::begins))]
 fn push_words(text: &mut Vec<u8>, words: &str) -> Result<(), AllocError>
-    ensures { OnOk result (text.new.items ≡ text.old.items ++ words.now) }
+    ensures ok { OnOk result (text.new.items ≡ text.old.items ++ words.now) }
+    ensures err { OnErr result (BeginsWith text.old.items text.new.items) }
 {
     text.extend_from_slice(words.as_bytes())
 }
 
+#[tactic(auto, using(tl_text::proofs::TextLemmas::begins))]
 fn push_master(text: &mut Vec<u8>, master: usize) -> Result<(), AllocError>
-    ensures { OnOk result (text.new.items ≡ text.old.items ++ master_text master) }
+    ensures ok { OnOk result (text.new.items ≡ text.old.items ++ master_text master) }
+    ensures err { OnErr result (BeginsWith text.old.items text.new.items) }
 {
     push_field(text, b" m", master as u64)
 }
 
+#[tactic(auto, using(tl_text::proofs::TextLemmas::begins))]
 fn push_port(text: &mut Vec<u8>, ports: usize, port: usize) -> Result<(), AllocError>
-    ensures { OnOk result (text.new.items ≡ text.old.items ++ port_text ports port) }
+    ensures ok { OnOk result (text.new.items ≡ text.old.items ++ port_text ports port) }
+    ensures err { OnErr result (BeginsWith text.old.items text.new.items) }
 {
     if port < ports {
         push_field(text, b" p", port as u64)
@@ -95,16 +102,20 @@ fn push_port(text: &mut Vec<u8>, ports: usize, port: usize) -> Result<(), AllocE
 }
 
 /// Some words, a master and a port.
+#[tactic(auto, using(tl_text::proofs::TextLemmas::begins))]
 fn push_pair(text: &mut Vec<u8>, words: &str, ports: usize, pair: Pair) -> Result<(), AllocError>
-    ensures { OnOk result (text.new.items ≡ text.old.items ++ words.now ++ pair_text ports pair) }
+    ensures ok { OnOk result (text.new.items ≡ text.old.items ++ words.now ++ pair_text ports pair) }
+    ensures err { OnErr result (BeginsWith text.old.items text.new.items) }
 {
     push_words(text, words)?;
     push_master(text, pair.master)?;
     push_port(text, ports, pair.port)
 }
 
+#[tactic(auto, using(tl_text::proofs::TextLemmas::begins))]
 fn push_operation(text: &mut Vec<u8>, operation: Operation) -> Result<(), AllocError>
-    ensures { OnOk result (text.new.items ≡ text.old.items ++ operation_text operation) }
+    ensures ok { OnOk result (text.new.items ≡ text.old.items ++ operation_text operation) }
+    ensures err { OnErr result (BeginsWith text.old.items text.new.items) }
 {
     push_words(text, " ")?;
     push_words(text, word(op_of(operation.opcode, operation.param)))?;
@@ -112,6 +123,7 @@ fn push_operation(text: &mut Vec<u8>, operation: Operation) -> Result<(), AllocE
 }
 
 /// Some words, a master, a port, an operation and some words more.
+#[tactic(auto, using(tl_text::proofs::TextLemmas::begins))]
 fn push_message(
     text: &mut Vec<u8>,
     words: &str,
@@ -120,14 +132,16 @@ fn push_message(
     operation: Operation,
     end: &str,
 ) -> Result<(), AllocError>
-    ensures { OnOk result (text.new.items
+    ensures ok { OnOk result (text.new.items
         ≡ text.old.items ++ words.now ++ pair_text ports pair ++ operation_text operation ++ end.now) }
+    ensures err { OnErr result (BeginsWith text.old.items text.new.items) }
 {
     push_pair(text, words, ports, pair)?;
     push_operation(text, operation)?;
     push_words(text, end)
 }
 
+#[tactic(auto, using(tl_text::proofs::TextLemmas::begins))]
 fn push_beats(
     text: &mut Vec<u8>,
     ports: usize,
@@ -135,52 +149,61 @@ fn push_beats(
     channel: Channel,
     beats: usize,
 ) -> Result<(), AllocError>
-    ensures { OnOk result (text.new.items
+    ensures ok { OnOk result (text.new.items
         ≡ text.old.items ++ codes "beats" ++ pair_text ports pair ++ channel_text channel ++ decimal beats) }
+    ensures err { OnErr result (BeginsWith text.old.items text.new.items) }
 {
     push_pair(text, "beats", ports, pair)?;
     push_field(text, channel_words(channel), beats as u64)
 }
 
+#[tactic(auto, using(tl_text::proofs::TextLemmas::begins))]
 fn push_mask(text: &mut Vec<u8>, ports: usize, pair: Pair, shape: Shape) -> Result<(), AllocError>
-    ensures { OnOk result (text.new.items
+    ensures ok { OnOk result (text.new.items
         ≡ text.old.items ++ codes "mask" ++ pair_text ports pair ++ shape_text shape) }
+    ensures err { OnErr result (BeginsWith text.old.items text.new.items) }
 {
     push_pair(text, "mask", ports, pair)?;
     push_words(text, shape_words(shape))
 }
 
 /// Some words, a master and a number.
+#[tactic(auto, using(tl_text::proofs::TextLemmas::begins))]
 fn push_of_master(
     text: &mut Vec<u8>,
     words: &str,
     master: usize,
     number: u64,
 ) -> Result<(), AllocError>
-    ensures { OnOk result (text.new.items
+    ensures ok { OnOk result (text.new.items
         ≡ text.old.items ++ words.now ++ master_text master ++ codes " " ++ decimal number) }
+    ensures err { OnErr result (BeginsWith text.old.items text.new.items) }
 {
     push_words(text, words)?;
     push_master(text, master)?;
     push_field(text, b" ", number)
 }
 
+#[tactic(auto, using(tl_text::proofs::TextLemmas::begins))]
 fn push_at_port(
     text: &mut Vec<u8>,
     ports: usize,
     port: usize,
     requests: usize,
 ) -> Result<(), AllocError>
-    ensures { OnOk result (text.new.items
+    ensures ok { OnOk result (text.new.items
         ≡ text.old.items ++ codes "at_port" ++ port_text ports port ++ codes " " ++ decimal requests) }
+    ensures err { OnErr result (BeginsWith text.old.items text.new.items) }
 {
     push_words(text, "at_port")?;
     push_port(text, ports, port)?;
     push_field(text, b" ", requests as u64)
 }
 
+#[tactic(auto, using(tl_text::proofs::TextLemmas::begins))]
 fn push_contested(text: &mut Vec<u8>, ports: usize, port: usize) -> Result<(), AllocError>
-    ensures { OnOk result (text.new.items ≡ text.old.items ++ codes "contested" ++ port_text ports port) }
+    ensures ok { OnOk result (text.new.items ≡ text.old.items ++ codes "contested" ++ port_text ports port) }
+    ensures err { OnErr result (BeginsWith text.old.items text.new.items) }
 {
     push_words(text, "contested")?;
     push_port(text, ports, port)
@@ -203,9 +226,10 @@ fn denied_words(is_denied: bool) -> &'static str
 }
 
 /// Appends the words of a bin of a system of so many ports.
-#[tactic(auto, unfolding(crate::specs::Text::bin_text))]
+#[tactic(auto, using(tl_text::proofs::TextLemmas::begins), unfolding(crate::specs::Text::bin_text))]
 pub fn push_bin(text: &mut Vec<u8>, ports: usize, bin: &Bin) -> Result<(), AllocError>
-    ensures { OnOk result (text.new.items ≡ text.old.items ++ bin_text ports bin.now) }
+    ensures ok { OnOk result (text.new.items ≡ text.old.items ++ bin_text ports bin.now) }
+    ensures err { OnErr result (BeginsWith text.old.items text.new.items) }
 {
     match *bin {
         Bin::Asked(pair, operation, is_unaligned) => {
@@ -229,8 +253,10 @@ pub fn push_bin(text: &mut Vec<u8>, ports: usize, bin: &Bin) -> Result<(), Alloc
 }
 
 /// Appends the line of a bin that occurred so often.
+#[tactic(auto, using(tl_text::proofs::TextLemmas::begins))]
 pub fn push_line(text: &mut Vec<u8>, ports: usize, bin: &Bin, count: u64) -> Result<(), AllocError>
-    ensures { OnOk result (text.new.items ≡ text.old.items ++ bin_line ports (bin.now, count)) }
+    ensures ok { OnOk result (text.new.items ≡ text.old.items ++ bin_line ports (bin.now, count)) }
+    ensures err { OnErr result (BeginsWith text.old.items text.new.items) }
 {
     push_bin(text, ports, bin)?;
     push_field(text, b" ", count)?;

@@ -1,5 +1,5 @@
 //! The line of a capture at whose end requests are left.
-ghost use Rattle.std.specs.Prelude.{◌≡◌, ◌++◌, OnErr, OnOk};
+ghost use Rattle.std.specs.Prelude.{◌≡◌, ◌<◌, ◌≤◌, ◌+◌, ◌++◌, length, vec_capacity, OnErr, OnOk};
 ghost use Rattle.tl_text.specs.Text.{BeginsWith};
 ghost use Rattle.check_lines.specs.Verdict.{asked_text, began_text, incomplete_line, owner_text};
 
@@ -15,6 +15,9 @@ use tl_text::push_field;
 fn push_asked(text: &mut Vec<u8>, beat: &Beat) -> Result<(), AllocError>
     ensures ok { OnOk result (text.new.items ≡ text.old.items ++ asked_text beat.now) }
     ensures err { OnErr result (BeginsWith text.old.items text.new.items) }
+    ensures room { vec_capacity text.old ≤ vec_capacity text.new }
+    ensures full { OnErr result (vec_capacity text.old
+        < length text.old.items + length (asked_text beat.now)) }
 {
     match beat {
         Beat::A(ask) => {
@@ -35,6 +38,9 @@ fn push_asked(text: &mut Vec<u8>, beat: &Beat) -> Result<(), AllocError>
 fn push_began(text: &mut Vec<u8>, began: &Began) -> Result<(), AllocError>
     ensures ok { OnOk result (text.new.items ≡ text.old.items ++ began_text began.now) }
     ensures err { OnErr result (BeginsWith text.old.items text.new.items) }
+    ensures room { vec_capacity text.old ≤ vec_capacity text.new }
+    ensures full { OnErr result (vec_capacity text.old
+        < length text.old.items + length (began_text began.now)) }
 {
     push_field(
         text,
@@ -49,6 +55,9 @@ fn push_began(text: &mut Vec<u8>, began: &Began) -> Result<(), AllocError>
 fn push_owner(text: &mut Vec<u8>, origin: &Origin) -> Result<(), AllocError>
     ensures ok { OnOk result (text.new.items ≡ text.old.items ++ owner_text origin.now) }
     ensures err { OnErr result (BeginsWith text.old.items text.new.items) }
+    ensures room { vec_capacity text.old ≤ vec_capacity text.new }
+    ensures full { OnErr result (vec_capacity text.old
+        < length text.old.items + length (owner_text origin.now)) }
 {
     push_field(text, b", m", origin.master as u64)?;
     push_field(text, b" s", u64::from(origin.source))
@@ -59,6 +68,9 @@ fn push_owner(text: &mut Vec<u8>, origin: &Origin) -> Result<(), AllocError>
 pub fn push_incomplete(text: &mut Vec<u8>, left: &Left) -> Result<(), AllocError>
     ensures ok { OnOk result (text.new.items ≡ text.old.items ++ incomplete_line left.now) }
     ensures err { OnErr result (BeginsWith text.old.items text.new.items) }
+    ensures room { vec_capacity text.old ≤ vec_capacity text.new }
+    ensures full { OnErr result (vec_capacity text.old
+        < length text.old.items + length (incomplete_line left.now)) }
 {
     push_field(text, b"incomplete: ", left.requests as u64)?;
     push_began(text, &left.first.began)?;

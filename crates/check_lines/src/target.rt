@@ -1,5 +1,5 @@
 //! What a request asks for, as lines spell it.
-ghost use Rattle.std.specs.Prelude.{◌≡◌, ◌++◌, codes, OnErr, OnOk};
+ghost use Rattle.std.specs.Prelude.{◌≡◌, ◌<◌, ◌≤◌, ◌+◌, ◌++◌, codes, length, vec_capacity, OnErr, OnOk};
 ghost use Rattle.tl_text.specs.Text.{BeginsWith};
 ghost use Rattle.check_lines.specs.Target.{name_text, target_text};
 
@@ -22,6 +22,9 @@ pub fn name_word(opcode: u8, param: u8) -> &'static str
 pub fn push_target(text: &mut Vec<u8>, name: &str, address: u64, size: u8) -> Result<(), AllocError>
     ensures ok { OnOk result (text.new.items ≡ text.old.items ++ target_text name.now address size) }
     ensures err { OnErr result (BeginsWith text.old.items text.new.items) }
+    ensures room { vec_capacity text.old ≤ vec_capacity text.new }
+    ensures full { OnErr result (vec_capacity text.old
+        < length text.old.items + length (target_text name.now address size)) }
 {
     text.extend_from_slice(name.as_bytes())?;
     text.extend_from_slice(b" 0x")?;

@@ -12,3 +12,4 @@ mod records;
 mod refused;
 mod sources;
 mod streams;
+mod verdicts;

@@ -1,2 +1,5 @@
 pub mod Ports
-pub mod Scripts
+pub mod ScriptLemmas
+pub mod Mapped
+pub mod Requests
+pub mod Replies

@@ -1,1 +1,2 @@
+pub mod Beats
 pub mod Instance

@@ -1,19 +1,14 @@
-//! A script of tlx is a system file of the judge, and describes the same system: laws, each on a function that does nothing
-//! but carry it.
+//! What tlx reads and sends is a special case of what the judge does: laws, each on a function that does nothing but carry
+//! it.
 //!
-//! They are said of scripts that have none of the keys which only a system file has (`specs/Instance.antt`). Read on in
-//! `docs/MODEL.md`, "Scripts as system files".
+//! - [`scripts`]: a script of tlx is a system file of the judge, and describes the same system. It is said of scripts that
+//!   have none of the keys which only a system file has (`specs/Instance.antt`).
+//! - [`beats`]: on a bus of 8 bytes the links of any width are those of `tl_beats`. It is said of the lanes of bytes, and of
+//!   the beats that spell a message. The message that `check_beats` gathers is the one that the beats spell in `tl_beats`
+//!   (`specs/Beats.antt`).
+//!
+//! Nothing runs here. Read on in `docs/MODEL.md`, "Scripts as system files" and "Links of any width".
 #![tactic(auto)]
 
-ghost use Rattle.check_scripts.specs.Instance.{DescribesTheSame, NamesTheSame};
-
-/// Such a script is read without a fault on the way to its parts. These are its slaves, each a memory of one range that is
-/// wholly known, and its masters with their counts of sources, all on buses of eight bytes.
-pub fn a_script_names_the_same_parts()
-    ensures { NamesTheSame }
-{}
-
-/// The system that such a script describes has the script's slaves and ranges, and its masters have tlx's blocks.
-pub fn a_script_describes_the_same_system()
-    ensures { DescribesTheSame }
-{}
+pub mod beats;
+pub mod scripts;

@@ -44,6 +44,8 @@ module _ (plan : Plan) (past : List Sighting) (x : Sighting) where
       others = others origin.wide is.others;
     }
     shared_changes (Ends wide) is = record {
+      last = is.last;
+      busy = is.busy;
       ended = subst (λ l. group.IsInFlightAt (shared_plan plan) l (side_of x.link) wide → ⊥) (sym more) is.ended;
       others = others wide is.others;
     }

@@ -32,8 +32,10 @@ pub record IsBegin (plan : Plan) (past : List Sighting) (x : Sighting) (origin :
   pub begun : IsInFlightAt plan (x ∷ past) (side_of x.link) origin.wide
   pub others : OthersStay plan past x origin.wide
 
--- the beat ends the reply to the request of this wide source
+-- the beat is the last one of the reply to the request of this wide source, which was in flight
 pub record IsEnd (plan : Plan) (past : List Sighting) (x : Sighting) (wide : ℕ) : Type 0 where
+  pub last : group.EndsReply (shared_plan plan) (shared_past plan.layout.links past) x
+  pub busy : IsInFlightAt plan past (side_of x.link) wide
   pub ended : IsInFlightAt plan (x ∷ past) (side_of x.link) wide → ⊥
   pub others : OthersStay plan past x wide
 

@@ -1,2 +1,5 @@
 mod Lanes
+pub mod Parts
+pub mod Watched
+pub mod GroupRules
 pub mod Rules

@@ -23,8 +23,8 @@ use Rattle.check_text.specs.Buses.{HasBuses, LinkBuses}
 use Rattle.check_text.specs.Capture.{IsVerdict}
 use Rattle.check_text.specs.Rows.{HasRows, SpellAll}
 use Rattle.check_text.specs.declared.fault.Verdict.TheVariants.{Incomplete, Lawful, Unlawful as Not}
-use Rattle.check_sides_laws.specs.Rules.{AreWatched}
-use Rattle.check_sides_laws.proofs.Rules.{always_keeps, rules_make_lawful, seen_whole}
+use Rattle.check_text_laws.specs.Groups.{AreWatched}
+use Rattle.check_text_laws.proofs.GroupRules.{always_keeps, rules_make_lawful, seen_whole}
 use Rattle.check_text_laws.proofs.Lanes.{lanes_of_row_are}
 use Rattle.check_text_laws.specs.Rules.{FileKeepsRules, BreaksRules, CaptureKeepsRules, CaptureBreaksRules, CaptureLeaves, HaveLanes}
 

@@ -13,7 +13,7 @@ use Rattle.check_records.specs.Text.{Place}
 use Rattle.check_text.specs.Capture.{Begins, IsCapture}
 use Rattle.check_text.specs.Rows.{IsTimeOver}
 use Rattle.check_text.specs.Buses.{LinkBuses}
-use Rattle.check_sides_laws.specs.Rules.{AlwaysKeepsRules, AreSeenWhole}
+use Rattle.check_text_laws.specs.Groups.{AlwaysKeepsRules, AreSeenWhole}
 
 -- each row has a lane for each byte of its link's bus
 abbrev pub HaveLanes : Layout → List SeenRow → Type 0

@@ -1,12 +1,17 @@
-//! What `lawful` on standard output means: the laws of `check_sides_laws`, of the rows of a file and of the text of a
-//! capture.
+//! What `lawful` means of links of any width, said at once of whole lists of beats, of files and of captures: laws, each on
+//! a function that does nothing but carry it.
 //!
-//! The judges of `check_review` and `check_text` promise that a file is lawful row by row.
-//! [`laws::lawful_captures_keep_the_rules`] says what the rows of such a text are: whole messages that come in turn,
-//! replies of memories, requests and replies that cross. If the verdict is `incomplete`, they keep the rules too, and
-//! requests are left at the end. If it is `unlawful`, the row which is named is the first with which they are not kept.
+//! - [`groups`]: `IsLawful` of `check_sides` says beat by beat what may come next in each group of links. A list is lawful
+//!   exactly if the beats of each group are. With `Links::Each` the groups are the masters' beats, as with `Masters`, and
+//!   those of each port's link by itself; with the other three words there is one group of all beats. Each group keeps
+//!   the rules of `check_watch_laws` at each moment, and beats of which each group keeps them are lawful.
+//! - [`texts`]: what `lawful` on standard output means. The judges of `check_review` and `check_text` promise that a file is
+//!   lawful row by row. The rows of such a text are whole messages that come in turn, replies of memories, requests and
+//!   replies that cross. If the verdict is `incomplete`, they keep the rules too, and requests are left at the end. If it
+//!   is `unlawful`, the row which is named is the first with which they are not kept.
 //!
-//! Nothing runs here. Read `specs/Rules.antt`, and then the page of `check_sides_laws`.
+//! Nothing runs here. Read `specs/Groups.antt`, `specs/Rules.antt`, and `docs/MODEL.md`, "Groups of links of any width".
 #![tactic(auto)]
 
-pub mod laws;
+pub mod groups;
+pub mod texts;

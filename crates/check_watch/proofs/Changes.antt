@@ -9,7 +9,7 @@ use Rattle.check_beats.specs.declared.beat.AskHead.{AskHead}
 use Rattle.check_beats.specs.declared.beat.ReplyHead.{ReplyHead}
 use Rattle.check_beats.specs.declared.fault.FormFault.{FormFault}
 use Rattle.check_flight.specs.Flight.{Turn, Flight, idle}
-use Rattle.check_flight.specs.Flight.Turn.{Idle}
+use Rattle.check_flight.specs.Flight.Turn.{Idle, Asking, Asked}
 use Rattle.check_watch.specs.declared.beat.Link.{Link}
 use Rattle.check_watch.specs.declared.beat.Link.TheVariants.{Master, Port}
 use Rattle.check_watch.specs.declared.fault.Reason.TheVariants.{Form}
@@ -18,6 +18,7 @@ use Rattle.check_watch.specs.declared.pending.Origin.{Origin}
 use Rattle.check_watch.specs.Plan.{Layout, Plan, Sighting, HasSource, IsWideAt, Side, side_of, number_of, source_of, wide_of, is_of}
 use Rattle.check_watch.specs.Scene.{ask_by, turn_by}
 use Rattle.check_watch.specs.Past.{scene, state}
+use Rattle.check_watch.specs.Allowed.{OfAsked}
 use Rattle.check_watch.specs.Lawful.{IsLawful}
 use Rattle.check_watch.specs.Pending.{IsInFlightAt, IsOriginAt, OthersStay, IsBegin, IsEnd, IsChange}
 use Rattle.check_watch.specs.View.{View, Suits, Keeps, under_in}
@@ -118,6 +119,12 @@ module _ (plan : Plan) (past : List Sighting) (link : Link) (known : ℕ) (lanes
 
 -- ---- a beat of a reply
 
+-- what a reply answers is in flight
+answered_flies : (n : ℕ) (turn : Turn) (P : Request → Type 0) → OfAsked n turn P → turn ≡ Idle → ⊥
+answered_flies n Idle P answers is = answers
+answered_flies n (Asking k) P answers is = answers
+answered_flies n (Asked k ask) P answers is = idle_or_asked k ask (sym is)
+
 module _ (plan : Plan) (past : List Sighting) (link : Link) (known : ℕ) (lanes : List ℕ) (beat : ReplyHead)
     (lawful : IsLawful plan (reply_at link known lanes beat ∷ past)) where
   pub reply_goes_on : ends_reply ((state plan past).links (side_of link) (number_of link)).bus
@@ -143,6 +150,9 @@ module _ (plan : Plan) (past : List Sighting) (link : Link) (known : ℕ) (lanes
   reply_ends view wide suits ends at =
       let own : wide_of plan link beat.source ≡ wide = sym (wide_is plan view link beat.source wide suits at) in
       record {
+        last = ends;
+        busy = λ free. answered_flies (number_of link) (scene plan past (reply_at link known lanes beat)).flight.turn _
+            lawful.1.answers (ap (λ w. ((state plan past).flights (side_of link) w).turn) own ∙ free);
         ended = λ busy. busy (ap (λ w. ((state plan (reply_at link known lanes beat ∷ past)).flights (side_of link) w).turn)
             (sym own)
             ∙ ap (λ (f : Flight). f.turn) (own_after plan (state plan past) (reply_at link known lanes beat) (side_of link)

@@ -12,7 +12,6 @@ use Rattle.check_flight.specs.Flight.Turn.{Idle, Asking, Asked}
 use Rattle.check_flight.specs.declared.answer.Answer.{Answer}
 use Rattle.check_watch.specs.declared.beat.Beat.TheVariants.{A, D}
 use Rattle.check_watch.specs.declared.beat.Link.{Link}
-use Rattle.check_watch.specs.declared.seen.Ended.{Ended}
 use Rattle.check_watch.specs.declared.seen.Ended.TheVariants as ends
 use Rattle.check_watch.specs.Allowed.{IsMust, OfAsked}
 use Rattle.check_watch.specs.Lawful.{IsLawful, what_is_seen}

@@ -1,15 +1,17 @@
 -- Which requests are in flight after some beats, and what one beat does to them. Lists of sightings have the latest
 -- first. It is this project's own.
-use Rattle.std.specs.Prelude.{◌≡◌, ◌≢◌, ℕ, ◌<◌, ◌↔◌, List, ◌∷◌}
+use Rattle.std.specs.Prelude.{◌≡◌, ◌≢◌, ℕ, ◌<◌, ◌↔◌, Bool, false, IsTrue, List, ◌∷◌}
 use Rattle.check_map.specs.Owner.{IsWide}
+use Rattle.check_beats.specs.State.{Under, ends_reply}
 use Rattle.check_beats.specs.declared.beat.AskHead.{AskHead}
 use Rattle.check_flight.specs.Flight.Turn.{Idle}
-use Rattle.check_watch.specs.declared.beat.Beat.TheVariants.{A}
+use Rattle.check_watch.specs.declared.beat.Beat.{Beat}
+use Rattle.check_watch.specs.declared.beat.Beat.TheVariants.{A, D}
 use Rattle.check_watch.specs.declared.beat.Link.{Link}
 use Rattle.check_watch.specs.declared.pending.Change.{Change}
 use Rattle.check_watch.specs.declared.pending.Change.TheVariants.{Nothing, Begins, Ends}
 use Rattle.check_watch.specs.declared.pending.Origin.{Origin}
-use Rattle.check_watch.specs.Plan.{Layout, Plan, Sighting, Side, side_of, IsWideAt}
+use Rattle.check_watch.specs.Plan.{Layout, Plan, Sighting, Side, side_of, number_of, IsWideAt}
 use Rattle.check_watch.specs.Past.{state}
 
 -- a request of the wide source is in flight on this side
@@ -36,8 +38,18 @@ pub record IsBegin (plan : Plan) (past : List Sighting) (x : Sighting) (origin :
   pub begun : IsInFlightAt plan (x ∷ past) (side_of x.link) origin.wide
   pub others : OthersStay plan past x origin.wide
 
--- the beat ends the reply to the request of this wide source
+-- the beat is the last one of a reply, after what was under way at its link
+abbrev pub is_last_of_reply : Under → Beat → Bool
+is_last_of_reply under (A ask) = false
+is_last_of_reply under (D reply) = ends_reply under.bus under.replying reply
+
+abbrev pub EndsReply : Plan → List Sighting → Sighting → Type 0
+EndsReply plan past x = IsTrue (is_last_of_reply ((state plan past).links (side_of x.link) (number_of x.link)) x.beat)
+
+-- the beat is the last one of the reply to the request of this wide source, which was in flight
 pub record IsEnd (plan : Plan) (past : List Sighting) (x : Sighting) (wide : ℕ) : Type 0 where
+  pub last : EndsReply plan past x
+  pub busy : IsInFlightAt plan past (side_of x.link) wide
   pub ended : IsInFlightAt plan (x ∷ past) (side_of x.link) wide → ⊥
   pub others : OthersStay plan past x wide
 

@@ -10,3 +10,7 @@ pub mod Found
 pub mod Kept
 pub mod Counts
 pub mod Systems
+pub mod Changes
+pub mod Edges
+pub mod Sampled
+pub mod SampledDumps

@@ -1,3 +1,4 @@
 pub mod Seen
 pub mod Rows
 pub mod Text
+pub mod Sampled

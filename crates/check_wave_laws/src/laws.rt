@@ -1,6 +1,6 @@
 //! Laws of rows, each on a function that does nothing but carry it.
-ghost use Rattle.std.specs.Prelude.{◌≡◌, ◌<◌, ◌^◌, ℕ, List, Ok, length};
-ghost use Rattle.check_vcd.specs.Body.{Find, happenings, start};
+ghost use Rattle.std.specs.Prelude.{◌≡◌, ◌<◌, ◌^◌, ℕ, List, None, Ok, length, map};
+ghost use Rattle.check_vcd.specs.Body.{Find, Happens, happenings, start};
 ghost use Rattle.check_vcd.specs.Header.{Opened, Var, blank, opening};
 ghost use Rattle.check_vcd.specs.Words.{Word, words_of};
 ghost use Rattle.check_beats.specs.declared.bus.Bus.{Bus};
@@ -8,12 +8,13 @@ ghost use Rattle.check_rows.specs.Buses.{IsLinkOf, bus_of};
 ghost use Rattle.check_description.specs.Description.{Description, Makes};
 ghost use Rattle.check_description.specs.File.{Parts, parts_of};
 ghost use Rattle.check_start.specs.Start.{master_buses, port_buses};
-ghost use Rattle.check_samples.specs.Rows.{row_at};
+ghost use Rattle.check_samples.specs.Rows.{Rows, row_at};
 ghost use Rattle.check_samples.specs.Sampling.{Sampling, rows_from};
 ghost use Rattle.check_samples.specs.declared.channel.Channel.{Channel};
-ghost use Rattle.check_signals.specs.Found.{Found, find_of, found_in, sampling_of};
+ghost use Rattle.check_signals.specs.Found.{Found, digits_in, find_of, found_in, sampling_of, width_in};
 ghost use Rattle.check_signals.specs.Names.{Names, names_of_file};
 ghost use Rattle.check_wave_laws.specs.Rows.{IsRow};
+ghost use Rattle.check_wave_laws.specs.Sampled.{AreSampled, NeverFalls, Wave, wave_of};
 ghost use Rattle.check_wave_laws.specs.Seen.{BeatFits, row_in};
 ghost use Rattle.check_wave_laws.specs.Text.{FindFits, HasRows, SamplingFits};
 
@@ -53,4 +54,33 @@ pub fn names_are_of_links()
     ensures { (file : List ℕ) (parts : Parts) (system : Description) (names : Names) → parts_of file ≡ Ok parts
         → Makes parts system → names_of_file file ≡ Ok names
         → (length names.masters ≡ length system.masters) × (length names.ports ≡ length system.ports) }
+{}
+
+/// The rows of what happens in a dump are those of its beats, each once, by time and within a time in the order of the
+/// channels. A channel has a beat at a time exactly if the clock was 0 before the time and is 1 at its end, the reset was
+/// not active before it, and valid and ready were 1 before it. What a signal was before a time is its last change at an
+/// earlier time, and so it stands in the row. Times may not fall.
+pub fn rows_are_sampled()
+    ensures { (happens : List Happens) (s : Sampling) → s.time ≡ None → NeverFalls None happens
+        → AreSampled (wave_of s.probes s.now s.widths happens) (rows_from happens s) }
+{}
+
+/// So are those of what happens in the words of a dump, where no time falls, whatever the words are.
+pub fn dumps_are_sampled()
+    ensures { (find : Find) (words : List Word) (s : Sampling) → s.time ≡ None
+        → AreSampled (wave_of s.probes s.now s.widths (happenings find words start))
+        (rows_from (happenings find words start) s) }
+{}
+
+/// So are those that `tlvcd` writes: a value that is kept has unknown bits before its first change, or is a constant.
+pub fn systems_are_sampled()
+    ensures { (vars : List Var) (words : List Word) (found : Found)
+        → AreSampled (wave_of found.probes (map digits_in found.kept) (map width_in found.kept)
+        (happenings (find_of vars found) words start))
+        (rows_from (happenings (find_of vars found) words start) (sampling_of found)) }
+{}
+
+/// A dump has no other rows: two texts of rows that are those of its beats are one.
+pub fn sampled_rows_are_one()
+    ensures { (wave : Wave) (rows others : Rows) → AreSampled wave rows → AreSampled wave others → rows ≡ others }
 {}

@@ -7,8 +7,13 @@
 //! the names of a system find (`check_signals`) has no more bits than its columns have room for, mask and data as many as
 //! the bus of their link asks for. [`laws::names_are_of_links`] says that these are all names of the file.
 //!
-//! Nothing runs here. Read `specs/Seen.antt`, what signals show, `specs/Rows.antt` and `specs/Text.antt`, and then
-//! `docs/MODEL.md`, "Dumps".
+//! Which beats a dump has is said of its changes alone, without the machine that makes rows of them one by one
+//! (`rows_from` of `check_samples`). [`laws::rows_are_sampled`] says that the rows of the machine are those of these beats,
+//! [`laws::dumps_are_sampled`] and [`laws::systems_are_sampled`] that this is so of each dump and of what `tlvcd` writes,
+//! and [`laws::sampled_rows_are_one`] that there are no other such rows.
+//!
+//! Nothing runs here. Read `specs/Sampled.antt`, what sampling means, `specs/Seen.antt`, what signals show,
+//! `specs/Rows.antt` and `specs/Text.antt`, and then `docs/MODEL.md`, "Dumps".
 #![tactic(auto)]
 
 pub mod laws;

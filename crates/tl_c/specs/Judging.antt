@@ -67,7 +67,7 @@ pub record IsFaultOfBeat (plan : Plan) (past : List Sighting) (shown : Sighting)
   pub first : IsFirstFault plan past shown fault
   pub text : IsLineOf old.names row fault (vec_capacity old.text) new.text.items
 
--- after a fault the judge is as it was, but for its text, whose room is no less
+-- after a fault, or if requests are left, the judge is as it was, but for its text, whose room is no less
 pub record KeepsAllButText (old new : Judge) : Type 0 where
   pub watch : new.watch ≡ old.watch
   pub names : new.names ≡ old.names
@@ -76,21 +76,15 @@ pub record KeepsAllButText (old new : Judge) : Type 0 where
   pub pending : new.pending ≡ old.pending
   pub room : vec_capacity old.text ≤ vec_capacity new.text
 
--- the text is the line of the requests that are left; or it is empty, if there was no memory for the line
-abbrev pub IsLineOfLeft : Left → List ℕ → Type 0
-IsLineOfLeft left text = (text ≡ incomplete_line left) ⊎ (text ≡ [])
+-- the text is the line of the requests that are left; or it is empty, if there was no room for the line
+abbrev pub IsLineOfLeft : Left → ℕ → List ℕ → Type 0
+IsLineOfLeft left room text = (text ≡ incomplete_line left) ⊎ ((text ≡ []) × (room < length (incomplete_line left)))
 
 -- requests are left after these rows, and the text is their line
-abbrev pub IsEndOf : Plan → List SeenRow → Judge → Type 0
-IsEndOf plan rows judge = (left : Left) × IsLeft plan rows left × IsLineOfLeft left judge.text.items
-
--- the judge is as it was, but for its text
-pub record KeepsAllButLine (old new : Judge) : Type 0 where
-  pub watch : new.watch ≡ old.watch
-  pub names : new.names ≡ old.names
-  pub requests : new.requests ≡ old.requests
-  pub answered : new.answered ≡ old.answered
-  pub pending : new.pending ≡ old.pending
+pub record IsEndOf (plan : Plan) (rows : List SeenRow) (old new : Judge) : Type 0 where
+  pub left : Left
+  pub is_left : IsLeft plan rows left
+  pub text : IsLineOfLeft left (vec_capacity old.text) new.text.items
 
 -- ---- judges before any beat
 

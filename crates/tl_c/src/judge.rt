@@ -1,7 +1,7 @@
 //! Judges of beats.
 ghost use Rattle.std.specs.Prelude.{◌≡◌, ◌≢◌, ◌%◌, ◌^◌, ◌<◌, ◌≤◌, ◌↔◌, ◌&&◌, ◌⊎◌, ℕ, List, ◌∷◌, IsSome, None, Some, length, vec_capacity};
 ghost use Rattle.tl_c.specs.Calls.{HoldsJudge, IsJudge};
-ghost use Rattle.tl_c.specs.Judging.{IsEndOf, IsFaultOfBeat, IsLineOf, IsLineOfLeft, IsStep, KeepsAllButLine, KeepsAllButText, on_bus, row_at};
+ghost use Rattle.tl_c.specs.Judging.{IsEndOf, IsFaultOfBeat, IsLineOf, IsLineOfLeft, IsStep, KeepsAllButText, on_bus, row_at};
 ghost use Rattle.tl_c.specs.Text.{IsTextOf, IsWritten};
 ghost use Rattle.tl_c.specs.Wire.{shown_by};
 ghost use Rattle.tl_c.specs.declared.held.Judge.{Judge};
@@ -230,9 +230,10 @@ pub extern "C" fn tlx_judge_step_at(alloc: Global, judge: &mut Handle, beat: &Wi
     number
 }
 
-/// Keeps the line of the requests that are left; none if there is no room for it.
+/// Keeps the line of the requests that are left. A text with room for it asks for no memory.
 fn keep_left(text: &mut Vec<u8>, left: &Left)
-    ensures { IsLineOfLeft left.now text.new.items }
+    ensures line { IsLineOfLeft left.now (vec_capacity text.old) text.new.items }
+    ensures room { vec_capacity text.old ≤ vec_capacity text.new }
 {
     text.clear();
     if push_incomplete(text, left).is_err() {
@@ -245,9 +246,9 @@ fn end(judge: &mut Judge) -> u32
     ensures complete { (plan : Plan) (rows : List SeenRow) → Holds plan rows judge.old.pending
         → result ≡ OK → IsComplete plan rows }
     ensures incomplete { (plan : Plan) (rows : List SeenRow) → Holds plan rows judge.old.pending
-        → result ≡ INCOMPLETE → IsEndOf plan rows judge.new }
+        → result ≡ INCOMPLETE → IsEndOf plan rows judge.old judge.new }
     ensures answers { result ≢ OK → result ≡ INCOMPLETE }
-    ensures kept { KeepsAllButLine judge.old judge.new }
+    ensures kept { KeepsAllButText judge.old judge.new }
     ensures same { result ≡ OK → judge.new ≡ judge.old }
 {
     match judge.pending.left() {
@@ -265,11 +266,12 @@ pub extern "C" fn tlx_judge_end_at(alloc: Global, judge: &mut Handle) -> u32
     ensures complete { (plan : Plan) (rows : List SeenRow) (j : Judge) → judge.old.value ≡ Some (held.Judge j)
         → Holds plan rows j.pending → result ≡ OK → IsComplete plan rows }
     ensures incomplete { (plan : Plan) (rows : List SeenRow) (j : Judge) → judge.old.value ≡ Some (held.Judge j)
-        → Holds plan rows j.pending → result ≡ INCOMPLETE → HoldsJudge (IsEndOf plan rows) judge.new.value }
+        → Holds plan rows j.pending → result ≡ INCOMPLETE
+        → HoldsJudge (IsEndOf plan rows j) judge.new.value }
     ensures empty { result ≡ EMPTY ↔ (IsJudge judge.old.value → ⊥) }
     ensures answers { result ≢ OK → result ≢ EMPTY → result ≡ INCOMPLETE }
     ensures kept { result ≡ INCOMPLETE
-        → HoldsJudge (λ old. HoldsJudge (KeepsAllButLine old) judge.new.value) judge.old.value }
+        → HoldsJudge (λ old. HoldsJudge (KeepsAllButText old) judge.new.value) judge.old.value }
     ensures same { result ≢ INCOMPLETE → judge.new.value ≡ judge.old.value }
 {
     let Some(mut held) = take(alloc, judge) else {

@@ -2,6 +2,7 @@ mod beats;
 mod map;
 mod memory;
 mod ops;
+mod scripts;
 mod slots;
 mod texts;
 mod types;

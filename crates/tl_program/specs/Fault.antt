@@ -4,8 +4,8 @@ use Rattle.tl_audit.specs.declared.fault.AuditFault.{AuditFault}
 use Rattle.tl_audit.specs.declared.fault.AuditFault.TheVariants as audit
 use Rattle.tl_streams.specs.declared.input.InputFault.{InputFault}
 use Rattle.tl_streams.specs.declared.input.InputFault.TheVariants as input
-use Rattle.tl_threads.specs.declared.fault.ThreadFault.{ThreadFault}
-use Rattle.tl_threads.specs.declared.fault.ThreadFault.TheVariants as thread
+use Rattle.tl_workers.specs.declared.fault.ThreadFault.{ThreadFault}
+use Rattle.tl_workers.specs.declared.fault.ThreadFault.TheVariants as thread
 use Rattle.tl_program.specs.declared.fault.RunFault.{RunFault}
 use Rattle.tl_program.specs.declared.fault.RunFault.TheVariants.{Script, Read, Write, Audit, Memory, NoThread, GateHeld, StrayBook, NotLeft}
 

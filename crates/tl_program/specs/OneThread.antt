@@ -16,7 +16,7 @@ use Rattle.tl_script.specs.History.{account_text}
 use Rattle.tl_script.specs.System.{System, resets, sends}
 use Rattle.tl_script.specs.declared.operation.Job.{Job}
 use Rattle.tl_serial.specs.Text.{run_text}
-use Rattle.tl_threads.specs.Trace.{AreDoneInTurn, AreWaitedFor}
+use Rattle.tl_workers.specs.Trace.{AreDoneInTurn, AreWaitedFor}
 use Rattle.tl_program.specs.Engine.{IsThreadedText}
 
 -- the entry of master m is of the port that the map has its request with; with its source widened it is the request at

@@ -50,6 +50,9 @@ pub fn push_field(text: &mut Vec<u8>, label: &[u8], number: u64) -> Result<(), A
 pub fn push_hex(text: &mut Vec<u8>, number: u64) -> Result<(), AllocError>
     ensures ok { OnOk result (text.new.items ≡ text.old.items ++ digits 16 false number) }
     ensures err { OnErr result (BeginsWith text.old.items text.new.items) }
+    ensures room { vec_capacity text.old ≤ vec_capacity text.new }
+    ensures full { OnErr result (vec_capacity text.old
+        < length text.old.items + length (digits 16 false number)) }
 {
     let mut digits = [0; MAX_DIGITS];
     let mut first = MAX_DIGITS - 1;

@@ -1,6 +1,1 @@
-pub mod Routed
-pub mod Arrivals
-pub mod Asking
-pub mod Rows
 pub mod Whole
-pub mod Cuts

@@ -13,10 +13,10 @@ use Rattle.tl_arena.specs.Views.{ArenaId, PortView, about_of}
 use Rattle.tl_arena.specs.Account.{IsClosing}
 use Rattle.tl_arena.specs.declared.account.HeldSlot.{HeldSlot}
 use Rattle.tl_port.specs.Book.{BookView}
-use Rattle.tl_threads.specs.Trace.{IsTrace}
+use Rattle.tl_workers.specs.Trace.{IsTrace}
 use Rattle.tl_threads.specs.Run.{IsBookOf, AreTraces, AreBooks, HaveLeft, IsThreadedRun}
-use Rattle.tl_threads.specs.Start.{AreFrom, IsTraceOf}
-use Rattle.tl_threads.proofs.Rows.{one_some}
+use Rattle.tl_workers.specs.Start.{AreFrom, IsTraceOf}
+use Rattle.tl_workers.proofs.Rows.{one_some}
 
 -- a system has a reset for each range and one for the error port
 pub resets_length : (s : System) → IsLawfulSystem s → length (resets s) ≡ length s.ranges + 1

@@ -1,5 +1,1 @@
-pub mod Bell
-pub mod Context
-pub mod Trace
 pub mod Run
-pub mod Start

@@ -8,7 +8,7 @@ use Rattle.tl_arena.specs.Views.{ArenaId, about_of}
 use Rattle.tl_arena.specs.Account.{IsClosing}
 use Rattle.tl_arena.specs.declared.account.HeldSlot.{HeldSlot}
 use Rattle.tl_port.specs.Book.{BookView, IsLawfulBook}
-use Rattle.tl_threads.specs.Trace.{IsTrace}
+use Rattle.tl_workers.specs.Trace.{IsTrace}
 
 -- the book is that of this port of the arena, and lawful
 pub record IsBookOf (arena : ArenaId) (port : ℕ) (book : BookView) : Type 0 where

@@ -6,26 +6,15 @@
 //! the account is that of an arena at its end, when every master has left, so that all slots are free. No clause says
 //! that threads run in parallel: the tests of `tl_run_tests` do, through a [`Gate`].
 //!
-//! `master_thread` is what a master's thread does, `worker_thread` what one of a port's does, `context` what all of
-//! them share, `bell` how they wake each other; `setup` makes what a run needs, `start` and `run` start, join and stop
-//! the threads, `named` puts the books behind locks and takes them out again. No memory is taken once the threads run.
+//! `tl_workers` has the threads themselves. Here `named` puts the books behind locks and takes them out again, and
+//! `threads` makes the arena and what a run needs.
 //!
 //! Read on in `docs/MODEL.md`, "Runs by threads".
 #![tactic(auto)]
 
-mod bell;
-mod context;
-mod fault;
-mod gate;
-mod master_thread;
 mod named;
-mod run;
-mod setup;
-mod start;
 mod threads;
-mod worker_thread;
 
-pub use fault::ThreadFault;
-pub use gate::{Gate, OpenGate};
 pub use named::ThreadedRun;
 pub use threads::run_threads;
+pub use tl_workers::{Gate, OpenGate, ThreadFault};

@@ -1,23 +1,18 @@
 //! A run over one arena, which the ports' locks name.
 ghost use Rattle.std.specs.Prelude.{◌≡◌, ◌+◌, ◌<◌, ◌≤◌, All, Contains, IfOk, IfNone, IfSome, vec_len, vec_capacity, length};
 ghost use Rattle.tl_arena.specs.Account.{IsClosing};
-ghost use Rattle.tl_threads.specs.Context.{AreShared};
 ghost use Rattle.tl_threads.specs.Run.{HaveLeft, IsBookOf};
-ghost use Rattle.tl_threads.specs.Start.{AreFrom, AreTracesOf, IsBookIn, IsNewBook, IsNewThreadSet};
+ghost use Rattle.tl_workers.specs.Start.{AreFrom, AreTracesOf, IsBookIn, IsNewBook, IsNewThreadSet};
 
-use crate::context::Shared;
-use crate::fault::ThreadFault;
-use crate::gate::Gate;
-use crate::run::{Ended, ThreadSet, run_in};
 use std::alloc::Global;
 use std::sync::Wait;
-use std::thread;
 use std::thread::Threads;
 use tl_arena::{Account, Arena, ArenaName};
 use tl_journal::Trace;
 use tl_port::{Book, Port};
 use tl_script::System;
 use tl_types::Memory;
+use tl_workers::{Ended, Gate, Shared, ThreadFault, ThreadSet, run_all};
 
 /// What the threads of a run leave: a trace for each master, the book of each port, and the account of the arena.
 #[derive(Drop)]
@@ -74,43 +69,6 @@ fn first_not_left(system: &System, account: &Account) -> Option<usize>
     None
 }
 
-/// Runs the threads in a scope, so that all have ended when it does.
-fn run_scope<'x, N: ArenaName + Send + Sync, R: Threads + Wait + Sync, G: Gate + Sync>(
-    rt: &'x R,
-    alloc: Global,
-    shared: &Shared<'x, N, G>,
-    threads: ThreadSet,
-) -> Result<Ended, ThreadFault>
-    requires { IsNewThreadSet shared.now.arena.now shared.now.system.now threads }
-    ensures { IfOk result (λ ended. AreTracesOf shared.now.arena.now shared.now.system.now
-        ended.traces.items) }
-{
-    let Shared {
-        system,
-        arena,
-        ports,
-        gate,
-    } = *shared;
-    thread::scope(
-        thread::scope_env(),
-        rt,
-        |scope| -> Result<Ended, ThreadFault>
-            requires { AreShared N.arena system.now arena.now (vec_len ports.now)
-                × IsNewThreadSet arena.now system.now threads }
-            ensures { IfOk result (λ ended. AreTracesOf arena.entry.now system.entry.now
-                ended.traces.items) }
-        {
-            let shared = Shared {
-                system,
-                arena,
-                ports,
-                gate,
-            };
-            run_in(scope, rt, alloc, &shared, threads)
-        },
-    )
-}
-
 /// A run over the arena that N names.
 pub(crate) fn run_named<N: ArenaName + Send + Sync, R: Threads + Wait + Sync, G: Gate + Sync>(
     rt: &R,
@@ -146,7 +104,7 @@ pub(crate) fn run_named<N: ArenaName + Send + Sync, R: Threads + Wait + Sync, G:
         ports: &ports,
         gate,
     };
-    let Ended { traces, held } = run_scope(rt, alloc, &shared, threads)?;
+    let Ended { traces, held } = run_all(rt, alloc, &shared, threads)?;
     let Ok(account) = arena.close(alloc) else {
         return Err(ThreadFault::Memory);
     };

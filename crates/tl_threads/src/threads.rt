@@ -5,10 +5,7 @@ ghost use Rattle.tl_script.specs.System.{resets};
 ghost use Rattle.tl_arena.specs.Views.{about_of, AreNewMasters, AreNewPorts};
 ghost use Rattle.tl_threads.specs.Run.{IsThreadedRun};
 
-use crate::fault::ThreadFault;
-use crate::gate::Gate;
 use crate::named::{ThreadedRun, run_named};
-use crate::setup::{books_of, journals_of, threads_of};
 use std::alloc::Global;
 use std::marker::Brand;
 use std::sync::Wait;
@@ -17,6 +14,7 @@ use tl_arena::{Arena, ArenaFault, Made};
 use tl_ops::Bank;
 use tl_script::{System, banks_of};
 use tl_types::{MAX_WORKERS, Memory};
+use tl_workers::{Gate, ThreadFault, books_of, journals_of, threads_of};
 
 /// A new arena for the masters of a system and for ports with these banks.
 fn arena_of(alloc: Global, system: &System, banks: &[Bank]) -> Result<Made, Memory>

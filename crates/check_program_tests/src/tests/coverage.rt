@@ -83,7 +83,15 @@ const ASKED: Options<'static> = Options {
 
 /// The system, the end of the capture, and what is asked; whether the capture is lawful if there is a verdict, and what is
 /// added.
-const JUDGED: [(&[u8], &[u8], Options<'static>, Option<bool>, &[u8]); 7] = [
+type Judged = (
+    &'static [u8],
+    &'static [u8],
+    Options<'static>,
+    Option<bool>,
+    &'static [u8],
+);
+
+static JUDGED: [Judged; 7] = [
     (SYSTEM, REPLY, ASKED, Some(true), LAWFUL),
     (SYSTEM, WRONG, ASKED, Some(false), UNANSWERED),
     // lawful as far as it goes, and incomplete if all is to be answered
@@ -135,30 +143,39 @@ fn is_answer(answer: Result<bool, CheckFault>, lawful: Option<bool>) -> bool {
     }
 }
 
+/// What becomes of a capture, with what it covers.
+fn judge(
+    alloc: Global,
+    parts: Parts,
+    text: &[u8],
+    options: &Options<'_>,
+    covered: &mut Vec<u8>,
+) -> Result<bool, CheckFault> {
+    let capture = Trickle::new(text, Trouble::Never);
+    let mut writer = Drips::new(alloc, Trouble::Never);
+    check_as_asked(alloc, parts, &[], capture, &mut writer, options, covered)
+}
+
+/// A capture is judged so, and this is added.
+fn is_judged(rt: &impl Abort, alloc: Global, row: &Judged) {
+    let (system, end, options, lawful, added) = row;
+    let parts = parts_of(rt, alloc, system);
+    let text = joined(rt, alloc, ROWS, end);
+    let mut covered = joined(rt, alloc, HELD, b"");
+    let answer = judge(alloc, parts, &text, options, &mut covered);
+    assert!(rt; is_answer(answer, *lawful));
+    assert!(rt; covered == joined(rt, alloc, HELD, added));
+}
+
 #[test]
 fn what_was_covered_is_added_to_a_verdict(rt: HostRuntime) {
-    for (system, end, options, lawful, added) in &JUDGED {
-        let parts = parts_of(&rt, rt.alloc(), system);
-        let text = joined(&rt, rt.alloc(), ROWS, end);
-        let capture = Trickle::new(&text, Trouble::Never);
-        let mut writer = Drips::new(rt.alloc(), Trouble::Never);
-        let mut covered = joined(&rt, rt.alloc(), HELD, b"");
-        let answer = check_as_asked(
-            rt.alloc(),
-            parts,
-            &[],
-            capture,
-            &mut writer,
-            options,
-            &mut covered,
-        );
-        assert!(rt; is_answer(answer, *lawful));
-        assert!(rt; covered == joined(&rt, rt.alloc(), HELD, added));
+    for row in &JUDGED {
+        is_judged(&rt, rt.alloc(), row);
     }
 }
 
 /// The files, the name and the text that are written, and whether all of it was.
-const WRITTEN: [(Disk<'static>, &str, &[u8], bool); 8] = [
+static WRITTEN: [(Disk<'static>, &str, &[u8], bool); 8] = [
     (DISK, "c.cov", LAWFUL, true),
     (
         Disk {

@@ -118,7 +118,7 @@ fn rows_have_the_widths_of_their_links(rt: HostRuntime) {
 }
 
 /// Systems and dumps, and the line of their fault.
-const REFUSED: [(&[u8], &[u8], &'static str); 10] = [
+static REFUSED: [(&[u8], &[u8], &'static str); 10] = [
     (b"slots", b"", "system: not TOML"),
     (b"slots = 1", b"", "system: missing master"),
     (b"bus = 3", b"", "system: bus out of range"),
@@ -229,43 +229,59 @@ const OF_REPLY: UnknownBit = UnknownBit {
     signal: Signal::DSize,
 };
 
-const LINES: [(WaveFault, &str, u8); 9] = [
-    (
-        WaveFault::System(SystemFault::TooLong),
-        "system: longer than 1048576 bytes",
-        1,
-    ),
-    (
-        WaveFault::Keys(KeyFault::WrongType(Key::Wires)),
-        "system: wrong type of wires",
-        1,
-    ),
-    (
-        WaveFault::Dump(12, Mistake::BadValue),
-        "tlvcd: line 12: bad value",
-        1,
-    ),
-    (
-        WaveFault::Unknown(OF_ASK),
-        "tlvcd: time 35, m0 A: a_opcode is unknown",
-        1,
-    ),
-    (
-        WaveFault::Unknown(OF_REPLY),
-        "tlvcd: time 9, p3 D: d_size is unknown",
-        1,
-    ),
-    (WaveFault::NoEdge, "tlvcd: the clock never rises", 1),
-    (WaveFault::Memory, "memory refused", 4),
-    (WaveFault::Read, "read failed", 5),
-    (WaveFault::Write, "write failed", 5),
-];
+/// A fault has this line and this status.
+fn has_line(rt: &impl Abort, alloc: Global, fault: WaveFault, line: &str, status: u8) {
+    let (text, found) = line_of(rt, alloc, &fault);
+    assert!(rt; text.as_str() == line);
+    assert!(rt; found == status);
+}
 
 #[test]
 fn faults_have_their_lines_and_statuses(rt: HostRuntime) {
-    for (fault, line, status) in &LINES {
-        let (text, found) = line_of(&rt, rt.alloc(), fault);
-        assert!(rt; text.as_str() == *line);
-        assert!(rt; found == *status);
-    }
+    let alloc = rt.alloc();
+    has_line(
+        &rt,
+        alloc,
+        WaveFault::System(SystemFault::TooLong),
+        "system: longer than 1048576 bytes",
+        1,
+    );
+    has_line(
+        &rt,
+        alloc,
+        WaveFault::Keys(KeyFault::WrongType(Key::Wires)),
+        "system: wrong type of wires",
+        1,
+    );
+    has_line(
+        &rt,
+        alloc,
+        WaveFault::Dump(12, Mistake::BadValue),
+        "tlvcd: line 12: bad value",
+        1,
+    );
+    has_line(
+        &rt,
+        alloc,
+        WaveFault::Unknown(OF_ASK),
+        "tlvcd: time 35, m0 A: a_opcode is unknown",
+        1,
+    );
+    has_line(
+        &rt,
+        alloc,
+        WaveFault::Unknown(OF_REPLY),
+        "tlvcd: time 9, p3 D: d_size is unknown",
+        1,
+    );
+    has_line(
+        &rt,
+        alloc,
+        WaveFault::NoEdge,
+        "tlvcd: the clock never rises",
+        1,
+    );
+    has_line(&rt, alloc, WaveFault::Memory, "memory refused", 4);
+    has_line(&rt, alloc, WaveFault::Read, "read failed", 5);
+    has_line(&rt, alloc, WaveFault::Write, "write failed", 5);
 }

@@ -9,7 +9,7 @@ use std::process::Abort;
 use tl_map::Range;
 use tl_types::{Ask, AskOp};
 
-pub(crate) fn range(base: u64, length: u64) -> Range {
+fn range(base: u64, length: u64) -> Range {
     Range { base, length }
 }
 
@@ -35,14 +35,14 @@ fn are_ports(ports: &[Vec<Range>]) -> bool
 }
 
 /// Whether ports have ranges as the reader of system files leaves them.
-pub(crate) fn are_ranges(ports: &[Vec<Range>]) -> bool
+fn are_ranges(ports: &[Vec<Range>]) -> bool
     ensures { result ≡ true → AreRanges (lists_in ports.now) }
 {
     ports.len() <= MAX_PORTS && are_ports(ports)
 }
 
 /// The vectors of these ranges.
-pub(crate) fn ports_of(rt: &impl Abort, alloc: Global, rows: &[&[Range]]) -> Vec<Vec<Range>> {
+fn ports_of(rt: &impl Abort, alloc: Global, rows: &[&[Range]]) -> Vec<Vec<Range>> {
     let mut ports = Vec::new(alloc);
     for row in rows {
         let ranges = Vec::from_slice(alloc, *row).expect(rt, "memory");
@@ -51,23 +51,25 @@ pub(crate) fn ports_of(rt: &impl Abort, alloc: Global, rows: &[&[Range]]) -> Vec
     ports
 }
 
+/// The map of ports that have ranges as the reader of system files leaves them.
+pub(crate) fn made(rt: &impl Abort, alloc: Global, ports: &[Vec<Range>]) -> Result<Map, MapFault> {
+    assert!(rt; are_ranges(ports));
+    Map::new(alloc, ports)
+}
+
 /// The map of these ranges.
 fn map_of(rt: &impl Abort, alloc: Global, rows: &[&[Range]]) -> Map {
-    let ports = ports_of(rt, alloc, rows);
-    assert!(rt; are_ranges(&ports));
-    Map::new(alloc, &ports).expect(rt, "a map")
+    made(rt, alloc, &ports_of(rt, alloc, rows)).expect(rt, "a map")
 }
 
 /// The fault of these ranges.
 fn fault_of(rt: &impl Abort, alloc: Global, rows: &[&[Range]]) -> Option<MapFault> {
-    let ports = ports_of(rt, alloc, rows);
-    assert!(rt; are_ranges(&ports));
-    Map::new(alloc, &ports).err()
+    made(rt, alloc, &ports_of(rt, alloc, rows)).err()
 }
 
 /// A RAM that answers at two places and beside the second of them, a ROM that follows the first, and a device at both
 /// ends of the addresses.
-const SYSTEM: [&[Range]; 3] = [
+static SYSTEM: [&[Range]; 3] = [
     &[
         Range {
             base: 0x1000,
@@ -99,7 +101,7 @@ const SYSTEM: [&[Range]; 3] = [
 ];
 
 /// Addresses and sizes of requests, and the port that each goes to.
-const ROUTES: [(u64, u8, usize); 20] = [
+static ROUTES: [(u64, u8, usize); 20] = [
     (0x1000, 6, 0),
     (0x1000, 7, 3),
     (0xfff, 0, 3),
@@ -124,13 +126,18 @@ const ROUTES: [(u64, u8, usize); 20] = [
     (u64::MAX - 254, 8, 3),
 ];
 
+/// A request of this size at this address goes to this port.
+fn is_routed(rt: &impl Abort, map: &Map, address: u64, size: u8, wanted: usize) {
+    let ask = Ask::new(AskOp::Get, size, 0, address, &[]).expect(rt, "a request");
+    assert!(rt; map.route(&ask) == wanted);
+}
+
 #[test]
 fn bytes_go_to_the_port_one_of_whose_ranges_holds_them_all(rt: HostRuntime) {
     let map = map_of(&rt, rt.alloc(), &SYSTEM);
     assert!(rt; map.ports() == 4);
     for (address, size, wanted) in &ROUTES {
-        let ask = Ask::new(AskOp::Get, *size, 0, *address, &[]).expect(&rt, "a request");
-        assert!(rt; map.route(&ask) == *wanted);
+        is_routed(&rt, &map, *address, *size, *wanted);
     }
 }
 
@@ -176,7 +183,7 @@ const ALL: Range = Range {
 };
 
 /// Ranges of ports, and the two ports that are told.
-const OVERLAPS: [(&[&[Range]], usize, usize); 9] = [
+static OVERLAPS: [(&[&[Range]], usize, usize); 9] = [
     (&[&[RAM], &[LAST]], 0, 1),
     (&[&[LAST], &[RAM]], 0, 1),
     (&[&[RAM, LAST]], 0, 0),
@@ -240,8 +247,7 @@ fn look_up(rt: &impl Abort, map: &Map, range: Range, port: u64) {
 #[test]
 fn a_port_is_found_among_255_with_300_ranges(rt: HostRuntime) {
     let ports = many_ranges(&rt, rt.alloc());
-    assert!(rt; are_ranges(&ports));
-    let map = Map::new(rt.alloc(), &ports).expect(&rt, "a map");
+    let map = made(&rt, rt.alloc(), &ports).expect(&rt, "a map");
     assert!(rt; map.ports() == 256);
     for port in 0..255 {
         look_up(&rt, &map, low_range(port), port);
@@ -265,7 +271,7 @@ fn a_port_may_have_sixteen_ranges(rt: HostRuntime) {
     assert!(rt; map.route_bytes(1016, 3) == 1);
 }
 
-const TEXTS: [(MapFault, &str); 2] = [
+static TEXTS: [(MapFault, &str); 2] = [
     (MapFault::Overlap(0, 254), "ports 0 and 254 overlap"),
     (MapFault::Memory, "memory refused"),
 ];

@@ -17,7 +17,7 @@ const PLAIN: Options<'static> = Options {
 };
 
 /// The words of a command line, and the options that they ask for.
-const LINES: [(&[&str], Options<'static>); 14] = [
+static LINES: [(&[&str], Options<'static>); 14] = [
     (&["tlcheck", "s"], PLAIN),
     (
         &["tlcheck", "s", "c"],
@@ -127,7 +127,7 @@ fn words_give_options(rt: HostRuntime) {
 }
 
 /// Other words, and the status that the program ends with.
-const OTHERS: [(&[&str], u8); 17] = [
+static OTHERS: [(&[&str], u8); 17] = [
     (&["tlcheck"], 2),
     (&["tlcheck", "s", "c", "stray"], 2),
     (&["tlcheck", "--links", "all", "s"], 2),

@@ -118,7 +118,7 @@ fn a_lawful_and_an_unlawful_capture(rt: HostRuntime) {
 const WRITE_FAILED: Result<bool, (&'static str, u8)> = Err(("write failed", 5));
 
 /// Captures whose replies are told, the trouble of the writer, and the end.
-const TOLD: [(&[u8], Trouble, End); 4] = [
+static TOLD: [(&[u8], Trouble, End); 4] = [
     (
         LAWFUL,
         Trouble::Never,
@@ -167,7 +167,7 @@ fn replies_are_told_before_the_verdict(rt: HostRuntime) {
 }
 
 /// Systems and captures, and the line of their fault.
-const REFUSED: [(&[u8], &[u8], &'static str); 5] = [
+static REFUSED: [(&[u8], &[u8], &'static str); 5] = [
     (b"slots", LAWFUL, "system: not TOML"),
     // the system is judged first
     (b"slots = 1", b"no header", "system: missing master"),
@@ -250,39 +250,47 @@ fn a_failed_write_is_write(rt: HostRuntime) {
     expect_front(&rt, rt.alloc(), forever, 0);
 }
 
-const LINES: [(CheckFault, &str, u8); 7] = [
-    (
-        CheckFault::System(SystemFault::TooLong),
-        "system: longer than 1048576 bytes",
-        1,
-    ),
-    (
-        CheckFault::System(SystemFault::ImageUnreadable(3)),
-        "system: port 3: image can't be read",
-        1,
-    ),
-    (
-        CheckFault::Capture(CaptureFault::TooLong(7)),
-        "capture: line 7: row too long",
-        1,
-    ),
-    (
-        CheckFault::Capture(CaptureFault::Row(9, RowFault::TimeFalls)),
-        "capture: line 9: time falls",
-        1,
-    ),
-    (CheckFault::Memory, "memory refused", 4),
-    (CheckFault::Read, "read failed", 5),
-    (CheckFault::Write, "write failed", 5),
-];
+/// A fault has this line and this status.
+fn has_line(rt: &impl Abort, alloc: Global, fault: CheckFault, line: &str, status: u8) {
+    let (text, found) = line_of(rt, alloc, &fault);
+    assert!(rt; text.as_str() == line);
+    assert!(rt; found == status);
+}
 
 #[test]
 fn faults_have_their_lines_and_statuses(rt: HostRuntime) {
-    for (fault, line, status) in &LINES {
-        let (text, found) = line_of(&rt, rt.alloc(), fault);
-        assert!(rt; text.as_str() == *line);
-        assert!(rt; found == *status);
-    }
+    let alloc = rt.alloc();
+    has_line(
+        &rt,
+        alloc,
+        CheckFault::System(SystemFault::TooLong),
+        "system: longer than 1048576 bytes",
+        1,
+    );
+    has_line(
+        &rt,
+        alloc,
+        CheckFault::System(SystemFault::ImageUnreadable(3)),
+        "system: port 3: image can't be read",
+        1,
+    );
+    has_line(
+        &rt,
+        alloc,
+        CheckFault::Capture(CaptureFault::TooLong(7)),
+        "capture: line 7: row too long",
+        1,
+    );
+    has_line(
+        &rt,
+        alloc,
+        CheckFault::Capture(CaptureFault::Row(9, RowFault::TimeFalls)),
+        "capture: line 9: time falls",
+        1,
+    );
+    has_line(&rt, alloc, CheckFault::Memory, "memory refused", 4);
+    has_line(&rt, alloc, CheckFault::Read, "read failed", 5);
+    has_line(&rt, alloc, CheckFault::Write, "write failed", 5);
 }
 
 /// A ROM of two bytes with an image.
@@ -329,7 +337,7 @@ fn is_image(rt: &impl Abort, alloc: Global, parts: &Parts, bytes: &[u8]) {
     }
 }
 
-const IMAGES: [&[u8]; 3] = [b"", b"\x11", b"\x11\x22"];
+static IMAGES: [&[u8]; 3] = [b"", b"\x11", b"\x11\x22"];
 
 #[test]
 fn an_image_is_read_whole(rt: HostRuntime) {
@@ -340,7 +348,7 @@ fn an_image_is_read_whole(rt: HostRuntime) {
 }
 
 /// Files with their trouble, and the line by which they are refused.
-const NO_IMAGES: [(&[u8], Trouble, &str); 5] = [
+static NO_IMAGES: [(&[u8], Trouble, &str); 5] = [
     (
         b"\x11\x22\x33",
         Trouble::Never,

@@ -63,7 +63,7 @@ impl Eprint for Desk {
 /// At a time, in milliseconds, these bytes are read, and this alone is printed.
 type Moment = (u64, &'static [u8], &'static str);
 
-const LONG: [Moment; 5] = [
+static LONG: [Moment; 5] = [
     (999, b"time,link\n", ""),
     (
         1_000,
@@ -101,7 +101,7 @@ fn nothing_is_printed_of_a_short_capture(rt: HostRuntime) {
 }
 
 /// A line, and how it is spelled.
-const LINES: [(Line, &str); 6] = [
+static LINES: [(Line, &str); 6] = [
     (
         Line {
             rows: 0,

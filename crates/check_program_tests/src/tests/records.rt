@@ -99,30 +99,40 @@ fn read_next(records: &mut Records<Trickle>, in_place: bool) -> Result<bool, Rec
     }
 }
 
-/// The records of a text, one after the other, left in place where they may be and can, or the fault.
-fn listed(
+/// Appends what records are left, one after the other, left in place where they may be and can. The answer is the fault,
+/// if there is one.
+fn push_records(
     rt: &impl Abort,
+    text: &mut String,
+    records: &mut Records<Trickle>,
+    in_place: bool,
+) -> Option<RecordFault> {
+    for _ in 0..1000 {
+        match read_next(records, in_place) {
+            Ok(true) => push_record(rt, text, records),
+            Ok(false) => return None,
+            Err(fault) => return Some(fault),
+        }
+    }
+    None
+}
+
+/// Appends the records of a text, as `push_records` does.
+fn list(
+    rt: &impl Abort,
+    text: &mut String,
     alloc: Global,
     reader: Trickle,
     in_place: bool,
-) -> Result<String, RecordFault> {
-    let mut records = match Records::new(alloc, reader) {
-        Ok(records) => records,
-        Err(fault) => return Err(fault),
-    };
-    let mut text = String::new(alloc);
-    for _ in 0..1000 {
-        match read_next(&mut records, in_place) {
-            Ok(true) => push_record(rt, &mut text, &records),
-            Ok(false) => break,
-            Err(fault) => return Err(fault),
-        }
+) -> Option<RecordFault> {
+    match Records::new(alloc, reader) {
+        Ok(mut records) => push_records(rt, text, &mut records, in_place),
+        Err(fault) => Some(fault),
     }
-    Ok(text)
 }
 
-/// Texts, and their records as `listed` writes them.
-const TEXTS: [(&[u8], &str); 22] = [
+/// Texts, and their records as `list` writes them.
+static TEXTS: [(&[u8], &str); 22] = [
     (b"", ""),
     (b"\n\r\n\r", ""),
     (b"\xef\xbb\xbf", ""),
@@ -149,7 +159,8 @@ const TEXTS: [(&[u8], &str); 22] = [
 
 /// A text is listed so.
 fn is_listed(rt: &impl Abort, alloc: Global, reader: Trickle, in_place: bool, records: &str) {
-    let text = listed(rt, alloc, reader, in_place).expect(rt, "a text in memory");
+    let mut text = String::new(alloc);
+    assert!(rt; list(rt, &mut text, alloc, reader, in_place) == None);
     assert!(rt; text.as_str() == records);
 }
 
@@ -278,11 +289,14 @@ fn commas_count_as_bytes(rt: HostRuntime) {
 
 /// Listed in reads of so many bytes, the last of these texts has a record too long, and the other has not.
 fn is_long(rt: &impl Abort, alloc: Global, text: &[u8], longer: &[u8], step: usize) {
-    let records = listed(rt, alloc, reader_of(text, step.max(1), 0, 0), false);
+    let mut records = String::new(alloc);
+    let reader = reader_of(text, step.max(1), 0, 0);
+    assert!(rt; list(rt, &mut records, alloc, reader, false) == None);
     // line 1 is `1:|a`; line 3 is `3:` and a bar before each of its 4,097 fields; each ends in a line feed
-    assert!(rt; records.expect(rt, "in parts").len() == 5 + 2 + 4097 + 1);
-    let refused = listed(rt, alloc, reader_of(longer, step.max(1), 0, 0), false);
-    assert!(rt; refused.err() == Some(RecordFault::TooLong(3)));
+    assert!(rt; records.len() == 5 + 2 + 4097 + 1);
+    let reader = reader_of(longer, step.max(1), 0, 0);
+    let refused = list(rt, &mut records, alloc, reader, false);
+    assert!(rt; refused == Some(RecordFault::TooLong(3)));
 }
 
 #[test]
@@ -295,8 +309,8 @@ fn a_record_may_be_long_over_many_reads(rt: HostRuntime) {
 }
 
 fn fails(rt: &impl Abort, alloc: Global, reader: Trickle) {
-    let answer = listed(rt, alloc, reader, false);
-    assert!(rt; answer.err() == Some(RecordFault::Read));
+    let mut text = String::new(alloc);
+    assert!(rt; list(rt, &mut text, alloc, reader, false) == Some(RecordFault::Read));
 }
 
 #[test]

@@ -1,12 +1,12 @@
 //! What is answered if memory is refused. These tests hold whether their requests for memory are granted or not, so
 //! that each request may be refused in turn (`rt try --test --fail-alloc N`): the answer is the right one, or that
 //! memory was refused.
-use super::map::are_ranges;
-use check_map::{Map, MapFault, Owner, SourceFault, Sources, blocks};
+use super::map::made;
+use check_map::{MapFault, Owner, SourceFault, Sources, blocks};
 use std::alloc::{AllocError, Global};
 use tl_map::Range;
 
-const OWNERS: [Owner; 2] = [
+static OWNERS: [Owner; 2] = [
     Owner {
         first: 2,
         count: 3,
@@ -70,8 +70,7 @@ fn a_map_is_made_or_memory_is_refused(rt: HostRuntime) {
     let Ok(ports) = two_ports(rt.alloc()) else {
         return;
     };
-    assert!(rt; are_ranges(&ports));
-    match Map::new(rt.alloc(), &ports) {
+    match made(&rt, rt.alloc(), &ports) {
         Ok(map) => {
             assert!(rt; map.ports() == 3);
             assert!(rt; map.route_bytes(79, 0) == 0);

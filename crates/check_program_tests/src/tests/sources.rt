@@ -50,7 +50,7 @@ const CLIENTS: [Owner; 3] = [
 ];
 
 /// Owners, a master with a source of its own, and the wide source.
-const WIDENED: [(&[Owner], usize, u16, u16); 8] = [
+static WIDENED: [(&[Owner], usize, u16, u16); 8] = [
     (&HOSTS, 0, 3, 12),
     (&HOSTS, 1, 0, 1),
     (&HOSTS, 1, 1, 5),
@@ -113,7 +113,7 @@ type Block = (u16, u32, u16);
 
 const TOO_MANY: Option<SourceFault> = Some(SourceFault::TooMany);
 
-const FAULTS: [(&[Block], Option<SourceFault>); 12] = [
+static FAULTS: [(&[Block], Option<SourceFault>); 12] = [
     (&[(0, 65_536, 1)], None),
     (&[(1, 65_535, 1), (0, 1, 1)], None),
     (&[(1, 65_536, 1)], TOO_MANY),
@@ -154,7 +154,7 @@ fn owners_have_a_first_fault(rt: HostRuntime) {
     }
 }
 
-const TEXTS: [(SourceFault, &str); 3] = [
+static TEXTS: [(SourceFault, &str); 3] = [
     (SourceFault::TooMany, "too many masters or sources"),
     (
         SourceFault::Shared(2, 11, 65_535),
@@ -192,7 +192,7 @@ fn sixty_four_masters_and_no_more(rt: HostRuntime) {
 }
 
 /// Counts of sources, the number of a master, and its block, if it has one.
-const BLOCKS: [(&[u32], usize, Option<Owner>); 6] = [
+static BLOCKS: [(&[u32], usize, Option<Owner>); 6] = [
     (
         &[3, 5, 1, 256],
         0,
@@ -254,7 +254,7 @@ fn counts_alone_make_blocks(rt: HostRuntime) {
     }
 }
 
-const REFUSED: [&[u32]; 4] = [&[0], &[257], &[1, 0], &[1; 65]];
+static REFUSED: [&[u32]; 4] = [&[0], &[257], &[1, 0], &[1; 65]];
 
 #[test]
 fn other_counts_make_no_blocks(rt: HostRuntime) {

@@ -1,6 +1,6 @@
 use Rattle.std.proofs.Common.{arith}
-use Rattle.tl_threads.specs.Start.{IsBookIn}
-use Rattle.tl_threads.proofs.Rows.{row_head, row_rest}
+use Rattle.tl_workers.specs.Start.{IsBookIn}
+use Rattle.tl_workers.proofs.Rows.{row_head, row_rest}
 use Rattle.tl_threads.proofs.named.ports_of.Goals as goal
 
 pub new-requires : goal.new-requires

@@ -1,3 +1,0 @@
-pub mod Mapped
-pub mod Requests
-pub mod Replies

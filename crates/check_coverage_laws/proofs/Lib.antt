@@ -1,0 +1,11 @@
+pub mod Finding
+pub mod Kept
+pub mod Rows
+pub mod Numbers
+pub mod Sums
+pub mod Adding
+pub mod Meeting
+pub mod Apart
+pub mod Heads
+pub mod Uncontested
+pub mod Passing

@@ -1,5 +1,0 @@
-use Rattle.check_scripts.proofs.Scripts.{names_same}
-use Rattle.check_scripts.proofs.a_script_names_the_same_parts.Goals as goal
-
-pub returns : goal.returns
-returns c = names_same

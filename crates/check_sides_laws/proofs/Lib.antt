@@ -1,3 +1,0 @@
-pub mod Parts
-pub mod Watched
-pub mod Rules

@@ -1,8 +1,0 @@
-use Rattle.check_sides_laws.proofs.Rules.{always_keeps, seen_whole}
-use Rattle.check_sides_laws.proofs.laws.lawful_beats_keep_the_rules.Goals as goal
-
-pub returns-clause-rules : goal.returns-clause-rules
-returns-clause-rules c = always_keeps
-
-pub returns-clause-lanes : goal.returns-clause-lanes
-returns-clause-lanes c = seen_whole

@@ -1,5 +1,0 @@
-use Rattle.check_sides_laws.proofs.Parts.{with_others}
-use Rattle.check_sides_laws.proofs.laws.other_words_say_what_they_said.Goals as goal
-
-pub returns : goal.returns
-returns c = with_others

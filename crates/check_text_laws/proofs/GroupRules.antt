@@ -1,0 +1,63 @@
+-- Lawful beats keep the rules in each group, and the way back.
+use Rattle.std.proofs.Common.{◌≡◌, Bool, true, false, List, refl}
+use Rattle.check_watch.specs.declared.beat.Link.TheVariants.{Master, Port}
+use Rattle.check_watch.specs.Plan.{Sighting, number_of}
+use Rattle.check_watch_laws.specs.Rules as group
+use Rattle.check_watch_laws.proofs.Back as group_back
+use Rattle.check_watch_laws.proofs.Rules as group_rules
+use Rattle.check_watch_laws.proofs.Whole as group_whole
+use Rattle.check_sides.specs.Groups.{is_alone, plan_at, past_at, shared_plan, shared_past, port_plan, port_past}
+use Rattle.check_sides.specs.Lawful.{IsLawful}
+use Rattle.check_sides.specs.Plan.{Plan, IsPlan}
+use Rattle.check_sides.proofs.Fresh.{shared_is_plan}
+use Rattle.check_sides.proofs.Grouping.{apart_from, in_group, of_group}
+use Rattle.check_text_laws.specs.Groups.{AlwaysKeepsRules, AreSeenWhole, AreWatched}
+use Rattle.check_text_laws.proofs.Parts.{alone_port, master_shared, port_part, shared_part, together}
+use Rattle.check_text_laws.proofs.Watched.{port_is_plan, port_watched, shared_watched}
+
+pub always_keeps : (plan : Plan) (past : List Sighting) → IsPlan plan → AreWatched plan.layout past → IsLawful plan past
+    → AlwaysKeepsRules plan past
+always_keeps plan past is watched lawful link = go (is_alone plan.layout.links link) refl
+  where
+    go : (b : Bool) → is_alone plan.layout.links link ≡ b
+        → group.AlwaysKeepsRules (plan_at plan link) (past_at plan.layout.links link past)
+    go false so =
+        of_group plan past link (λ p l. group.AlwaysKeepsRules p l) false so
+        (group_rules.always_keeps (shared_plan plan) (shared_past plan.layout.links past) (shared_is_plan plan is)
+        (shared_watched plan past watched) (shared_part plan past lawful))
+    go true so =
+        of_group plan past link (λ p l. group.AlwaysKeepsRules p l) true so
+        (group_rules.always_keeps (port_plan plan) (port_past (number_of link) past) (port_is_plan plan is)
+        (port_watched plan (number_of link) past watched)
+        (port_part plan (apart_from plan.layout.links link so) (number_of link) past lawful))
+
+pub seen_whole : (plan : Plan) (past : List Sighting) → IsLawful plan past → AreSeenWhole plan past
+seen_whole plan past lawful link = go (is_alone plan.layout.links link) refl
+  where
+    go : (b : Bool) → is_alone plan.layout.links link ≡ b
+        → group.AreSeenWhole (plan_at plan link) (past_at plan.layout.links link past)
+    go false so =
+        of_group plan past link (λ p l. group.AreSeenWhole p l) false so
+        (group_whole.seen_whole (shared_plan plan) (shared_past plan.layout.links past) (shared_part plan past lawful))
+    go true so =
+        of_group plan past link (λ p l. group.AreSeenWhole p l) true so
+        (group_whole.seen_whole (port_plan plan) (port_past (number_of link) past)
+        (port_part plan (apart_from plan.layout.links link so) (number_of link) past lawful))
+
+pub rules_make_lawful : (plan : Plan) (past : List Sighting) → IsPlan plan → AreWatched plan.layout past
+    → AreSeenWhole plan past → AlwaysKeepsRules plan past → IsLawful plan past
+rules_make_lawful plan past is watched seen always =
+    together plan past (record {
+      shared = group_back.rules_make_lawful (shared_plan plan) (shared_past plan.layout.links past)
+          (shared_is_plan plan is) (shared_watched plan past watched)
+          (in_group plan past (Master 0) (λ p l. group.AreSeenWhole p l) false
+          (master_shared plan.layout.links 0) (seen (Master 0)))
+          (in_group plan past (Master 0) (λ p l. group.AlwaysKeepsRules p l) false
+          (master_shared plan.layout.links 0) (always (Master 0)));
+      ports = λ are port. group_back.rules_make_lawful (port_plan plan) (port_past port past) (port_is_plan plan is)
+          (port_watched plan port past watched)
+          (in_group plan past (Port port) (λ p l. group.AreSeenWhole p l) true
+          (alone_port plan.layout.links port are) (seen (Port port)))
+          (in_group plan past (Port port) (λ p l. group.AlwaysKeepsRules p l) true
+          (alone_port plan.layout.links port are) (always (Port port)));
+    })

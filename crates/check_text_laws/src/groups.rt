@@ -1,0 +1,47 @@
+//! What lawful beats are, group by group.
+ghost use Rattle.std.specs.Prelude.{List, ◌++◌, ◌≡◌, ◌↔◌, ℕ};
+ghost use Rattle.check_watch.specs.declared.beat.Link.{Link};
+ghost use Rattle.check_watch.specs.Plan.{Sighting};
+ghost use Rattle.check_watch.specs.Lawful as group_lawful;
+ghost use Rattle.check_sides.specs.declared.links.Links.TheVariants.{Each};
+ghost use Rattle.check_sides.specs.Groups.{plan_at, past_at, shared_plan, shared_past, port_plan, port_past};
+ghost use Rattle.check_sides.specs.Lawful.{IsLawful};
+ghost use Rattle.check_sides.specs.Plan.{Plan, IsPlan};
+ghost use Rattle.check_text_laws.specs.Groups.{AlwaysKeepsRules, AreSeenWhole, AreWatched};
+
+/// A list is lawful exactly if the beats of the group of each link are.
+pub fn each_group_is_lawful()
+    ensures groups { (plan : Plan) (past : List Sighting)
+        → IsLawful plan past ↔ ((link : Link)
+        → group_lawful.IsLawful (plan_at plan link) (past_at plan.layout.links link past)) }
+    ensures each { (plan : Plan) (past : List Sighting) → plan.layout.links ≡ Each
+        → IsLawful plan past ↔ (group_lawful.IsLawful (shared_plan plan) (shared_past Each past)
+        × ((port : ℕ) → group_lawful.IsLawful (port_plan plan) (port_past port past))) }
+{}
+
+/// With the other three words it is lawful exactly if it is by the plan of the links that are judged together.
+pub fn other_words_say_what_they_said()
+    ensures { (plan : Plan) (past : List Sighting) → (plan.layout.links ≡ Each → ⊥)
+        → IsLawful plan past ↔ group_lawful.IsLawful (shared_plan plan) past }
+{}
+
+/// A beginning of what is lawful is lawful. Lists of sightings have the latest first.
+pub fn a_beginning_is_lawful()
+    ensures { (plan : Plan) (later earlier : List Sighting)
+        → IsLawful plan (later ++ earlier) → IsLawful plan earlier }
+{}
+
+/// What `lawful` means: at each moment each group's beats so far are whole messages that come in turn, the replies fit
+/// what slaves of its own may reply, and with `Both` messages cross; and each lane that carries a byte, and has to be
+/// known, was known.
+pub fn lawful_beats_keep_the_rules()
+    ensures rules { (plan : Plan) (past : List Sighting) → IsPlan plan → AreWatched plan.layout past → IsLawful plan past
+        → AlwaysKeepsRules plan past }
+    ensures lanes { (plan : Plan) (past : List Sighting) → IsLawful plan past → AreSeenWhole plan past }
+{}
+
+/// And the way back: beats of which each group keeps these rules at each moment are lawful.
+pub fn beats_that_keep_the_rules_are_lawful()
+    ensures { (plan : Plan) (past : List Sighting) → IsPlan plan → AreWatched plan.layout past → AreSeenWhole plan past
+        → AlwaysKeepsRules plan past → IsLawful plan past }
+{}

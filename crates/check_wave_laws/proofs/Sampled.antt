@@ -1,0 +1,415 @@
+-- The rows of what happens in a dump are those of its beats.
+use Rattle.std.proofs.Common.{◌≡◌, ◌∙◌, ℕ, ◌<◌, ◌≤◌, ◌⊎◌, inl, inr, ◌==◌, Bool, true, false, cond, not, nat_le, List, [], ◌∷◌, ◌++◌, slice_get, Contains, Option, None, Some, ap, arith, append_assoc, refl, subst, sym}
+use Rattle.std.specs.Prelude.{⊤}
+use Rattle.std.proofs.lemmas.Bool.{both_ways, cases_lt, cond-false, cond-true, eq-eqb, le-leb, leb-true, ne_eqb, not-true}
+use Rattle.std.proofs.lemmas.List.Elements.{Contains-append_cases, Contains-append_left, Contains-append_right}
+use Rattle.check_vcd.specs.Body.{Happens, At, Sets, Wrong}
+use Rattle.check_samples.specs.Rows.{Probes, Rows, and_then, has_edge, no_rows, rises, rows_of}
+use Rattle.check_samples.specs.Sampling.{Sampling, at_time, is_at, is_time, rows_from, rows_now, rows_when, with_value}
+use Rattle.check_wave_laws.specs.Sampled.{AreInOrder, AreSampled, Beat, Change, IsBeatOf, NeverFalls, Precedes, Wave, changes_after, cut_after, is_before, is_until, is_whole, sampled_rows, values_after, values_before, values_until, wave_of}
+use Rattle.check_wave_laws.proofs.Changes.{EachTime, IsFrom, IsLess, IsUpTo, before-past, before-until, changes-from, each-push, each-weaker, from-before, from-until, now-push, until-before, until-past, up-to-before, up-to-next, up-to-self, up-to-until, value-kept, values-none, whole-before}
+use Rattle.check_wave_laws.proofs.Edges.{beat-at, crossed-at, crossing, crossing-all, crossing-each, crossing-order, crossing-rows, Crosses, edge-at, no-beat, none-there, order-append, rows-append}
+
+-- ---- the beats of some times
+
+abbrev IsSince : Option ℕ → ℕ → Type 0
+IsSince None time = ⊤
+IsSince (Some from) time = from ≤ time
+
+abbrev IsBelow : Option ℕ → ℕ → Type 0
+IsBelow None time = ⊤
+IsBelow (Some below) time = time < below
+
+-- a beat at one of the times from one on, below another
+record IsWithin (wave : Wave) (from below : Option ℕ) (beat : Beat) : Type 0 where
+  is : IsBeatOf wave beat
+  since : IsSince from beat.time
+  before : IsBelow below beat.time
+
+-- the rows are those of these beats
+record HasBeats (wave : Wave) (from below : Option ℕ) (rows : Rows) : Type 0 where
+  beats : List Beat
+  each : (beat : Beat) → Contains beats beat → IsWithin wave from below beat
+  all : (beat : Beat) → IsWithin wave from below beat → Contains beats beat
+  order : AreInOrder beats
+  are : rows ≡ sampled_rows wave beats
+
+-- there is none
+no-beats : (wave : Wave) (from below : Option ℕ) → ((beat : Beat) → IsWithin wave from below beat → ⊥)
+    → HasBeats wave from below no_rows
+no-beats wave from below none = record {
+  beats = [];
+  each = λ beat has. absurd (none-there beat has);
+  all = λ beat within. absurd (none beat within);
+  order = tt;
+  are = refl;
+}
+
+since-next : (time : Option ℕ) (next beat : ℕ) → IsLess time next → next ≤ beat → IsSince time beat
+since-next None next beat less order = tt
+since-next (Some time) next beat less order = omega (arith, less, order)
+
+module _ (wave : Wave) (time : Option ℕ) (next : ℕ) (one two : Rows) (less : IsLess time next)
+    (first : HasBeats wave time (Some next) one) (second : HasBeats wave (Some next) None two) where
+  join-each : (beat : Beat) → Contains first.beats beat ⊎ Contains second.beats beat → IsWithin wave time None beat
+  join-each beat (inl near) =
+      let within = first.each beat near in record { is = within.is; since = within.since; before = tt }
+  join-each beat (inr far) =
+      let within = second.each beat far in
+      record { is = within.is; since = since-next time next beat.time less within.since; before = tt }
+
+  join-all : (beat : Beat) → IsWithin wave time None beat → (beat.time < next) ⊎ (next ≤ beat.time)
+      → Contains (first.beats ++ second.beats) beat
+  join-all beat within (inl near) =
+      Contains-append_left first.beats second.beats beat
+      (first.all beat (record { is = within.is; since = within.since; before = near }))
+  join-all beat within (inr far) =
+      Contains-append_right first.beats second.beats beat
+      (second.all beat (record { is = within.is; since = far; before = tt }))
+
+  join-order : (beat later : Beat) → Contains first.beats beat → Contains second.beats later → Precedes beat later
+  join-order beat later near far =
+      inl (omega (arith, (first.each beat near).before, (second.each later far).since))
+
+  join : HasBeats wave time None (and_then one two)
+  join = record {
+    beats = first.beats ++ second.beats;
+    each = λ beat has. join-each beat (Contains-append_cases first.beats second.beats beat has);
+    all = λ beat within. join-all beat within (cases_lt beat.time next);
+    order = order-append first.beats second.beats first.order second.order join-order;
+    are = ap (λ (r : Rows). and_then r two) first.are
+        ∙ ap (λ (r : Rows). and_then (sampled_rows wave first.beats) r) second.are
+        ∙ sym (rows-append wave first.beats second.beats);
+  }
+
+-- ---- the present time ends
+
+-- the values before the present time, if it is known
+abbrev pub BeforeIs : Wave → Option ℕ → List (List ℕ) → Type 0
+BeforeIs wave None values = ⊤
+BeforeIs wave (Some time) values = values ≡ values_before wave time
+
+-- the changes up to the present time, and those from the next one on
+record Ends (wave : Wave) (time next : Option ℕ) : Type 0 where
+  past : List Change
+  later : List Change
+  changes : wave.changes ≡ past ++ later
+  until : EachTime (IsUpTo time) past
+  gap : (early : ℕ) → IsBelow next early → EachTime (λ at. is_until early at ≡ false) later
+  whole : (early : ℕ) → IsBelow next early → is_whole wave.cut early ≡ true
+
+module _ (wave : Wave) (time next : Option ℕ) (ends : Ends wave time next) where
+  before-is : (at : ℕ) → IsLess time at → IsBelow next at → values_before wave at ≡ values_after wave ends.past
+  before-is at less below =
+      before-past wave ends.past ends.later at ends.changes
+      (each-weaker (IsUpTo time) (λ other. is_before at other ≡ true) ends.past
+      (λ other up. up-to-before time at other less up) ends.until)
+      (each-weaker (λ other. is_until at other ≡ false) (λ other. is_before at other ≡ false) ends.later
+      (λ other no. until-before at other no) (ends.gap at below))
+
+  until-is : (at : ℕ) → EachTime (λ other. is_until at other ≡ true) ends.past → IsBelow next at
+      → values_until wave at ≡ values_after wave ends.past
+  until-is at up below = until-past wave ends.past ends.later at ends.changes up (ends.gap at below)
+
+  -- between the present time and the next one nothing crosses
+  quiet : (beat : Beat) → IsLess time beat.time → IsBelow next beat.time → IsBeatOf wave beat → ⊥
+  quiet beat less below is =
+      no-beat wave (values_after wave ends.past) beat (before-is beat.time less below)
+      (until-is beat.time (each-weaker (IsUpTo time) (λ other. is_until beat.time other ≡ true) ends.past
+      (λ other up. before-until beat.time other (up-to-before time beat.time other less up)) ends.until) below) is
+
+module _ (wave : Wave) (time : ℕ) (next : Option ℕ) (ends : Ends wave (Some time) next)
+    (below : IsBelow next time) where
+  edge-beats : has_edge (values_before wave time) (values_until wave time) wave.probes ≡ true
+      → HasBeats wave (Some time) next (rows_of time (values_before wave time) wave.probes.channels)
+  edge-beats edge = record {
+    beats = crossing wave time 0 wave.probes.channels;
+    each = λ beat has. each-one beat (crossing-each wave time 0 wave.probes.channels beat has);
+    all = λ beat within. all-of beat within (cases_lt time beat.time);
+    order = crossing-order wave time 0 wave.probes.channels;
+    are = crossing-rows wave time 0 wave.probes.channels;
+  }
+    where
+      each-one : (beat : Beat) → Crosses wave time 0 wave.probes.channels beat
+          → IsWithin wave (Some time) next beat
+      each-one beat one =
+          let place : one.index ≡ beat.place = omega (arith, one.spot) in
+          let looked : slice_get wave.probes.channels beat.place ≡ Some beat.channel =
+          subst (λ (n : ℕ). slice_get wave.probes.channels n ≡ Some beat.channel) place one.is in
+          record {
+            is = beat-at wave time beat one.now edge looked one.crossed (ends.whole time below);
+            since = omega (arith, one.now);
+            before = subst (λ (n : ℕ). IsBelow next n) (sym one.now) below;
+          }
+
+      all-of : (beat : Beat) → IsWithin wave (Some time) next beat → (time < beat.time) ⊎ (beat.time ≤ time)
+          → Contains (crossing wave time 0 wave.probes.channels) beat
+      all-of beat within (inl later) = absurd (quiet wave (Some time) next ends beat later within.before within.is)
+      all-of beat within (inr order) =
+          let now : beat.time ≡ time = omega (arith, order, within.since) in
+          crossing-all wave time 0 wave.probes.channels beat beat.place now (omega arith) within.is.looked
+          (crossed-at wave time beat now within.is)
+
+  edgeless : has_edge (values_before wave time) (values_until wave time) wave.probes ≡ false
+      → (beat : Beat) → IsWithin wave (Some time) next beat → (time < beat.time) ⊎ (beat.time ≤ time) → ⊥
+  edgeless none beat within (inl later) = quiet wave (Some time) next ends beat later within.before within.is
+  edgeless none beat within (inr order) =
+      let now : beat.time ≡ time = omega (arith, order, within.since) in
+      both_ways (has_edge (values_before wave time) (values_until wave time) wave.probes) none
+      (edge-at wave time beat now within.is)
+
+  time-beats : HasBeats wave (Some time) next
+      (cond (has_edge (values_before wave time) (values_until wave time) wave.probes)
+      (rows_of time (values_before wave time) wave.probes.channels) no_rows)
+  time-beats = go (has_edge (values_before wave time) (values_until wave time) wave.probes) refl
+    where
+      go : (t : Bool) → has_edge (values_before wave time) (values_until wave time) wave.probes ≡ t
+          → HasBeats wave (Some time) next
+          (cond t (rows_of time (values_before wave time) wave.probes.channels) no_rows)
+      go true edge = edge-beats edge
+      go false none =
+          no-beats wave (Some time) next (λ beat within. edgeless none beat within (cases_lt time beat.time))
+
+-- a sampler at the end of the present time
+record IsSampler (wave : Wave) (time : Option ℕ) (past : List Change) (s : Sampling) : Type 0 where
+  present : s.time ≡ time
+  probes : s.probes ≡ wave.probes
+  widths : s.widths ≡ wave.widths
+  now : s.now ≡ values_after wave past
+  before : BeforeIs wave time s.before
+
+abbrev NowIsBelow : Option ℕ → Option ℕ → Type 0
+NowIsBelow None next = ⊤
+NowIsBelow (Some time) next = IsBelow next time
+
+rows-at : (wave : Wave) (time : ℕ) (past : List Change) (s : Sampling) → IsSampler wave (Some time) past s
+    → values_until wave time ≡ values_after wave past
+    → rows_when (Some time) s
+    ≡ cond (has_edge (values_before wave time) (values_until wave time) wave.probes)
+    (rows_of time (values_before wave time) wave.probes.channels) no_rows
+rows-at wave time past s is until =
+    ap (λ (p : Probes). cond (has_edge s.before s.now p) (rows_of time s.before p.channels) no_rows) is.probes
+    ∙ ap (λ (vs : List (List ℕ)). cond (has_edge vs s.now wave.probes) (rows_of time vs wave.probes.channels) no_rows)
+    is.before
+    ∙ ap (λ (vs : List (List ℕ)). cond (has_edge (values_before wave time) vs wave.probes)
+    (rows_of time (values_before wave time) wave.probes.channels) no_rows) (is.now ∙ sym until)
+
+ended-at : (wave : Wave) (time next : Option ℕ) (ends : Ends wave time next) (s : Sampling)
+    → IsSampler wave time ends.past s → NowIsBelow time next → HasBeats wave time next (rows_when time s)
+ended-at wave None next ends s is below =
+    no-beats wave None next (λ beat within. quiet wave None next ends beat tt within.before within.is)
+ended-at wave (Some time) next ends s is below =
+    let up : EachTime (λ at. is_until time at ≡ true) ends.past =
+    each-weaker (IsUpTo (Some time)) (λ at. is_until time at ≡ true) ends.past (λ at. up-to-until time at) ends.until in
+    subst (λ (r : Rows). HasBeats wave (Some time) next r)
+    (sym (rows-at wave time ends.past s is (until-is wave (Some time) next ends time up below)))
+    (time-beats wave time next ends below)
+
+ended : (wave : Wave) (time next : Option ℕ) (ends : Ends wave time next) (s : Sampling)
+    → IsSampler wave time ends.past s → NowIsBelow time next → HasBeats wave time next (rows_now s)
+ended wave time next ends s is below =
+    subst (λ (at : Option ℕ). HasBeats wave time next (rows_when at s)) (sym is.present)
+    (ended-at wave time next ends s is below)
+
+-- ---- all times
+
+-- a sampler after some of what happens in a dump, before the rest
+record Runs (wave : Wave) (time : Option ℕ) (rest : List Happens) (s : Sampling) : Type 0 where
+  past : List Change
+  sampler : IsSampler wave time past s
+  changes : wave.changes ≡ past ++ changes_after time rest
+  cut : wave.cut ≡ cut_after time rest
+  until : EachTime (IsUpTo time) past
+  rises : NeverFalls time rest
+
+now-below-none : (time : Option ℕ) → NowIsBelow time None
+now-below-none None = tt
+now-below-none (Some time) = tt
+
+now-below : (time : Option ℕ) (next : ℕ) → IsLess time next → NowIsBelow time (Some next)
+now-below None next less = tt
+now-below (Some time) next less = less
+
+-- nothing is left to happen
+runs-out : (wave : Wave) (time : Option ℕ) (s : Sampling) → Runs wave time [] s → HasBeats wave time None (rows_now s)
+runs-out wave time s runs =
+    ended wave time None (record {
+      past = runs.past;
+      later = [];
+      changes = runs.changes;
+      until = runs.until;
+      gap = λ early below. tt;
+      whole = λ early below. ap (λ (cut : Option (Option ℕ)). is_whole cut early) runs.cut;
+    }) s runs.sampler (now-below-none time)
+
+-- a line is wrong
+runs-cut : (wave : Wave) (time : Option ℕ) → wave.cut ≡ Some time → HasBeats wave time None no_rows
+runs-cut wave time cut = no-beats wave time None (λ beat within. go time cut beat within)
+  where
+    go : (at : Option ℕ) → wave.cut ≡ Some at → (beat : Beat) → IsWithin wave at None beat → ⊥
+    go None is beat within =
+        let whole : false ≡ true = subst (λ (c : Option (Option ℕ)). is_whole c beat.time ≡ true) is within.is.whole in
+        both_ways false refl whole
+    go (Some at) is beat within =
+        let whole : not (nat_le at beat.time) ≡ true =
+        subst (λ (c : Option (Option ℕ)). is_whole c beat.time ≡ true) is within.is.whole in
+        both_ways (nat_le at beat.time) (not-true (nat_le at beat.time) whole) (le-leb at beat.time within.since)
+
+-- a later time begins
+module _ (wave : Wave) (time : Option ℕ) (next : ℕ) (happens : List Happens) (s : Sampling)
+    (runs : Runs wave time (At next ∷ happens) s) (less : IsLess time next) where
+  later-ends : Ends wave time (Some next)
+  later-ends = record {
+    past = runs.past;
+    later = changes_after (Some next) happens;
+    changes = runs.changes;
+    until = runs.until;
+    gap = λ early below. each-weaker (IsFrom next) (λ at. is_until early at ≡ false)
+        (changes_after (Some next) happens) (λ at from. from-until early next at below from)
+        (changes-from next happens runs.rises.1);
+    whole = λ early below. ap (λ (cut : Option (Option ℕ)). is_whole cut early) runs.cut
+        ∙ whole-before next happens early runs.rises.1 below;
+  }
+
+  later-runs : Runs wave (Some next) happens (record s { before = s.now; time = Some next })
+  later-runs = record {
+    past = runs.past;
+    sampler = record {
+      present = refl;
+      probes = runs.sampler.probes;
+      widths = runs.sampler.widths;
+      now = runs.sampler.now;
+      before = runs.sampler.now ∙ sym (before-past wave runs.past (changes_after (Some next) happens) next runs.changes
+          (each-weaker (IsUpTo time) (λ at. is_before next at ≡ true) runs.past
+          (λ at up. up-to-before time next at less up) runs.until)
+          (each-weaker (IsFrom next) (λ at. is_before next at ≡ false) (changes_after (Some next) happens)
+          (λ at from. from-before next at from) (changes-from next happens runs.rises.1)));
+    };
+    changes = runs.changes;
+    cut = runs.cut;
+    until = each-weaker (IsUpTo time) (IsUpTo (Some next)) runs.past
+        (λ at up. up-to-next time next at less up) runs.until;
+    rises = runs.rises.1;
+  }
+
+-- the present time begins again
+same-runs : (wave : Wave) (time next : ℕ) (happens : List Happens) (s : Sampling)
+    → Runs wave (Some time) (At next ∷ happens) s → next ≡ time → Runs wave (Some time) happens s
+same-runs wave time next happens s runs same = record {
+  past = runs.past;
+  sampler = runs.sampler;
+  changes = runs.changes ∙ ap (λ (n : ℕ). runs.past ++ changes_after (Some n) happens) same;
+  cut = runs.cut ∙ ap (λ (n : ℕ). cut_after (Some n) happens) same;
+  until = runs.until;
+  rises = subst (λ (n : ℕ). NeverFalls (Some n) happens) same runs.rises.1;
+}
+
+-- a value changes
+value-before : (wave : Wave) (time : Option ℕ) (values other : List (List ℕ)) → other ≡ values
+    → BeforeIs wave time values → BeforeIs wave time other
+value-before wave None values other same before = tt
+value-before wave (Some time) values other same before = same ∙ before
+
+value-runs : (wave : Wave) (time : Option ℕ) (slot : ℕ) (digits : List ℕ) (happens : List Happens) (s : Sampling)
+    → Runs wave time (Sets slot digits ∷ happens) s → Runs wave time happens (with_value s slot digits)
+value-runs wave time slot digits happens s runs =
+    let kept = value-kept s slot digits in
+    let change : Change = record { time = time; slot = slot; digits = digits } in
+    record {
+      past = runs.past ++ (record { time = time; slot = slot; digits = digits } ∷ []);
+      sampler = record {
+        present = kept.time ∙ runs.sampler.present;
+        probes = kept.probes ∙ runs.sampler.probes;
+        widths = kept.widths ∙ runs.sampler.widths;
+        now = now-push wave runs.past s change runs.sampler.now runs.sampler.widths;
+        before = value-before wave time s.before (with_value s slot digits).before kept.earlier runs.sampler.before;
+      };
+      changes = runs.changes ∙ sym (append_assoc runs.past (change ∷ []) (changes_after time happens));
+      cut = runs.cut;
+      until = each-push (IsUpTo time) runs.past change runs.until (up-to-self time);
+      rises = runs.rises;
+    }
+
+same-rows : (s : Sampling) (next : ℕ) (happens : List Happens) → is_at s next ≡ true
+    → rows_from (At next ∷ happens) s ≡ rows_from happens s
+unfolding rows_from
+same-rows s next happens same =
+    cond-true (is_at s next) (rows_from happens s) (and_then (rows_now s) (rows_from happens (at_time s next))) same
+
+later-rows : (s : Sampling) (next : ℕ) (happens : List Happens) → is_at s next ≡ false
+    → rows_from (At next ∷ happens) s
+    ≡ and_then (rows_now s) (rows_from happens (record s { before = s.now; time = Some next }))
+unfolding rows_from
+later-rows s next happens other =
+    cond-false (is_at s next) (rows_from happens s) (and_then (rows_now s) (rows_from happens (at_time s next))) other
+    ∙ ap (λ (new : Sampling). and_then (rows_now s) (rows_from happens new))
+    (cond-false (is_at s next) s (record s { before = s.now; time = Some next }) other)
+
+-- the rows of the rest, wherever it begins
+abbrev Continues : Wave → List Happens → Type 0
+Continues wave happens = (time : Option ℕ) (s : Sampling) → Runs wave time happens s
+    → HasBeats wave time None (rows_from happens s)
+
+later-beats : (wave : Wave) (time : Option ℕ) (next : ℕ) (happens : List Happens) (s : Sampling)
+    → Runs wave time (At next ∷ happens) s → IsLess time next → is_at s next ≡ false → Continues wave happens
+    → HasBeats wave time None (rows_from (At next ∷ happens) s)
+unfolding later-ends
+later-beats wave time next happens s runs less other more =
+    subst (λ (r : Rows). HasBeats wave time None r) (sym (later-rows s next happens other))
+    (join wave time next (rows_now s) (rows_from happens (record s { before = s.now; time = Some next })) less
+    (ended wave time (Some next) (later-ends wave time next happens s runs less) s runs.sampler
+    (now-below time next less))
+    (more (Some next) (record s { before = s.now; time = Some next }) (later-runs wave time next happens s runs less)))
+
+time-on : (wave : Wave) (time : Option ℕ) (next : ℕ) (happens : List Happens) (s : Sampling)
+    → Runs wave time (At next ∷ happens) s → Continues wave happens
+    → HasBeats wave time None (rows_from (At next ∷ happens) s)
+time-on wave None next happens s runs more =
+    later-beats wave None next happens s runs tt
+    (ap (λ (at : Option ℕ). is_time at next) runs.sampler.present) more
+time-on wave (Some time) next happens s runs more = go (cases_lt time next)
+  where
+    test : is_at s next ≡ (time == next)
+    test = ap (λ (now : Option ℕ). is_time now next) runs.sampler.present
+
+    go : (time < next) ⊎ (next ≤ time) → HasBeats wave (Some time) None (rows_from (At next ∷ happens) s)
+    go (inl less) =
+        later-beats wave (Some time) next happens s runs less
+        (test ∙ ne_eqb time next (λ same. omega (arith, less, same))) more
+    go (inr order) =
+        let same : next ≡ time = omega (arith, order, leb-true time next runs.rises.0) in
+        subst (λ (r : Rows). HasBeats wave (Some time) None r)
+        (sym (same-rows s next happens (test ∙ eq-eqb time next (sym same))))
+        (more (Some time) s (same-runs wave time next happens s runs same))
+
+from-beats : (wave : Wave) (happens : List Happens) (time : Option ℕ) (s : Sampling) → Runs wave time happens s
+    → HasBeats wave time None (rows_from happens s)
+unfolding rows_from
+from-beats wave [] time s runs = runs-out wave time s runs
+from-beats wave (At next ∷ happens) time s runs = time-on wave time next happens s runs (from-beats wave happens)
+from-beats wave (Sets slot digits ∷ happens) time s runs =
+    from-beats wave happens time (with_value s slot digits) (value-runs wave time slot digits happens s runs)
+from-beats wave (Wrong line mistake ∷ happens) time s runs = runs-cut wave time runs.cut
+
+-- the rows of a whole dump, by a sampler that has taken nothing
+pub sampled : (happens : List Happens) (s : Sampling) → s.time ≡ None → NeverFalls None happens
+    → AreSampled (wave_of s.probes s.now s.widths happens) (rows_from happens s)
+sampled happens s none rises =
+    let wave = wave_of s.probes s.now s.widths happens in
+    let has = from-beats wave happens None s (record {
+      past = [];
+      sampler = record { present = none; probes = refl; widths = refl; now = values-none wave; before = tt };
+      changes = refl;
+      cut = refl;
+      until = tt;
+      rises = rises;
+    }) in
+    record {
+      beats = has.beats;
+      each = λ beat. (
+        λ one. (has.each beat one).is,
+        λ is. has.all beat (record { is = is; since = tt; before = tt }),
+      );
+      order = has.order;
+      are = has.are;
+    }

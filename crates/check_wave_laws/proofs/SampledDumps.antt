@@ -1,0 +1,186 @@
+-- The times of a dump do not fall, so its rows are those of its beats; and there are no other rows of these beats.
+use Rattle.std.proofs.Common.{◌≡◌, ◌∙◌, ℕ, ◌-◌, ◌⊎◌, inl, inr, ◌==◌, ◌||◌, Bool, true, false, cond, not, nat_lt, List, [], ◌∷◌, length, map, Contains, Option, None, Some, ap, arith, refl, subst, sym}
+use Rattle.std.specs.Prelude.{⊤}
+use Rattle.std.proofs.lemmas.Bool.{le-leb, ltb-false}
+use Rattle.tl_text.specs.Number.{number_of}
+use Rattle.check_vcd.specs.Body.{At, Body, Fails, Find, Gives, Goes, Happens, Sets, Step, Wrong, begun_by, changed, changed_to, falls, followed, happenings, passed, passed_to, set, start, step_at, step_of, timed, timed_at, with_bit, with_digits}
+use Rattle.check_vcd.specs.Header.{Var}
+use Rattle.check_vcd.specs.Token.{are_bits, is_end, kind_of}
+use Rattle.check_vcd.specs.Words.{Word}
+use Rattle.check_vcd.specs.declared.body.Place.{Place}
+use Rattle.check_vcd.specs.declared.body.Place.TheVariants.{Plain, InComment, BehindVector, BehindOther}
+use Rattle.check_vcd.specs.declared.body.TheConstants.{TIME_DIGITS}
+use Rattle.check_vcd.specs.declared.codes.Coded.{Coded}
+use Rattle.check_vcd.specs.declared.fault.Mistake.TheVariants.{BadValue, TimeFalls, TooWide}
+use Rattle.check_vcd.specs.declared.token.Kind.{Kind}
+use Rattle.check_vcd.specs.declared.token.Kind.TheVariants as kind
+use Rattle.check_samples.specs.Rows.{Rows}
+use Rattle.check_samples.specs.Sampling.{Sampling, rows_from}
+use Rattle.check_signals.specs.Found.{Found, digits_in, find_of, sampling_of, width_in}
+use Rattle.check_wave_laws.specs.Sampled.{AreInOrder, AreSampled, Beat, NeverFalls, Precedes, Wave, is_until, sampled_rows, wave_of}
+use Rattle.check_wave_laws.proofs.Edges.{here, here-or-there, none-there, there}
+use Rattle.check_wave_laws.proofs.Sampled.{sampled}
+
+-- ---- times
+
+-- what happens at a word is no time that falls, and the last time is known after it
+abbrev StepRises : Option ℕ → Step → Type 0
+StepRises time (Goes body) = body.time ≡ time
+StepRises time (Gives body (At next)) = (is_until next time ≡ true) × (body.time ≡ Some next)
+StepRises time (Gives body (Sets slot digits)) = body.time ≡ time
+StepRises time (Gives body (Wrong line mistake)) = ⊤
+StepRises time (Fails mistake) = ⊤
+
+module _ (find : Find) where
+  changed-rises : (body : Body) (code : List ℕ) → StepRises body.time (changed find body code)
+  changed-rises body code = go (find code)
+    where
+      kept : (slot : Option ℕ) → StepRises body.time (set body slot)
+      kept None = refl
+      kept (Some slot) = refl
+
+      by : (coded : Coded) (t : Bool) → StepRises body.time (cond t (Fails TooWide) (set body coded.slot))
+      by coded true = tt
+      by coded false = kept coded.slot
+
+      go : (known : Option Coded) → StepRises body.time (changed_to body known)
+      go None = tt
+      go (Some coded) = by coded (nat_lt coded.width body.size)
+
+  passed-rises : (body : Body) (code : List ℕ) → StepRises body.time (passed find body code)
+  passed-rises body code = go (find code)
+    where
+      go : (known : Option Coded) → StepRises body.time (passed_to body known)
+      go None = tt
+      go (Some coded) = refl
+
+  timed-rises : (body : Body) (digits : List ℕ) → StepRises body.time (timed body digits)
+  timed-rises body digits = go (number_of 10 TIME_DIGITS digits)
+    where
+      risen : (last : Option ℕ) (time : ℕ) → falls last time ≡ false → is_until time last ≡ true
+      risen None time rising = refl
+      risen (Some last) time rising = le-leb last time (ltb-false time last rising)
+
+      by : (time : ℕ) (t : Bool) → falls body.time time ≡ t
+          → StepRises body.time (cond t (Fails TimeFalls) (Gives (record body { time = Some time }) (At time)))
+      by time true is = tt
+      by time false is = (risen body.time time is, refl)
+
+      go : (number : Option ℕ) → StepRises body.time (timed_at body number)
+      go None = tt
+      go (Some time) = by time (falls body.time time) refl
+
+  digits-rise : (body : Body) (digits : List ℕ) (size : ℕ) → StepRises body.time (with_digits body digits size)
+  digits-rise body digits size = go ((length digits == 0) || not (are_bits digits))
+    where
+      go : (t : Bool) → StepRises body.time
+          (cond t (Fails BadValue) (Goes (record body { place = BehindVector; value = digits; size = size })))
+      go true = tt
+      go false = refl
+
+  begun-rises : (which : Kind) (body : Body) (size first : ℕ) (rest : List ℕ)
+      → StepRises body.time (begun_by which find body size first rest)
+  begun-rises kind.Scalar body size first rest = changed-rises (with_bit body first) rest
+  begun-rises kind.Vector body size first rest = digits-rise body rest (size - 1)
+  begun-rises kind.Time body size first rest = timed-rises body rest
+  begun-rises kind.Other body size first rest = refl
+  begun-rises kind.Comment body size first rest = refl
+  begun-rises kind.Ignored body size first rest = refl
+  begun-rises kind.Unknown body size first rest = tt
+
+  word-rises : (place : Place) (body : Body) (size : ℕ) (word : List ℕ)
+      → StepRises body.time (step_at place find body size word)
+  word-rises Plain body size [] = tt
+  word-rises Plain body size (first ∷ rest) = begun-rises (kind_of first (first ∷ rest)) body size first rest
+  word-rises InComment body size word = go (is_end word)
+    where
+      go : (t : Bool) → (cond t (record body { place = Plain }) body).time ≡ body.time
+      go true = refl
+      go false = refl
+  word-rises BehindVector body size word = changed-rises (record body { place = Plain }) word
+  word-rises BehindOther body size word = passed-rises (record body { place = Plain }) word
+
+  followed-rises : (time : Option ℕ) (step : Step) (line : ℕ) (others : Body → List Happens) → StepRises time step
+      → ((body : Body) → NeverFalls body.time (others body)) → NeverFalls time (followed step line others)
+  followed-rises time (Goes body) line others rises more =
+      subst (λ (t : Option ℕ). NeverFalls t (others body)) rises (more body)
+  followed-rises time (Gives body (At next)) line others rises more =
+      (rises.0, subst (λ (t : Option ℕ). NeverFalls t (others body)) rises.1 (more body))
+  followed-rises time (Gives body (Sets slot digits)) line others rises more =
+      subst (λ (t : Option ℕ). NeverFalls t (others body)) rises (more body)
+  followed-rises time (Gives body (Wrong at mistake)) line others rises more = tt
+  followed-rises time (Fails mistake) line others rises more = tt
+
+  never-falls : (words : List Word) (body : Body) → NeverFalls body.time (happenings find words body)
+  unfolding happenings
+  never-falls [] body = tt
+  never-falls (word ∷ words) body =
+      followed-rises body.time (step_of find body word.size word.bytes) word.line (happenings find words)
+      (word-rises body.place body word.size word.bytes) (λ next. never-falls words next)
+
+pub dump-sampled : (find : Find) (words : List Word) (s : Sampling) → s.time ≡ None
+    → AreSampled (wave_of s.probes s.now s.widths (happenings find words start))
+    (rows_from (happenings find words start) s)
+dump-sampled find words s none = sampled (happenings find words start) s none (never-falls find words start)
+
+pub system-sampled : (vars : List Var) (words : List Word) (found : Found)
+    → AreSampled (wave_of found.probes (map digits_in found.kept) (map width_in found.kept)
+    (happenings (find_of vars found) words start))
+    (rows_from (happenings (find_of vars found) words start) (sampling_of found))
+system-sampled vars words found = dump-sampled (find_of vars found) words (sampling_of found) refl
+
+-- ---- no other rows
+
+-- a beat does not precede itself, and of two one alone precedes the other
+apart : (beat other : Beat) → Precedes beat other → Precedes other beat → ⊥
+apart beat other (inl first) (inl second) = omega (arith, first, second)
+apart beat other (inl first) (inr second) = omega (arith, first, second.0)
+apart beat other (inr first) (inl second) = omega (arith, first.0, second)
+apart beat other (inr first) (inr second) = omega (arith, first.1, second.1)
+
+-- lists in order that have the same beats
+abbrev HaveSame : List Beat → List Beat → Type 0
+HaveSame beats others = (beat : Beat) → Contains beats beat → Contains others beat
+
+same-first : (beat other : Beat) (beats others : List Beat) → AreInOrder (beat ∷ beats) → AreInOrder (other ∷ others)
+    → HaveSame (beat ∷ beats) (other ∷ others) → HaveSame (other ∷ others) (beat ∷ beats) → beat ≡ other
+same-first beat other beats others first second to back =
+    go (here-or-there other beat others (to beat (here beat beats)))
+    (here-or-there beat other beats (back other (here other others)))
+  where
+    go : (other ≡ beat) ⊎ Contains others beat → (beat ≡ other) ⊎ Contains beats other → beat ≡ other
+    go (inl same) right = sym same
+    go (inr left) (inl same) = same
+    go (inr left) (inr right) = absurd (apart other beat (second.0 beat left) (first.0 other right))
+
+same-rest : (beat other : Beat) (beats others : List Beat) → AreInOrder (beat ∷ beats) → beat ≡ other
+    → HaveSame (beat ∷ beats) (other ∷ others) → HaveSame beats others
+same-rest beat other beats others first same to =
+    λ one has. go one has (here-or-there other one others (to one (there beat one beats has)))
+  where
+    go : (one : Beat) → Contains beats one → (other ≡ one) ⊎ Contains others one → Contains others one
+    go one has (inl is) =
+        let after : Precedes beat one = first.0 one has in
+        let itself : Precedes one one = subst (λ (b : Beat). Precedes b one) (same ∙ is) after in
+        absurd (apart one one itself itself)
+    go one has (inr far) = far
+
+same-beats : (beats others : List Beat) → AreInOrder beats → AreInOrder others → HaveSame beats others
+    → HaveSame others beats → beats ≡ others
+same-beats [] [] first second to back = refl
+same-beats [] (other ∷ others) first second to back = absurd (none-there other (back other (here other others)))
+same-beats (beat ∷ beats) [] first second to back = absurd (none-there beat (to beat (here beat beats)))
+same-beats (beat ∷ beats) (other ∷ others) first second to back =
+    let same = same-first beat other beats others first second to back in
+    ap (λ (b : Beat). b ∷ beats) same
+    ∙ ap (λ (bs : List Beat). other ∷ bs) (same-beats beats others first.1 second.1
+    (same-rest beat other beats others first same to) (same-rest other beat others beats second (sym same) back))
+
+pub one-sampled : (wave : Wave) (rows others : Rows) → AreSampled wave rows → AreSampled wave others → rows ≡ others
+one-sampled wave rows others first second =
+    first.are
+    ∙ ap (λ (bs : List Beat). sampled_rows wave bs)
+    (same-beats first.beats second.beats first.order second.order
+    (λ beat has. (second.each beat).1 ((first.each beat).0 has))
+    (λ beat has. (first.each beat).1 ((second.each beat).0 has)))
+    ∙ sym second.are

@@ -1,0 +1,140 @@
+-- What sampling means, said of the changes of a dump alone: which beats there are, and what their rows show. It is this
+-- project's own. A row has the values before the edge, since these are what a register takes at it.
+use Rattle.std.specs.Prelude.{◌≡◌, ◌⊎◌, ◌↔◌, ℕ, ◌<◌, ◌==◌, Bool, true, false, not, nat_le, nat_lt, ⊤, List, [], ◌∷◌, length, get_or, map, filter, slice_get, Option, None, Some, Contains}
+use Rattle.std.specs.List.{last_or, range_with_len}
+use Rattle.check_vcd.specs.Body.{Happens, At, Sets, Wrong}
+use Rattle.check_samples.specs.Digits.{bits_of, extended}
+use Rattle.check_samples.specs.Rows.{Probes, Rows, and_then, is_active, is_one, is_zero, no_rows, row_alone, row_at}
+use Rattle.check_samples.specs.declared.channel.Channel.{Channel}
+
+-- ---- the changes of a dump
+
+-- a change: the time at which it stands, or none if it stands before the first time; which slot's value changes; and to
+-- which digits
+pub record Change : Type 0 where
+  pub time : Option ℕ
+  pub slot : ℕ
+  pub digits : List ℕ
+
+-- all changes of what happens, in their order, if this time began last; nothing counts after a line that is wrong
+abbrev pub changes_after : Option ℕ → List Happens → List Change
+changes_after time [] = []
+changes_after time (At next ∷ happens) = changes_after (Some next) happens
+changes_after time (Sets slot digits ∷ happens) =
+    record { time = time; slot = slot; digits = digits } ∷ changes_after time happens
+changes_after time (Wrong line mistake ∷ happens) = []
+
+-- if a line is wrong: the time at which it stands, or none if it stands before the first
+abbrev pub cut_after : Option ℕ → List Happens → Option (Option ℕ)
+cut_after time [] = None
+cut_after time (At next ∷ happens) = cut_after (Some next) happens
+cut_after time (Sets slot digits ∷ happens) = cut_after time happens
+cut_after time (Wrong line mistake ∷ happens) = Some time
+
+-- at an earlier time, and at this time or an earlier one; what stands before the first time is earlier than each
+abbrev pub is_before : ℕ → Option ℕ → Bool
+is_before time None = true
+is_before time (Some other) = nat_lt other time
+
+abbrev pub is_until : ℕ → Option ℕ → Bool
+is_until time None = true
+is_until time (Some other) = nat_le other time
+
+-- no time is less than the one before it
+abbrev pub NeverFalls : Option ℕ → List Happens → Type 0
+NeverFalls time [] = ⊤
+NeverFalls time (At next ∷ happens) = (is_until next time ≡ true) × NeverFalls (Some next) happens
+NeverFalls time (Sets slot digits ∷ happens) = NeverFalls time happens
+NeverFalls time (Wrong line mistake ∷ happens) = ⊤
+
+-- ---- values
+
+-- a dump: what is looked at; the digits of each slot before its first change, and how many bits it has; all
+-- changes; and the time at which a line is wrong, if one is
+pub record Wave : Type 0 where
+  pub probes : Probes
+  pub first : List (List ℕ)
+  pub widths : List ℕ
+  pub changes : List Change
+  pub cut : Option (Option ℕ)
+
+abbrev pub wave_of : Probes → List (List ℕ) → List ℕ → List Happens → Wave
+wave_of probes first widths happens = record {
+  probes = probes;
+  first = first;
+  widths = widths;
+  changes = changes_after None happens;
+  cut = cut_after None happens;
+}
+
+-- the last change of a slot
+abbrev pub last_of : ℕ → List Change → Option Change
+last_of slot changes = last_or None (filter (λ change. change.slot == slot) changes)
+
+-- the value that a change leaves; if there is none, the first one stays
+abbrev pub value_by : List ℕ → ℕ → Option Change → List ℕ
+value_by first width None = first
+value_by first width (Some change) = extended width change.digits
+
+-- the value of a slot if these changes alone count, and the values of all slots
+abbrev pub value_after : Wave → List Change → ℕ → List ℕ
+value_after wave changes slot = value_by (get_or wave.first slot []) (get_or wave.widths slot 0) (last_of slot changes)
+
+abbrev pub values_after : Wave → List Change → List (List ℕ)
+values_after wave changes = map (value_after wave changes) (range_with_len 0 (length wave.first))
+
+-- the values before a time: each by its last change at an earlier time
+abbrev pub values_before : Wave → ℕ → List (List ℕ)
+values_before wave time = values_after wave (filter (λ change. is_before time change.time) wave.changes)
+
+-- the values at the end of a time: each by its last change at this time or an earlier one
+abbrev pub values_until : Wave → ℕ → List (List ℕ)
+values_until wave time = values_after wave (filter (λ change. is_until time change.time) wave.changes)
+
+-- ---- beats
+
+-- a time that is over before the line that is wrong, if there is one
+abbrev pub is_whole : Option (Option ℕ) → ℕ → Bool
+is_whole None time = true
+is_whole (Some cut) time = not (is_until time cut)
+
+-- a channel at a time, with its place among those that are looked at
+pub record Beat : Type 0 where
+  pub time : ℕ
+  pub place : ℕ
+  pub channel : Channel
+
+-- it is a beat: the clock was 0 before the time and is 1 at its end, the reset was not active before it, valid and ready
+-- were 1 before it, and no line is wrong up to its end
+pub record IsBeatOf (wave : Wave) (beat : Beat) : Type 0 where
+  pub looked : slice_get wave.probes.channels beat.place ≡ Some beat.channel
+  pub low : is_zero (bits_of (values_before wave beat.time) wave.probes.clock) ≡ true
+  pub high : is_one (bits_of (values_until wave beat.time) wave.probes.clock) ≡ true
+  pub running : is_active (values_before wave beat.time) wave.probes.reset ≡ false
+  pub valid : is_one (bits_of (values_before wave beat.time) beat.channel.valid) ≡ true
+  pub ready : is_one (bits_of (values_before wave beat.time) beat.channel.ready) ≡ true
+  pub whole : is_whole wave.cut beat.time ≡ true
+
+-- its row, with the values before the time; there is none if one of them, data aside, has an unknown bit
+abbrev pub sampled_row : Wave → Beat → Rows
+sampled_row wave beat = row_alone beat.time beat.channel (row_at beat.time (values_before wave beat.time) beat.channel)
+
+-- the rows of beats, one after the other, up to the first that has none
+abbrev pub sampled_rows : Wave → List Beat → Rows
+sampled_rows wave [] = no_rows
+sampled_rows wave (beat ∷ beats) = and_then (sampled_row wave beat) (sampled_rows wave beats)
+
+-- by time, and within a time in the order in which beats cross
+abbrev pub Precedes : Beat → Beat → Type 0
+Precedes beat later = (beat.time < later.time) ⊎ ((beat.time ≡ later.time) × (beat.place < later.place))
+
+abbrev pub AreInOrder : List Beat → Type 0
+AreInOrder [] = ⊤
+AreInOrder (beat ∷ beats) = ((later : Beat) → Contains beats later → Precedes beat later) × AreInOrder beats
+
+-- the rows are those of all beats of the dump and of nothing else, each once, in order
+pub record AreSampled (wave : Wave) (rows : Rows) : Type 0 where
+  pub beats : List Beat
+  pub each : (beat : Beat) → Contains beats beat ↔ IsBeatOf wave beat
+  pub order : AreInOrder beats
+  pub are : rows ≡ sampled_rows wave beats

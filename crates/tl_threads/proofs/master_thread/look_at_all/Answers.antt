@@ -1,6 +1,0 @@
-use Rattle.tl_threads.proofs.Asking.{same_then}
-use Rattle.tl_threads.proofs.master_thread.look_at_all.Goals as goal
-
-pub loop-source-preserved : goal.loop-source-preserved
-loop-source-preserved g c =
-    same_then c.args.master.now c.loop-source.master c.look_at.new.master c.loop-source.invariant c.look_at.ensures

@@ -1,6 +1,0 @@
-use Rattle.tl_threads.proofs.Asking.{poll_same}
-use Rattle.tl_threads.proofs.master_thread.poll_one.Goals as goal
-
-pub returns : goal.returns
-returns g c =
-    poll_same c.args.master.now c.args.source c.poll.result c.poll.new.self c.poll.ensures.polls c.poll.ensures.asked

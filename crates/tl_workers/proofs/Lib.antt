@@ -1,0 +1,5 @@
+pub mod Routed
+pub mod Arrivals
+pub mod Asking
+pub mod Rows
+pub mod Cuts

@@ -1,0 +1,4 @@
+pub mod Bell
+pub mod Context
+pub mod Trace
+pub mod Start
