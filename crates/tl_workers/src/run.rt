@@ -177,13 +177,7 @@ pub struct Ended {
 }
 
 /// Starts all threads, those of the ports first, and joins them.
-fn run_in<
-    's,
-    'e: 's,
-    N: ArenaName + Send + Sync,
-    R: Threads + Wait + Sync,
-    G: Gate + Sync,
->(
+fn run_in<'s, 'e: 's, N: ArenaName + Send + Sync, R: Threads + Wait + Sync, G: Gate + Sync>(
     scope: &'s Scope<'s, &'e ()>,
     rt: &'e R,
     alloc: Global,

@@ -2,9 +2,9 @@ mod beats;
 mod flight;
 mod memory;
 
+use crate::tests::holds;
 use arrayvec::ArrayVec;
 use check_cells::Cells;
-use crate::tests::holds;
 use std::process::Abort;
 use tl_types::MAX_BYTES;
 

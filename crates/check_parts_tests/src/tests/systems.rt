@@ -9,13 +9,13 @@ mod ports;
 mod scripts;
 mod systems;
 
+use crate::tests::holds;
 use check_beats::Bus;
 use check_description::{Description, describe, read_parts};
 use check_flight::Order;
 use check_keys::SystemFault;
 use check_ports::{Port, PortKind, read_ports};
 use std::alloc::Global;
-use crate::tests::holds;
 use std::process::Abort;
 use tl_map::Range;
 

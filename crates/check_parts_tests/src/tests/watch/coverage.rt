@@ -154,8 +154,17 @@ fn up_to_64_requests_in_flight_are_told_apart(rt: HostRuntime) {
     let mut watch = watch_of(&rt, alloc, &[owner(0, 66), owner(66, 1)]);
     let mut coverage = Coverage::new(alloc);
     for source in 0..66u64 {
-        let line = format!(in alloc; "{source},m0,A,4,0,0,{source},2000,01,,,").expect(&rt, "memory");
-        note(&rt, alloc, &mut watch, &mut coverage, line.as_str(), Ended::Ask);
+        let line = format!(in alloc; "{source},m0,A,4,0,0,{source},2000,01,,,").expect(
+            &rt, "memory",
+        );
+        note(
+            &rt,
+            alloc,
+            &mut watch,
+            &mut coverage,
+            line.as_str(),
+            Ended::Ask,
+        );
     }
     let mut text = Vec::new(alloc);
     coverage.append(&watch, &mut text).expect(&rt, "memory");

@@ -1,6 +1,6 @@
 //! How long a script may be, and how many ports, masters and operations it may have.
-use super::systems::FIRST;
 use super::fault_of;
+use super::systems::FIRST;
 use crate::tests::holds;
 use std::alloc::Global;
 use std::process::Abort;

@@ -1,6 +1,6 @@
 //! Replies that a port gave, and those at the master's link.
-use crate::tests::state::bytes_of;
 use crate::tests::holds;
+use crate::tests::state::bytes_of;
 use check_cells::Pattern;
 use check_flight::{Answer, Crossing};
 use std::process::Abort;

@@ -1,6 +1,6 @@
 //! What the scenes of the tests share: slaves, requests that cross, and replies that are expected.
-use crate::tests::state::expect_text;
 use crate::tests::holds;
+use crate::tests::state::expect_text;
 use check_beats::{AskHead, Bus};
 use check_flight::{Order, Place, PortSlave, Side};
 use check_memory::{Memory, Range, Sizes, Slave, are_within};

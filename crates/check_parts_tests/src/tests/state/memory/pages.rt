@@ -1,7 +1,7 @@
 //! Pages: as many as were written, wherever they are, and images over several of them.
 use super::scene::{Turn, ask_of, memory_of, serve_all};
-use crate::tests::state::expect_cells;
 use crate::tests::holds;
+use crate::tests::state::expect_cells;
 use check_memory::{Memory, Pattern, Range, Sizes};
 use std::alloc::Global;
 use std::process::Abort;

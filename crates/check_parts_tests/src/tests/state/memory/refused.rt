@@ -1,8 +1,8 @@
 //! What is left if memory is refused. These tests hold whether their requests for memory are granted or not, so that
 //! each request may be refused in turn (`rt try --test --fail-alloc N`).
 use super::scene::ask_of;
-use crate::tests::state::expect_text;
 use crate::tests::holds;
+use crate::tests::state::expect_text;
 use check_memory::{Memory, Pattern, Range, Sizes, are_within};
 use std::alloc::{AllocError, Global};
 use std::process::Abort;

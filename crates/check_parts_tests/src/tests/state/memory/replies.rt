@@ -1,7 +1,7 @@
 //! Captured replies that fit what is expected, and replies that do not.
 use super::scene::{ask_of, memory_of};
-use crate::tests::state::bytes_of;
 use crate::tests::holds;
+use crate::tests::state::bytes_of;
 use check_memory::{Pattern, Range, Sizes, Slave};
 use std::alloc::Global;
 use std::process::Abort;

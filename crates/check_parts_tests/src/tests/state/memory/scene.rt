@@ -1,6 +1,6 @@
 //! What the scenes of the tests share: memories, and requests that are served.
-use crate::tests::state::{bytes_of, expect_cells};
 use crate::tests::holds;
+use crate::tests::state::{bytes_of, expect_cells};
 use check_memory::{Memory, Pattern, Range, Sizes, are_within};
 use std::alloc::Global;
 use std::process::Abort;

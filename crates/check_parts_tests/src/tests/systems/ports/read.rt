@@ -1,6 +1,6 @@
 //! What the keys of ports say.
-use crate::tests::systems::{Keys, have_keys, ports_of};
 use crate::tests::holds;
+use crate::tests::systems::{Keys, have_keys, ports_of};
 use check_beats::Bus;
 use check_flight::Order;
 use check_memory::{Sizes, Span};

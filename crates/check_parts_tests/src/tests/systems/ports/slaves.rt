@@ -1,6 +1,6 @@
 //! What ports answer before any request has changed them.
-use crate::tests::systems::ports_of;
 use crate::tests::holds;
+use crate::tests::systems::ports_of;
 use check_flight::{Answer, Order, PortSlave};
 use check_keys::SystemFault;
 use check_ports::{Port, error_slave, slave_of};
