@@ -4,19 +4,6 @@ use Rattle.std.specs.Prelude.{Bool, true, false}
 use Rattle.check_flight.specs.declared.order.Order.{Order}
 use Rattle.check_flight.specs.declared.order.Order.TheVariants.{Accept, Reply, Any}
 
--- the slave that is kept serves it as it is accepted, with its last beat; if nobody knows when it takes effect, it may
--- from then on
-abbrev pub is_at_acceptance : Order → Bool
-is_at_acceptance Accept = true
-is_at_acceptance Reply = false
-is_at_acceptance Any = true
-
--- the slave serves it as it is answered, with the first beat of its reply
-abbrev pub is_at_reply : Order → Bool
-is_at_reply Accept = false
-is_at_reply Reply = true
-is_at_reply Any = false
-
 -- what its reply has to fit is known as it is answered, and not before
 abbrev pub is_due_at_reply : Order → Bool
 is_due_at_reply Accept = false

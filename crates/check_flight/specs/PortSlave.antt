@@ -4,7 +4,7 @@ use Rattle.std.specs.Prelude.{ℕ, ◌+◌, ◌%◌, ◌^◌, Bool, true, false,
 use Rattle.tl_types.specs.Request.{Request}
 use Rattle.check_memory.specs.declared.slave.Slave.{Slave}
 use Rattle.check_memory.specs.declared.slave.Slave.TheVariants.{Memory, Device}
-use Rattle.check_memory.specs.Slave.{slave_after, expected_of}
+use Rattle.check_memory.specs.Slave.{slave_after, slave_takes_bytes, expected_of}
 use Rattle.check_contests.specs.declared.accepted.Accepted.{Accepted}
 use Rattle.check_contests.specs.Contests.{slave_accepting, kept_accepting, kept_of, kept_answering}
 use Rattle.check_flight.specs.declared.answer.Answer.{Answer}
@@ -65,6 +65,27 @@ abbrev pub answer_of_kept : ℕ → Request → Option Accepted → Option Answe
 answer_of_kept port ask None = None
 answer_of_kept port ask (Some entry) =
     Some (record { reply = record entry.due { source = ask.source }; port = port; index = entry.index })
+
+-- ---- memory
+
+-- by when requests take effect there, the slave may need memory to accept a request: a page for the bytes that it takes;
+-- or, if nobody knows when requests take effect, room in which each is kept until it is answered
+abbrev pub may_need_to_accept_by : Order → Slave → Request → Bool
+may_need_to_accept_by Accept kept ask = slave_takes_bytes kept ask
+may_need_to_accept_by Reply kept ask = false
+may_need_to_accept_by Any kept ask = true
+
+-- it may need memory to answer one: a page for the bytes that it takes then
+abbrev pub may_need_to_answer_by : Order → Slave → Request → Bool
+may_need_to_answer_by Accept kept ask = false
+may_need_to_answer_by Reply kept ask = slave_takes_bytes kept ask
+may_need_to_answer_by Any kept ask = false
+
+abbrev pub may_need_to_accept : PortSlave → Request → Bool
+may_need_to_accept slave ask = may_need_to_accept_by slave.order slave.kept ask
+
+abbrev pub may_need_to_answer : PortSlave → Request → Bool
+may_need_to_answer slave ask = may_need_to_answer_by slave.order slave.kept ask
 
 -- ---- a request is accepted, with its last beat
 

@@ -2,11 +2,10 @@
 //!
 //! A message is some 300 bytes long, and most beats need but a few of them. So what is in flight is kept in one place
 //! and written there: if it is nothing, what stands of a message is left as it is, and says nothing.
-ghost use Rattle.std.specs.Prelude.{◌≡◌, ◌≤◌, ◌↔◌, length, IsTrue, OnOk, OnErr, Some, None, option_map};
+ghost use Rattle.std.specs.Prelude.{◌≡◌, ◌≤◌, ◌↔◌, length, IsTrue, IsSomeAnd, OnOk, OnErr, Some, None, option_map};
 ghost use Rattle.check_beats.specs.Form.{FitsAsk};
 ghost use Rattle.check_beats.specs.State.{ask_of, ends_ask, first_ask};
-ghost use Rattle.check_flight.specs.Order.{is_at_acceptance, is_at_reply};
-ghost use Rattle.check_flight.specs.PortSlave.{accepting, answering, due_accepting, due_answering};
+ghost use Rattle.check_flight.specs.PortSlave.{accepting, answering, due_accepting, due_answering, may_need_to_accept, may_need_to_answer};
 ghost use Rattle.check_flight.specs.Flight.Turn.{Idle, Asking, Asked};
 ghost use Rattle.check_flight.specs.Flight.{asked, flight_due, idle, IsInFlight};
 
@@ -135,7 +134,8 @@ impl Flight {
             ≡ record { turn = Asked place.link ask; due = due_accepting place.port slave.old (Some ask) }) }
         ensures slave { let ask = ask_of under.now.bus under.now.asking beat.now lanes.now in
             OnOk result (slave.new ≡ accepting slave.old place.wide (Some ask)) }
-        ensures served { OnErr result (IsTrue (is_at_acceptance slave.old.order)) }
+        ensures needed { let ask = ask_of under.now.bus under.now.asking beat.now lanes.now in
+            OnErr result (IsTrue (may_need_to_accept slave.old ask)) }
         ensures unchanged { OnErr result (self.new ≡ self.old) }
         ensures slave_unchanged { OnErr result (slave.new ≡ slave.old) }
     {
@@ -167,7 +167,8 @@ impl Flight {
             ≡ record { turn = Asked place.link ask; due = due_accepting place.port slave.old (Some ask) }) }
         ensures slave { let ask = ask_of under.now.bus under.now.asking beat.now lanes.now in
             OnOk result (slave.new ≡ accepting slave.old place.wide (Some ask)) }
-        ensures served { OnErr result (IsTrue (is_at_acceptance slave.old.order)) }
+        ensures needed { let ask = ask_of under.now.bus under.now.asking beat.now lanes.now in
+            OnErr result (IsTrue (may_need_to_accept slave.old ask)) }
         ensures unchanged { OnErr result (self.new ≡ self.old) }
         ensures slave_unchanged { OnErr result (slave.new ≡ slave.old) }
     {
@@ -190,7 +191,8 @@ impl Flight {
         ensures flight { OnOk result (self.new
             ≡ flight_due self.old (due_answering place.port slave.old place.wide (asked self.old.turn))) }
         ensures slave { OnOk result (slave.new ≡ answering slave.old place.wide (asked self.old.turn)) }
-        ensures served { OnErr result (IsTrue (is_at_reply slave.old.order)) }
+        ensures needed { OnErr result
+            (IsSomeAnd (asked self.old.turn) (λ ask. IsTrue (may_need_to_answer slave.old ask))) }
         ensures unchanged { OnErr result (self.new ≡ self.old) }
         ensures slave_unchanged { OnErr result (slave.new ≡ slave.old) }
     {

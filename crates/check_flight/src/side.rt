@@ -1,9 +1,8 @@
 //! One side of a crossbar.
-ghost use Rattle.std.specs.Prelude.{◌≡◌, ◌<◌, ◌≤◌, ℕ, Some, None, false, length, IfOk, OnOk, OnErr, IsTrue};
+ghost use Rattle.std.specs.Prelude.{◌≡◌, ◌<◌, ◌≤◌, ℕ, Some, None, false, length, IfOk, OnOk, OnErr, IsTrue, IsSomeAnd};
 ghost use Rattle.check_beats.specs.Form.{FitsAsk, FitsReply};
 ghost use Rattle.check_beats.specs.State.{nothing_under, first_ask, first_reply, ends_ask, ends_reply, ask_of};
-ghost use Rattle.check_flight.specs.Order.{is_at_acceptance, is_at_reply};
-ghost use Rattle.check_flight.specs.PortSlave.{accepting, answering, due_accepting, due_answering};
+ghost use Rattle.check_flight.specs.PortSlave.{accepting, answering, due_accepting, due_answering, may_need_to_accept, may_need_to_answer};
 ghost use Rattle.check_flight.specs.Flight.Turn.{Asking, Asked};
 ghost use Rattle.check_flight.specs.Flight.{asked, idle};
 ghost use Rattle.check_flight.specs.Side.{ask_crossed, ask_ended, bus_at, flight_at, reply_crossed, reply_ended, side_due, side_under, side_with, under_at};
@@ -164,7 +163,9 @@ impl Side {
         ensures slave { let under = under_at self.old.links place.link in
             let ask = ask_of under.bus under.asking beat.now lanes.now in
             OnOk result (slave.new ≡ accepting slave.old place.wide (Some ask)) }
-        ensures served { OnErr result (IsTrue (is_at_acceptance slave.old.order)) }
+        ensures needed { let under = under_at self.old.links place.link in
+            let ask = ask_of under.bus under.asking beat.now lanes.now in
+            OnErr result (IsTrue (may_need_to_accept slave.old ask)) }
         ensures unchanged { OnErr result (self.new ≡ self.old) }
         ensures slave_unchanged { OnErr result (slave.new ≡ slave.old) }
     {
@@ -188,7 +189,8 @@ impl Side {
             ≡ side_due self.old place.wide (due_answering place.port slave.old place.wide ask)) }
         ensures slave { let ask = asked (flight_at self.old.flights place.wide).turn in
             OnOk result (slave.new ≡ answering slave.old place.wide ask) }
-        ensures served { OnErr result (IsTrue (is_at_reply slave.old.order)) }
+        ensures needed { let ask = asked (flight_at self.old.flights place.wide).turn in
+            OnErr result (IsSomeAnd ask (λ ask. IsTrue (may_need_to_answer slave.old ask))) }
         ensures unchanged { OnErr result (self.new ≡ self.old) }
         ensures slave_unchanged { OnErr result (slave.new ≡ slave.old) }
     {

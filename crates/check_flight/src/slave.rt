@@ -1,8 +1,8 @@
 //! A port's slave, as the judge keeps it.
-ghost use Rattle.std.specs.Prelude.{◌≡◌, Some, false, IfOk, IsTrue, OnOk, OnErr};
+ghost use Rattle.std.specs.Prelude.{◌≡◌, Some, true, false, IfOk, IsTrue, OnOk, OnErr};
+ghost use Rattle.check_memory.specs.Slave.{slave_takes_bytes};
 ghost use Rattle.check_flight.specs.Flight.{due_kept};
-ghost use Rattle.check_flight.specs.Order.{is_at_acceptance, is_at_reply};
-ghost use Rattle.check_flight.specs.PortSlave.{accepting, answer_of, answer_of_kept, answering, contested_by, due_accepting, due_answering, fresh_slave, may_be_unknown, served_by};
+ghost use Rattle.check_flight.specs.PortSlave.{accepting, answer_of, answer_of_kept, answering, contested_by, due_accepting, due_answering, fresh_slave, may_be_unknown, may_need_to_accept, may_need_to_answer, served_by};
 
 use crate::answer::Answer;
 use crate::order::Order;
@@ -92,6 +92,7 @@ impl PortSlave {
     ) -> Result<(), AllocError>
         ensures served { OnOk result (self.new ≡ served_by self.old ask.now) }
         ensures answer { OnOk result (answer.new ≡ answer_of port self.old ask.now) }
+        ensures takes { OnErr result (slave_takes_bytes self.old.kept ask.now ≡ true) }
         ensures unchanged { OnErr result (self.new ≡ self.old) }
         ensures answer_unchanged { OnErr result (answer.new ≡ answer.old) }
     {
@@ -135,7 +136,7 @@ impl PortSlave {
         ensures slave { OnOk result (self.new ≡ accepting self.old place.wide (Some ask.now)) }
         ensures due { IfOk result (λ is_due.
             due_kept is_due answer.new ≡ due_accepting place.port self.old (Some ask.now)) }
-        ensures served { OnErr result (IsTrue (is_at_acceptance self.old.order)) }
+        ensures needed { OnErr result (IsTrue (may_need_to_accept self.old ask.now)) }
         ensures unchanged { OnErr result (self.new ≡ self.old) }
         ensures answer_unchanged { OnErr result (answer.new ≡ answer.old) }
     {
@@ -165,7 +166,7 @@ impl PortSlave {
         ensures due { IfOk result (λ is_due.
             due_kept is_due answer.new ≡ due_answering place.port self.old place.wide (Some ask.now)) }
         ensures kept { IfOk result (λ is_due. is_due ≡ false → answer.new ≡ answer.old) }
-        ensures served { OnErr result (IsTrue (is_at_reply self.old.order)) }
+        ensures needed { OnErr result (IsTrue (may_need_to_answer self.old ask.now)) }
         ensures unchanged { OnErr result (self.new ≡ self.old) }
         ensures answer_unchanged { OnErr result (answer.new ≡ answer.old) }
     {

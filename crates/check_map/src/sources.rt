@@ -1,5 +1,5 @@
 //! The wide sources of masters.
-ghost use Rattle.std.specs.Prelude.{◌≡◌, ◌≢◌, ◌+◌, ◌-◌, ◌*◌, ◌<◌, ◌≤◌, ℕ, ◌↔◌, Some, length, IsTrue, IfSome, IfNone, IfOk, OnOk, IfErr, slice_get, All};
+ghost use Rattle.std.specs.Prelude.{◌≡◌, ◌≢◌, ◌+◌, ◌-◌, ◌*◌, ◌<◌, ◌≤◌, ℕ, ◌↔◌, Err, Some, length, IsTrue, IfSome, IfNone, IfOk, OnOk, IfErr, slice_get, All};
 ghost use Rattle.check_map.specs.Owner.{IsOf, IsOwned, IsWide, Widens};
 ghost use Rattle.check_map.specs.Sources.{AreApartBelow, AreLawfulOwners, IsFirstSourceFault, IsLawfulOwner, IsSharedBy};
 ghost use Rattle.check_map.specs.Marks.{AreMarked, HasRoomFor, IsMarkedUpTo};
@@ -100,11 +100,14 @@ impl Model for Sources {
 }
 
 impl Sources {
-    /// The sources of these owners, or the first fault that they have. Want of memory may be answered at any point.
+    /// The sources of these owners, or the first fault that they have. Want of memory is answered only if there are not too
+    /// many, and then before the sources of two masters are compared, or after.
     pub fn new(alloc: Global, owners: &[Owner]) -> Result<Sources, SourceFault>
         ensures made { IfOk result (λ sources. sources ≡ owners.now) }
         ensures lawful { OnOk result (AreLawfulOwners owners.now) }
         ensures fault { IfErr result (λ fault. fault ≢ SourceFault.Memory → IsFirstSourceFault owners.now fault) }
+        ensures memory { result ≡ Err SourceFault.Memory
+            → (length owners.now ≤ MAX_MASTERS) × All IsLawfulOwner owners.now }
     {
         if owners.len() > MAX_MASTERS || !are_lawful(owners) {
             return Err(SourceFault::TooMany);

@@ -1,6 +1,6 @@
 -- What a legal request is like.
 use Rattle.std.proofs.Common.{◌≡◌, ◌∙◌, ℕ, zero, suc, ◌+◌, ◌-◌, ◌*◌, ◌/◌, ◌%◌, ◌^◌, ◌<◌, ◌≤◌, Bool, true, false, ◌&&◌, List, [], ◌∷◌, ◌++◌, length, take, drop, Option, None, Some, refl, sym, ap, subst, lit≤, rules, arith}
-use Rattle.std.specs.Prelude.{IfSome}
+use Rattle.std.specs.Prelude.{IfSome, OnErr, Result, Ok, Err}
 use Rattle.std.proofs.Math.Nat.{pow-le-pow_right}
 use Rattle.std.proofs.lemmas.Nat.{pow_pos}
 use Rattle.std.proofs.lemmas.List.{append_assoc, take-append-drop, drop-drop}
@@ -17,6 +17,11 @@ use Rattle.check_memory.specs.Sizes.{spans, allows, IsBetween, IsLawfulTable}
 use Rattle.check_memory.specs.Known.{replaced}
 use Rattle.check_memory.specs.Cells.{new_cells, is_atomic}
 use Rattle.check_memory.specs.Partial.{Partial, permits, takes_bytes, window_of, after_partial, after_forgetting}
+
+-- what holds is said of an error too
+pub on_err : {T E P : Type 0} (r : Result T E) → P → OnErr r P
+on_err (Ok x) holds = tt
+on_err (Err e) holds = holds
 
 pub allowed : (memory : Partial) (ask : Request) → permits memory ask ≡ true
     → allows memory.sizes ask.op ask.size ≡ true
@@ -117,6 +122,15 @@ unchanged memory ask is none =
 
 no_count : (op : AskOp) (size : ℕ) → carries_bytes op ≡ false → byte_count op size ≡ 0
 no_count op size is = rw is refl
+
+-- a legal request whose bytes are counted carries some
+pub takes_some : (memory : Partial) (ask : Request) → permits memory ask ≡ true → (byte_count ask.op ask.size ≡ 0 → ⊥)
+    → takes_bytes memory ask ≡ true
+takes_some memory ask is some = rw is (carried (carries_bytes ask.op) refl)
+  where
+    carried : (carries : Bool) → carries_bytes ask.op ≡ carries → carries_bytes ask.op ≡ true
+    carried true is = is
+    carried false is = absurd (some (no_count ask.op ask.size is))
 
 pub takes_legal : (memory : Partial) (ask : Request) → takes_bytes memory ask ≡ true → permits memory ask ≡ true
 takes_legal memory ask is = both (permits memory ask) (carries_bytes ask.op) is

@@ -1,9 +1,9 @@
 -- What stands at a port: a memory, or a device, which keeps nothing and decides for itself. This project's own.
-use Rattle.std.specs.Prelude.{List, Bool}
+use Rattle.std.specs.Prelude.{List, Bool, false}
 use Rattle.tl_types.specs.Request.{Request}
 use Rattle.check_memory.specs.declared.slave.Slave.{Slave}
 use Rattle.check_memory.specs.declared.slave.Slave.TheVariants.{Memory, Device}
-use Rattle.check_memory.specs.Partial.{after_partial, after_forgetting}
+use Rattle.check_memory.specs.Partial.{after_partial, after_forgetting, takes_bytes}
 use Rattle.check_memory.specs.Pattern.{Pattern, Fits, FitsDevice, pattern, device_pattern}
 
 -- the slave after a request
@@ -15,6 +15,11 @@ slave_after Device ask = Device
 abbrev pub slave_after_forgetting : Slave → Request → List Bool → Slave
 slave_after_forgetting (Memory memory) ask flags = Memory (after_forgetting memory ask flags)
 slave_after_forgetting Device ask flags = Device
+
+-- whether it takes the bytes of a request: a device keeps none
+abbrev pub slave_takes_bytes : Slave → Request → Bool
+slave_takes_bytes (Memory memory) ask = takes_bytes memory ask
+slave_takes_bytes Device ask = false
 
 -- the answer that is expected of it
 abbrev pub expected_of : Slave → Request → Pattern

@@ -1,5 +1,5 @@
 //! Memories of bytes that are known or unknown, which serve requests.
-ghost use Rattle.std.specs.Prelude.{◌≡◌, ℕ, ◌+◌, ◌*◌, ◌%◌, ◌^◌, ◌≤◌, length, take, replicate, Some, true, IfOk, OnOk, OnErr};
+ghost use Rattle.std.specs.Prelude.{◌≡◌, ℕ, ◌+◌, ◌*◌, ◌%◌, ◌^◌, ◌<◌, ◌≤◌, length, take, replicate, Some, true, IfOk, OnOk, OnErr};
 ghost use Rattle.tl_types.specs.Operation.{reply_op_of};
 ghost use Rattle.tl_types.specs.Request.{IsLawfulRequest};
 ghost use Rattle.check_memory.specs.Known.{known as known_of};
@@ -83,7 +83,7 @@ impl Memory {
     }
 
     /// Serves a request: the memory is the one after it, and what its answer has to fit stands in the place of another.
-    /// If there is no memory for a page, nothing is changed.
+    /// If there is no memory for a page of the bytes that it takes, nothing is changed.
     pub fn serve_into(
         &mut self,
         alloc: Global,
@@ -92,6 +92,7 @@ impl Memory {
     ) -> Result<(), AllocError>
         ensures after { IfOk result (λ _. self.new ≡ after_partial self.old ask.now) }
         ensures pattern { IfOk result (λ _. answer.new ≡ pattern self.old ask.now) }
+        ensures takes { OnErr result (takes_bytes self.old ask.now ≡ true) }
         ensures unchanged { OnErr result (self.new ≡ self.old) }
         ensures answer_unchanged { OnErr result (answer.new ≡ answer.old) }
     {
@@ -113,6 +114,7 @@ impl Memory {
         requires { permits self.old ask.now ≡ true }
         ensures after { IfOk result (λ _. self.new ≡ after_partial self.old ask.now) }
         ensures pattern { IfOk result (λ _. answer.new ≡ pattern self.old ask.now) }
+        ensures takes { OnErr result (takes_bytes self.old ask.now ≡ true) }
         ensures unchanged { OnErr result (self.new ≡ self.old) }
         ensures answer_unchanged { OnErr result (answer.new ≡ answer.old) }
     {
@@ -139,6 +141,7 @@ impl Memory {
     ) -> Result<(), AllocError>
         ensures after { IfOk result (λ _. self.new ≡ after_forgetting self.old ask.now flags.now) }
         ensures pattern { IfOk result (λ _. answer.new ≡ pattern self.old ask.now) }
+        ensures takes { OnErr result (takes_bytes self.old ask.now ≡ true) }
         ensures unchanged { OnErr result (self.new ≡ self.old) }
         ensures answer_unchanged { OnErr result (answer.new ≡ answer.old) }
     {
@@ -182,11 +185,11 @@ impl Memory {
     }
 
     /// Writes bytes from an address on, as those of an image are. If there is no memory for a page, the bytes before
-    /// those of that page are written.
+    /// those of that page are written, and they are not all.
     pub fn load(&mut self, alloc: Global, address: u64, bytes: &[u8]) -> Result<(), AllocError>
         requires { address + length bytes.now ≤ 2 ^ 64 }
         ensures all { OnOk result (self.new ≡ loaded self.old address bytes.now) }
-        ensures front { OnErr result ((count : ℕ) × (count ≤ length bytes.now)
+        ensures front { OnErr result ((count : ℕ) × (count < length bytes.now)
             × (self.new ≡ loaded self.old address (take count bytes.now))) }
     {
         let mut done = 0;

@@ -1,6 +1,6 @@
 //! What stands at a port.
-ghost use Rattle.std.specs.Prelude.{◌≡◌, IfOk, OnErr};
-ghost use Rattle.check_memory.specs.Slave.{slave_after, slave_after_forgetting, expected_of};
+ghost use Rattle.std.specs.Prelude.{◌≡◌, true, IfOk, OnErr};
+ghost use Rattle.check_memory.specs.Slave.{slave_after, slave_after_forgetting, slave_takes_bytes, expected_of};
 
 use crate::memory::Memory;
 use check_cells::Pattern;
@@ -18,7 +18,7 @@ pub enum Slave {
 
 impl Slave {
     /// Serves a request: the slave is the one after it, and what its answer has to fit stands in the place of another.
-    /// If there is no memory for a page, nothing is changed.
+    /// If there is no memory for a page of the bytes that it takes, nothing is changed.
     pub fn serve_into(
         &mut self,
         alloc: Global,
@@ -27,6 +27,7 @@ impl Slave {
     ) -> Result<(), AllocError>
         ensures after { IfOk result (λ _. self.new ≡ slave_after self.old ask.now) }
         ensures expected { IfOk result (λ _. answer.new ≡ expected_of self.old ask.now) }
+        ensures takes { OnErr result (slave_takes_bytes self.old ask.now ≡ true) }
         ensures unchanged { OnErr result (self.new ≡ self.old) }
         ensures answer_unchanged { OnErr result (answer.new ≡ answer.old) }
     {
@@ -50,6 +51,7 @@ impl Slave {
     ) -> Result<(), AllocError>
         ensures after { IfOk result (λ _. self.new ≡ slave_after_forgetting self.old ask.now flags.now) }
         ensures expected { IfOk result (λ _. answer.new ≡ expected_of self.old ask.now) }
+        ensures takes { OnErr result (slave_takes_bytes self.old ask.now ≡ true) }
         ensures unchanged { OnErr result (self.new ≡ self.old) }
         ensures answer_unchanged { OnErr result (answer.new ≡ answer.old) }
     {

@@ -1,5 +1,6 @@
 //! The judge of the rows of a file.
 ghost use Rattle.std.specs.Prelude.{◌≡◌, ◌+◌, ◌%◌, ◌^◌, ◌<◌, ◌≤◌, ◌↔◌, ℕ, true, false, List, [], ◌∷◌, ◌++◌, Err, is_some, length, IsOk, IfOk, OnOk, OnErr, IfErr, IfSome};
+ghost use Rattle.tl_text.specs.Text.{BeginsWith};
 ghost use Rattle.check_beats.specs.Bus.{bus_bytes};
 ghost use Rattle.check_sides.specs.Plan.{Plan, bus_of};
 ghost use Rattle.check_sides.specs.View.{Keeps};
@@ -297,10 +298,12 @@ impl Judge {
             left: self.tally.left(),
         })
     }
-    /// Appends the text of what the rows have covered that were judged, if that is asked for.
+    /// Appends the text of what the rows have covered that were judged, if that is asked for. If memory is refused, the text
+    /// begins with what it was.
     pub fn append_coverage(&self, text: &mut Vec<u8>) -> Result<(), AllocError>
-        ensures { (plan : Plan) (crossed : List SeenRow) → HasCovered plan crossed self.now.tally
+        ensures told { (plan : Plan) (crossed : List SeenRow) → HasCovered plan crossed self.now.tally
             → OnOk result (AppendsCoverage (is_covered self.now) plan crossed text.old.items text.new.items) }
+        ensures err { OnErr result (BeginsWith text.old.items text.new.items) }
     {
         match &self.tally.coverage {
             Some(coverage) => coverage.append(&self.tally.watch, text),

@@ -16,7 +16,7 @@ use Rattle.check_watch.specs.Plan.{Sighting, seen_at}
 use Rattle.check_watch.specs.View as group_view
 use Rattle.check_watch.specs.View.{View as GroupView}
 use Rattle.check_sides.specs.Groups.{are_apart, everybody, is_alone, shared_past, shared_plan, port_plan, port_past, past_at}
-use Rattle.check_sides.specs.Lawful.{IsFirstRequest, IsLawful, IsServed, MayNeedMemory}
+use Rattle.check_sides.specs.Lawful.{IsFirstRequest, IsLawful, SlaveMayNeedMemory, MayNeedMemory}
 use Rattle.check_sides.specs.Plan.{HasLink, Layout, Plan, bus_of}
 use Rattle.check_sides.specs.View.{IsOwnPort, IsSized, Keeps, KeepsPort, PortView, View}
 use Rattle.check_sides.proofs.Grouping.{apart_from, in_group, of_group, port_more, port_other, port_same, shared_more, shared_same}
@@ -187,6 +187,6 @@ module _ (plan : Plan) (past : List Sighting) (view : View) (x : Sighting) (keep
 
 -- at a port's link that is judged by itself: its slave serves a request, or a source is new
 pub needed_alone : (plan : Plan) (past : List Sighting) (x : Sighting) → is_alone plan.layout.links x.link ≡ true
-    → (IsServed plan past x ⊎ IsFirstRequest (past_at plan.layout.links x.link past) x.beat) → MayNeedMemory plan past x
+    → (SlaveMayNeedMemory plan past x ⊎ IsFirstRequest (past_at plan.layout.links x.link past) x.beat) → MayNeedMemory plan past x
 needed_alone plan past x alone (inl served) = inl served
 needed_alone plan past x alone (inr first) = inr (alone, first)

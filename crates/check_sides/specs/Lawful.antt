@@ -35,10 +35,10 @@ what_is_seen plan past x =
 
 -- ---- what may need memory
 
--- a port's slave serves a request with a beat after this past
-abbrev pub IsServed : Plan → List Sighting → Sighting → Type 0
-IsServed plan past x =
-    group_lawful.IsServed (plan_at plan x.link) (past_at plan.layout.links x.link past) x
+-- a port's slave may need memory with a beat after this past
+abbrev pub SlaveMayNeedMemory : Plan → List Sighting → Sighting → Type 0
+SlaveMayNeedMemory plan past x =
+    group_lawful.SlaveMayNeedMemory (plan_at plan x.link) (past_at plan.layout.links x.link past) x
 
 -- the beat is one of a request of this source
 abbrev pub IsAskOf : Beat → ℕ → Type 0
@@ -59,6 +59,6 @@ abbrev pub IsNewcomer : Plan → List Sighting → Sighting → Type 0
 IsNewcomer plan past x =
     IsTrue (is_alone plan.layout.links x.link) × IsFirstRequest (past_at plan.layout.links x.link past) x.beat
 
--- a beat may need memory after this past: its port's slave a page, or a source its room
+-- a beat may need memory after this past: its port's slave, or a source for its room
 abbrev pub MayNeedMemory : Plan → List Sighting → Sighting → Type 0
-MayNeedMemory plan past x = IsServed plan past x ⊎ IsNewcomer plan past x
+MayNeedMemory plan past x = SlaveMayNeedMemory plan past x ⊎ IsNewcomer plan past x

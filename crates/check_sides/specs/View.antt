@@ -1,5 +1,5 @@
 -- What a judge keeps of the beats so far. It is this project's own.
-use Rattle.std.specs.Prelude.{◌≡◌, ℕ, ◌<◌, ◌≤◌, Bool, ◌&&◌, if◌then◌else◌, ◌==◌, List, [], map, Option, Some, None, IsTrue, length, slice_get}
+use Rattle.std.specs.Prelude.{◌≡◌, ℕ, ◌<◌, ◌≤◌, if◌then◌else◌, ◌==◌, List, [], map, Option, Some, None, IsTrue, IsSomeAnd, length, slice_get}
 use Rattle.std.specs.List.{zip}
 use Rattle.tl_types.specs.Request.{Request}
 use Rattle.tl_map.specs.declared.map.Range.{Range}
@@ -12,8 +12,7 @@ use Rattle.check_beats.specs.declared.bus.Bus.{Bus}
 use Rattle.check_flight.specs.declared.answer.Answer.{Answer}
 use Rattle.check_flight.specs.Crossing.{Crossing}
 use Rattle.check_flight.specs.Flight.{Flight, Turn, asked, due_by}
-use Rattle.check_flight.specs.Order.{is_at_reply}
-use Rattle.check_flight.specs.PortSlave.{PortSlave, accepting, due_answering}
+use Rattle.check_flight.specs.PortSlave.{PortSlave, accepting, due_answering, may_need_to_answer}
 use Rattle.check_flight.specs.Side.{bus_at}
 use Rattle.check_watch.specs.declared.beat.Beat.{Beat}
 use Rattle.check_watch.specs.declared.beat.Link.TheVariants.{Port}
@@ -70,9 +69,10 @@ port_scene layout port beyond view beat =
 abbrev pub answered_in : PortView → ℕ → Option Request
 answered_in view source = ask_if (begins_reply view.under.replying) (asked (flight_in view source).turn)
 
--- the slave serves what it answers with the next beat of channel D
-abbrev pub is_served_late_in : PortView → Bool
-is_served_late_in view = is_at_reply view.slave.order && begins_reply view.under.replying
+-- the slave may need memory to answer it
+abbrev pub MayNeedToAnswer : PortView → ℕ → Type 0
+MayNeedToAnswer view source =
+    IsSomeAnd (answered_in view source) (λ ask. IsTrue (may_need_to_answer view.slave ask))
 
 -- the reply that the slave expects to what is in flight of a source
 abbrev pub due_in : PortView → ℕ → ℕ → Option Answer

@@ -1,11 +1,10 @@
 //! What is in flight of each source at one port's link, which is made as it is needed.
-ghost use Rattle.std.specs.Prelude.{◌≡◌, ◌≤◌, ◌⊎◌, [], Some, None, OnOk, OnErr, IsTrue, length};
+ghost use Rattle.std.specs.Prelude.{◌≡◌, ◌≤◌, ◌⊎◌, [], Some, None, OnOk, OnErr, IsTrue, IsSomeAnd, length};
 ghost use Rattle.check_beats.specs.Form.{FitsAsk};
 ghost use Rattle.check_beats.specs.State.{ask_of, ends_ask, first_ask};
 ghost use Rattle.check_flight.specs.Flight.Turn.{Asking, Asked};
 ghost use Rattle.check_flight.specs.Flight.{asked, flight_due, idle};
-ghost use Rattle.check_flight.specs.Order.{is_at_acceptance, is_at_reply};
-ghost use Rattle.check_flight.specs.PortSlave.{accepting, answering, due_accepting, due_answering};
+ghost use Rattle.check_flight.specs.PortSlave.{accepting, answering, due_accepting, due_answering, may_need_to_accept, may_need_to_answer};
 ghost use Rattle.check_sides.specs.Flights.{IsChanged, IsPut, flight_of, kept_of};
 
 use check_beats::{AskHead, UnderWay};
@@ -103,8 +102,8 @@ impl Flights {
             })) }
         ensures slave { let ask = ask_of under.now.bus under.now.asking beat.now lanes.now in
             OnOk result (slave.new ≡ accepting slave.old beat.now.source (Some ask)) }
-        ensures refused { OnErr result ((kept_of self.old beat.now.source ≡ None)
-            ⊎ IsTrue (is_at_acceptance slave.old.order)) }
+        ensures needed { let ask = ask_of under.now.bus under.now.asking beat.now lanes.now in
+            OnErr result ((kept_of self.old beat.now.source ≡ None) ⊎ IsTrue (may_need_to_accept slave.old ask)) }
         ensures err { OnErr result (self.new ≡ self.old) }
         ensures slave_err { OnErr result (slave.new ≡ slave.old) }
     {
@@ -137,8 +136,8 @@ impl Flights {
             })) }
         ensures slave { let ask = ask_of under.now.bus under.now.asking beat.now lanes.now in
             OnOk result (slave.new ≡ accepting slave.old beat.now.source (Some ask)) }
-        ensures refused { OnErr result ((kept_of self.old beat.now.source ≡ None)
-            ⊎ IsTrue (is_at_acceptance slave.old.order)) }
+        ensures needed { let ask = ask_of under.now.bus under.now.asking beat.now lanes.now in
+            OnErr result ((kept_of self.old beat.now.source ≡ None) ⊎ IsTrue (may_need_to_accept slave.old ask)) }
         ensures err { OnErr result (self.new ≡ self.old) }
         ensures slave_err { OnErr result (slave.new ≡ slave.old) }
     {
@@ -167,7 +166,8 @@ impl Flights {
             flight_due flight (due_answering port slave.old source (asked flight.turn)))) }
         ensures slave { OnOk result (slave.new
             ≡ answering slave.old source (asked (flight_of self.old source).turn)) }
-        ensures served { OnErr result (IsTrue (is_at_reply slave.old.order)) }
+        ensures needed { let ask = asked (flight_of self.old source).turn in
+            OnErr result (IsSomeAnd ask (λ ask. IsTrue (may_need_to_answer slave.old ask))) }
         ensures err { OnErr result (self.new ≡ self.old) }
         ensures slave_err { OnErr result (slave.new ≡ slave.old) }
     {

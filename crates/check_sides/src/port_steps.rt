@@ -1,20 +1,19 @@
 //! Steps at a port's link that is judged by itself: a beat is judged, and then it is taken.
-ghost use Rattle.std.specs.Prelude.{◌≡◌, ◌≤◌, ◌↔◌, ◌⊎◌, ◌∷◌, ℕ, List, length, Some, None, Err, IsTrue, IfOk, OnOk, OnErr, IfErr, IsOk, IsSome, OnSome, IfSome, IfNone};
+ghost use Rattle.std.specs.Prelude.{◌≡◌, ◌≤◌, ◌↔◌, ◌⊎◌, ◌∷◌, ℕ, List, length, Some, None, Err, IsTrue, IfOk, OnOk, OnErr, IfErr, IsOk, IsSome, IsSomeAnd, OnSome, IfSome, IfNone};
 ghost use Rattle.check_beats.specs.Form.{FitsAsk, FitsReply};
 ghost use Rattle.check_beats.specs.State.{ask_of, ends_ask, ends_reply, first_ask, first_reply};
 ghost use Rattle.check_flight.specs.Flight.Turn.{Asked};
 ghost use Rattle.check_flight.specs.Flight.{flight_due};
-ghost use Rattle.check_flight.specs.Order.{is_at_acceptance};
-ghost use Rattle.check_flight.specs.PortSlave.{accepting, answering, due_accepting, due_answering};
+ghost use Rattle.check_flight.specs.PortSlave.{accepting, answering, due_accepting, due_answering, may_need_to_accept};
 ghost use Rattle.check_watch.specs.declared.beat.Beat.TheVariants.{A, D};
 ghost use Rattle.check_watch.specs.declared.beat.Link.TheVariants.{Port};
-ghost use Rattle.check_watch.specs.Lawful.{IsFirstFault, IsLawful, IsServed, OfFault, what_is_seen};
+ghost use Rattle.check_watch.specs.Lawful.{IsFirstFault, IsLawful, OfFault, SlaveMayNeedMemory, what_is_seen};
 ghost use Rattle.check_watch.specs.Plan.{Layout, Plan, Sighting, seen_at};
-ghost use Rattle.check_watch.specs.Scene.{ask_by, ask_if, ended};
+ghost use Rattle.check_watch.specs.Scene.{ask_by, ended};
 ghost use Rattle.check_watch.specs.View.{FitsBeat};
 ghost use Rattle.check_sides.specs.Flights.{IsChanged, IsPut, kept_of};
 ghost use Rattle.check_sides.specs.Lawful.{IsFirstRequest};
-ghost use Rattle.check_sides.specs.View.{Beyond, IsAfter, IsOwnPort, KeepsPort, answered_in, is_served_late_in};
+ghost use Rattle.check_sides.specs.View.{Beyond, IsAfter, IsOwnPort, KeepsPort, MayNeedToAnswer, answered_in};
 
 use crate::port::PortLink;
 use check_beats::{AskHead, ReplyHead};
@@ -41,8 +40,9 @@ impl PortLink {
             (record { turn = Asked port ask; due = due_accepting port self.old.slave (Some ask) })) }
         ensures slave { let ask = ask_of self.old.under.bus self.old.under.asking beat.now lanes.now in
             OnOk result (self.new.slave ≡ accepting self.old.slave beat.now.source (Some ask)) }
-        ensures refused { OnErr result ((kept_of self.old.flights beat.now.source ≡ None)
-            ⊎ IsTrue (is_at_acceptance self.old.slave.order)) }
+        ensures needed { let ask = ask_of self.old.under.bus self.old.under.asking beat.now lanes.now in
+            OnErr result ((kept_of self.old.flights beat.now.source ≡ None)
+            ⊎ IsTrue (may_need_to_accept self.old.slave ask)) }
         ensures err { OnErr result (self.new ≡ self.old) }
     {
         let _source = beat.source;
@@ -64,9 +64,9 @@ impl PortLink {
             → OnOk result (IsAfter layout port beyond self.old self.new (A beat.now) known lanes.now) }
         ensures ends { IfOk result (λ ends.
             ends ≡ ends_ask self.old.under.bus self.old.under.asking beat.now) }
-        ensures refused { OnErr result ((kept_of self.old.flights beat.now.source ≡ None)
-            ⊎ IsSome (ask_if (is_at_acceptance self.old.slave.order)
-            (ask_by self.old.under beat.now lanes.now))) }
+        ensures needed { OnErr result ((kept_of self.old.flights beat.now.source ≡ None)
+            ⊎ IsSomeAnd (ask_by self.old.under beat.now lanes.now)
+            (λ ask. IsTrue (may_need_to_accept self.old.slave ask))) }
         ensures err { OnErr result (self.new ≡ self.old) }
         ensures bus { self.new.under.bus ≡ self.old.under.bus }
     {
@@ -88,7 +88,7 @@ impl PortLink {
             flight_due flight (due_answering port self.old.slave source (answered_in self.old source)))) }
         ensures slave { OnOk result
             (self.new.slave ≡ answering self.old.slave source (answered_in self.old source)) }
-        ensures served { OnErr result (IsTrue (is_served_late_in self.old)) }
+        ensures needed { OnErr result (MayNeedToAnswer self.old source) }
         ensures err { OnErr result (self.new ≡ self.old) }
     {
         if self.under.begins_reply() {
@@ -112,7 +112,7 @@ impl PortLink {
             → OnOk result (IsAfter layout port beyond self.old self.new (D beat.now) known lanes.now) }
         ensures ends { IfOk result (λ ends.
             ends ≡ ends_reply self.old.under.bus self.old.under.replying beat.now) }
-        ensures served { OnErr result (IsTrue (is_served_late_in self.old)) }
+        ensures needed { OnErr result (MayNeedToAnswer self.old beat.now.source) }
         ensures err { OnErr result (self.new ≡ self.old) }
         ensures bus { self.new.under.bus ≡ self.old.under.bus }
     {
@@ -148,7 +148,7 @@ impl PortLink {
             e ≡ ended (what_is_seen plan past (seen_at (Port port) beat.now known lanes.now))) }
         ensures needed { (plan : Plan) (past : List Sighting) → KeepsPort plan port past self.old
             → IsLawful plan (seen_at (Port port) beat.now known lanes.now ∷ past)
-            → OnErr result (IsServed plan past (seen_at (Port port) beat.now known lanes.now)
+            → OnErr result (SlaveMayNeedMemory plan past (seen_at (Port port) beat.now known lanes.now)
             ⊎ IsFirstRequest past beat.now) }
         ensures err { OnErr result (self.new ≡ self.old) }
         ensures bus { self.new.under.bus ≡ self.old.under.bus }
@@ -195,7 +195,7 @@ impl PortLink {
             → OnErr result (IsLawful plan (seen_at (Port port) beat.now known lanes.now ∷ past)) }
         ensures needed { (plan : Plan) (past : List Sighting) → IsOwnPort plan.layout map.now
             → KeepsPort plan port past self.old
-            → OnErr result (IsServed plan past (seen_at (Port port) beat.now known lanes.now)
+            → OnErr result (SlaveMayNeedMemory plan past (seen_at (Port port) beat.now known lanes.now)
             ⊎ IsFirstRequest past beat.now) }
         ensures err { OnErr result (self.new ≡ self.old) }
         ensures bus { self.new.under.bus ≡ self.old.under.bus }
@@ -238,7 +238,7 @@ impl PortLink {
             → IsLawful plan (seen_at (Port port) beat.now known lanes.now ∷ past) }
         ensures needed { (plan : Plan) (past : List Sighting) → IsOwnPort plan.layout map.now
             → KeepsPort plan port past self.old → result ≡ Err StepError.Memory
-            → IsServed plan past (seen_at (Port port) beat.now known lanes.now)
+            → SlaveMayNeedMemory plan past (seen_at (Port port) beat.now known lanes.now)
             ⊎ IsFirstRequest past beat.now }
         ensures err { OnErr result (self.new ≡ self.old) }
         ensures bus { self.new.under.bus ≡ self.old.under.bus }

@@ -4,7 +4,7 @@ ghost use Rattle.check_watch.specs.declared.beat.Link.TheVariants.{Port};
 ghost use Rattle.check_watch.specs.Plan.{Sighting, seen_at};
 ghost use Rattle.check_watch.specs.Scene.{ended};
 ghost use Rattle.check_sides.specs.Groups.{is_alone};
-ghost use Rattle.check_sides.specs.Lawful.{IsFirstFault, IsLawful, IsServed, MayNeedMemory, OfFault, what_is_seen};
+ghost use Rattle.check_sides.specs.Lawful.{IsFirstFault, IsLawful, MayNeedMemory, OfFault, SlaveMayNeedMemory, what_is_seen};
 ghost use Rattle.check_sides.specs.Plan.{Plan, HasLink, IsWatched, bus_of};
 ghost use Rattle.check_sides.specs.View.{Keeps};
 
@@ -113,7 +113,7 @@ impl Watch {
             → IsLawful plan (seen_at link beat.now known lanes.now ∷ past) }
         ensures needed { (plan : Plan) (past : List Sighting) → Keeps plan past self.old
             → result ≡ Err StepError.Memory
-            → IsServed plan past (seen_at link beat.now known lanes.now) }
+            → SlaveMayNeedMemory plan past (seen_at link beat.now known lanes.now) }
         ensures err { OnErr result (self.new ≡ self.old) }
         ensures layout { self.new.layout ≡ self.old.layout }
     {
@@ -146,7 +146,7 @@ impl Watch {
         ensures memory { (plan : Plan) (past : List Sighting) → Keeps plan past self.old
             → OnErr result (IsLawful plan (seen_at link beat.now known lanes.now ∷ past)) }
         ensures needed { (plan : Plan) (past : List Sighting) → Keeps plan past self.old
-            → OnErr result (IsServed plan past (seen_at link beat.now known lanes.now)) }
+            → OnErr result (SlaveMayNeedMemory plan past (seen_at link beat.now known lanes.now)) }
         ensures err { OnErr result (self.new ≡ self.old) }
         ensures layout { self.new.layout ≡ self.old.layout }
     {
@@ -154,9 +154,9 @@ impl Watch {
     }
 
     /// Takes one beat more, at a link that is watched, if it is lawful: what it ends. `None` says that it is not. Then
-    /// nothing changes, nor if memory is refused to a lawful one: a port's slave serves a request with it, or it is the first
-    /// of a source at a port's link that is judged by itself. There are as many lanes as the link's bus has, or more; those
-    /// past the bus are not looked at.
+    /// nothing changes, nor if memory is refused to a lawful one: a port's slave may need some with it, or it is the first of
+    /// a source at a port's link that is judged by itself. There are as many lanes as the link's bus has, or more; those past
+    /// the bus are not looked at.
     ///
     /// It costs less than [`Watch::step`], which makes the fault or the reply that a beat ends, too.
     pub fn take(
@@ -194,7 +194,7 @@ impl Watch {
     }
 
     /// Judges one beat more, at a link that is watched: what it ends, or its first fault. An `Err` changes nothing, and
-    /// [`StepError::Memory`] says that the beat is lawful, and that a port's slave serves a request with it, or that it is the
+    /// [`StepError::Memory`] says that the beat is lawful, and that a port's slave may need memory with it, or that it is the
     /// first of a source at a port's link that is judged by itself. There are as many lanes as the link's bus has, or more; those
     /// past the bus are not looked at.
     pub fn step(

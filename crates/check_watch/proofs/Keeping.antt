@@ -1,6 +1,6 @@
 -- What is kept of the past, after one beat more.
 use Rattle.std.proofs.Common.{◌≡◌, ◌∙◌, ℕ, ◌<◌, Bool, true, false, if◌then◌else◌, List, ◌∷◌, length, Option, Some, None, slice_get, unwrap_or, refl, ap, sym, subst, eqb-true, length-set}
-use Rattle.std.specs.Prelude.{IsSome, slice_set, ◌==◌, ◌&&◌, Result, Ok, Err, OnOk, IfErr}
+use Rattle.std.specs.Prelude.{slice_set, ◌==◌, ◌&&◌, Result, Ok, Err, OnOk, IfErr}
 use Rattle.std.proofs.lemmas.Bool.{eqb-false}
 use Rattle.tl_types.specs.Request.{Request}
 use Rattle.tl_types.proofs.Lists.{slice_get-set_same, slice_get-set_other}
@@ -13,26 +13,24 @@ use Rattle.check_flight.specs.declared.place.Place.{Place}
 use Rattle.check_flight.specs.Crossing.{Crossing}
 use Rattle.check_flight.specs.Crossing.Crossing.{Waiting, Crossed, Given}
 use Rattle.check_flight.specs.Flight.{Turn, asked, Flight, idle, flight_due}
-use Rattle.check_flight.specs.Flight.Turn.{Idle, Asking, Asked}
-use Rattle.check_flight.specs.Order.{is_at_reply}
+use Rattle.check_flight.specs.Flight.Turn.{Asked}
 use Rattle.check_flight.specs.PortSlave.{PortSlave, accepting, answering}
 use Rattle.check_flight.specs.Side.{under_at, flight_at, flights_due, ask_crossed, reply_crossed}
 use Rattle.check_watch.specs.declared.beat.Beat.{Beat}
 use Rattle.check_watch.specs.declared.beat.Beat.TheVariants.{A, D}
 use Rattle.check_watch.specs.declared.beat.Link.{Link}
 use Rattle.check_watch.specs.declared.beat.Link.TheVariants.{Master, Port}
-use Rattle.check_watch.specs.Allowed.{OfAsked}
 use Rattle.check_watch.specs.declared.fault.Fault.{Fault}
 use Rattle.check_watch.specs.declared.fault.Fault.TheVariants as faults
 use Rattle.check_watch.specs.declared.fault.Reason.{Reason}
 use Rattle.check_watch.specs.declared.fault.Reason.TheVariants.{WrongReply}
 use Rattle.check_watch.specs.Faults.{IsFirstReplyReason, IsWrongReply, reason_of}
-use Rattle.check_watch.specs.Lawful.{IsLawful, IsServed, IsAllowedBeat, IsFirstReasonOf, IsFirstReason, IsFirstFault, TellsReplies}
+use Rattle.check_watch.specs.Lawful.{IsLawful, SlaveMayNeedMemory, IsAllowedBeat, IsFirstReasonOf, IsFirstReason, IsFirstFault, TellsReplies}
 use Rattle.check_watch.specs.Past.{State, no_slave, slave_at, port_of, found_in, scene_of, state_after, state, scene}
 use Rattle.check_watch.specs.Plan.{Layout, Plan, Sighting, Side, HasLink, side_of, number_of, source_of, wide_of, same_side, is_link, is_of, seen_at}
 use Rattle.check_watch.specs.Plan.Side.{AtMasters, AtPorts}
-use Rattle.check_watch.specs.Scene.{Scene, ask_by, ask_if, serving, under_after, accepted, once_answered, flight_after, crossing_after, given_by, captured}
-use Rattle.check_watch.specs.View.{View, is_answering_in, is_served_late_in, IsSized, wides_in, Keeps, AreSame, IsPlace, state_in, side_in, own_side, crossing_at, under_in, flight_in, scene_in, slaves_accepting, slaves_answering, crossings_taken, crossings_asked, crossings_given, crossings_replied, accepted_in, served_in, answered_in, late_answer, asked_flight, with_side, with_ask, with_late, with_part, with_end, with_reply}
+use Rattle.check_watch.specs.Scene.{Scene, ask_by, under_after, accepted, once_answered, flight_after, crossing_after, given_by, captured, SlaveMayNeed}
+use Rattle.check_watch.specs.View.{View, IsSized, wides_in, Keeps, AreSame, IsPlace, state_in, side_in, own_side, crossing_at, under_in, flight_in, scene_in, slaves_accepting, slaves_answering, crossings_taken, crossings_asked, crossings_given, crossings_replied, accepted_in, answered_in, late_answer, asked_flight, with_side, with_ask, with_late, with_part, with_end, with_reply, MayNeedToAccept, MayNeedToAnswer}
 use Rattle.check_watch.proofs.Judging.{wide_is, no_ask_reason}
 use Rattle.check_watch.proofs.Replying.{no_reply_reason}
 
@@ -537,17 +535,6 @@ module _ (plan : Plan) (past : List Sighting) (view new : View) (link : Link) (k
 
 -- ---- which requests a slave serves
 
-takes_both : (takes late : Bool) (ask : Option Request) → (takes && late) ≡ true
-    → ask_if takes (ask_if late ask) ≡ ask
-takes_both true true ask is = refl
-takes_both true false ask is = absurd (cc)
-takes_both false late ask is = absurd (cc)
-
-some_asked : (number : ℕ) (turn : Turn) (P : Request → Type 0) → OfAsked number turn P → IsSome (asked turn)
-some_asked number Idle P of = absurd of
-some_asked number (Asking at) P of = absurd of
-some_asked number (Asked at ask) P of = refl
-
 module _ (plan : Plan) (past : List Sighting) (view : View) (link : Link) (known : ℕ) (lanes : List ℕ)
     (place : Place) (keeps : Keeps plan past view) where
   -- what is said of what a beat finds at its place is said of what it finds after the past
@@ -562,20 +549,15 @@ module _ (plan : Plan) (past : List Sighting) (view : View) (link : Link) (known
       (subst (λ (p : ℕ). Q plan.layout (found_at view link place.wide p)) (at.port plan keeps.suits)
       (subst (λ (l : Layout). Q l (found_at view link place.wide place.port)) keeps.suits.layout here)))
 
-  pub ask_served : (beat : AskHead) → IsPlace view link (A beat) place
-      → IsSome (served_in view link place.port (ask_by (under_in view link) beat lanes))
-      → IsServed plan past (seen_at link (A beat) known lanes)
-  ask_served beat at some = found_after (A beat) at (λ l s. IsSome (serving l link s (A beat) lanes)) some
+  pub ask_needs : (beat : AskHead) → IsPlace view link (A beat) place
+      → MayNeedToAccept view link place.port (ask_by (under_in view link) beat lanes)
+      → SlaveMayNeedMemory plan past (seen_at link (A beat) known lanes)
+  ask_needs beat at needs = found_after (A beat) at (λ l s. SlaveMayNeed l link s (A beat) lanes) needs
 
-  pub reply_served : (beat : ReplyHead) → IsPlace view link (D beat) place
-      → is_served_late_in view link place.port ≡ true → IsLawful plan (seen_at link (D beat) known lanes ∷ past)
-      → IsServed plan past (seen_at link (D beat) known lanes)
-  reply_served beat at late lawful =
-      let turn = (found_in plan (state plan past) link (D beat)).flight.turn in
-      let is = found_after (D beat) at (λ l s. serving l link s (D beat) lanes ≡ asked s.flight.turn)
-      (takes_both (is_at_reply (slave_at view.slaves place.port).order)
-      (is_answering_in view link place.port) (asked (flight_in view link place.wide).turn) late) in
-      subst (λ (o : Option Request). IsSome o) (sym is) (some_asked (number_of link) turn _ lawful.1.answers)
+  pub reply_needs : (beat : ReplyHead) → IsPlace view link (D beat) place
+      → MayNeedToAnswer view link place.wide place.port
+      → SlaveMayNeedMemory plan past (seen_at link (D beat) known lanes)
+  reply_needs beat at needs = found_after (D beat) at (λ l s. SlaveMayNeed l link s (D beat) lanes) needs
 
 -- ---- what a judge answers
 

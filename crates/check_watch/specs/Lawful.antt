@@ -1,6 +1,6 @@
 -- Which lists of sightings are lawful, the latest first: each beat is lawful after those before it, so a beginning of a
 -- lawful list is lawful.
-use Rattle.std.specs.Prelude.{IsSome, ◌≡◌, List, [], ◌∷◌}
+use Rattle.std.specs.Prelude.{◌≡◌, List, [], ◌∷◌}
 use Rattle.check_watch.specs.declared.beat.Beat.{Beat}
 use Rattle.check_watch.specs.declared.beat.Beat.TheVariants.{A, D}
 use Rattle.check_watch.specs.declared.fault.Fault.{Fault}
@@ -10,7 +10,7 @@ use Rattle.check_watch.specs.declared.fault.StepError.{StepError}
 use Rattle.check_watch.specs.declared.fault.StepError.TheVariants.{Unlawful, Memory}
 use Rattle.check_watch.specs.declared.seen.Seen.{Seen}
 use Rattle.check_watch.specs.Plan.{Plan, Sighting}
-use Rattle.check_watch.specs.Scene.{Scene, seen, serving}
+use Rattle.check_watch.specs.Scene.{Scene, SlaveMayNeed, seen}
 use Rattle.check_watch.specs.Past.{found_in, scene, state}
 use Rattle.check_watch.specs.Allowed.{IsAllowedAsk, IsAllowedReply}
 use Rattle.check_watch.specs.Faults.{IsFirstAskReason, IsFirstReplyReason, reason_of, IsWrongReply}
@@ -55,10 +55,10 @@ OfFault Is Memory = Unit {0}
 
 -- ---- what a beat does
 
--- a port's slave serves a request with a beat after this past
-abbrev pub IsServed : Plan → List Sighting → Sighting → Type 0
-IsServed plan past x =
-    IsSome (serving plan.layout x.link (found_in plan (state plan past) x.link x.beat) x.beat x.lanes)
+-- a port's slave may need memory with a beat after this past
+abbrev pub SlaveMayNeedMemory : Plan → List Sighting → Sighting → Type 0
+SlaveMayNeedMemory plan past x =
+    SlaveMayNeed plan.layout x.link (found_in plan (state plan past) x.link x.beat) x.beat x.lanes
 
 -- what a beat ends after this past
 abbrev pub what_is_seen : Plan → List Sighting → Sighting → Seen

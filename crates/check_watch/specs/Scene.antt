@@ -1,7 +1,7 @@
 -- What a beat finds at its link and in its port, and what it makes of that: messages and their order by the chapters
 -- "Beats and bursts" and "TL-UL and TL-UH operations" of the TileLink specification; when a request takes effect is the
 -- system's own affair.
-use Rattle.std.specs.Prelude.{ℕ, Bool, true, false, ◌&&◌, if◌then◌else◌, List, Option, Some, None}
+use Rattle.std.specs.Prelude.{ℕ, Bool, true, false, ◌&&◌, if◌then◌else◌, List, Option, Some, None, IsTrue, IsSomeAnd}
 use Rattle.tl_types.specs.Request.{Request}
 use Rattle.check_cells.specs.Pattern.{Pattern}
 use Rattle.check_beats.specs.State.{Under, ReplyBegun, ends_ask, ends_reply, ask_of, reply_of}
@@ -12,8 +12,7 @@ use Rattle.check_flight.specs.Crossing.{Crossing, given}
 use Rattle.check_flight.specs.Crossing.Crossing.{Waiting, Crossed, Given}
 use Rattle.check_flight.specs.Flight.{Turn, Flight, idle, asked, flight_due}
 use Rattle.check_flight.specs.Flight.Turn.{Idle, Asking, Asked}
-use Rattle.check_flight.specs.Order.{is_at_acceptance, is_at_reply}
-use Rattle.check_flight.specs.PortSlave.{PortSlave, answering, due_accepting, due_answering}
+use Rattle.check_flight.specs.PortSlave.{PortSlave, answering, due_accepting, due_answering, may_need_to_accept, may_need_to_answer}
 use Rattle.check_flight.specs.Side.{ask_crossed, reply_crossed}
 use Rattle.check_watch.specs.declared.beat.Beat.{Beat}
 use Rattle.check_watch.specs.declared.beat.Beat.TheVariants.{A, D}
@@ -88,13 +87,14 @@ begins_reply (Some begun) = false
 abbrev pub answered : Layout → Link → ℕ → Option ReplyBegun → Turn → Option Request
 answered layout link port begun turn = ask_if (takes_effect layout link port && begins_reply begun) (asked turn)
 
--- the request that the slave serves with a beat, by what the beat finds
-abbrev pub serving : Layout → Link → Scene → Beat → List ℕ → Option Request
-serving layout link scene (A beat) lanes =
-    ask_if (is_at_acceptance scene.slave.order) (accepted layout link scene (A beat) lanes)
-serving layout link scene (D beat) lanes =
-    ask_if (is_at_reply scene.slave.order)
-    (answered layout link scene.port scene.under.replying scene.flight.turn)
+-- the slave may need memory with a beat, by what the beat finds: to accept the request that it ends, or to answer the one
+-- whose reply it begins
+abbrev pub SlaveMayNeed : Layout → Link → Scene → Beat → List ℕ → Type 0
+SlaveMayNeed layout link scene (A beat) lanes =
+    IsSomeAnd (accepted layout link scene (A beat) lanes) (λ ask. IsTrue (may_need_to_accept scene.slave ask))
+SlaveMayNeed layout link scene (D beat) lanes =
+    IsSomeAnd (answered layout link scene.port scene.under.replying scene.flight.turn)
+    (λ ask. IsTrue (may_need_to_answer scene.slave ask))
 
 -- ---- what a beat finds, once the slave has answered the request whose reply begins with it
 

@@ -1,5 +1,5 @@
 -- What a judge keeps of the beats so far. It is this project's own.
-use Rattle.std.specs.Prelude.{◌≡◌, ℕ, ◌+◌, ◌<◌, Bool, true, false, ◌&&◌, if◌then◌else◌, List, length, Option, Some, None, slice_get, slice_set, unwrap_or}
+use Rattle.std.specs.Prelude.{◌≡◌, ℕ, ◌+◌, ◌<◌, Bool, true, false, ◌&&◌, if◌then◌else◌, List, length, Option, Some, None, slice_get, slice_set, unwrap_or, IsTrue, IsSomeAnd}
 use Rattle.tl_types.specs.Request.{Request}
 use Rattle.check_map.specs.Owner.{IsOwned}
 use Rattle.check_cells.specs.Pattern.{Pattern}
@@ -13,8 +13,7 @@ use Rattle.check_flight.specs.declared.place.Place.{Place}
 use Rattle.check_flight.specs.Crossing.{Crossing}
 use Rattle.check_flight.specs.Crossing.Crossing.{Waiting, Crossed, Given}
 use Rattle.check_flight.specs.Flight.{Flight, idle, due_by}
-use Rattle.check_flight.specs.Order.{is_at_acceptance, is_at_reply}
-use Rattle.check_flight.specs.PortSlave.{PortSlave, accepting, answering, due_accepting, due_answering}
+use Rattle.check_flight.specs.PortSlave.{PortSlave, accepting, answering, due_accepting, due_answering, may_need_to_accept, may_need_to_answer}
 use Rattle.check_flight.specs.Side.{SideView, bus_at, under_at, flight_at, side_with, side_under, side_due, ask_crossed, reply_crossed}
 use Rattle.check_watch.specs.declared.beat.Beat.{Beat}
 use Rattle.check_watch.specs.declared.beat.Beat.TheVariants.{A, D}
@@ -104,10 +103,10 @@ late_answer view link wide port =
 abbrev pub due_in : View → Link → ℕ → ℕ → Option Answer
 due_in view link wide port = due_by (flight_in view link wide).due (late_answer view link wide port)
 
--- the port's slave serves what it answers with the next beat of channel D at a link
-abbrev pub is_served_late_in : View → Link → ℕ → Bool
-is_served_late_in view link port =
-    is_at_reply (slave_at view.slaves port).order && is_answering_in view link port
+-- the port's slave may need memory to answer it
+abbrev pub MayNeedToAnswer : View → Link → ℕ → ℕ → Type 0
+MayNeedToAnswer view link wide port =
+    IsSomeAnd (answered_in view link wide port) (λ ask. IsTrue (may_need_to_answer (slave_at view.slaves port) ask))
 
 -- the reply that a beat ends to what is in flight of a wide source, as it was captured
 abbrev pub captured_in : View → Link → ℕ → ReplyHead → ℕ → List ℕ → Pattern
@@ -191,10 +190,10 @@ crossings_replied crossings (Port p) wide due reply = crossings_given crossings 
 abbrev pub accepted_in : View → Link → ℕ → Option Request → Option Request
 accepted_in view link port ask = ask_if (takes_effect view.layout link port) ask
 
--- the one that the slave serves then
-abbrev pub served_in : View → Link → ℕ → Option Request → Option Request
-served_in view link port ask =
-    ask_if (is_at_acceptance (slave_at view.slaves port).order) (accepted_in view link port ask)
+-- the slave may need memory to accept it
+abbrev pub MayNeedToAccept : View → Link → ℕ → Option Request → Type 0
+MayNeedToAccept view link port ask =
+    IsSomeAnd (accepted_in view link port ask) (λ ask. IsTrue (may_need_to_accept (slave_at view.slaves port) ask))
 
 abbrev pub asked_flight : View → Link → ℕ → Option Request → Flight
 asked_flight view link port ask = record {

@@ -1,18 +1,17 @@
 //! Steps: a beat is judged, and then it is taken.
-ghost use Rattle.std.specs.Prelude.{◌≡◌, ◌<◌, ◌≤◌, ◌↔◌, ◌∷◌, List, length, if◌then◌else◌, false, Some, None, Err, IsTrue, IfOk, OnOk, OnErr, IfErr, IsOk, IsSome, OnSome, IfSome, IfNone};
+ghost use Rattle.std.specs.Prelude.{◌≡◌, ◌<◌, ◌≤◌, ◌↔◌, ◌∷◌, List, length, if◌then◌else◌, false, Some, None, Err, IsTrue, IfOk, OnOk, OnErr, IfErr, IsOk, IsSome, IsSomeAnd, OnSome, IfSome, IfNone};
 ghost use Rattle.check_beats.specs.Form.{FitsAsk, FitsReply};
 ghost use Rattle.check_beats.specs.State.{ask_of, ends_ask, ends_reply, first_ask, first_reply};
 ghost use Rattle.check_flight.specs.Flight.Turn.{Asking, Asked};
 ghost use Rattle.check_flight.specs.Flight.{asked, idle};
-ghost use Rattle.check_flight.specs.Order.{is_at_acceptance, is_at_reply};
-ghost use Rattle.check_flight.specs.PortSlave.{due_accepting, due_answering};
+ghost use Rattle.check_flight.specs.PortSlave.{due_accepting, due_answering, may_need_to_accept, may_need_to_answer};
 ghost use Rattle.check_flight.specs.Side.{ask_crossed, ask_ended, flight_at, reply_ended, side_due, side_with};
 ghost use Rattle.check_watch.specs.declared.beat.Beat.TheVariants.{A, D};
-ghost use Rattle.check_watch.specs.Lawful.{IsLawful, IsServed, IsFirstReason, IsFirstFault, OfFault, what_is_seen};
+ghost use Rattle.check_watch.specs.Lawful.{IsLawful, SlaveMayNeedMemory, IsFirstReason, IsFirstFault, OfFault, what_is_seen};
 ghost use Rattle.check_watch.specs.Past.{slave_at};
 ghost use Rattle.check_watch.specs.Plan.{Plan, Sighting, number_of, HasLink, IsWatched, bus_of, seen_at};
 ghost use Rattle.check_watch.specs.Scene.{ask_by, ended};
-ghost use Rattle.check_watch.specs.View.{IsPlace, wides_in, Keeps, own_side, under_in, flight_in, captured_in, crossings_asked, crossings_given, crossings_replied, served_in, is_served_late_in, slaves_answering, with_side, with_message, with_ask, with_late, with_part, with_end, with_reply};
+ghost use Rattle.check_watch.specs.View.{IsPlace, MayNeedToAccept, MayNeedToAnswer, wides_in, Keeps, own_side, under_in, flight_in, captured_in, crossings_asked, crossings_given, crossings_replied, slaves_answering, with_side, with_message, with_ask, with_late, with_part, with_end, with_reply};
 
 use crate::asks::judge_ask;
 use crate::beat::{Beat, Link};
@@ -88,7 +87,9 @@ impl Watch {
               turn = Asked (number_of link) ask;
               due = due_accepting place.port slave (Some ask);
             }) (Some ask)) }
-        ensures served { OnErr result (IsTrue (is_at_acceptance (slave_at self.old.slaves place.port).order)) }
+        ensures needed { let under = under_in self.old link in
+            let ask = ask_of under.bus under.asking beat.now lanes.now in
+            OnErr result (IsTrue (may_need_to_accept (slave_at self.old.slaves place.port) ask)) }
         ensures err { OnErr result (self.new ≡ self.old) }
     {
         let slave = &mut self.slaves[place.port];
@@ -131,8 +132,8 @@ impl Watch {
         ensures after { OnOk result (self.new ≡ with_ask self.old link place.wide place.port beat.now lanes.now) }
         ensures ends { let under = under_in self.old link in
             IfOk result (λ ends. ends ≡ ends_ask under.bus under.asking beat.now) }
-        ensures served { OnErr result
-            (IsSome (served_in self.old link place.port (ask_by (under_in self.old link) beat.now lanes.now))) }
+        ensures needed { OnErr result
+            (MayNeedToAccept self.old link place.port (ask_by (under_in self.old link) beat.now lanes.now)) }
         ensures err { OnErr result (self.new ≡ self.old) }
     {
         let ends = self.link(link).ends_ask(beat);
@@ -157,7 +158,9 @@ impl Watch {
             (side_due (own_side self.old link) place.wide (due_answering place.port slave place.wide ask))) {
               slaves = slaves_answering self.old.slaves place.port place.wide ask;
             }) }
-        ensures served { OnErr result (IsTrue (is_at_reply (slave_at self.old.slaves place.port).order)) }
+        ensures needed { let slave = slave_at self.old.slaves place.port in
+            let ask = asked (flight_in self.old link place.wide).turn in
+            OnErr result (IsSomeAnd ask (λ ask. IsTrue (may_need_to_answer slave ask))) }
         ensures err { OnErr result (self.new ≡ self.old) }
     {
         self.sized();
@@ -178,7 +181,7 @@ impl Watch {
         ensures layout { self.new.layout ≡ self.old.layout }
         ensures under { under_in self.new link ≡ under_in self.old link }
         ensures wides { wides_in self.new ≡ wides_in self.old }
-        ensures served { OnErr result (IsTrue (is_served_late_in self.old link place.port)) }
+        ensures needed { OnErr result (MayNeedToAnswer self.old link place.wide place.port) }
         ensures err { OnErr result (self.new ≡ self.old) }
     {
         if self.is_answering(link, place.port) {
@@ -285,7 +288,7 @@ impl Watch {
             (self.new ≡ with_reply self.old link place.wide place.port beat.now known lanes.now) }
         ensures ends { let under = under_in self.old link in
             IfOk result (λ ends. ends ≡ ends_reply under.bus under.replying beat.now) }
-        ensures served { OnErr result (IsTrue (is_served_late_in self.old link place.port)) }
+        ensures needed { OnErr result (MayNeedToAnswer self.old link place.wide place.port) }
         ensures err { OnErr result (self.new ≡ self.old) }
     {
         let ends = self.link(link).ends_reply(beat);
@@ -334,9 +337,9 @@ impl Watch {
         ensures ended { (plan : Plan) (past : List Sighting) → Keeps plan past self.old
             → IsLawful plan (seen_at link beat.now known lanes.now ∷ past)
             → IfOk result (λ e. e ≡ ended (what_is_seen plan past (seen_at link beat.now known lanes.now))) }
-        ensures served { (plan : Plan) (past : List Sighting) → Keeps plan past self.old
+        ensures needed { (plan : Plan) (past : List Sighting) → Keeps plan past self.old
             → IsLawful plan (seen_at link beat.now known lanes.now ∷ past)
-            → OnErr result (IsServed plan past (seen_at link beat.now known lanes.now)) }
+            → OnErr result (SlaveMayNeedMemory plan past (seen_at link beat.now known lanes.now)) }
         ensures err { OnErr result (self.new ≡ self.old) }
         ensures layout { self.new.layout ≡ self.old.layout }
     {
@@ -393,8 +396,8 @@ impl Watch {
     }
 
     /// Takes one beat more, at a link that is watched, if it is lawful: what it ends. `None` says that it is not. Then
-    /// nothing changes, nor if memory is refused to a lawful one, with which a port's slave serves a request. There are as
-    /// many lanes as the link's bus has, or more; those past the bus are not looked at.
+    /// nothing changes, nor if memory is refused to a lawful one, with which a port's slave may need some. There are as many
+    /// lanes as the link's bus has, or more; those past the bus are not looked at.
     ///
     /// It costs less than [`Watch::step`], which makes the fault or the reply that a beat ends, too.
     pub fn take(
@@ -418,8 +421,8 @@ impl Watch {
         ensures none { IfOk result (λ end. IfNone end (self.new ≡ self.old)) }
         ensures memory { (plan : Plan) (past : List Sighting) → Keeps plan past self.old
             → OnErr result (IsLawful plan (seen_at link beat.now known lanes.now ∷ past)) }
-        ensures served { (plan : Plan) (past : List Sighting) → Keeps plan past self.old
-            → OnErr result (IsServed plan past (seen_at link beat.now known lanes.now)) }
+        ensures needed { (plan : Plan) (past : List Sighting) → Keeps plan past self.old
+            → OnErr result (SlaveMayNeedMemory plan past (seen_at link beat.now known lanes.now)) }
         ensures err { OnErr result (self.new ≡ self.old) }
         ensures layout { self.new.layout ≡ self.old.layout }
     {
@@ -432,8 +435,8 @@ impl Watch {
     }
 
     /// Judges one beat more, at a link that is watched: what it ends, or its first fault. An `Err` changes nothing, and
-    /// [`StepError::Memory`] says that the beat is lawful, and that a port's slave serves a request with it. There are as
-    /// many lanes as the link's bus has, or more; those past the bus are not looked at.
+    /// [`StepError::Memory`] says that the beat is lawful, and that a port's slave may need memory with it. There are as many
+    /// lanes as the link's bus has, or more; those past the bus are not looked at.
     pub fn step(
         &mut self,
         alloc: Global,
@@ -457,9 +460,9 @@ impl Watch {
         ensures memory { (plan : Plan) (past : List Sighting) → Keeps plan past self.old
             → result ≡ Err StepError.Memory
             → IsLawful plan (seen_at link beat.now known lanes.now ∷ past) }
-        ensures served { (plan : Plan) (past : List Sighting) → Keeps plan past self.old
+        ensures needed { (plan : Plan) (past : List Sighting) → Keeps plan past self.old
             → result ≡ Err StepError.Memory
-            → IsServed plan past (seen_at link beat.now known lanes.now) }
+            → SlaveMayNeedMemory plan past (seen_at link beat.now known lanes.now) }
         ensures err { OnErr result (self.new ≡ self.old) }
         ensures layout { self.new.layout ≡ self.old.layout }
     {

@@ -50,4 +50,4 @@ returns-clause-covered g c = λ asked parts images is.
     c.in_ok-verdict.ensures.told in
     counted_if _ _ _ _ (is_lawful verdict) c.tell.result c.tell.ensures.answered
     (is_counted _ _ is.system _ _ _ _ _ _ verdict of_it is.made has.is c.in_ok-verdict.ensures.covered
-    c.in_ok-verdict.ensures.covers c.in_ok-append_coverage.ensures)
+    c.in_ok-verdict.ensures.covers c.in_ok-append_coverage.ensures.told)

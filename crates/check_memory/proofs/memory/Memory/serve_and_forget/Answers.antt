@@ -1,13 +1,18 @@
 use Rattle.std.proofs.Common.{◌≡◌, ◌∙◌, ◌≤◌, true, sym, ap, rules}
 use Rattle.check_memory.specs.Sizes.{allows}
 use Rattle.check_memory.specs.Partial.{Partial, takes_bytes}
-use Rattle.check_memory.proofs.Legal.{allowed, small_size, aligned, fits_words, in_page, atomic_in_word, takes_legal, takes_count, forgets_nothing}
+use Rattle.check_memory.proofs.Legal.{allowed, small_size, aligned, fits_words, in_page, atomic_in_word, on_err, takes_legal, takes_count, forgets_nothing}
 use Rattle.check_memory.proofs.memory.Memory.serve_and_forget.Goals as goal
 
 pub returns-then-not-takes_bytes-clause-after : goal.returns-then-not-takes_bytes-clause-after
 returns-then-not-takes_bytes-clause-after c =
     forgets_nothing c.args.self.now c.args.ask.now c.args.flags.now
     (sym c.takes_bytes.ensures.value ∙ search rules)
+
+pub returns-in_err-at-clause-takes : goal.returns-in_err-at-clause-takes
+returns-in_err-at-clause-takes c =
+    let takes : takes_bytes c.args.self.now c.args.ask.now ≡ true = sym c.takes_bytes.ensures.value ∙ search rules in
+    on_err c.from_residual.result takes
 
 pub serve-requires-clause-counted : goal.serve-requires-clause-counted
 serve-requires-clause-counted c =

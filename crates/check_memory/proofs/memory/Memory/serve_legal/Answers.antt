@@ -2,7 +2,7 @@ use Rattle.std.proofs.Common.{◌≡◌, ◌∙◌, ◌≤◌, length, sym, ap, 
 use Rattle.tl_types.specs.Operation.{byte_count}
 use Rattle.check_memory.specs.Sizes.{allows}
 use Rattle.check_memory.specs.Partial.{Partial}
-use Rattle.check_memory.proofs.Legal.{allowed, small_size, aligned, fits_words, in_page, atomic_in_word, unchanged}
+use Rattle.check_memory.proofs.Legal.{allowed, small_size, aligned, fits_words, in_page, atomic_in_word, on_err, takes_some, unchanged}
 use Rattle.check_memory.proofs.memory.Memory.serve_legal.Goals as goal
 
 pub returns-then-is_empty-clause-after : goal.returns-then-is_empty-clause-after
@@ -12,6 +12,13 @@ returns-then-is_empty-clause-after c =
     let none : byte_count ask.op ask.size ≡ 0 = sym c.bytes.ensures.lawful.counted
     ∙ sym (ap length c.bytes.ensures.value) ∙ empty in
     sym (unchanged c.args.self.now ask c.requires none)
+
+pub returns-in_err-at-clause-takes : goal.returns-in_err-at-clause-takes
+returns-in_err-at-clause-takes c =
+    let ask = c.args.ask.now in
+    let some : length c.bytes.result.now ≡ 0 → ⊥ = search rules in
+    on_err c.from_residual.result (takes_some c.args.self.now ask c.requires
+    (λ none. some (ap length c.bytes.ensures.value ∙ c.bytes.ensures.lawful.counted ∙ none)))
 
 pub serve-requires-clause-word : goal.serve-requires-clause-word
 serve-requires-clause-word c = λ atomic.

@@ -1,9 +1,9 @@
 use Rattle.std.proofs.Common.{◌≡◌, ◌∙◌, ap, sym, subst, refl, rules, Some, unwrap_or}
 use Rattle.std.specs.BTreeMap.{get}
 use Rattle.std.specs.Ordering.{nat_cmp}
-use Rattle.std.specs.Prelude.{OnOk}
+use Rattle.std.specs.Prelude.{IsTrue, IsSomeAnd, OnOk, OnErr}
 use Rattle.check_flight.specs.Flight.{Flight, asked, flight_due, idle}
-use Rattle.check_flight.specs.PortSlave.{answering, due_answering}
+use Rattle.check_flight.specs.PortSlave.{answering, due_answering, may_need_to_answer}
 use Rattle.check_sides.specs.Flights.{flight_of, kept_of}
 use Rattle.check_sides.proofs.Outcomes.{on_err, on_ok}
 use Rattle.check_sides.proofs.Puts.{changed_some, put_through, written_same}
@@ -34,6 +34,13 @@ returns-clause-slave c =
     subst (λ (f : Flight). OnOk c.answer.result (c.answer.new.slave
     ≡ answering c.args.slave.now c.args.source (asked f.turn))) flight
     (rw c.place_at.ensures at c.answer.ensures.slave)
+
+pub returns-clause-needed : goal.returns-clause-needed
+returns-clause-needed c =
+    let flight : c.in-Some.flight.now ≡ flight_of c.args.self.now c.args.source =
+    ap (λ o. unwrap_or o idle) (sym (here c)) in
+    subst (λ (f : Flight). OnErr c.answer.result (IsSomeAnd (asked f.turn) (λ ask.
+    IsTrue (may_need_to_answer c.args.slave.now ask)))) flight c.answer.ensures.needed
 
 pub returns-clause-err : goal.returns-clause-err
 returns-clause-err c =

@@ -102,7 +102,7 @@ returns-clause-needed c plan past keeps refused =
     subst (λ (l : Link). MayNeedMemory plan past (at c plan past k l)) (sym c.requires.here)
     (needed_alone plan past x (alone c plan past k)
     (of_group plan past (Port c.args.port)
-    (λ p l. group_lawful.IsServed p l x ⊎ IsFirstRequest l c.args.beat.now) true (alone c plan past k)
+    (λ p l. group_lawful.SlaveMayNeedMemory p l x ⊎ IsFirstRequest l c.args.beat.now) true (alone c plan past k)
     (c.step.ensures.needed (port_plan plan) (port_past c.args.port past) (own c plan past k) (here c plan past k) refused)))
 
 pub step-requires : goal.step-requires

@@ -72,9 +72,9 @@ returns-clause-memory c plan past keeps refused =
 
 pub returns-clause-needed : goal.returns-clause-needed
 returns-clause-needed c plan past keeps refused =
-    of_group plan past c.args.link (λ p l. group_lawful.IsServed p l (x c plan past keeps)) false
+    of_group plan past c.args.link (λ p l. group_lawful.SlaveMayNeedMemory p l (x c plan past keeps)) false
     (shared c plan past keeps)
-    (c.step.ensures.served (shared_plan plan) (shared_past plan.layout.links past) (inside c plan past keeps).shared refused)
+    (c.step.ensures.needed (shared_plan plan) (shared_past plan.layout.links past) (inside c plan past keeps).shared refused)
 
 pub step-requires-clause-lanes : goal.step-requires-clause-lanes
 step-requires-clause-lanes c =

@@ -99,7 +99,7 @@ returns-clause-needed c plan past keeps =
     subst (λ (l : Link). OnErr c.take.result (MayNeedMemory plan past (at c plan past k l))) (sym c.requires.here)
     (on_err c.take.result (needed_alone plan past x (alone c plan past k))
     (of_group plan past (Port c.args.port)
-    (λ p l. OnErr c.take.result (group_lawful.IsServed p l x ⊎ IsFirstRequest l c.args.beat.now)) true
+    (λ p l. OnErr c.take.result (group_lawful.SlaveMayNeedMemory p l x ⊎ IsFirstRequest l c.args.beat.now)) true
     (alone c plan past k)
     (c.take.ensures.needed (port_plan plan) (port_past c.args.port past) (own c plan past k) (here c plan past k))))
 

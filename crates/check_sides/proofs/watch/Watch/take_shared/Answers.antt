@@ -68,9 +68,9 @@ returns-clause-memory c plan past keeps =
 
 pub returns-clause-needed : goal.returns-clause-needed
 returns-clause-needed c plan past keeps =
-    of_group plan past c.args.link (λ p l. OnErr c.take.result (group_lawful.IsServed p l (x c plan past keeps))) false
+    of_group plan past c.args.link (λ p l. OnErr c.take.result (group_lawful.SlaveMayNeedMemory p l (x c plan past keeps))) false
     (shared c plan past keeps)
-    (c.take.ensures.served (shared_plan plan) (shared_past plan.layout.links past) (inside c plan past keeps).shared)
+    (c.take.ensures.needed (shared_plan plan) (shared_past plan.layout.links past) (inside c plan past keeps).shared)
 
 pub take-requires-clause-lanes : goal.take-requires-clause-lanes
 take-requires-clause-lanes c =

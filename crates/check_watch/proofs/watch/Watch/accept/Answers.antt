@@ -4,8 +4,7 @@ use Rattle.std.specs.Prelude.{IsTrue, OnErr, slice_set}
 use Rattle.check_beats.specs.Form.{FitsAsk}
 use Rattle.check_beats.specs.State.{Under, ask_of, ends_ask, first_ask}
 use Rattle.check_flight.specs.Flight.Turn.{Asked}
-use Rattle.check_flight.specs.Order.{is_at_acceptance}
-use Rattle.check_flight.specs.PortSlave.{PortSlave, accepting, due_accepting}
+use Rattle.check_flight.specs.PortSlave.{PortSlave, accepting, due_accepting, may_need_to_accept}
 use Rattle.check_flight.specs.Side.{ask_ended, side_with, under_at}
 use Rattle.check_flight.proofs.Served.{set_own}
 use Rattle.check_watch.specs.Past.{no_slave, slave_at}
@@ -61,15 +60,20 @@ returns-in-Port-clause-after c =
     rw (← c.self.view_is, c.in-Port.is, side_is, slave_is) refl)
     c.accept-in-Port.ensures.side c.accept-in-Port.ensures.slave
 
-pub returns-in-Master-clause-served : goal.returns-in-Master-clause-served
-returns-in-Master-clause-served c =
+pub returns-in-Master-clause-needed : goal.returns-in-Master-clause-needed
+returns-in-Master-clause-needed c =
     let slaves = c.self.inside.slaves.items in
     let port = c.args.place.port in
     let within : port < length slaves = slave_within _ _ c.self.view_is _ c.requires.port in
     let found : c.index_mut-slave.result.now ≡ slave_at slaves port =
     slave_found slaves port c.index_mut-slave.result.now within c.index_mut-slave.ensures.value in
-    rw (← c.self.view_is) (subst (λ (s : PortSlave). OnErr c.accept.result (IsTrue (is_at_acceptance s.order))) found
-    c.accept.ensures.served)
+    let m = c.in-Master.field-0 in
+    let at : c.args.place.link ≡ m = rw c.in-Master.is at c.requires.at in
+    let under = under_at c.self.inside.masters.links m in
+    let ask = ask_of under.bus under.asking c.args.beat.now c.args.lanes.now in
+    let needs : OnErr c.accept.result (IsTrue (may_need_to_accept (slave_at slaves port) ask)) =
+    rw (← found, ← at) c.accept.ensures.needed in
+    rw (← c.self.view_is, c.in-Master.is) needs
 
 pub returns-in-Master-clause-err : goal.returns-in-Master-clause-err
 returns-in-Master-clause-err c =
@@ -84,15 +88,20 @@ returns-in-Master-clause-err c =
     ap (λ (s : PortSlave). slice_set slaves port s) (slave ∙ found) ∙ set_own no_slave slaves port in
     rw (← c.self.view_is, side, slaves_are) refl) c.accept.ensures.unchanged c.accept.ensures.slave_unchanged
 
-pub returns-in-Port-clause-served : goal.returns-in-Port-clause-served
-returns-in-Port-clause-served c =
+pub returns-in-Port-clause-needed : goal.returns-in-Port-clause-needed
+returns-in-Port-clause-needed c =
     let slaves = c.self.inside.slaves.items in
     let port = c.args.place.port in
     let within : port < length slaves = slave_within _ _ c.self.view_is _ c.requires.port in
     let found : c.index_mut-slave.result.now ≡ slave_at slaves port =
     slave_found slaves port c.index_mut-slave.result.now within c.index_mut-slave.ensures.value in
-    rw (← c.self.view_is) (subst (λ (s : PortSlave). OnErr c.accept-in-Port.result (IsTrue (is_at_acceptance s.order))) found
-    c.accept-in-Port.ensures.served)
+    let m = c.in-Port.field-0 in
+    let at : c.args.place.link ≡ m = rw c.in-Port.is at c.requires.at in
+    let under = under_at c.self.inside.ports.links m in
+    let ask = ask_of under.bus under.asking c.args.beat.now c.args.lanes.now in
+    let needs : OnErr c.accept-in-Port.result (IsTrue (may_need_to_accept (slave_at slaves port) ask)) =
+    rw (← found, ← at) c.accept-in-Port.ensures.needed in
+    rw (← c.self.view_is, c.in-Port.is) needs
 
 pub returns-in-Port-clause-err : goal.returns-in-Port-clause-err
 returns-in-Port-clause-err c =

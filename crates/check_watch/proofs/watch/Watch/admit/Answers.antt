@@ -2,12 +2,12 @@ use Rattle.std.proofs.Common.{◌≡◌, ◌∙◌, true, false, sym, subst}
 use Rattle.std.specs.Prelude.{◌∷◌, Result, Ok, Err, IfOk, IsErrAnd, OnErr}
 use Rattle.check_watch.specs.declared.beat.Beat.{Beat}
 use Rattle.check_watch.specs.declared.seen.Ended.TheVariants as ends
-use Rattle.check_watch.specs.Lawful.{IsLawful, IsServed, what_is_seen}
+use Rattle.check_watch.specs.Lawful.{IsLawful, SlaveMayNeedMemory, what_is_seen}
 use Rattle.check_watch.specs.Scene.{ended}
 use Rattle.check_watch.specs.Plan.{seen_at}
 use Rattle.check_watch.specs.View.{IsPlace, Keeps}
 use Rattle.check_watch.proofs.Ending.{ask_ended, reply_ended}
-use Rattle.check_watch.proofs.Keeping.{ask_keeps, ask_served, reply_keeps, reply_served}
+use Rattle.check_watch.proofs.Keeping.{ask_keeps, ask_needs, reply_keeps, reply_needs}
 use Rattle.check_watch.proofs.watch.Watch.admit.Goals as goal
 
 -- an error says nothing of what is right
@@ -27,15 +27,15 @@ pub returns-in_err-ends-in-A-clause-ended : goal.returns-in_err-ends-in-A-clause
 returns-in_err-ends-in-A-clause-ended c plan past keeps lawful =
     no_value c.from_residual.result _ _ c.from_residual.ensures.1
 
-pub returns-in_err-ends-in-A-clause-served : goal.returns-in_err-ends-in-A-clause-served
-returns-in_err-ends-in-A-clause-served c plan past keeps lawful =
+pub returns-in_err-ends-in-A-clause-needed : goal.returns-in_err-ends-in-A-clause-needed
+returns-in_err-ends-in-A-clause-needed c plan past keeps lawful =
     let view = c.args.self.now in
     let link = c.args.link in
     let known = c.args.known in
     let lanes = c.args.lanes.now in
-    let P : Beat → Type 0 = λ b. IsPlace view link b c.args.place → IsServed plan past (seen_at link b known lanes) in
+    let P : Beat → Type 0 = λ b. IsPlace view link b c.args.place → SlaveMayNeedMemory plan past (seen_at link b known lanes) in
     on_err c.from_residual.result (subst P (sym c.in-A.is)
-    (λ at. ask_served plan past view link known lanes c.args.place keeps c.in-A.beat at c.in_err-ends-in-A.ensures.served)
+    (λ at. ask_needs plan past view link known lanes c.args.place keeps c.in-A.beat at c.in_err-ends-in-A.ensures.needed)
     c.requires.place)
 
 pub returns-in_err-ends-in-D-clause-keeps : goal.returns-in_err-ends-in-D-clause-keeps
@@ -46,18 +46,17 @@ pub returns-in_err-ends-in-D-clause-ended : goal.returns-in_err-ends-in-D-clause
 returns-in_err-ends-in-D-clause-ended c plan past keeps lawful =
     no_value c.from_residual-in_err-ends-in-D.result _ _ c.from_residual-in_err-ends-in-D.ensures.1
 
-pub returns-in_err-ends-in-D-clause-served : goal.returns-in_err-ends-in-D-clause-served
-returns-in_err-ends-in-D-clause-served c plan past keeps lawful =
+pub returns-in_err-ends-in-D-clause-needed : goal.returns-in_err-ends-in-D-clause-needed
+returns-in_err-ends-in-D-clause-needed c plan past keeps lawful =
     let view = c.args.self.now in
     let link = c.args.link in
     let known = c.args.known in
     let lanes = c.args.lanes.now in
     let P : Beat → Type 0 =
-    λ b. IsPlace view link b c.args.place → IsLawful plan (seen_at link b known lanes ∷ past)
-    → IsServed plan past (seen_at link b known lanes) in
+    λ b. IsPlace view link b c.args.place → SlaveMayNeedMemory plan past (seen_at link b known lanes) in
     on_err c.from_residual-in_err-ends-in-D.result (subst P (sym c.in-D.is)
-    (λ at right. reply_served plan past view link known lanes c.args.place keeps c.in-D.beat at c.in_err-ends-in-D.ensures.served right)
-    c.requires.place lawful)
+    (λ at. reply_needs plan past view link known lanes c.args.place keeps c.in-D.beat at c.in_err-ends-in-D.ensures.needed)
+    c.requires.place)
 
 pub returns-then-ends-clause-keeps : goal.returns-then-ends-clause-keeps
 returns-then-ends-clause-keeps c plan past keeps =
