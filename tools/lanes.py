@@ -21,8 +21,10 @@ from kit import command, kit_crate  # noqa: E402
 
 # What a crate's check on one processor takes at most, in KiB.
 MEMORY = 4 * 1024 * 1024
-# More processors than this make the check of one crate hardly faster.
+# More processors than this make the check of one crate hardly faster, and a second one makes that of a small crate slower: each of the
+# two reads the libraries.
 MOST_JOBS = 2
+LARGE = 250_000
 # How much there is to check of a byte in each folder of a crate, and of what stands below it.
 PARTS = {"src": 8, "specs": 1, "proofs": 1}
 READING = 60_000
@@ -53,6 +55,11 @@ def weight(name):
 def size(folder):
     """The bytes of all files in a folder, or 0 if there is none."""
     return sum(os.path.getsize(os.path.join(at, file)) for at, _, files in os.walk(folder) for file in files)
+
+
+def most_jobs(name):
+    """How many processors make the check of a crate faster."""
+    return MOST_JOBS if weight(name) >= LARGE else 1
 
 
 def chains(names, all_crates):
@@ -201,7 +208,7 @@ class Lanes:
         gets as many as help it, and so does each that no other crate is ready beside."""
         for at, name in enumerate(ready):
             if idle > 0:
-                jobs = max(1, min(MOST_JOBS, idle if long[name] >= last else idle // (len(ready) - at)))
+                jobs = max(1, min(most_jobs(name), idle if long[name] >= last else idle // (len(ready) - at)))
                 idle, last = idle - jobs, max(last, long[name])
                 yield name, jobs
 

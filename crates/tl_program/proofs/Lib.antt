@@ -1,3 +1,4 @@
 pub mod Failing
 mod OneThread
 mod Slots
+pub mod Whole

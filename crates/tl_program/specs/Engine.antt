@@ -15,7 +15,7 @@ use Rattle.tl_script.specs.declared.script.TheConstants.{MAX_SCRIPT}
 use Rattle.tl_serial.specs.Text.{run_text}
 use Rattle.tl_streams.specs.Input.{GivesSystem, HasScriptFault}
 use Rattle.tl_streams.specs.Streams.{AppendsPart, TakesUpTo}
-use Rattle.tl_threads.specs.Run.{IsThreadedRun}
+use Rattle.tl_program.specs.Run.{IsThreadedRun}
 use Rattle.tl_program.specs.declared.fault.RunFault.{RunFault}
 use Rattle.tl_program.specs.declared.fault.RunFault.TheVariants as run
 

@@ -1,3 +1,4 @@
 pub mod Fault
 pub mod Engine
 pub mod OneThread
+pub mod Run

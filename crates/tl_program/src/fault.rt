@@ -7,8 +7,8 @@ use thiserror::Error;
 use tl_audit::AuditFault;
 use tl_script::ScriptFault;
 use tl_streams::{InputFault, WriteFault};
-use tl_threads::ThreadFault;
 use tl_types::Memory;
+use tl_workers::ThreadFault;
 
 /// Why a run has no text. The text of each is one line for standard error.
 #[derive(Debug, Drop, Error)]

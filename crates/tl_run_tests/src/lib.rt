@@ -5,7 +5,7 @@
 //! (`tl_program`), against values and texts worked out by hand, with the line of each fault.
 //!
 //! No clause can say that two threads run at once, that a run ends, or that each master leaves. `threads` runs whole
-//! systems by `tl_threads`, at gates that count who comes, with one thread a port and with four.
+//! systems by threads, at gates that count who comes, with one thread a port and with four.
 //!
 //! They stand in one crate, since each check of tests reads all that stands below them.
 #![tactic(auto)]

@@ -7,10 +7,12 @@ ghost use Rattle.tl_script.specs.declared.script.TheConstants.{MAX_SCRIPT};
 ghost use Rattle.tl_serial.specs.Text.{histories_text, run_text};
 ghost use Rattle.tl_streams.specs.Input.{GivesSystem};
 ghost use Rattle.tl_streams.specs.Streams.{TakesUpTo};
-ghost use Rattle.tl_threads.specs.Run.{IsThreadedRun};
+ghost use Rattle.tl_program.specs.Run.{IsThreadedRun};
 ghost use Rattle.tl_program.specs.Engine.{HasThreadedFault, IsAnswered, IsThreadedText};
 
 use crate::fault::RunFault;
+use crate::named::ThreadedRun;
+use crate::threads::run_threads;
 use std::alloc::{AllocError, Global};
 use std::io::{Read, Write};
 use std::sync::Wait;
@@ -19,8 +21,8 @@ use tl_audit::audit;
 use tl_port::Book;
 use tl_script::{System, push_account, push_history, push_traces};
 use tl_streams::{LimitedReader, LimitedWriter, read_whole_system, write_all};
-use tl_threads::{OpenGate, ThreadedRun, run_threads};
 use tl_types::{MAX_WORKERS, Memory};
+use tl_workers::OpenGate;
 
 /// Appends the lines of the books' histories, port 0's first.
 fn push_histories(text: &mut Vec<u8>, books: &[Book]) -> Result<(), AllocError>

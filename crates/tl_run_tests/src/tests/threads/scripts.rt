@@ -8,7 +8,8 @@ use std::process::Abort;
 use std::sync::Wait;
 use std::thread::Threads;
 use tl_journal::Trace;
-use tl_threads::{OpenGate, ThreadedRun};
+use tl_program::ThreadedRun;
+use tl_workers::OpenGate;
 
 /// A RAM of 64 bytes at 0x1000.
 const RAM: &str = "{ kind = 'ram', base = 0x1000, length = 64 }";

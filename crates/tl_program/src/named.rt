@@ -1,7 +1,7 @@
 //! A run over one arena, which the ports' locks name.
 ghost use Rattle.std.specs.Prelude.{◌≡◌, ◌+◌, ◌<◌, ◌≤◌, All, Contains, IfOk, IfNone, IfSome, vec_len, vec_capacity, length};
 ghost use Rattle.tl_arena.specs.Account.{IsClosing};
-ghost use Rattle.tl_threads.specs.Run.{HaveLeft, IsBookOf};
+ghost use Rattle.tl_program.specs.Run.{HaveLeft, IsBookOf};
 ghost use Rattle.tl_workers.specs.Start.{AreFrom, AreTracesOf, IsBookIn, IsNewBook, IsNewThreadSet};
 
 use std::alloc::Global;

@@ -1,4 +1,4 @@
-use Rattle.tl_threads.proofs.threads.run_threads.Given as goal
+use Rattle.tl_program.proofs.threads.run_threads.Given as goal
 
 -- the arena that was made
 abbrev pub ghosts-run_named : goal.ghosts-run_named

@@ -1,8 +1,8 @@
 use Rattle.std.proofs.Common.{◌≡◌, ◌+◌, ℕ, List, [], ◌∷◌, ◌++◌, length, ap, sym, ◌∙◌}
 use Rattle.tl_ops.specs.Store.{Store}
 use Rattle.tl_script.specs.System.{error_store}
-use Rattle.tl_threads.proofs.Whole.{banks_many, books_many, reached, resets_length, seats_many, threaded}
-use Rattle.tl_threads.proofs.threads.run_threads.Goals as goal
+use Rattle.tl_program.proofs.Whole.{banks_many, books_many, reached, resets_length, seats_many, threaded}
+use Rattle.tl_program.proofs.threads.run_threads.Goals as goal
 
 pub arena_of-requires : goal.arena_of-requires
 arena_of-requires g c =

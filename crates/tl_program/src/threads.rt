@@ -3,7 +3,7 @@ ghost use Rattle.std.specs.Prelude.{◌≡◌, ◌≤◌, length, IfOk};
 ghost use Rattle.tl_journal.specs.Trace.{entries_in};
 ghost use Rattle.tl_script.specs.System.{resets};
 ghost use Rattle.tl_arena.specs.Views.{about_of, AreNewMasters, AreNewPorts};
-ghost use Rattle.tl_threads.specs.Run.{IsThreadedRun};
+ghost use Rattle.tl_program.specs.Run.{IsThreadedRun};
 
 use crate::named::{ThreadedRun, run_named};
 use std::alloc::Global;
