@@ -8,8 +8,8 @@
 //! - `systems`: how long a system file may be (`check_description`);
 //! - `waves`: dumps whose bytes come a few at a time, or not at all (`check_vcd`, `check_signals`, `check_samples`).
 //!
-//! What the built programs show stands in files: `examples/verdicts` has captures with their verdicts, `examples/waves` dumps
-//! with their rows, and `tools/system_faults.py` system files with their faults.
+//! What the built programs show stands in files: `examples/verdicts` has captures with their verdicts, `examples/waves`
+//! dumps with their rows, and `tools/system_faults.py` system files with their faults.
 //!
 //! They stand in one crate, since each check of tests reads all that stands below them.
 #![tactic(auto)]
