@@ -8,6 +8,13 @@ MASTER = "[[master]]\nsources = 1\n"
 PORT = "[[port]]\nkind = 'ram'\nbase = 0\nlength = 2\n"
 # As many ports as a system may have.
 DEVICES = ", ".join(f"{{ kind = 'device', base = {at}, length = 1 }}" for at in range(255))
+
+
+def roms(count):
+    """So many ports of a byte each."""
+    return ", ".join(f"{{ kind = 'rom', base = {at}, length = 1 }}" for at in range(count))
+
+
 DOCUMENTS = ("", {
     "": "missing master",
     "port": "not TOML",
@@ -31,6 +38,15 @@ DOCUMENTS = ("", {
     "bus = 16": "missing master",
     "bus = true": "wrong type of bus",
     "bus = 8.0": "wrong type of bus",
+    "bus = '4'": "wrong type of bus",
+    "bus = 128": "bus out of range",
+    "bus = 64": "missing master",
+    # a port that is written in one line
+    "port = [{}]": "missing kind",
+    "port = [{ name = 1 }]": "wrong type of name",
+    "port = [{ name = 'p0' }]": "name out of range",
+    "port = [{ kind = 1 }]": "wrong type of kind",
+    "port = [{ kind = 'Device' }]": "kind out of range",
 })
 NAMES = ("[[port]]\n", {
     "name = 1": "wrong type of name",
@@ -62,6 +78,7 @@ PLAIN_PORTS = ("[[port]]\n", {
     "kind = 'ram'\nbase = 9223372036854775807\nlength = 9223372036854775807": "missing master",
     # the first port's last key comes before the second port's first
     "kind = 'ram'\nbase = 0\nlength = 1\nbus = 3\n[[port]]": "bus out of range",
+    "kind = 'ram'\nbase = 0\nlength = 1\norder = 1\n[[port]]": "wrong type of order",
     "kind = 'ram'\nbase = 0\nlength = 1\n[[port]]": "missing kind",
 })
 RANGES = ("[[port]]\nkind = 'ram'\n", {
@@ -88,6 +105,23 @@ RANGES = ("[[port]]\nkind = 'ram'\n", {
     "ranges = 1\nlength = 0": "length out of range",
     "ranges = [[0, 1], [8, 8]]": "missing master",
 })
+# A device has ranges as a memory has.
+DEVICE_RANGES = ("[[port]]\nkind = 'device'\n", {
+    "": "missing base",
+    "base = '0'": "wrong type of base",
+    "base = -1": "base out of range",
+    "base = 0": "missing length",
+    "base = 0\nlength = 0": "length out of range",
+    "base = 0\nlength = 1": "missing master",
+    "base = 9223372036854775807\nlength = 9223372036854775807": "missing master",
+    "ranges = 1": "wrong type of ranges",
+    "ranges = [[-1, 1], [0]]": "wrong type of ranges",
+    "ranges = [[0, 1, 2]]": "wrong type of ranges",
+    "ranges = []": "ranges out of range",
+    "ranges = [[0, 1], [8, 0]]": "ranges out of range",
+    "ranges = [[0, 1]]\nbase = 0": "ranges out of range",
+    "ranges = 1\nbase = 'x'": "wrong type of base",
+})
 CONTENTS = ("[[port]]\nkind = 'ram'\nranges = [[0, 2], [8, 8]]\n", {
     "reset = 1": "wrong type of reset",
     "reset = '0'": "reset out of range",
@@ -109,6 +143,29 @@ CONTENTS = ("[[port]]\nkind = 'ram'\nranges = [[0, 2], [8, 8]]\n", {
     "sizes = 1\nunknown = 1": "wrong type of unknown",
     "order = 1\nsizes = 1": "wrong type of sizes",
     "bus = 3\norder = 1": "wrong type of order",
+    "reset = ''\norder = 1": "wrong type of order",
+    "order = 'Reply'": "order out of range",
+    "reset = '0'\norder = 1": "reset out of range",
+    "order = 'reply'": "missing master",
+})
+# The same keys of a port with one range.
+ONE_RANGE = (PORT, {
+    "reset = 1": "wrong type of reset",
+    "reset = '0'": "reset out of range",
+    "reset = '0g'": "reset out of range",
+    "reset = '010203'": "reset out of range",
+    "reset = '0102'": "missing master",
+    "image = 1": "wrong type of image",
+    "image = 'boot.bin'": "missing master",
+    "unknown = 1": "wrong type of unknown",
+    "unknown = 'true'": "wrong type of unknown",
+    "unknown = true": "missing master",
+    "image = 1\nreset = 1": "wrong type of reset",
+    "unknown = 1\nimage = 1": "wrong type of image",
+    "sizes = 1\nunknown = 1": "wrong type of unknown",
+    "order = 1\nsizes = 1": "wrong type of sizes",
+    "bus = 3\norder = 1": "wrong type of order",
+    "bus = 3\n[[port]]": "bus out of range",
 })
 SIZES = (PORT, {
     "sizes = {}": "missing master",
@@ -130,6 +187,9 @@ SIZES = (PORT, {
     "sizes = { get = [0, 9], intent = 1 }": "wrong type of sizes",
     # keys that are not named are nothing
     "sizes = { acquire = 1, Get = 1, atomics = [0, 9] }": "missing master",
+    "sizes = { acquire = 1 }": "missing master",
+    "sizes = { Get = 1 }": "missing master",
+    "sizes = { atomics = [0, 9] }": "missing master",
 })
 ORDERS_AND_BUSES = (PORT, {
     "order = 1": "wrong type of order",
@@ -160,6 +220,11 @@ MASTERS = ("[[master]]\n", {
     "sources = 1\nbus = 12": "bus out of range",
     "sources = 1\nstride = 0\nbus = 12": "stride out of range",
     "sources = 1\nbus = 64": "",
+    "sources = 1\nbus = 'x'": "wrong type of bus",
+    "sources = 1\nbus = 5": "bus out of range",
+    "sources = 1\nstride = 0\nbus = 5": "stride out of range",
+    f"sources = 1\nname = '{'n' * 32}'": "",
+    f"sources = 1\nname = '{'n' * 33}'": "name out of range",
 })
 # If one of two masters has a first wide source, the other has to have one.
 TWO_MASTERS = (MASTER, {
@@ -179,6 +244,9 @@ PARTS = ("", {
         "two are called y",
     "master = [{ name = 'dma', sources = 1 }]\nport = [{ name = 'dma', kind = 'ram', base = 0, length = 1 }]": "two are called dma",
     "master = [{ name = 'x', sources = 1 }, { name = 'X', sources = 1 }]": "",
+    # names come before ranges, and ranges before sources
+    "master = [{ sources = 1 }]\nport = [{ name = 'a', kind = 'ram', base = 0, length = 1 }, { name = 'a', kind = 'ram', base = 0, length = 1 }]":
+        "two are called a",
     "master = [{ sources = 257 }]\nport = [{ kind = 'ram', base = 0, length = 2 }, { kind = 'ram', base = 1, length = 1 }]":
         "ports 0 and 1 overlap",
     "master = [{ sources = 1 }]\nport = [{ kind = 'ram', base = 0, length = 2 }, { kind = 'ram', base = 2, length = 1 }]": "",
@@ -203,8 +271,14 @@ PARTS = ("", {
     "master = [{ sources = 1, first = 0 }, { sources = 1, first = 0 }, { sources = 2, first = 65535 }]": "too many masters or sources",
     f"master = [{', '.join(['{ sources = 1 }'] * 64)}]": "",
     f"master = [{', '.join(['{ sources = 1 }'] * 65)}]": "master out of range",
+    f"master = [{', '.join(['{ sources = 256 }'] * 64)}]": "",
+    f"master = [{', '.join(['{ sources = 256 }'] * 65)}]": "master out of range",
     f"master = [{{ sources = 1 }}]\nport = [{DEVICES}]": "",
     f"master = [{{ sources = 1 }}]\nport = [{', '.join(['{}'] * 256)}]": "port out of range",
+    f"master = [{{ sources = 1 }}]\nport = [{roms(255)}]": "",
+    f"master = [{{ sources = 1 }}]\nport = [{roms(256)}]": "port out of range",
+    f"master = [{{ sources = 1 }}]\nport = [{{ kind = 'ram', ranges = {[[at, 1] for at in range(16)]} }}]": "",
+    f"master = [{{ sources = 1 }}]\nport = [{{ kind = 'ram', ranges = {[[at, 1] for at in range(17)]} }}]": "ranges out of range",
 })
 # The images that stand in the folder, and how many bytes each has.
 FILES = {"two.bin": 2, "three.bin": 3, "empty.bin": 0}
@@ -225,11 +299,13 @@ IMAGES = (f"{MASTER}{PORT}", {
     "image = 'three.bin'\n[[port]]\nkind = 'ram'\nbase = 0\nlength = 1\nimage = 'none.bin'": "port 0: image is longer than its range",
     "[[port]]\nkind = 'device'\nbase = 0\nlength = 1\nimage = 'none.bin'": "port 1: image can't be read",
     "[[port]]\nkind = 'device'\nranges = [[0, 1], [8, 8]]\nimage = 'two.bin'": "port 1: image is longer than its range",
+    "[[port]]\nkind = 'device'\nbase = 8\nlength = 2\nimage = 'two.bin'": "",
+    "[[port]]\nkind = 'device'\nbase = 8\nlength = 2\nimage = 'three.bin'": "port 1: image is longer than its range",
     "name = 'x'\nimage = 'none.bin'\n[[port]]\nname = 'x'\nkind = 'ram'\nbase = 8\nlength = 1": "two are called x",
     "image = 'two.bin'\n[[port]]\nkind = 'ram'\nbase = 0\nlength = 1": "ports 0 and 1 overlap",
     "image = 'none.bin'\n[[master]]\nsources = 257": "port 0: image can't be read",
 })
-TABLES = (DOCUMENTS, NAMES, PLAIN_PORTS, RANGES, CONTENTS, SIZES, ORDERS_AND_BUSES, MASTERS, TWO_MASTERS, PARTS, IMAGES)
+TABLES = (DOCUMENTS, NAMES, PLAIN_PORTS, RANGES, DEVICE_RANGES, CONTENTS, ONE_RANGE, SIZES, ORDERS_AND_BUSES, MASTERS, TWO_MASTERS, PARTS, IMAGES)
 
 
 def rows():

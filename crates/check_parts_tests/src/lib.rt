@@ -3,14 +3,13 @@
 //! The contracts say what each call answers. These tests say whether that is what was meant, and that each call
 //! succeeds, or changes nothing if memory is refused. All is worked out by hand:
 //!
-//! - `state`: beats on buses of 1 to 64 bytes, memories that are known in part, and requests in flight (`check_beats`,
-//!   `check_memory`, `check_flight`);
-//! - `systems`: system files, with the line of each fault in the order of the checks, and the limits from both sides
-//!   (`check_keys`, `check_ports`, `check_description`);
-//! - `watch`: captures of a crossbar whose masters have links of 4 bytes and whose ports have links of 8, rows at links of
-//!   1 to 64 bytes, and what a capture covers (`check_watch`, `check_sides`, `check_rows`, `check_coverage`);
-//! - `waves`: dumps with what happens in them, names with what is found, and edges with their rows (`check_vcd`,
-//!   `check_signals`, `check_samples`), from IEEE 1364 and the format of captures.
+//! - `state`: bits past the bus, memories that are known in part, and requests in flight (`check_beats`, `check_memory`,
+//!   `check_flight`);
+//! - `systems`: how long a system file may be (`check_description`);
+//! - `waves`: dumps whose bytes come a few at a time, or not at all (`check_vcd`, `check_signals`, `check_samples`).
+//!
+//! What the built programs show stands in files: `examples/verdicts` has captures with their verdicts, `examples/waves`
+//! dumps with their rows, and `tools/system_faults.py` system files with their faults.
 //!
 //! They stand in one crate, since each check of tests reads all that stands below them.
 #![tactic(auto)]

@@ -1,6 +1,5 @@
 mod state;
 mod systems;
-mod watch;
 mod waves;
 
 use std::process::Abort;

@@ -1,4 +1,0 @@
-//! Keys and ports of the judge's system files, with values worked out by hand.
-mod faults;
-mod read;
-mod slaves;

@@ -1,5 +1,0 @@
-mod captures;
-mod coverage;
-mod rows;
-mod scene;
-mod sides;
