@@ -2,7 +2,6 @@ mod beats;
 mod map;
 mod memory;
 mod ops;
-mod scripts;
 mod slots;
 mod texts;
 mod types;

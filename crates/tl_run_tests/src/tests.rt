@@ -1,9 +1,6 @@
 mod audit;
 mod audits;
 mod model;
-mod options;
 mod program;
-mod serial;
 mod streams;
-mod texts;
 mod threads;

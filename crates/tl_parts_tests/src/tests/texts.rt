@@ -1,4 +1,4 @@
-//! The words of faults.
+//! The words of faults, and that want of memory is one fault of a script.
 use super::holds;
 use std::alloc::Global;
 use std::fmt::Display;
@@ -6,6 +6,7 @@ use std::process::Abort;
 use tl_beats::BeatFault;
 use tl_map::{MapFault, SourceFault};
 use tl_ops::BankFault;
+use tl_script::ScriptFault;
 use tl_slots::{CoreFault, CoreMakeFault};
 use tl_types::{AskFault, OpFault, ReplyFault};
 
@@ -102,6 +103,15 @@ const CORES_MADE: [(CoreMakeFault, &str); 2] = [
     (CoreMakeFault::Memory, "memory refused"),
 ];
 
+/// Those that no script has.
+const SCRIPTS: [(ScriptFault, &str); 2] = [
+    (
+        ScriptFault::Map(MapFault::PastEnd(3)),
+        "script: port 3: past the end",
+    ),
+    (ScriptFault::Memory, "memory refused"),
+];
+
 #[test]
 fn faults_are_told_in_words(rt: HostRuntime) {
     let alloc = rt.alloc();
@@ -114,4 +124,13 @@ fn faults_are_told_in_words(rt: HostRuntime) {
     expect_texts(&rt, alloc, &SOURCES);
     expect_texts(&rt, alloc, &CORES);
     expect_texts(&rt, alloc, &CORES_MADE);
+    expect_texts(&rt, alloc, &SCRIPTS);
+}
+
+#[test]
+fn want_of_memory_is_one_fault(rt: HostRuntime) {
+    let of_map = ScriptFault::from(MapFault::Memory);
+    holds(&rt, "of the map", of_map == ScriptFault::Memory);
+    let of_sources = ScriptFault::from(SourceFault::Memory);
+    holds(&rt, "of the sources", of_sources == ScriptFault::Memory);
 }

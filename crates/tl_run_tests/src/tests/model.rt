@@ -1,10 +1,19 @@
-//! The model of a crossbar, call by call: the same texts as those of the serial run, refusals, and bytes.
-use super::serial::{OPERATIONS, script_of};
+//! The model of a crossbar, call by call: the same texts as those of the serial run (`examples/scripts`), refusals, and
+//! bytes.
 use std::alloc::Global;
 use std::process::Abort;
 use tl_model::{Crossbar, ServeFault};
 use tl_script::{Job, System, push_entry, read_system};
 use tl_types::{Ask, AskOp};
+
+/// A RAM, a ROM and registers, and one master whose operations follow.
+const SYSTEM: &str =
+    "slots = 4\nport = [{ kind = 'ram', base = 0x1000, length = 64 }, { kind = 'rom', base = 0x2000, length = 32, reset = '00010203' }, { kind = 'regs', base = 0x3000, length = 16 }]\nmaster = [{ sources = 16, ops = [";
+
+/// The script of that system, whose master has these operations.
+fn script_of(rt: &impl Abort, alloc: Global, operations: &str) -> String {
+    format!(in alloc; "{SYSTEM}{operations}] }}]").expect(rt, "memory")
+}
 
 /// The system whose master 0 has these operations.
 fn system_of(rt: &impl Abort, alloc: Global, operations: &str) -> System {
@@ -36,6 +45,39 @@ fn printed(rt: &impl Abort, alloc: Global, operations: &str) -> Vec<u8> {
     }
     text
 }
+
+/// Operations, and their trace.
+static OPERATIONS: [(&str, &str); 8] = [
+    ("", ""),
+    (
+        "'0 get 0x103f 0', '0 get 0x103f 1', '0 get 0x1001 1'",
+        "m0 s0 get 0x103f 0 -> AccessAckData 00 p0 #0\nm0 s0 get 0x103f 1 -> AccessAckData denied 0000 p3 #0\nm0 s0 get 0x1001 1 -> AccessAckData denied 0000 p0 #1\n",
+    ),
+    (
+        "'0 get 0x2000 6'",
+        "m0 s0 get 0x2000 6 -> AccessAckData denied 00000000000000000000000000000000000000000000000000000000000000000000000000000000000000000000000000000000000000000000000000000000 p3 #0\n",
+    ),
+    (
+        "'0 get 0x1000 7'",
+        "m0 s0 get 0x1000 7 -> AccessAckData denied 0000000000000000000000000000000000000000000000000000000000000000000000000000000000000000000000000000000000000000000000000000000000000000000000000000000000000000000000000000000000000000000000000000000000000000000000000000000000000000000000000000000000000000 p3 #0\n",
+    ),
+    (
+        "'0 putfull 0x2000 2 11223344', '0 prefetchr 0x2000 2', '0 get 0x2000 2', '0 get 0x3000 1'",
+        "m0 s0 putfull 0x2000 2 11223344 -> AccessAck denied p1 #0\nm0 s0 prefetchr 0x2000 2 -> HintAck p1 #1\nm0 s0 get 0x2000 2 -> AccessAckData 00010203 p1 #2\nm0 s0 get 0x3000 1 -> AccessAckData denied 0000 p2 #0\n",
+    ),
+    (
+        "'0 get 0x9000 3', '0 prefetchw 0x9000 3', '0 get 18446744073709551615 0'",
+        "m0 s0 get 0x9000 3 -> AccessAckData denied 0000000000000000 p3 #0\nm0 s0 prefetchw 0x9000 3 -> HintAck denied p3 #1\nm0 s0 get 0xffffffffffffffff 0 -> AccessAckData denied 00 p3 #2\n",
+    ),
+    (
+        "'0 putfull 0x1000 2 00000080', '0 max 0x1000 2 01000000', 'wait', '0 maxu 0x1000 2 00000080', '0 get 0x1000 2'",
+        "m0 s0 putfull 0x1000 2 00000080 -> AccessAck p0 #0\nm0 s0 max 0x1000 2 01000000 -> AccessAckData 00000080 p0 #1\nm0 s0 maxu 0x1000 2 00000080 -> AccessAckData 01000000 p0 #2\nm0 s0 get 0x1000 2 -> AccessAckData 00000080 p0 #3\n",
+    ),
+    (
+        "'0 swap 0x1000 4 00112233445566778899aabbccddeeff', '15 add 0x1000 1 0100'",
+        "m0 s0 swap 0x1000 4 00112233445566778899aabbccddeeff -> AccessAckData denied 00000000000000000000000000000000 p0 #0\nm0 s15 add 0x1000 1 0100 -> AccessAckData denied 0000 p0 #1\n",
+    ),
+];
 
 #[test]
 fn calls_answer_what_the_serial_run_prints(rt: HostRuntime) {

@@ -1,14 +1,9 @@
-//! Whole runs of the program (`tl_program`): what is written, the lines and statuses of faults, and readers and writers
-//! that are slow or fail. Each run is a script with its streams, by one of both engines, and its end is compared as a
-//! whole.
+//! Whole runs of the program (`tl_program`) with readers and writers that are slow or fail, and the lines and statuses
+//! of faults. Each run is a script with its streams, by one of both engines, and its end is compared as a whole.
 ghost use Rattle.std.specs.Prelude.{◌≤◌};
 
-mod crowds;
-mod scripts;
 mod slow;
-mod threads;
 
-use super::serial::{FIRST, FIRST_TRACE, FIRST_WITH_HISTORY};
 use super::streams::{Flow, Trouble, WHOLE, reader_of, writer_with};
 use std::alloc::Global;
 use std::process::Abort;
@@ -18,7 +13,7 @@ use tl_audit::AuditFault;
 use tl_program::engine::serial::serial_engine;
 use tl_program::engine::threads::threads_engine;
 use tl_program::fault::RunFault;
-use tl_script::{Key, MAX_SCRIPT, ScriptFault};
+use tl_script::MAX_SCRIPT;
 
 /// On one thread, or by threads: so many a port.
 #[derive(Clone, Copy)]
@@ -27,13 +22,12 @@ enum Engine {
     Threads(usize),
 }
 
-/// A script, how it is read and its text written, and whether the histories are asked for.
+/// A script, and how it is read and its text written.
 #[derive(Clone, Copy)]
 struct Run<'s> {
     script: &'s [u8],
     reading: Flow,
     writing: Flow,
-    history: bool,
 }
 
 /// What became of a run: its fault, what was written, and how often its streams were called.
@@ -53,12 +47,11 @@ struct End<'s> {
 }
 
 /// The script is read as a whole, and the text written so.
-fn whole(script: &[u8], history: bool) -> Run<'_> {
+fn whole(script: &[u8]) -> Run<'_> {
     Run {
         script,
         reading: WHOLE,
         writing: WHOLE,
-        history,
     }
 }
 
@@ -88,10 +81,10 @@ fn outcome_of<T: Abort + Threads + Wait + Sync>(
     let mut reader = reader_of(run.script, run.reading);
     let mut writer = writer_with(alloc, run.writing);
     let outcome = match engine {
-        Engine::Serial => serial_engine(alloc, &mut reader, &mut writer, run.history),
+        Engine::Serial => serial_engine(alloc, &mut reader, &mut writer, false),
         Engine::Threads(workers) => {
             assert!(rt; 1 <= workers && workers <= 4);
-            threads_engine(rt, alloc, &mut reader, &mut writer, workers, run.history)
+            threads_engine(rt, alloc, &mut reader, &mut writer, workers, false)
         }
     };
     Outcome {
@@ -134,25 +127,8 @@ fn expect<T: Abort + Threads + Wait + Sync>(
     (outcome.reads, outcome.writes)
 }
 
-#[test]
-fn first_run(rt: HostRuntime) {
-    for (history, written) in [(false, FIRST_TRACE), (true, FIRST_WITH_HISTORY)] {
-        let run = whole(FIRST, history);
-        expect(&rt, rt.alloc(), Engine::Serial, &run, &text(written));
-    }
-}
-
-static LINES: [(RunFault, &str, u8); 11] = [
-    (
-        RunFault::Script(ScriptFault::BadOp(0, 2)),
-        "script: master 0 operation 2: bad operation",
-        1,
-    ),
-    (
-        RunFault::Script(ScriptFault::Missing(Key::Slots)),
-        "script: missing slots",
-        1,
-    ),
+/// The faults of a run but those of its script.
+static LINES: [(RunFault, &str, u8); 9] = [
     (RunFault::Memory, "memory refused", 4),
     (RunFault::Read, "read failed", 5),
     (RunFault::Write, "write failed", 5),
@@ -179,36 +155,9 @@ fn faults_have_their_lines_and_statuses(rt: HostRuntime) {
     }
 }
 
-const NOT_TOML: &str = "script: not TOML";
-
 const NO_SLOTS: &str = "script: missing slots";
 
 const TOO_LONG: &str = "script: longer than 1048576 bytes";
-
-/// A script has this fault on one thread, and nothing is written.
-fn expect_no_system<T: Abort + Threads + Wait + Sync>(
-    rt: &T,
-    alloc: Global,
-    script: &[u8],
-    line: &'static str,
-) {
-    let run = whole(script, false);
-    expect(rt, alloc, Engine::Serial, &run, &bad_script(line));
-}
-
-#[test]
-fn a_script_without_a_system_prints_nothing(rt: HostRuntime) {
-    expect_no_system(&rt, rt.alloc(), &FIRST[..FIRST.len() - 50], NOT_TOML);
-    expect_no_system(&rt, rt.alloc(), b"", NO_SLOTS);
-}
-
-#[test]
-fn the_limit_on_bytes(rt: HostRuntime) {
-    for (length, line) in [(MAX_SCRIPT, NO_SLOTS), (MAX_SCRIPT + 1, TOO_LONG)] {
-        let script = vec![in rt.alloc(); b'#'; length].expect(&rt, "memory");
-        expect_no_system(&rt, rt.alloc(), &script, line);
-    }
-}
 
 /// How often a stream is called at most: twice the bytes of a script too long.
 const MOST_CALLS: u32 = 2_097_154;
@@ -223,7 +172,7 @@ fn the_last_read_tells_what_was_read(rt: HostRuntime) {
                 step: 1,
                 trouble: Trouble::BeforeEach,
             },
-            ..whole(&script, false)
+            ..whole(&script)
         };
         let end = bad_script(line);
         let (reads, _) = expect(&rt, rt.alloc(), Engine::Serial, &run, &end);

@@ -1,7 +1,7 @@
 //! Threads that meet at gates, gates that are shut, and runs of the same script over and over.
 ghost use Rattle.std.specs.Prelude.{◌≤◌};
 
-mod scripts;
+mod random;
 
 use std::alloc::Global;
 use std::process::Abort;

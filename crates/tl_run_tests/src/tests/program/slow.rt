@@ -1,15 +1,25 @@
 //! Readers and writers that are slow or fail, with both engines: by threads with one a port, since each run that comes
 //! to its text starts all its threads.
-use super::threads::FIRST_OUTPUT;
 use super::{Engine, MOST_CALLS, Run, expect, text, whole};
 use crate::tests::program::End;
-use crate::tests::serial::{FIRST, FIRST_TRACE};
 use crate::tests::streams::{Flow, Trouble};
 use std::alloc::Global;
 use std::io::ErrorKind;
 use std::process::Abort;
 use std::sync::Wait;
 use std::thread::Threads;
+
+/// The first example.
+const FIRST: &[u8] =
+    b"slots = 4\n[[port]]\nkind = \"ram\"\nbase = 0x1000\nlength = 64\n[[master]]\nsources = 16\nops = [\"0 putfull 0x1000 2 11223344\", \"0 get 0x1000 2\"]\n";
+
+/// What it prints on one thread.
+const FIRST_TRACE: &[u8] =
+    b"m0 s0 putfull 0x1000 2 11223344 -> AccessAck p0 #0\nm0 s0 get 0x1000 2 -> AccessAckData 11223344 p0 #1\n";
+
+/// What it prints by threads.
+const FIRST_OUTPUT: &[u8] =
+    b"m0 s0 putfull 0x1000 2 11223344 -> AccessAck p0 #0\nm0 s0 get 0x1000 2 -> AccessAckData 11223344 p0 #1\nfree 4 held 0\n";
 
 /// One byte at a time, with this trouble.
 fn by_bytes(trouble: Trouble) -> Flow {
@@ -22,7 +32,7 @@ fn pieces<T: Abort + Threads + Wait + Sync>(rt: &T, alloc: Global, engine: Engin
         let run = Run {
             reading: by_bytes(trouble),
             writing: by_bytes(trouble),
-            ..whole(FIRST, false)
+            ..whole(FIRST)
         };
         expect(rt, alloc, engine, &run, &text(written));
     }
@@ -48,7 +58,7 @@ fn reads_that_fail<T: Abort + Threads + Wait + Sync>(
 ) -> u32 {
     let run = Run {
         reading: by_bytes(trouble),
-        ..whole(FIRST, false)
+        ..whole(FIRST)
     };
     let end = End {
         fault: Some(("read failed", 5)),
@@ -90,7 +100,7 @@ fn writes_that_fail<T: Abort + Threads + Wait + Sync>(
 ) -> u32 {
     let run = Run {
         writing,
-        ..whole(FIRST, false)
+        ..whole(FIRST)
     };
     let end = End {
         fault: Some(("write failed", 5)),
