@@ -1,11 +1,16 @@
-//! Tests of runs: nothing else is here.
+//! Tests of runs, and of the parts that they are made of: nothing else is here.
 //!
-//! The model that serves call by call (`tl_model`), the audit of traces against histories (`tl_audit`) and whole runs of
-//! the program (`tl_program`) by readers and writers that are slow or fail, against values and texts worked out by hand,
-//! with the line of each fault of a run. What the program prints of scripts stands in `examples/scripts`.
+//! The contracts say what each call answers. These tests say whether that is what was meant, and that each call succeeds.
+//! All is worked out by hand:
+//!
+//! - values of messages (`tl_types`), beats (`tl_beats`), slaves (`tl_ops`), the address map (`tl_map`) and slots
+//!   (`tl_slots`); the texts of their faults and of faults that no script has, and texts if memory is refused;
+//! - the model that serves call by call (`tl_model`), the audit of traces against histories (`tl_audit`), and whole runs
+//!   of the program (`tl_program`) by readers and writers that are slow or fail, with the line of each fault of a run.
 //!
 //! No clause can say that two threads run at once, that a run ends, or that each master leaves. `threads` runs whole
-//! systems by threads, at gates that count who comes, with one thread a port and with four.
+//! systems by threads, at gates that count who comes, with one thread a port and with four. What the program prints of
+//! scripts stands in `examples/scripts`.
 //!
 //! They stand in one crate, since each check of tests reads all that stands below them.
 #![tactic(auto)]

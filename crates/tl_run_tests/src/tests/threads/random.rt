@@ -4,7 +4,7 @@ ghost use Rattle.std.specs.Prelude.{◌<◌, ◌≤◌};
 use super::{expect_account, run};
 use std::alloc::Global;
 use std::process::Abort;
-use tl_threads::OpenGate;
+use tl_workers::OpenGate;
 
 /// What each script begins with: two slots, and a RAM of 64 bytes.
 const HEAD: &str = "slots = 2\nport = [{ kind = 'ram', base = 0x1000, length = 64 }]\n";
