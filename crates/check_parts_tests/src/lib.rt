@@ -3,6 +3,9 @@
 //! The contracts say what each call answers. These tests say whether that is what was meant, and that each call
 //! succeeds, or changes nothing if memory is refused. All is worked out by hand:
 //!
+//! - `map`, `sources`: addresses with their ports, and sources with their masters (`check_map`); `refused`: what is
+//!   answered of these if memory is refused;
+//! - `records`: texts with their records (`check_records`);
 //! - `state`: bits past the bus, memories that are known in part, and requests in flight (`check_beats`, `check_memory`,
 //!   `check_flight`);
 //! - `systems`: how long a system file may be (`check_description`);

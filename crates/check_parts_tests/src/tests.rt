@@ -1,3 +1,7 @@
+mod map;
+mod records;
+mod refused;
+mod sources;
 mod state;
 mod systems;
 mod waves;

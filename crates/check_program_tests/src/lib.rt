@@ -1,5 +1,5 @@
-//! Tests of tlcheck and tlvcd as programs, and of what the judge reads and looks up: nothing else is here. All is
-//! worked out by hand from the formats. Captures with their verdicts stand in `examples/verdicts`.
+//! Tests of tlcheck and tlvcd as programs: nothing else is here. All is worked out by hand from the formats. Captures with
+//! their verdicts stand in `examples/verdicts`.
 //!
 //! - `options`: the command line (`check_options`);
 //! - `progress`, `erasing`: the progress of a capture, and what stands on a terminal after it (`check_progress`);
@@ -9,9 +9,6 @@
 //!   (`check_program`);
 //! - `dumps`: a system and a dump with the capture, and its faults (`check_waves`);
 //! - `ends`, `streams`, `files`: the ends of runs of these two, and their readers, writers and files;
-//! - `records`: texts with their records (`check_records`);
-//! - `map`, `sources`: addresses with their ports, and sources with their masters (`check_map`);
-//! - `refused`: what is answered of these two if memory is refused;
 //! - `verdicts`: what is printed of a capture if memory is refused (`check_start`, `check_review`, `check_text`).
 //!
 //! They stand in one crate, since each check of tests reads all that stands below them.

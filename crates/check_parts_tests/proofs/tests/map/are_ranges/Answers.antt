@@ -1,6 +1,6 @@
 use Rattle.std.proofs.Common.{arith}
-use Rattle.check_program_tests.proofs.Ports.{lawful_ports}
-use Rattle.check_program_tests.proofs.tests.map.are_ranges.Goals as goal
+use Rattle.check_parts_tests.proofs.Ports.{lawful_ports}
+use Rattle.check_parts_tests.proofs.tests.map.are_ranges.Goals as goal
 
 pub returns-then-ports-le-MAX_PORTS : goal.returns-then-ports-le-MAX_PORTS
 returns-then-ports-le-MAX_PORTS c = λ yes.

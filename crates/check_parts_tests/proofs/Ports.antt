@@ -7,7 +7,7 @@ use Rattle.tl_map.specs.declared.map.Range.{Range}
 use Rattle.check_map.specs.Ranges.{AreRanges, IsLawfulRange, lists_in}
 use Rattle.check_map.specs.declared.limits.TheConstants.{MAX_PORTS, MAX_RANGES}
 use Rattle.check_map.proofs.Overlaps.{row_of}
-use Rattle.check_program_tests.specs.Port.{IsPort}
+use Rattle.check_parts_tests.specs.Port.{IsPort}
 
 of_all : {A : Type 0} (P : A → Type 0) (xs : List A) (i : ℕ) (x : A) → slice_get xs i ≡ Some x → All P xs → P x
 of_all P xs i x here all = rw (sym (get_or_from_slice_get xs i x x here)) (all i x (slice_get_within xs i x here))

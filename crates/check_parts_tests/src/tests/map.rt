@@ -1,7 +1,7 @@
 //! The address map of ports with several ranges.
 ghost use Rattle.std.specs.Prelude.{◌↔◌, IsTrue, ◌≡◌, ◌<◌, true, All};
 ghost use Rattle.check_map.specs.Ranges.{AreRanges, IsLawfulRange, lists_in};
-ghost use Rattle.check_program_tests.specs.Port.{IsPort};
+ghost use Rattle.check_parts_tests.specs.Port.{IsPort};
 
 use check_map::{MAX_PORTS, MAX_RANGES, Map, MapFault};
 use std::alloc::Global;
