@@ -1,13 +1,11 @@
-//! Dumps whose bytes come a few at a time, with interruptions, or not at all.
+//! Dumps whose bytes come a few at a time, with interruptions, or not at all, and dumps if memory is refused.
 //!
 //! `examples/waves` has dumps with their rows and their faults.
-mod memory;
-
 use check_beats::Bus;
 use check_rows::Buses;
 use check_samples::{Progress, Rows, RowsFault, Sampler};
-use check_signals::{find_signals, read_names};
-use check_vcd::{Dump, DumpFault};
+use check_signals::{KeyFault, Resolved, SignalFault, find_signals, read_names};
+use check_vcd::{Dump, DumpFault, Var};
 use std::alloc::Global;
 use std::io;
 use std::io::{ErrorKind, Read};
@@ -50,49 +48,69 @@ fn reader_of(text: &[u8], step: usize) -> Trickle<'_> {
     }
 }
 
-/// The rows that are to come of a dump, or that a read failed.
+/// The rows that are to come of a dump, or why there are none.
 fn rest_of(
     rt: &impl Abort,
     alloc: Global,
     mut rows: Rows<Trickle<'_>>,
-) -> Result<Vec<u8>, DumpFault> {
+) -> Result<Vec<u8>, RowsFault> {
     let mut text = Vec::new(alloc);
     for _ in 0..u32::MAX {
         match rows.read(&mut text) {
             Ok(Progress::More) => {}
             Ok(Progress::Over(_)) => return Ok(text),
-            Err(fault) => {
-                assert!(rt; fault == RowsFault::Read);
-                return Err(DumpFault::Read);
-            }
+            Err(fault) => return Err(fault),
         }
     }
     panic!(rt; "no end")
 }
 
-/// The rows of the dump that a reader gives, for a master whose link has eight bytes, or the fault of its header or of a
-/// read.
-fn rows_of(rt: &impl Abort, alloc: Global, reader: Trickle<'_>) -> Result<Vec<u8>, DumpFault> {
+/// The rows of the dump that a reader gives, for a master whose link has eight bytes, or that a read failed, or that memory
+/// was refused in some layer.
+fn rows_of(rt: &impl Abort, alloc: Global, reader: Trickle<'_>) -> Result<Vec<u8>, RowsFault> {
+    let (vars, mut dump) = match Dump::open(alloc, reader) {
+        Ok(pair) => pair,
+        Err(DumpFault::Read) => return Err(RowsFault::Read),
+        Err(fault) => {
+            assert!(rt; fault == DumpFault::Memory);
+            return Err(RowsFault::Memory);
+        }
+    };
+    let Some(resolved) = resolved_of(rt, alloc, &vars) else {
+        return Err(RowsFault::Memory);
+    };
+    for (slot, code) in resolved.codes.iter().enumerate() {
+        if let Some(code) = code
+            && dump.keep(alloc, code, slot).is_err()
+        {
+            return Err(RowsFault::Memory);
+        }
+    }
+    let sampler = Sampler::new(resolved.probes, resolved.values);
+    rest_of(rt, alloc, Rows::new(dump, sampler))
+}
+
+/// The signals of the master among these variables, if memory was not refused.
+fn resolved_of(rt: &impl Abort, alloc: Global, vars: &[Var]) -> Option<Resolved> {
     let eight = [Bus::Eight];
     let buses = Buses {
         masters: eight.as_slice(),
         ports: &[],
     };
-    let names = read_names(alloc, SYSTEM).expect(rt, "names");
-    let (vars, mut dump) = match Dump::open(alloc, reader) {
-        Ok(pair) => pair,
-        Err(fault) => return Err(fault),
+    let names = match read_names(alloc, SYSTEM) {
+        Ok(names) => names,
+        Err(fault) => {
+            assert!(rt; fault == KeyFault::Memory);
+            return None;
+        }
     };
-    let resolved = find_signals(alloc, &buses, &names, &vars)
-        .ok()
-        .expect(rt, "signals");
-    for (slot, code) in resolved.codes.iter().enumerate() {
-        if let Some(code) = code {
-            assert!(rt; dump.keep(alloc, code, slot).is_ok());
+    match find_signals(alloc, &buses, &names, vars) {
+        Ok(resolved) => Some(resolved),
+        Err(fault) => {
+            assert!(rt; matches!(fault, SignalFault::Memory));
+            None
         }
     }
-    let sampler = Sampler::new(resolved.probes, resolved.values);
-    rest_of(rt, alloc, Rows::new(dump, sampler))
 }
 
 /// A clock, a reset that is active at 0, and the link of a master with constants for most signals.
@@ -154,6 +172,20 @@ fn a_read_that_fails_is_the_fault(rt: HostRuntime) {
         let mut reader = reader_of(&text, 1);
         reader.fails_at = fails_at;
         let outcome = rows_of(&rt, alloc, reader);
-        assert!(&rt; matches!(&outcome, Err(DumpFault::Read)));
+        assert!(&rt; matches!(&outcome, Err(RowsFault::Read)));
+    }
+}
+
+/// A dump of that system in which one beat crosses.
+const DUMP: &[u8] =
+    b"$var wire 1 ! c $end $var wire 1 \" r $end\n$scope module s $end $var reg 4 # n [3:0] $end $var wire 1 $ v[0] $end\n$var wire 1 & \\esc+ $end\n$scope begin g[1] $end $var wire 1 ' rdy $end $upscope $end $upscope $end\n$enddefinitions $end\n0! 1\" b101 # 1$ 1' 1& #5 1! #6\n";
+
+// This holds whether its requests for memory are granted or not, so that each may be refused in turn
+// (`rt try --test --fail-alloc N`).
+#[test]
+fn rows_are_whole_or_memory_is_refused(rt: HostRuntime) {
+    match rows_of(&rt, rt.alloc(), reader_of(DUMP, 64)) {
+        Ok(rows) => assert_eq!(&rt; rows.as_slice(), ROW_AT_5),
+        Err(fault) => assert!(&rt; fault == RowsFault::Memory),
     }
 }
