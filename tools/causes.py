@@ -1,0 +1,23 @@
+"""What to look at for each fault of a capture: for people, in the order of likelihood."""
+
+CAUSES = {
+    "unknown opcode": ["the encoding of the opcode or of the parameter at this link"],
+    "size out of range": ["the width of the size at this link; a message has at most 256 bytes"],
+    "field changed": ["a multiplexer that changes its choice within a burst", "two messages of one channel that interleave"],
+    "wrong mask": ["the mask generator: which lanes belong to the address and the size", "the width of the bus in the system file"],
+    "unknown data": ["a register that nothing initializes", "a memory that the system file does not say is unknown at reset"],
+    "wrong corrupt flag": ["d_corrupt: it stands with each beat of a denied reply that has data, and with no other"],
+    "no such source": ["the sources of the masters in the system file (sources, first, stride)", "the bits that the crossbar adds to a source"],
+    "source in flight": ["the allocator of sources: it gives one again before its last reply has ended"],
+    "not this port's address": ["the address decoder of the crossbar", "the ranges of the port in the system file"],
+    "no master sent this request": ["what the crossbar changes on the way: address, size, mask or data of a register stage",
+                                    "a beat that was sent twice, or lost"],
+    "reply without request": ["a reply that was sent twice", "the source that a slave or a bridge gives back"],
+    "reply before its request ended": ["a slave that answers with the first beat of a burst"],
+    "size of another request": ["replies that were mixed up: which request the reply's source belongs to"],
+    "opcode of another operation": ["replies that were mixed up: which request the reply's source belongs to",
+                                    "the slave's choice of the reply's opcode"],
+    "wrong reply": ["a write that was lost, or done at another address", "byte enables and the order of bytes",
+                    "the moment when requests take effect: --order reply, --order any"],
+    "the port gave no such reply": ["the way of the reply through the crossbar: its multiplexer and its register stages"],
+}

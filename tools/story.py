@@ -1,0 +1,249 @@
+"""The messages of a capture up to one of its rows: which beats each has, what is in flight, and which requests wrote a byte.
+
+It reads a capture that tlcheck has read before, so rows up to that one are well formed. It judges nothing, and shares no code with the
+programs.
+"""
+
+import csv
+import dataclasses
+import os
+import tomllib
+
+from bus import Bus, bus_of
+from common import OPERATIONS, REPLIES, carries_data
+from judge_model import owners_of
+from partial_memory import Ask, Slave, port_of, ranges_of
+
+NAMES = {codes: name for name, codes in OPERATIONS.items()}
+ANSWERS = {code: name for name, code in REPLIES.items()}
+# The channels in the order in which their beats cross within one time.
+TURNS = {("m", "A"): 0, ("p", "A"): 1, ("p", "D"): 2, ("m", "D"): 3}
+
+
+@dataclasses.dataclass(slots=True)
+class Row:
+    """A row of a capture: its line, and its columns as they are spelled."""
+
+    line: int
+    time: int
+    link: str
+    channel: str
+    words: list
+
+    def number(self, column):
+        """A column of decimal digits: 3 is the opcode, 4 the parameter, 5 the size, 6 the source."""
+        return int(self.words[column] or 0)
+
+    def address(self):
+        return int(self.words[7], 16)
+
+    def mask(self):
+        return int(self.words[8], 16)
+
+    def lanes(self):
+        """The bytes of the bus from lane 0 on, None for one that is unknown."""
+        word = self.words[9]
+        pairs = (word[at:at + 2] for at in range(len(word) - 2, -2, -2))
+        return [None if set(pair) & set("xXzZ") else int(pair, 16) for pair in pairs]
+
+    def turned(self):
+        """Where the row stands among all."""
+        return self.time, *self.turn()
+
+    def turn(self):
+        """Where the row stands among those of its time."""
+        return TURNS[self.link[0], self.channel], int(self.link[1:])
+
+
+@dataclasses.dataclass(slots=True)
+class Message:
+    """A request at a link with its reply, as far as they have crossed."""
+
+    link: str
+    source: int
+    name: str
+    address: int
+    size: int
+    asked: list = dataclasses.field(default_factory=list)
+    data: list = dataclasses.field(default_factory=list)
+    is_whole: bool = False
+    is_over: bool = False
+    # how many writes of its side took effect before it; None if it has not taken effect
+    before: int = None
+    answered: list = dataclasses.field(default_factory=list)
+    reply: list = dataclasses.field(default_factory=list)
+    denied: bool = False
+
+    def ask(self):
+        return Ask(self.name, self.address, self.size, self.data)
+
+    def window(self):
+        """The addresses of its bytes."""
+        return range(self.address, self.address + (1 << self.size))
+
+    def byte(self, address):
+        """The byte that it carries for an address, or None."""
+        place = address - self.address
+        return self.data[place] if 0 <= place < len(self.data) else None
+
+    def meets(self, window):
+        """Whether it has a byte in common with these."""
+        return self.address < window.stop and window.start < self.address + (1 << self.size)
+
+
+class System:
+    """What a system file says, as far as a story needs it."""
+
+    def __init__(self, path):
+        with open(path, "rb") as file:
+            table = tomllib.load(file)
+        self.folder = os.path.dirname(path)
+        self.tables = {"m": table["master"], "p": table.get("port", [])}
+        self.buses = {f"{side}{number}": Bus(bus_of(table, it)) for side, tables in self.tables.items() for number, it in enumerate(tables)}
+        self.names = {f"{side}{number}": it.get("name", f"{side}{number}") for side, tables in self.tables.items()
+                      for number, it in enumerate(tables)}
+        self.owners = owners_of(self.tables["m"])
+
+    def port_of(self, address, size):
+        """The number of the port whose range has these bytes, or that of the error port."""
+        return port_of(self.tables["p"], address, size)
+
+    def slave(self, port):
+        """A port's slave at reset."""
+        table = self.tables["p"][port]
+        return Slave(table, self.image(table))
+
+    def image(self, table):
+        if "image" not in table:
+            return b""
+        with open(os.path.join(self.folder, table["image"]), "rb") as file:
+            return file.read()
+
+    def origin(self, port, address):
+        """What says the byte of a port at reset."""
+        table = self.tables["p"][port]
+        place = address - ranges_of(table)[0][0]
+        if 0 <= place < len(table.get("reset", "")) // 2:
+            return "the key reset"
+        if 0 <= place < len(self.image(table)):
+            return f"byte {place} of {table['image']}"
+        return "unknown at reset" if table.get("unknown") else "zero at reset"
+
+
+def rows_of(path):
+    """The rows of a capture in the order in which their beats cross."""
+    group = []
+    with open(path, encoding="utf-8", newline="") as file:
+        records = csv.reader(file)
+        next((words for words in records if words), None)
+        for words in records:
+            if not words:
+                continue
+            row = Row(records.line_num, int(words[0]), words[1], words[2], words)
+            if group and group[0].time != row.time:
+                yield from sorted(group, key=Row.turn)
+                group = []
+            group.append(row)
+    yield from sorted(group, key=Row.turn)
+
+
+class Story:
+    """What has crossed up to a row: the requests in flight by link and source, the last one of each that is over, the writes of each side in
+    the order in which they take effect, and what is under way on each channel."""
+
+    def __init__(self, system, order):
+        self.system, self.order = system, order
+        self.flights, self.over, self.under = {}, {}, {}
+        self.writes = {"m": [], "p": []}
+        self.last = None
+
+    def tell(self, path, line):
+        """Takes the rows before this line's, in the order in which they cross, and keeps this one."""
+        for row in rows_of(path):
+            if row.line == line:
+                self.last = row
+                return
+            self.take(row)
+
+    def take(self, row):
+        if row.channel == "A":
+            self.take_ask(row)
+        else:
+            self.take_reply(row)
+
+    def order_of(self, message):
+        port = self.system.port_of(message.address, message.size)
+        tables = self.system.tables["p"]
+        return tables[port].get("order", self.order) if port < len(tables) else self.order
+
+    def take_ask(self, row):
+        message = self.under.get((row.link, "A"))
+        bus = self.system.buses[row.link]
+        if message is None:
+            name = NAMES[row.number(3), row.number(4)]
+            message = Message(row.link, row.number(6), name, row.address(), row.number(5))
+            self.flights[row.link, message.source] = self.under[row.link, "A"] = message
+        message.asked.append(row)
+        carries = carries_data(message.name)
+        if carries:
+            mask, word = row.mask(), row.lanes()
+            _, lanes = bus.lanes(message.address, message.size)
+            message.data += [word[lane] if mask >> lane & 1 else None for lane in lanes]
+        if len(message.asked) == bus.count(message.size, carries):
+            message.is_whole = True
+            del self.under[row.link, "A"]
+            if self.order_of(message) != "reply":
+                self.serve(message)
+
+    def serve(self, message):
+        """A request takes effect. With `--order any` that is its acceptance here."""
+        writes = self.writes[message.link[0]]
+        message.before = len(writes)
+        if message.data:
+            writes.append(message)
+
+    def take_reply(self, row):
+        message = self.under.get((row.link, "D"))
+        if message is None:
+            message = self.under[row.link, "D"] = self.flights[row.link, row.number(6)]
+            message.denied = row.words[10] == "1"
+            if self.order_of(message) == "reply":
+                self.serve(message)
+        message.answered.append(row)
+        bus, carries = self.system.buses[row.link], ANSWERS[row.number(3)] == "AccessAckData"
+        if carries:
+            _, lanes = bus.lanes(message.address, message.size)
+            word = row.lanes()
+            message.reply += [word[lane] for lane in lanes]
+        if len(message.answered) == bus.count(message.size, carries):
+            message.is_over = True
+            del self.under[row.link, "D"]
+            del self.flights[row.link, message.source]
+            self.over[row.link, message.source] = message
+
+    def history(self, message, port):
+        """For each address of a request what it held at reset, and after each request before this one that changed it: pairs of a request, None
+        at reset, and a byte, None if it is unknown."""
+        slave, window = self.system.slave(port), message.window()
+        found = {at: [(None, slave.cells.get(at, None if slave.is_unknown else 0))] for at in window}
+        for other in self.writes[message.link[0]][:message.before]:
+            if other.meets(window) and slave.permits(other.ask()):
+                slave.answer(other.ask())
+                for at in slave.writes(other.ask()) & set(window):
+                    found[at].append((other, slave.cells[at]))
+        return found
+
+    def later(self, message, address, value):
+        """The first request that takes effect after this one, or is in flight, and carries a byte for an address; or None."""
+        side = message.link[0]
+        after = self.writes[side][len(self.writes[side]) if message.before is None else message.before:]
+        others = [*after, *(other for other in self.flights.values() if other.link[0] == side and other.before is None)]
+        return next((other for other in others if other is not message and other.byte(address) == value), None)
+
+    def written(self, side, address, value):
+        """The last put of a byte to another address that has the same place in 16 bytes: the address, and the put."""
+        for message in reversed(self.writes[side]):
+            for at, byte in zip(message.window(), message.data):
+                if byte == value and at != address and (at - address) % 16 == 0:
+                    return at, message
+        return None
