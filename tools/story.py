@@ -148,8 +148,8 @@ def rows_of(path):
 
 
 class Story:
-    """What has crossed up to a row: the requests in flight by link and source, the last one of each that is over, the writes of each side in
-    the order in which they take effect, and what is under way on each channel."""
+    """What has crossed up to a row: the requests in flight by link and source, the last one of each that is over, and what is under way on
+    each channel. Of each side the writes in the order in which they take effect."""
 
     def __init__(self, system, order):
         self.system, self.order = system, order
@@ -222,8 +222,8 @@ class Story:
             self.over[row.link, message.source] = message
 
     def history(self, message, port):
-        """For each address of a request what it held at reset, and after each request before this one that changed it: pairs of a request, None
-        at reset, and a byte, None if it is unknown."""
+        """For each address of a request what it held at reset, and after each earlier request that changed it: pairs of a request, None at
+        reset, and a byte, None if it is unknown."""
         slave, window = self.system.slave(port), message.window()
         found = {at: [(None, slave.cells.get(at, None if slave.is_unknown else 0))] for at in window}
         for other in self.writes[message.link[0]][:message.before]:
