@@ -1,0 +1,303 @@
+"""What is behind the verdict of a capture: the request of a beat, what should stand where something else stands, and who wrote a byte. For
+tools/explain; nothing of it is proved.
+"""
+
+import re
+
+from bus import reply_of
+from causes import CAUSES
+from common import carries_data
+from story import ANSWERS, NAMES, Story, System
+
+VERDICT = re.compile(r"unlawful: line (\d+), time (\d+), (\S+) ([AD]): (.*)")
+WRONG = re.compile(r"wrong reply: expected (\w+)( denied)?(?: ([0-9a-fx]+))?, captured (\w+)( denied)?(?: ([0-9a-fx]+))?")
+# So many wrong bytes are explained.
+MOST_BYTES = 8
+
+
+def hexadecimal(data):
+    """Bytes in the order of their addresses, as a verdict spells them."""
+    return "".join("xx" if byte is None else f"{byte:02x}" for byte in data)
+
+
+def counted(number, what):
+    return f"{number} {what}{'s' * (number != 1)}"
+
+
+def bytes_of(size):
+    """How many bytes a size stands for."""
+    return counted(1 << size, "byte")
+
+
+def value_of(row, column):
+    """The number in a column: the address has hexadecimal digits, and the others decimal ones."""
+    return int(row.words[column] or "0", 16 if column == 7 else 10)
+
+
+def changes(first, row, columns):
+    """The columns that differ from those of the first beat of a message."""
+    return [f"{field}: {first.words[at]} in the first beat, {row.words[at]} here"
+            for at, field in columns if value_of(first, at) != value_of(row, at)]
+
+
+def place_of(rows):
+    """The lines and the times of some rows."""
+    first, last = rows[0], rows[-1]
+    if first is last:
+        return f"line {first.line}, time {first.time}"
+    return f"lines {first.line} to {last.line}, times {first.time} to {last.time}"
+
+
+class Explainer:
+    """What is behind the verdict of a capture."""
+
+    def __init__(self, system, story, view):
+        self.system, self.story, self.view = system, story, view
+
+    def name(self, message):
+        """A request in words: its link, its source and whose that is, what it asks, and where it stands."""
+        link = self.system.names[message.link]
+        owner = self.system.owners.get(message.source) if message.link[0] == "p" and self.view != "each" else None
+        whose = f" (source {owner[1]} of {self.system.names[f'm{owner[0]}']})" if owner else ""
+        data = f" {hexadecimal(message.data)}" if message.data else ""
+        asks = f"{message.name} {message.address:#x} of {bytes_of(message.size)}{data}"
+        return f"{link}, source {message.source}{whose}: {asks}, {place_of(message.asked)}"
+
+    def state(self, message):
+        """How far a request has come."""
+        if message.answered:
+            return f"{'answered' if message.is_over else 'its reply has begun'} at {place_of(message.answered)}"
+        return "not answered yet" if message.is_whole else f"under way, {counted(len(message.asked), 'beat')} so far"
+
+    def record(self, message):
+        """A request for programs."""
+        return {"link": self.system.names[message.link], "source": message.source, "operation": message.name, "address": message.address,
+                "bytes": 1 << message.size, "data": hexadecimal(message.data), "asked": [row.line for row in message.asked],
+                "time": message.asked[0].time, "answered": [row.line for row in message.answered], "text": self.text(message)}
+
+    def text(self, message):
+        return f"{self.name(message)}; {self.state(message)}"
+
+    def in_flight(self):
+        """The requests in flight, the oldest first."""
+        return sorted(self.story.flights.values(), key=lambda message: (message.asked[0].time, message.asked[0].line))
+
+    # ---- requests
+
+    def of_request(self, row, fault):
+        """What is behind the fault of a beat of a request."""
+        link, system = row.link, self.system
+        begun = self.story.under.get((link, "A"))
+        name = NAMES.get((row.number(3), row.number(4)))
+        if begun:
+            yield f"the beat goes on with: {self.name(begun)}"
+        if fault == "field changed":
+            yield from changes(begun.asked[0], row, ((3, "opcode"), (4, "param"), (5, "size"), (6, "source"), (7, "address")))
+        elif fault == "wrong mask":
+            bus = system.buses[link]
+            right = bus.spell_mask(bus.active(row.address(), row.number(5))) + " or fewer bits" * (name == "putpart")
+            yield (f"the mask of {bytes_of(row.number(5))} at {row.address():#x} on a bus of {counted(bus.width, 'byte')} is {right}; "
+                   f"captured {row.words[8]}")
+        elif fault == "source in flight":
+            holder = self.story.flights.get((link, row.number(6))) or self.elsewhere(row)
+            if holder:
+                yield f"the source is in flight: {self.text(holder)}"
+        elif fault == "not this port's address":
+            port = system.names.get(f"p{system.port_of(row.address(), row.number(5))}", "no port")
+            yield f"{bytes_of(row.number(5))} at {row.address():#x}: the address of {port}"
+        elif fault == "no master sent this request":
+            yield from self.of_stray(row, begun)
+        elif fault == "no such source":
+            yield f"source {row.number(6)} belongs to no master here"
+
+    def elsewhere(self, row):
+        """The request in flight of a source of the ports' side at another port."""
+        return next((message for (link, source), message in self.story.flights.items()
+                     if (link[0], source) == (row.link[0], row.number(6))), None)
+
+    def of_stray(self, row, begun):
+        """How a request at a port differs from what its master has in flight."""
+        owner = self.system.owners.get(row.number(6))
+        sent = owner and self.story.flights.get((f"m{owner[0]}", owner[1]))
+        if not sent:
+            whose = f"source {owner[1]} of {self.system.names[f'm{owner[0]}']}" if owner else f"source {row.number(6)}"
+            yield f"nothing is in flight of {whose}"
+            return
+        yield f"its master sent: {self.text(sent)}"
+        name = begun.name if begun else NAMES[row.number(3), row.number(4)]
+        bus = self.system.buses[row.link]
+        _, lanes = bus.lanes(row.address(), row.number(5))
+        word = row.lanes()
+        here = [word[lane] if row.mask() >> lane & 1 else None for lane in lanes] if carries_data(name) else []
+        data = (begun.data if begun else []) + here
+        pairs = (("operation", sent.name, name), ("address", hex(sent.address), hex(row.address())), ("size", sent.size, row.number(5)))
+        yield from (f"{what}: {one} at the master's link, {other} here" for what, one, other in pairs if one != other)
+        if sent.data and sent.name == name and sent.data != data:
+            yield f"bytes: {hexadecimal(sent.data)} at the master's link, {hexadecimal(data)} here"
+        if not sent.is_whole:
+            yield "at the master's link it has not ended"
+        before = self.story.over.get((row.link, row.number(6)))
+        if before and before.asked[0].turned() > sent.asked[0].turned():
+            yield f"it crossed before: {self.text(before)}"
+
+    # ---- replies
+
+    def of_reply(self, row, fault):
+        """What is behind the fault of a beat of a reply."""
+        story, key = self.story, (row.link, row.number(6))
+        message = story.flights.get(key)
+        if message:
+            yield f"the request: {self.name(message)}"
+        if fault == "reply without request":
+            over = story.over.get(key)
+            yield f"the last request of this source: {self.text(over)}" if over else "this source has asked nothing yet"
+        elif fault == "size of another request":
+            yield f"the request has {bytes_of(message.size)}, the reply {1 << row.number(5)}"
+            yield from self.others_of(row, lambda other: other.size == row.number(5))
+        elif fault == "opcode of another operation":
+            yield f"{message.name} is answered by {reply_of(message.name)}, captured {ANSWERS[row.number(3)]}"
+            yield from self.others_of(row, lambda other: reply_of(other.name) == ANSWERS[row.number(3)])
+        elif fault == "field changed":
+            yield from changes(story.under[row.link, "D"].answered[0], row, ((3, "opcode"), (5, "size"), (6, "source"), (10, "denied")))
+        elif fault == "the port gave no such reply":
+            yield from self.of_given(row, message)
+
+    def others_of(self, row, fits):
+        """Requests in flight at the link that the reply would fit."""
+        for (link, source), other in self.story.flights.items():
+            if link == row.link and source != row.number(6) and other.is_whole and fits(other):
+                yield f"it would fit: {self.name(other)}"
+
+    def captured(self, row, message):
+        """The bytes of a reply with its last beat."""
+        _, lanes = self.system.buses[row.link].lanes(message.address, message.size)
+        return message.reply + ([row.lanes()[lane] for lane in lanes] if ANSWERS[row.number(3)] == "AccessAckData" else [])
+
+    def of_given(self, row, message):
+        """What the port gave for a request that is answered at its master's link."""
+        wide = next((wide for wide, owner in self.system.owners.items() if f"m{owner[0]}" == row.link and owner[1] == message.source), None)
+        port = f"p{self.system.port_of(message.address, message.size)}"
+        given = self.story.over.get((port, wide))
+        here = f"{' denied' if row.words[10] == '1' else ''} {hexadecimal(self.captured(row, message))}".rstrip()
+        if given is None or given.asked[0].time < message.asked[0].time:
+            yield f"{self.system.names.get(port, port)} has not answered it; captured{here}"
+            return
+        yield f"{self.system.names[port]} gave{' denied' if given.denied else ''} {hexadecimal(given.reply)}, {place_of(given.answered)}"
+        yield f"captured here{here}"
+
+    # ---- wrong replies
+
+    def of_wrong(self, message, found):
+        """What is behind a reply with other bytes than the slave expects: lines, and runs of wrong bytes of one origin."""
+        port = self.system.port_of(message.address, message.size)
+        if bool(found[2]) != bool(found[5]):
+            return [self.denial(message, port)], []
+        pairs = zip(message.window(), re.findall("..", found[3] or ""), re.findall("..", found[6] or ""))
+        wrong = [pair for pair in pairs if pair[1] not in ("xx", pair[2])]
+        history, runs = self.story.history(message, port), []
+        for at, expected, captured in wrong[:MOST_BYTES]:
+            run = {"first": at, "last": at, "expected": expected, "captured": captured,
+                   "expected_from": self.origin(port, at, history[at][-1][0]),
+                   "captured_from": self.source_of(message, port, at, captured, history[at])}
+            if not (runs and joined(runs[-1], run)):
+                runs.append(run)
+        more = len(wrong) - MOST_BYTES
+        return [f"{counted(more, 'wrong byte')} more"] * (more > 0), runs
+
+    def denial(self, message, port):
+        """Why a request is denied, or is not."""
+        ports = self.system.tables["p"]
+        if port == len(ports):
+            return f"no port has {bytes_of(message.size)} at {message.address:#x}: the error port denies it"
+        slave, name = self.system.slave(port), self.system.names[f"p{port}"]
+        if not slave.supports(message.name, message.size):
+            return f"{name} supports no {message.name} of {bytes_of(message.size)}, so it is denied"
+        if not slave.permits(message.ask()):
+            return f"{message.address:#x} is no multiple of {1 << message.size}, so it is denied"
+        return f"{name} supports {message.name} of {bytes_of(message.size)} there, so it is not denied"
+
+    def origin(self, port, at, message):
+        """Who wrote a byte, or what says it at reset."""
+        return self.record(message) if message else {"text": self.system.origin(port, at)}
+
+    def source_of(self, message, port, at, captured, history):
+        """Where a byte that was captured comes from, as far as requests tell."""
+        if captured == "xx":
+            return {"text": "unknown"}
+        value, side = int(captured, 16), message.link[0]
+        older = [writer for writer, byte in history[:-1] if byte == value]
+        if older:
+            return told("it stood there before", self.origin(port, at, older[-1]))
+        if message.byte(at) == value:
+            return {"text": "the request gives it"}
+        later = self.story.later(message, at, value)
+        if later:
+            return told("a later request gives it", self.record(later))
+        elsewhere = self.story.written(side, at, value) if value else None
+        if elsewhere:
+            return told(f"it was written to {elsewhere[0]:#x}", self.record(elsewhere[1]))
+        return {"text": "no request gave it" if value else "zero, which no request gave"}
+
+    # ---- the whole
+
+    def unlawful(self, found):
+        """What is behind an unlawful beat."""
+        row, fault = self.story.last, found[5]
+        lines, runs = [f"the beat: {','.join(row.words[2:])}"], []
+        wrong = WRONG.fullmatch(fault)
+        if wrong:
+            message = self.story.flights[row.link, row.number(6)]
+            more, runs = self.of_wrong(message, wrong)
+            lines += [f"the request: {self.name(message)}", *more]
+        else:
+            lines += self.of_request(row, fault) if row.channel == "A" else self.of_reply(row, fault)
+        return {"line": row.line, "time": row.time, "link": found[3], "channel": row.channel, "why": lines, "bytes": runs,
+                "in_flight": [self.record(message) for message in self.in_flight()], "look_at": CAUSES[fault.partition(":")[0]]}
+
+
+def joined(run, other):
+    """Whether wrong bytes that follow others have the same origins; then they are added to those."""
+    is_one = run["last"] == other["first"] - 1 and all(run[key] == other[key] for key in ("expected_from", "captured_from"))
+    if is_one:
+        run.update({"last": other["last"], **{key: run[key] + other[key] for key in ("expected", "captured")}})
+    return is_one
+
+
+def told(front, origin):
+    """An origin with words before its text."""
+    return {**origin, "text": f"{front}: {origin['text']}"}
+
+
+def option(words, name, default):
+    """The value of an option of tlcheck."""
+    for at, word in enumerate(words):
+        if word == name:
+            return words[at + 1]
+        if word.startswith(name + "="):
+            return word.partition("=")[2]
+    return default
+
+
+def explained(words, verdict):
+    """What is behind a verdict; nothing behind one of a lawful capture, and of a fault of the text."""
+    found = VERDICT.fullmatch(verdict)
+    if not found and not verdict.startswith("incomplete:"):
+        return {}
+    system = System(words[-2])
+    story = Story(system, option(words, "--order", "accept"))
+    story.tell(words[-1], int(found[1]) if found else None)
+    explainer = Explainer(system, story, option(words, "--links", "both"))
+    return explainer.unlawful(found) if found else {"in_flight": [explainer.record(message) for message in explainer.in_flight()]}
+
+
+def shown(behind):
+    """The same for people, line by line."""
+    why = list(behind.get("why", []))
+    for run in behind.get("bytes", []):
+        place = f"{run['first']:#x}" if run["first"] == run["last"] else f"{run['first']:#x} to {run['last']:#x}"
+        why += [f"wrong at {place}: expected {run['expected']}, captured {run['captured']}",
+                f"  {run['expected']}: {run['expected_from']['text']}", f"  {run['captured']}: {run['captured_from']['text']}"]
+    in_flight = [request["text"] for request in behind.get("in_flight", [])]
+    for title, lines in (("why", why), ("in flight", in_flight), ("look at", behind.get("look_at"))):
+        if lines:
+            yield from ("", title, *(f"  {line}" for line in lines))
