@@ -1,4 +1,4 @@
-"""What is behind the verdict of a capture: the request of a beat, what should stand where something else stands, and who wrote a byte. For
+"""The explanation of a verdict: the request of a beat, what should stand where something else stands, and who wrote a byte. For
 tools/explain; nothing of it is proved.
 """
 
@@ -49,7 +49,7 @@ def place_of(rows):
 
 
 class Explainer:
-    """What is behind the verdict of a capture."""
+    """Explains the verdict of a capture."""
 
     def __init__(self, system, story, view):
         self.system, self.story, self.view = system, story, view
@@ -85,7 +85,7 @@ class Explainer:
     # ---- requests
 
     def of_request(self, row, fault):
-        """What is behind the fault of a beat of a request."""
+        """Explains the fault of a beat of a request."""
         link, system = row.link, self.system
         begun = self.story.under.get((link, "A"))
         name = NAMES.get((row.number(3), row.number(4)))
@@ -143,7 +143,7 @@ class Explainer:
     # ---- replies
 
     def of_reply(self, row, fault):
-        """What is behind the fault of a beat of a reply."""
+        """Explains the fault of a beat of a reply."""
         story, key = self.story, (row.link, row.number(6))
         message = story.flights.get(key)
         if message:
@@ -188,7 +188,7 @@ class Explainer:
     # ---- wrong replies
 
     def of_wrong(self, message, found):
-        """What is behind a reply with other bytes than the slave expects: lines, and runs of wrong bytes of one origin."""
+        """Explains a reply with other bytes than the slave expects: lines, and runs of wrong bytes of one origin."""
         port = self.system.port_of(message.address, message.size)
         if bool(found[2]) != bool(found[5]):
             return [self.denial(message, port)], []
@@ -241,7 +241,7 @@ class Explainer:
     # ---- the whole
 
     def unlawful(self, found):
-        """What is behind an unlawful beat."""
+        """Explains an unlawful beat."""
         row, fault = self.story.last, found[5]
         lines, runs = [f"the beat: {','.join(row.words[2:])}"], []
         wrong = WRONG.fullmatch(fault)
@@ -279,7 +279,7 @@ def option(words, name, default):
 
 
 def explained(words, verdict):
-    """What is behind a verdict; nothing behind one of a lawful capture, and of a fault of the text."""
+    """The explanation of a verdict: empty if the capture is lawful or has a fault of its text."""
     found = VERDICT.fullmatch(verdict)
     if not found and not verdict.startswith("incomplete:"):
         return {}
@@ -290,14 +290,14 @@ def explained(words, verdict):
     return explainer.unlawful(found) if found else {"in_flight": [explainer.record(message) for message in explainer.in_flight()]}
 
 
-def shown(behind):
+def shown(explanation):
     """The same for people, line by line."""
-    why = list(behind.get("why", []))
-    for run in behind.get("bytes", []):
+    why = list(explanation.get("why", []))
+    for run in explanation.get("bytes", []):
         place = f"{run['first']:#x}" if run["first"] == run["last"] else f"{run['first']:#x} to {run['last']:#x}"
         why += [f"wrong at {place}: expected {run['expected']}, captured {run['captured']}",
                 f"  {run['expected']}: {run['expected_from']['text']}", f"  {run['captured']}: {run['captured_from']['text']}"]
-    in_flight = [request["text"] for request in behind.get("in_flight", [])]
-    for title, lines in (("why", why), ("in flight", in_flight), ("look at", behind.get("look_at"))):
+    in_flight = [request["text"] for request in explanation.get("in_flight", [])]
+    for title, lines in (("why", why), ("in flight", in_flight), ("look at", explanation.get("look_at"))):
         if lines:
             yield from ("", title, *(f"  {line}" for line in lines))
