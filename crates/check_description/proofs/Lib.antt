@@ -3,3 +3,6 @@ pub mod NameLemmas
 pub mod BlockLemmas
 pub mod PortRanges
 pub mod OwnerCounts
+pub mod Ends
+pub mod Stores
+pub mod Wholes

@@ -8,9 +8,9 @@ use Rattle.std.proofs.lemmas.Option.{get_or_from_slice_get, slice_get_within}
 use Rattle.tl_map.specs.declared.map.Range.{Range}
 use Rattle.check_map.specs.Ranges.{AreRanges, IsLawfulRange}
 use Rattle.check_map.specs.declared.limits.TheConstants.{MAX_PORTS, MAX_RANGES}
-use Rattle.check_ports.specs.Port.{Port, port_view}
-use Rattle.check_ports.specs.Ranges.{AreRangesOfPort}
-use Rattle.check_ports.specs.declared.port.Port as code
+use Rattle.check_description.specs.Port.{Port, port_view}
+use Rattle.check_description.specs.Ranges.{AreRangesOfPort}
+use Rattle.check_description.specs.declared.port.Port as code
 use Rattle.check_description.specs.Description.{ranges_of}
 
 all_of : {A : Type 0} (P Q : A → Type 0) (xs : List A) → ((x : A) → P x → Q x) → AllByRecursion P xs

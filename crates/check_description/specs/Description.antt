@@ -10,8 +10,8 @@ use Rattle.check_map.specs.declared.sources.SourceFault.{SourceFault}
 use Rattle.check_map.specs.declared.sources.SourceFault.TheVariants.{Memory as SourceMemory}
 use Rattle.check_keys.specs.declared.fault.SystemFault.{SystemFault}
 use Rattle.check_keys.specs.declared.fault.SystemFault.TheVariants.{Map, Sources}
-use Rattle.check_ports.specs.Port.{Port, port_view}
-use Rattle.check_ports.specs.declared.port.Port as code_port
+use Rattle.check_description.specs.Port.{Port, port_view}
+use Rattle.check_description.specs.declared.port.Port as code_port
 use Rattle.check_description.specs.File.{Parts}
 use Rattle.check_description.specs.Master.{HasOwners, IsFirstOwnerFault, Master, master_view}
 use Rattle.check_description.specs.declared.masters.Master as code_master

@@ -8,7 +8,7 @@ use Rattle.check_keys.specs.Bus.{bus_at}
 use Rattle.check_keys.specs.Reading.{◌>>=◌}
 use Rattle.check_keys.specs.declared.fault.SystemFault.{SystemFault}
 use Rattle.check_keys.specs.declared.fault.SystemFault.TheVariants.{TooLong, NotToml}
-use Rattle.check_ports.specs.Port.{Port, port_view, ports_of}
+use Rattle.check_description.specs.Port.{Port, port_view, ports_of}
 use Rattle.check_description.specs.Master.{Master, master_view, masters_of}
 use Rattle.check_description.specs.declared.parts.Image as code_image
 use Rattle.check_description.specs.declared.parts.Parts as code_parts

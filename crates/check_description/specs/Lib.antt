@@ -2,3 +2,11 @@ pub mod Master
 pub mod File
 pub mod Name
 pub mod Description
+pub mod Kind
+pub mod Ranges
+pub mod Contents
+pub mod Sizes
+pub mod Order
+pub mod Port
+pub mod Slave
+pub mod Laws

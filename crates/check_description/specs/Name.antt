@@ -4,7 +4,7 @@ use Rattle.std.specs.List.{filter_map, list_any}
 use Rattle.std.specs.Str.{bytes_eq}
 use Rattle.check_keys.specs.declared.fault.SystemFault.{SystemFault}
 use Rattle.check_keys.specs.declared.fault.SystemFault.TheVariants.{TwoCalled}
-use Rattle.check_ports.specs.Port.{Port}
+use Rattle.check_description.specs.Port.{Port}
 use Rattle.check_description.specs.File.{Parts, parts_of}
 use Rattle.check_description.specs.Master.{Master}
 

@@ -2,7 +2,7 @@
 ghost use Rattle.std.specs.Prelude.{◌≡◌, ◌≢◌, IfErr, IfOk, OnOk, length, map};
 ghost use Rattle.check_map.specs.Ranges.{AreRanges, IsFirstMapFault, IsLawfulMap};
 ghost use Rattle.check_keys.specs.declared.fault.SystemFault.TheVariants.{Memory};
-ghost use Rattle.check_ports.specs.Port.{port_view};
+ghost use Rattle.check_description.specs.Port.{port_view};
 ghost use Rattle.check_description.specs.Description.{IsFirstFaultOf, IsOfMap, Makes, described, ranges_of};
 ghost use Rattle.check_description.specs.File.{parts_view};
 ghost use Rattle.check_description.specs.Master.{master_view};
@@ -10,9 +10,9 @@ ghost use Rattle.check_description.specs.Master.{master_view};
 use crate::masters::Master;
 use crate::owners::sources_of;
 use crate::parts::Parts;
+use crate::port::Port;
 use check_keys::SystemFault;
 use check_map::{Map, Sources};
-use check_ports::Port;
 use std::alloc::Global;
 use std::marker::Model;
 
@@ -36,7 +36,7 @@ pub struct Described {
 
 impl Model for Description {
     ghost use Rattle.std.specs.Prelude.{◌≡◌, length, map};
-    ghost use Rattle.check_ports.specs.Port.{port_view};
+    ghost use Rattle.check_description.specs.Port.{port_view};
     ghost use Rattle.check_description.specs.Description.{Description as Said, described, ranges_of};
 
     ghost Value = { Said };

@@ -1,25 +1,41 @@
-//! What a system file of the judge describes: its ports and masters, which addresses are whose, and which wide sources.
+//! What a system file of the judge describes: its ports and masters, which addresses are whose, which wide sources, and the
+//! slave that each port is at reset.
 //!
 //! [`read_parts`] answers the [`Parts`] that a file names, no two of them with the same name, or its first fault on the
-//! way to them (`specs/File.antt`). The files of the ports' images are [`Parts::images`]: the program reads them, and
-//! `check_ports` makes the slave of each port of their bytes. Then [`describe`] answers the [`Description`] that the
-//! parts make, or the first fault of their ranges and of their sources (`specs/Description.antt`). Beside that only want
-//! of memory is answered.
+//! way to them (`specs/File.antt`). [`read_ports`] reads the ports among them, each key in its order (`specs/Port.antt`).
+//! The files of the ports' images are [`Parts::images`]: the program reads them. [`slave_of`] makes of a port and the bytes
+//! of its image the `PortSlave` that it is before any request (`specs/Slave.antt`), and [`error_slave`] that of the error
+//! port. [`describe`] answers the [`Description`] that the parts make, or the first fault of their ranges and of their
+//! sources (`specs/Description.antt`). Beside that only want of memory is answered.
 //!
-//! What is a TOML document, and what its table is, is the crate `toml`'s own definition, `parse_document`.
+//! What is a TOML document, and what its table is, is the crate `toml`'s own definition, `parse_document`. `laws` says that a
+//! port that is wholly known at reset is the sequential memory of `tl_ops`.
 //!
-//! Read on in `docs/MODEL.md`, "Descriptions".
+//! Read on in `docs/MODEL.md`, "Ports of system files" and "Descriptions".
 #![tactic(auto)]
 
+mod contents;
 mod description;
+mod kind;
 pub mod laws;
 mod masters;
 mod names;
+mod order;
 mod owners;
 mod parts;
+mod port;
+mod ports;
+mod ranges;
 mod read;
+mod sizes;
+mod slave;
 
 pub use description::{Described, Description, describe};
+pub use kind::PortKind;
 pub use masters::Master;
 pub use parts::{Image, Parts};
+pub use port::{Contents, Port};
+pub use ports::{read_port, read_ports};
+pub use ranges::first_length;
 pub use read::{MAX_SYSTEM, read_parts};
+pub use slave::{error_slave, slave_of};

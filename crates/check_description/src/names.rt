@@ -2,13 +2,13 @@
 ghost use Rattle.std.specs.Prelude.{◌≡◌, ◌≢◌, ◌<◌, IfErr, IfNone, IfOk, IfSome, OnOk, length, map};
 ghost use Rattle.std.specs.List.{filter_map};
 ghost use Rattle.check_keys.specs.declared.fault.SystemFault.TheVariants.{Memory};
-ghost use Rattle.check_ports.specs.Port.{port_view};
+ghost use Rattle.check_description.specs.Port.{port_view};
 ghost use Rattle.check_description.specs.File.{parts_view};
 ghost use Rattle.check_description.specs.Name.{AreDistinct, IsFirstTwice, IsNameFault, is_among as is_one_of, names_of as names_of_parts};
 
 use crate::parts::Parts;
+use crate::port::Port;
 use check_keys::SystemFault;
-use check_ports::Port;
 use std::alloc::{AllocError, Global};
 
 /// Whether the name is one of these.

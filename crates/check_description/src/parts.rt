@@ -3,7 +3,7 @@ ghost use Rattle.std.specs.Prelude.{◌≡◌, ◌≤◌, IfOk, length, map};
 ghost use Rattle.check_map.specs.declared.limits.TheConstants.{MAX_PORTS};
 
 use crate::masters::Master;
-use check_ports::Port;
+use crate::port::Port;
 use std::alloc::{AllocError, Global};
 
 /// The ports and masters that a file names.

@@ -9,9 +9,9 @@ ghost use Rattle.check_description.specs.Name.{AreDistinct, IsFirstPartFault, na
 use crate::masters::read_masters;
 use crate::names::check_names;
 use crate::parts::Parts;
+use crate::ports::read_ports;
 use check_beats::Bus;
 use check_keys::{SystemFault, bus_at};
-use check_ports::read_ports;
 use std::alloc::Global;
 use toml::Table;
 

@@ -3,7 +3,7 @@
 //! A value is absent, of the wrong type or out of range, and each reader answers exactly what its definition gives
 //! (`specs/Value.antt`), or want of memory. [`SystemFault`] has the faults of whole files, in the words in which the
 //! program prints them. The names of ports and masters (`specs/Name.antt`) and the buses of links (`specs/Bus.antt`)
-//! are read here, since several tables have these keys. Which keys a port has is the crate `check_ports`.
+//! are read here, since several tables have these keys. Which keys a port has is the crate `check_description`.
 //!
 //! No other crate reads a table of the crate `toml`. Read on in `docs/MODEL.md`, "Keys of system files".
 #![tactic(auto)]

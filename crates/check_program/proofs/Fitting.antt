@@ -5,10 +5,10 @@ use Rattle.std.proofs.lemmas.Option.{slice_get-get_or, slice_get-map, slice_get_
 use Rattle.std.specs.Result.{IsErrAnd}
 use Rattle.std.specs.Prelude.{option_map}
 use Rattle.tl_types.proofs.Lists.{slice_get-push}
-use Rattle.check_ports.specs.Port.{Port, port_view}
-use Rattle.check_ports.specs.declared.port.Port as code_port
+use Rattle.check_description.specs.Port.{Port, port_view}
+use Rattle.check_description.specs.declared.port.Port as code_port
 use Rattle.check_program.specs.Images.{FitPorts, IsFaultOfImages, IsFaultOfPort}
-use Rattle.check_engine.specs.declared.fault.CheckFault.{CheckFault}
+use Rattle.check_program.specs.declared.fault.CheckFault.{CheckFault}
 
 -- what contracts see of the port at a place
 pub seen_at : (ports : List code_port.Port) (number : ℕ) (port : code_port.Port) → number < length ports

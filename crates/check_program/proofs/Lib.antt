@@ -1,1 +1,4 @@
 pub mod Fitting
+pub mod Failing
+pub mod Judged
+mod Files

@@ -2,10 +2,10 @@
 use Rattle.std.specs.Prelude.{◌≡◌, ◌≢◌, ◌⊎◌, ℕ, List, [], length, slice_get, Option, None, Some, MatchOption}
 use Rattle.std.specs.Path.{path_with_file_name}
 use Rattle.check_keys.specs.declared.fault.SystemFault.TheVariants.{ImageTooLong, ImageUnreadable}
-use Rattle.check_ports.specs.Port.{Port}
-use Rattle.check_engine.specs.System.{GivesImage}
-use Rattle.check_engine.specs.declared.fault.CheckFault.{CheckFault}
-use Rattle.check_engine.specs.declared.fault.CheckFault.TheVariants.{System, Memory}
+use Rattle.check_description.specs.Port.{Port}
+use Rattle.check_program.specs.System.{GivesImage}
+use Rattle.check_program.specs.declared.fault.CheckFault.{CheckFault}
+use Rattle.check_program.specs.declared.fault.CheckFault.TheVariants.{System, Memory}
 
 -- the bytes are the port's image as the file of this name has it: all that the reader had which was opened by the name
 pub record IsReadFrom {File : Type 0} (Opens : List ℕ → File → Type 0) (bytes_in : File → Option (List ℕ))

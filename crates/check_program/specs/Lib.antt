@@ -1,2 +1,5 @@
 pub mod Images
 pub mod Program
+pub mod Fault
+pub mod System
+pub mod Engine

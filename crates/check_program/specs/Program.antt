@@ -1,7 +1,7 @@
 -- What the program asks of a capture, and how it ends. This project's own.
 use Rattle.std.specs.Prelude.{ℕ, Bool, true, false, is_some}
 use Rattle.check_options.specs.declared.options.Options.{Options}
-use Rattle.check_engine.specs.declared.asked.Asked.{Asked}
+use Rattle.check_program.specs.declared.asked.Asked.{Asked}
 
 -- what the command line asks for
 abbrev pub asked_of : Options → Asked

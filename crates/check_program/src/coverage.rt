@@ -1,8 +1,8 @@
 //! The file of what was covered.
 ghost use Rattle.std.specs.Prelude.{◌≡◌, IfErr};
-ghost use Rattle.check_engine.specs.declared.fault.CheckFault.TheVariants.{Write};
+ghost use Rattle.check_program.specs.declared.fault.CheckFault.TheVariants.{Write};
 
-use check_engine::CheckFault;
+use crate::fault::CheckFault;
 use std::fs;
 use std::rt::Files;
 use tl_streams::{LimitedWriter, write_all};

@@ -1,13 +1,13 @@
 //! The images of a system's ports.
 ghost use Rattle.std.specs.Prelude.{◌≡◌, IfErr, IfOk, map};
 ghost use Rattle.std.specs.Path.{path_buf_bytes, path_with_file_name};
-ghost use Rattle.check_ports.specs.Port.{port_view};
+ghost use Rattle.check_description.specs.Port.{port_view};
 ghost use Rattle.check_program.specs.Images.{AreImagesOf, IsFaultOfImages, IsFaultOfPort, IsImageOf};
 
-use check_description::Parts;
-use check_engine::{CheckFault, read_image};
+use check_description::{Parts, Port};
+use crate::fault::CheckFault;
+use crate::system::read_image;
 use check_keys::SystemFault;
-use check_ports::Port;
 use std::alloc::{AllocError, Global};
 use std::io::Read;
 use std::path::{Path, PathBuf};

@@ -1,20 +1,36 @@
-//! What the program `tlcheck` does: it reads a system with the images of its ports, judges a capture, and writes the
+//! What the program `tlcheck` does: from the bytes of a system file, of its images and of a capture to the line of the
 //! verdict.
 //!
-//! `check_engine` carries the theorem, over the bytes of all files: lawful is written exactly if the rows that the capture
-//! spells are lawful for the system. Here stands what the program adds. [`read_images`] reads the image of each port that
-//! names one, from the folder of SYSTEM. [`check_as_asked`] judges as the command line asks (`check_options`), and gives
-//! the text of what was covered if that is asked for. [`write_coverage`] writes that text to a file. [`ended`] says with
-//! which status the program ends. Read on in `docs/CAPTURE.md`.
+//! [`read_system`] reads the parts that SYSTEM names, and [`read_images`] the image of each port that names one, from the
+//! folder of SYSTEM. [`check`] judges the capture that a reader gives, and writes the line of the verdict. It carries the
+//! theorem (`specs/Engine.antt`): lawful is written exactly if the rows that the capture spells are lawful for the system.
+//! If there is no verdict, a [`CheckFault`] says why. [`check_as_asked`] judges as the command line asks (`check_options`),
+//! [`write_coverage`] writes what was covered to a file, and [`ended`] says with which status the program ends.
 //!
-//! It is a library, so that its tests stand in a crate above it (`check_program_tests`): a crate with tests is proved
-//! twice.
+//! A [`Shown`] is a reader that shows on standard error how far the capture is read (a [`Meter`] prints a [`Line`]), and an
+//! [`Erasing`] is a writer that erases that line first. Both hand on each byte. Read on in `docs/CAPTURE.md`.
+//!
+//! It is a library, so that its tests stand in a crate above it (`check_program_tests`).
 #![tactic(auto)]
 
+mod asked;
 mod coverage;
+mod engine;
+mod fault;
 mod images;
+mod line;
+mod meter;
 mod program;
+mod shown;
+mod system;
 
+pub use asked::Asked;
 pub use coverage::write_coverage;
+pub use engine::check;
+pub use fault::CheckFault;
 pub use images::{ImageFiles, read_images};
+pub use line::Line;
+pub use meter::Meter;
 pub use program::{check_as_asked, ended};
+pub use shown::{Erasing, Shown};
+pub use system::{read_image, read_system};

@@ -2,12 +2,14 @@
 ghost use Rattle.std.specs.Prelude.{◌≡◌, IfOk, IfErr, map};
 ghost use Rattle.std.specs.Process.{exit_status};
 ghost use Rattle.check_description.specs.File.{parts_view};
-ghost use Rattle.check_engine.specs.Engine.{IsChecked, IsCounted};
-ghost use Rattle.check_engine.specs.Fault.{status_of};
+ghost use Rattle.check_program.specs.Engine.{IsChecked, IsCounted};
+ghost use Rattle.check_program.specs.Fault.{status_of};
 ghost use Rattle.check_program.specs.Program.{asked_of, status_of_verdict};
 
 use check_description::Parts;
-use check_engine::{Asked, CheckFault, check};
+use crate::asked::Asked;
+use crate::engine::check;
+use crate::fault::CheckFault;
 use check_options::Options;
 use check_start::Terms;
 use std::alloc::Global;

@@ -2,9 +2,9 @@
 //! their verdicts stand in `examples/verdicts`.
 //!
 //! - `options`: the command line (`check_options`);
-//! - `progress`, `erasing`: the progress of a capture, and what stands on a terminal after it (`check_progress`);
+//! - `progress`, `erasing`: the progress of a capture, and what stands on a terminal after it (`check_program`);
 //! - `program`: a system, its images and a capture with the verdict, its lines and its faults; readers and writers that
-//!   are slow or fail (`check_engine`);
+//!   are slow or fail (`check_program`);
 //! - `coverage`, `images`: what a capture has covered, and the file that it is written to; the images of ports
 //!   (`check_program`);
 //! - `dumps`: a system and a dump with the capture, and its faults (`check_waves`);

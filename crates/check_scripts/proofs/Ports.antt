@@ -24,14 +24,14 @@ use Rattle.tl_script.proofs.Resets.{pairs_of-length}
 use Rattle.check_keys.specs.Key.{key_name}
 use Rattle.check_scripts.specs.Instance.{ArePortsOf, IsPlainPort, IsPortOf}
 use Rattle.check_keys.specs.Name.{name_at}
-use Rattle.check_ports.specs.Contents.{contents_at, image_at, reset_at, reset_of}
-use Rattle.check_ports.specs.Kind.{kind_at, kind_of as new_kind_of}
-use Rattle.check_ports.specs.Order.{order_at}
-use Rattle.check_ports.specs.Port.{Port, port_of}
-use Rattle.check_ports.specs.Ranges.{plain_ranges, ranges_at}
-use Rattle.check_ports.specs.Sizes.{sizes_at}
-use Rattle.check_ports.specs.declared.kind.PortKind.{PortKind}
-use Rattle.check_ports.specs.declared.kind.PortKind.TheVariants.{Memory, Device}
+use Rattle.check_description.specs.Contents.{contents_at, image_at, reset_at, reset_of}
+use Rattle.check_description.specs.Kind.{kind_at, kind_of as new_kind_of}
+use Rattle.check_description.specs.Order.{order_at}
+use Rattle.check_description.specs.Port.{Port, port_of}
+use Rattle.check_description.specs.Ranges.{plain_ranges, ranges_at}
+use Rattle.check_description.specs.Sizes.{sizes_at}
+use Rattle.check_description.specs.declared.kind.PortKind.{PortKind}
+use Rattle.check_description.specs.declared.kind.PortKind.TheVariants.{Memory, Device}
 use Rattle.check_beats.specs.declared.bus.Bus.TheVariants.{Eight}
 use Rattle.check_keys.specs.Bus.{bus_at}
 use Rattle.check_keys.specs.Reading as new

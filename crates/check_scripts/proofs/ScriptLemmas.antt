@@ -30,7 +30,7 @@ use Rattle.check_keys.specs.Key.{key_name}
 use Rattle.check_map.specs.declared.sources.Owner.{Owner}
 use Rattle.check_description.specs.Master.{HasOwners, IsInBlocks, Master, counts_of, said_owners, first_at, has_first, master_of, master_tables, masters_of, stride_at}
 use Rattle.check_keys.specs.Name.{name_at}
-use Rattle.check_ports.specs.Port.{Port, port_tables, ports_of, tables_by}
+use Rattle.check_description.specs.Port.{Port, port_tables, ports_of, tables_by}
 use Rattle.check_keys.specs.Reading as new
 use Rattle.check_beats.specs.declared.bus.Bus.TheVariants.{Eight}
 use Rattle.check_keys.specs.Bus.{bus_at}

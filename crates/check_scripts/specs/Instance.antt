@@ -9,8 +9,8 @@ use Rattle.check_beats.specs.declared.bus.Bus.TheVariants.{Eight}
 use Rattle.check_keys.specs.Key.{key_name}
 use Rattle.check_keys.specs.declared.fault.Key.{Key}
 use Rattle.check_keys.specs.declared.fault.Key.TheVariants.{Bus, Name, Ranges, Image, Unknown, Sizes, Order, First, Stride}
-use Rattle.check_ports.specs.Laws.{IsPlainMemory, store_of}
-use Rattle.check_ports.specs.Port.{Port, port_tables}
+use Rattle.check_description.specs.Laws.{IsPlainMemory, store_of}
+use Rattle.check_description.specs.Port.{Port, port_tables}
 use Rattle.check_description.specs.Description.{Description, Makes}
 use Rattle.check_description.specs.File.{Parts, document_of, parts_of}
 use Rattle.check_description.specs.Master.{IsInBlocks, Master, master_tables}

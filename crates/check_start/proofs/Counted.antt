@@ -5,9 +5,9 @@ use Rattle.check_flight.specs.PortSlave.{PortSlave}
 use Rattle.check_flight.specs.declared.order.Order.{Order}
 use Rattle.check_keys.specs.Reading.{◌>>=◌, with_front}
 use Rattle.check_keys.specs.declared.fault.SystemFault.{SystemFault}
-use Rattle.check_ports.specs.Port.{Port, port_view}
-use Rattle.check_ports.specs.Slave.{error_slave, slave_at_reset}
-use Rattle.check_ports.specs.declared.port.Port as code
+use Rattle.check_description.specs.Port.{Port, port_view}
+use Rattle.check_description.specs.Slave.{error_slave, slave_at_reset}
+use Rattle.check_description.specs.declared.port.Port as code
 use Rattle.check_start.specs.Slaves.{image_at, slaves_at_reset, slaves_from}
 
 -- what a step gave, and the rest

@@ -4,8 +4,8 @@ use Rattle.check_flight.specs.PortSlave.{PortSlave}
 use Rattle.check_flight.specs.declared.order.Order.{Order}
 use Rattle.check_keys.specs.Reading.{◌>>=◌}
 use Rattle.check_keys.specs.declared.fault.SystemFault.{SystemFault}
-use Rattle.check_ports.specs.Port.{Port}
-use Rattle.check_ports.specs.Slave.{error_slave, slave_at_reset}
+use Rattle.check_description.specs.Port.{Port}
+use Rattle.check_description.specs.Slave.{error_slave, slave_at_reset}
 
 -- the bytes of the image of the port of this number; none are given of a port that names no image
 abbrev pub image_at : List (List ℕ) → ℕ → List ℕ

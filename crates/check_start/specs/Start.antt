@@ -1,7 +1,7 @@
 -- How the judge of a system begins. This project's own.
 use Rattle.std.specs.Prelude.{◌≡◌, ℕ, List, map, Ok}
 use Rattle.check_beats.specs.declared.bus.Bus.{Bus}
-use Rattle.check_ports.specs.Port.{Port}
+use Rattle.check_description.specs.Port.{Port}
 use Rattle.check_description.specs.Description.{Description, ranges_of}
 use Rattle.check_description.specs.Master.{Master}
 use Rattle.check_sides.specs.Plan.{IsPlan, Layout, Plan}

@@ -2,7 +2,7 @@
 ghost use Rattle.std.specs.Prelude.{◌≡◌, ◌≢◌, ◌≤◌, [], length, map, option_map, string_bytes, Err, IfOk, IfErr, Ok};
 ghost use Rattle.check_map.specs.declared.limits.TheConstants.{MAX_MASTERS, MAX_PORTS};
 ghost use Rattle.check_keys.specs.declared.fault.SystemFault.TheVariants.{Memory};
-ghost use Rattle.check_ports.specs.Port.{port_view};
+ghost use Rattle.check_description.specs.Port.{port_view};
 ghost use Rattle.check_description.specs.Master.{master_view};
 ghost use Rattle.check_sides.specs.Plan.{Plan};
 ghost use Rattle.check_sides.specs.View.{Keeps};
@@ -13,12 +13,11 @@ ghost use Rattle.check_start.specs.Start.{ByThePlan, layout_of, master_buses as 
 
 use crate::slaves::slaves_of;
 use check_beats::Bus;
-use check_description::{Described, Description, Master};
+use check_description::{Described, Description, Master, Port};
 use check_flight::{Order, PortSlave};
 use check_keys::SystemFault;
 use check_lines::Names;
 use check_map::{Map, Sources};
-use check_ports::Port;
 use check_sides::{Links, Watch};
 use check_unanswered::Pending;
 use std::alloc::{AllocError, Global};

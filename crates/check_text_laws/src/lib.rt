@@ -1,5 +1,5 @@
-//! What `lawful` means of links of any width, said at once of whole lists of beats, of files and of captures: laws, each on
-//! a function that does nothing but carry it.
+//! What `lawful` means of links of any width, said at once of whole lists of beats, of files and of captures, and what the
+//! counts of what was covered say: laws, each on a function that does nothing but carry it.
 //!
 //! - [`groups`]: `IsLawful` of `check_sides` says beat by beat what may come next in each group of links. A list is lawful
 //!   exactly if the beats of each group are. With `Links::Each` the groups are the masters' beats, as with `Masters`, and
@@ -9,9 +9,13 @@
 //!   lawful row by row. The rows of such a text are whole messages that come in turn, replies of memories, requests and
 //!   replies that cross. If the verdict is `incomplete`, they keep the rules too, and requests are left at the end. If it
 //!   is `unlawful`, the row which is named is the first with which they are not kept.
+//! - [`counts`]: the lines `asked` of what was covered add up to the requests of the verdict's line, and the lines `answered`
+//!   to the replies. If no line says `contested` at a port, the order `any` let nothing pass there that the order `accept`
+//!   would have refused.
 //!
-//! Nothing runs here. Read `specs/Groups.antt`, `specs/Rules.antt`, and `docs/MODEL.md`, "Groups of links of any width".
+//! Nothing runs here. Read `specs/`, and `docs/MODEL.md`, "Groups of links of any width" and "What the counts add up to".
 #![tactic(auto)]
 
+pub mod counts;
 pub mod groups;
 pub mod texts;

@@ -23,7 +23,7 @@ use Rattle.check_keys.specs.declared.fault.Key as part_key
 use Rattle.check_keys.specs.declared.fault.Key.TheVariants as part
 use Rattle.check_keys.specs.declared.fault.SystemFault.{SystemFault}
 use Rattle.check_keys.specs.declared.fault.SystemFault.TheVariants as fault
-use Rattle.check_ports.specs.Port.{Port, port_of, port_tables, ports_of, tables_by}
+use Rattle.check_description.specs.Port.{Port, port_of, port_tables, ports_of, tables_by}
 use Rattle.check_description.specs.Description.{Description, Makes}
 use Rattle.check_description.specs.File.{Parts, document_of, parts_in, parts_of}
 use Rattle.check_description.specs.Master.{Master, has_first, master_of, master_tables, masters_of}

@@ -4,7 +4,7 @@ use Rattle.std.proofs.lemmas.List.{length-map}
 use Rattle.check_vcd.specs.Body.{happenings, start}
 use Rattle.check_vcd.specs.Header.{Opened, Var, blank, opening}
 use Rattle.check_vcd.specs.Words.{Word, words_of}
-use Rattle.check_ports.specs.Port.{Port}
+use Rattle.check_description.specs.Port.{Port}
 use Rattle.check_description.specs.Description.{Description, Makes}
 use Rattle.check_description.specs.File.{Parts, parts_of}
 use Rattle.check_description.specs.Master.{Master}

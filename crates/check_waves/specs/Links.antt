@@ -1,7 +1,7 @@
 -- What a system says of its links. This project's own.
 use Rattle.std.specs.Prelude.{List, map}
 use Rattle.check_beats.specs.declared.bus.Bus.{Bus}
-use Rattle.check_ports.specs.Port.{Port}
+use Rattle.check_description.specs.Port.{Port}
 use Rattle.check_description.specs.Description.{Description}
 use Rattle.check_description.specs.Master.{Master}
 use Rattle.check_signals.specs.Names.{Names, names_view}

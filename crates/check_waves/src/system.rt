@@ -1,6 +1,6 @@
 //! What a system file says of its links.
 ghost use Rattle.std.specs.Prelude.{◌≡◌, ◌+◌, ℕ, List, Option, IfErr, IfOk, map};
-ghost use Rattle.check_ports.specs.Port.{port_view};
+ghost use Rattle.check_description.specs.Port.{port_view};
 ghost use Rattle.check_description.specs.Master.{master_view};
 ghost use Rattle.check_description.specs.declared.read.TheConstants.{MAX_SYSTEM};
 ghost use Rattle.check_signals.specs.Names.{names_view};
@@ -10,8 +10,7 @@ ghost use Rattle.check_waves.specs.Links.{links_of as links_of_system, links_vie
 
 use crate::fault::WaveFault;
 use check_beats::Bus;
-use check_description::{Description, MAX_SYSTEM, Master, describe, read_parts};
-use check_ports::Port;
+use check_description::{Description, MAX_SYSTEM, Master, Port, describe, read_parts};
 use check_signals::{Names, read_names};
 use std::alloc::{AllocError, Global};
 use std::io::Read;

@@ -6,9 +6,9 @@ use Rattle.std.proofs.lemmas.List.{length-replicate, length-set, map-set, replic
 use Rattle.check_flight.specs.declared.order.Order.{Order}
 use Rattle.check_keys.specs.Reading.{◌>>=◌}
 use Rattle.check_keys.specs.declared.fault.SystemFault.{SystemFault}
-use Rattle.check_ports.specs.Port.{Port}
-use Rattle.check_ports.specs.Ranges.{first_length}
-use Rattle.check_ports.specs.Slave.{error_slave}
+use Rattle.check_description.specs.Port.{Port}
+use Rattle.check_description.specs.Ranges.{first_length}
+use Rattle.check_description.specs.Slave.{error_slave}
 use Rattle.check_start.specs.Slaves.{image_at, slaves_at_reset, slaves_from}
 use Rattle.check_description.specs.File.{Parts}
 use Rattle.tl_c.specs.Calls.{HoldsDraft}

@@ -3,8 +3,8 @@ use Rattle.std.specs.Prelude.{◌≡◌, ◌<◌, ◌≤◌, ◌⊎◌, ◌&&◌
 use Rattle.std.specs.declared.alloc.Global.{Global}
 use Rattle.check_keys.specs.declared.fault.SystemFault.{SystemFault}
 use Rattle.check_keys.specs.declared.fault.SystemFault.TheVariants.{ImageTooLong, ImageUnreadable}
-use Rattle.check_ports.specs.Port.{Port}
-use Rattle.check_ports.specs.Ranges.{first_length}
+use Rattle.check_description.specs.Port.{Port}
+use Rattle.check_description.specs.Ranges.{first_length}
 use Rattle.check_description.specs.Description.{IsFirstFaultOf}
 use Rattle.check_description.specs.File.{Parts, parts_of}
 use Rattle.check_description.specs.Name.{AreDistinct, IsFirstPartFault, names_of}

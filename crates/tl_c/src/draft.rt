@@ -6,9 +6,8 @@ ghost use Rattle.check_description.specs.Name.{IsFirstPartFault};
 ghost use Rattle.tl_c.specs.Draft.{IsDraft, IsDraftOf, IsFirstLacking, LacksNone, bytes_in, fault_at, image_fault, image_file, is_given, lacks, slots_of, with_image};
 ghost use Rattle.tl_c.specs.declared.draft.ImageFault.TheVariants.{System};
 
-use check_description::{Parts, read_parts};
+use check_description::{Parts, first_length, read_parts};
 use check_keys::SystemFault;
-use check_ports::first_length;
 use std::alloc::{AllocError, Global};
 use std::marker::Model;
 use thiserror::Error;

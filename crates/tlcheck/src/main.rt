@@ -14,14 +14,12 @@
 //! answered by clap's text. If standard error is a terminal, it shows the progress of a capture that takes more than a
 //! second, unless `--quiet` is given.
 //!
-//! The crates `check_engine` and `check_program` carry the theorem: what is written, and the status. Here the program's
-//! words, files and memory are handed to them. It is a crate of its own, so that its proof is not done again for the tests.
+//! The crate `check_program` carries the theorem: what is written, and the status. Here the program's words, files and
+//! memory are handed to it. It is a crate of its own, so that its proof is not done again for the tests.
 #![tactic(auto)]
 
-use check_engine::{CheckFault, read_system};
+use check_program::{CheckFault, Erasing, Meter, Shown, check_as_asked, ended, read_images, read_system, write_coverage};
 use check_options::{Options, read_options};
-use check_program::{check_as_asked, ended, read_images, write_coverage};
-use check_progress::{Erasing, Meter, Shown};
 use std::io::{IsTerminal, Read};
 use std::process::ExitCode;
 use std::{env, fs};

@@ -1,5 +1,5 @@
 //! What stands on a terminal while a capture is read, and after something else is written there.
-use check_progress::{Erasing, Meter, Shown};
+use check_program::{Erasing, Meter, Shown};
 use std::alloc::Global;
 use std::cell::{Cell, RefCell};
 use std::fmt::{Display, Write as _};

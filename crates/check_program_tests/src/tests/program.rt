@@ -1,11 +1,11 @@
-//! What no clause of the engine (`check_engine`) says: the lines and statuses of faults, readers and writers that are
+//! What no clause of the engine (`check_program`) says: the lines and statuses of faults, readers and writers that are
 //! slow or fail, and that the system is judged before the capture is read.
 ghost use Rattle.std.specs.Prelude.{◌<◌};
 
 use crate::tests::ends::{End, Outcome, Run, fault, without_trouble};
 use crate::tests::streams::{Drips, Trickle, Trouble};
 use check_description::Parts;
-use check_engine::{Asked, CheckFault, check, read_image, read_system};
+use check_program::{Asked, CheckFault, check, read_image, read_system};
 use check_flight::Order;
 use check_keys::SystemFault;
 use check_rows::RowFault;

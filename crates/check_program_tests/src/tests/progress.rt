@@ -1,5 +1,5 @@
 //! The progress of a capture: when its lines come, and what they are.
-use check_progress::{Line, Meter, Shown};
+use check_program::{Line, Meter, Shown};
 use std::alloc::Global;
 use std::cell::{Cell, RefCell};
 use std::fmt::{Display, Write};

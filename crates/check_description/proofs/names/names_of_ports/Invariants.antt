@@ -1,7 +1,7 @@
 -- The names so far, and those of the rest, are the names of all.
 use Rattle.std.proofs.Common.{◌≡◌, ◌++◌, drop, map}
 use Rattle.std.specs.List.{filter_map}
-use Rattle.check_ports.specs.Port.{port_view}
+use Rattle.check_description.specs.Port.{port_view}
 use Rattle.check_description.proofs.names.names_of_ports.Given as goal
 
 abbrev pub invariant-loop-port : goal.invariant-loop-port

@@ -1,8 +1,8 @@
 -- One image more is that of its port.
 use Rattle.std.proofs.Common.{rules, ◌≡◌, ◌∙◌, ◌++◌, ◌∷◌, [], map, length, inl, refl, sym, arith, Some, slice_get}
 use Rattle.std.proofs.lemmas.List.{length-map, length-append}
-use Rattle.check_ports.specs.Port.{port_view}
-use Rattle.check_engine.specs.declared.fault.CheckFault.TheVariants.{Memory}
+use Rattle.check_description.specs.Port.{port_view}
+use Rattle.check_program.specs.declared.fault.CheckFault.TheVariants.{Memory}
 use Rattle.check_program.specs.Images.{IsFaultOfImages, IsImageOf}
 use Rattle.check_program.proofs.Fitting.{fault_of_one, fit_none, if_err, one_more, seen_at}
 use Rattle.check_program.proofs.images.read_images.Goals as goal

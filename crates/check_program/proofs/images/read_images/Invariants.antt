@@ -1,6 +1,6 @@
 -- The images so far are those of the ports so far.
 use Rattle.std.proofs.Common.{◌≡◌, map, length}
-use Rattle.check_ports.specs.Port.{port_view}
+use Rattle.check_description.specs.Port.{port_view}
 use Rattle.check_program.specs.Images.{FitPorts, IsImageOf}
 use Rattle.check_program.proofs.images.read_images.Given as goal
 

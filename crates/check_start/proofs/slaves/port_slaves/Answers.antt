@@ -1,7 +1,7 @@
 -- The slave of one port more is pushed.
 use Rattle.std.proofs.Common.{rules, ◌≡◌, ◌∙◌, ◌++◌, ◌∷◌, [], map, Ok}
-use Rattle.check_ports.specs.Port.{port_view}
-use Rattle.check_ports.specs.Slave.{slave_at_reset}
+use Rattle.check_description.specs.Port.{port_view}
+use Rattle.check_description.specs.Slave.{slave_at_reset}
 use Rattle.check_start.specs.Slaves.{image_at}
 use Rattle.check_start.proofs.Counted.{one_more}
 use Rattle.check_start.proofs.slaves.port_slaves.Goals as goal

@@ -1,7 +1,7 @@
 -- There is a slave for each port, and the judge keeps no beat by each plan of the system.
 use Rattle.std.proofs.Common.{rules, ◌≡◌, ◌∙◌, ◌+◌, ap, length, map, Ok, sym}
 use Rattle.std.proofs.lemmas.List.{length-map}
-use Rattle.check_ports.specs.Port.{Port, port_view}
+use Rattle.check_description.specs.Port.{Port, port_view}
 use Rattle.check_start.specs.Slaves.{slaves_at_reset}
 use Rattle.check_start.specs.Start.{layout_of}
 use Rattle.check_start.proofs.Counted.{same_slaves, slaves_counted}

@@ -1,6 +1,6 @@
 -- The buses so far are those of the ports so far.
 use Rattle.std.proofs.Common.{◌≡◌, map, take}
-use Rattle.check_ports.specs.Port.{port_view}
+use Rattle.check_description.specs.Port.{port_view}
 use Rattle.check_start.specs.Start.{port_buses}
 use Rattle.check_start.proofs.start.port_buses.Given as goal
 

@@ -1,6 +1,6 @@
 -- The names so far are those of the ports so far.
 use Rattle.std.proofs.Common.{◌≡◌, map, take}
-use Rattle.check_ports.specs.Port.{port_view}
+use Rattle.check_description.specs.Port.{port_view}
 use Rattle.check_lines.specs.Names.{texts_of}
 use Rattle.check_start.proofs.start.port_names.Given as goal
 

@@ -1,5 +1,5 @@
 -- One bus more is kept.
-use Rattle.check_ports.specs.Port.{Port, port_view}
+use Rattle.check_description.specs.Port.{Port, port_view}
 use Rattle.check_waves.proofs.Buses.{one_more}
 use Rattle.check_waves.proofs.system.port_buses.Goals as goal
 

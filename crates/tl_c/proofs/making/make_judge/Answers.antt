@@ -1,7 +1,7 @@
 -- The judge of a draft, and why no image is too long.
 use Rattle.std.proofs.Common.{◌≡◌, ◌≢◌, ◌∙◌, ◌≤◌, List, Some, [], ap, length, map, refl, slice_get, subst, sym, ℕ}
-use Rattle.check_ports.specs.Port.{Port}
-use Rattle.check_ports.specs.Ranges.{first_length}
+use Rattle.check_description.specs.Port.{Port}
+use Rattle.check_description.specs.Ranges.{first_length}
 use Rattle.check_keys.specs.declared.fault.SystemFault.{SystemFault}
 use Rattle.check_keys.specs.declared.fault.SystemFault.TheVariants.{Memory}
 use Rattle.check_description.proofs.BlockLemmas.{error_is}

@@ -1,6 +1,6 @@
 -- The files so far, and those of the rest of the ports, are those of all.
 use Rattle.std.proofs.Common.{◌≡◌, ◌++◌, drop, map}
-use Rattle.check_ports.specs.Port.{port_view}
+use Rattle.check_description.specs.Port.{port_view}
 use Rattle.check_description.specs.File.{image_view, images_from, images_of, parts_view}
 use Rattle.check_description.proofs.parts.Parts.images.Given as goal
 

@@ -1,7 +1,7 @@
 -- What a file names is a draft, before any image is handed in.
 use Rattle.std.proofs.Common.{◌≡◌, ◌∙◌, List, None, Option, ℕ, ap, arith, length, replicate, subst, sym}
 use Rattle.std.proofs.lemmas.List.{length-map}
-use Rattle.check_ports.specs.Port.{port_view}
+use Rattle.check_description.specs.Port.{port_view}
 use Rattle.check_description.specs.File.{parts_view}
 use Rattle.tl_c.specs.Draft.{IsDraft, slots_of}
 use Rattle.tl_c.proofs.Drafts.{fresh_is_draft}

@@ -1,5 +1,0 @@
-use Rattle.check_coverage_laws.proofs.Uncontested.{nothing_is_contested}
-use Rattle.check_coverage_laws.proofs.laws.no_contest_is_left_out.Goals as goal
-
-pub returns : goal.returns
-returns c = nothing_is_contested

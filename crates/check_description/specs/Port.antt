@@ -1,0 +1,89 @@
+-- The ports of a system file. This project's own.
+use Rattle.std.specs.Prelude.{ℕ, List, [], Option, None, Some, option_map, string_bytes, Result, Ok}
+use Rattle.toml.specs.Data.{Data, Members, get_member}
+use Rattle.tl_map.specs.declared.map.Range.{Range}
+use Rattle.check_map.specs.declared.limits.TheConstants.{MAX_PORTS}
+use Rattle.check_beats.specs.declared.bus.Bus.{Bus}
+use Rattle.check_memory.specs.declared.sizes.SizeTable.{SizeTable}
+use Rattle.check_flight.specs.declared.order.Order.{Order}
+use Rattle.check_keys.specs.Bus.{bus_at}
+use Rattle.check_keys.specs.Key.{key_name}
+use Rattle.check_keys.specs.Name.{name_at}
+use Rattle.check_keys.specs.Reading.{◌>>=◌, each}
+use Rattle.check_keys.specs.Value.{tables_of, up_to}
+use Rattle.check_keys.specs.declared.fault.Key.TheVariants.{Port as PortKey}
+use Rattle.check_keys.specs.declared.fault.SystemFault.{SystemFault}
+use Rattle.check_description.specs.Contents.{Contents, contents_at}
+use Rattle.check_description.specs.Kind.{kind_at}
+use Rattle.check_description.specs.Order.{order_at}
+use Rattle.check_description.specs.Ranges.{first_length, ranges_at}
+use Rattle.check_description.specs.Sizes.{sizes_at}
+use Rattle.check_description.specs.declared.kind.PortKind.{PortKind}
+use Rattle.check_description.specs.declared.port.Contents as code_contents
+use Rattle.check_description.specs.declared.port.Port as code_port
+
+-- a slave port: its name, what stands there, where its bytes are, what it holds before any request, the sizes that it
+-- supports, when its requests take effect, and its data bus. No sizes are those of its kind; no order is the command
+-- line's
+pub record Port : Type 0 where
+  pub name : Option (List ℕ)
+  pub kind : PortKind
+  pub ranges : List Range
+  pub contents : Contents
+  pub sizes : Option SizeTable
+  pub order : Option Order
+  pub bus : Bus
+
+-- the port that a table describes, by its keys in the order in which they are looked at; without a bus of its own it has
+-- that of the system
+unfoldable pub port_of : Bus → Members → Result Port SystemFault
+port_of bus members = do
+  name ← name_at members
+  kind ← kind_at members
+  ranges ← ranges_at members
+  contents ← contents_at (first_length ranges) members
+  sizes ← sizes_at members
+  order ← order_at members
+  own ← bus_at bus members
+  Ok (record {
+    name = name;
+    kind = kind;
+    ranges = ranges;
+    contents = contents;
+    sizes = sizes;
+    order = order;
+    bus = own;
+  })
+
+-- the tables in a value, which may not be there
+abbrev pub tables_by : Option Data → Result (List Members) SystemFault
+tables_by None = Ok []
+tables_by (Some value) = tables_of PortKey value >>= up_to PortKey MAX_PORTS
+
+-- the tables of the ports, of which there may be none
+unfoldable pub port_tables : Members → Result (List Members) SystemFault
+port_tables members = tables_by (get_member (key_name PortKey) members)
+
+-- the ports of a file, in order
+unfoldable pub ports_of : Bus → Members → Result (List Port) SystemFault
+ports_of bus members = port_tables members >>= each (port_of bus)
+
+-- ---- what contracts see
+
+abbrev pub contents_view : code_contents.Contents → Contents
+contents_view contents = record {
+  reset = contents.reset.items;
+  image = option_map string_bytes contents.image;
+  unknown = contents.unknown;
+}
+
+abbrev pub port_view : code_port.Port → Port
+port_view port = record {
+  name = option_map string_bytes port.name;
+  kind = port.kind;
+  ranges = port.ranges.items;
+  contents = contents_view port.contents;
+  sizes = port.sizes;
+  order = port.order;
+  bus = port.bus;
+}

@@ -1,0 +1,67 @@
+-- The slave that a port is before any request. This project's own.
+use Rattle.std.specs.Prelude.{ℕ, ◌^◌, Bool, true, false, not, nat_lt, List, [], length, map, unwrap_or, Result}
+use Rattle.tl_ops.specs.declared.kind.Kind.{Kind}
+use Rattle.tl_ops.specs.declared.kind.Kind.TheVariants.{NoDevice}
+use Rattle.tl_map.specs.declared.map.Range.{Range}
+use Rattle.check_memory.specs.Partial.{Partial, loaded}
+use Rattle.check_memory.specs.Place.{fill_of, tabulate}
+use Rattle.check_memory.specs.Sizes.{row_of}
+use Rattle.check_memory.specs.declared.range.Range as memory_range
+use Rattle.check_memory.specs.declared.sizes.SizeTable.{SizeTable}
+use Rattle.check_memory.specs.declared.slave.Slave.{Slave}
+use Rattle.check_memory.specs.declared.slave.Slave.TheVariants as kept
+use Rattle.check_flight.specs.PortSlave.{PortSlave, fresh_slave}
+use Rattle.check_flight.specs.declared.order.Order.{Order}
+use Rattle.check_keys.specs.Reading.{unless}
+use Rattle.check_keys.specs.declared.fault.SystemFault.{SystemFault}
+use Rattle.check_keys.specs.declared.fault.SystemFault.TheVariants.{ImageTooLong}
+use Rattle.check_description.specs.Port.{Port}
+use Rattle.check_description.specs.Ranges.{first_base, first_length}
+use Rattle.check_description.specs.declared.kind.PortKind.{PortKind}
+use Rattle.check_description.specs.declared.kind.PortKind.TheVariants.{Memory, Device}
+
+-- the ranges, as a memory has them
+abbrev pub memory_ranges : List Range → List memory_range.Range
+memory_ranges ranges = map (λ range. record { base = range.base; length = range.length }) ranges
+
+-- the sizes that a memory of a kind supports at a port: the port's own, or else the kind's row
+abbrev pub sizes_of_port : Kind → Port → SizeTable
+sizes_of_port kind port = unwrap_or port.sizes (row_of kind)
+
+-- a memory of these ranges of which no byte was given: all are zero, or all are unknown
+abbrev pub blank : Kind → SizeTable → List memory_range.Range → Bool → Partial
+blank kind sizes ranges known = record {
+  kind = kind;
+  sizes = sizes;
+  ranges = ranges;
+  cells = tabulate (λ _. fill_of known) (2 ^ 64);
+}
+
+abbrev pub blank_memory : Kind → Port → Partial
+blank_memory kind port =
+    blank kind (sizes_of_port kind port) (memory_ranges port.ranges) (not port.contents.unknown)
+
+-- the memory of a port with the bytes of its image from the base of its first range on, and over them those of its reset
+abbrev pub memory_at_reset : Kind → Port → List ℕ → Partial
+memory_at_reset kind port image =
+    let base = first_base port.ranges in
+    loaded (loaded (blank_memory kind port) base image) base port.contents.reset
+
+-- what a port of this kind keeps; a device keeps nothing
+abbrev pub kept_by : PortKind → Port → List ℕ → Slave
+kept_by (Memory kind) port image = kept.Memory (memory_at_reset kind port image)
+kept_by Device port image = kept.Device
+
+abbrev pub kept_at_reset : Port → List ℕ → Slave
+kept_at_reset port image = kept_by port.kind port image
+
+-- the slave of the port of this number, with these bytes of its image, and this order for a port that says none; or that
+-- the image is longer than the first range
+abbrev pub slave_at_reset : ℕ → Port → List ℕ → Order → Result PortSlave SystemFault
+slave_at_reset number port image order =
+    unless (nat_lt (first_length port.ranges) (length image)) (ImageTooLong number)
+    (fresh_slave (kept_at_reset port image) (unwrap_or port.order order) port.contents.unknown)
+
+-- the error port's: it has no range, so each request is denied
+abbrev pub error_slave : Order → PortSlave
+error_slave order = fresh_slave (kept.Memory (blank NoDevice (row_of NoDevice) [] true)) order false

@@ -1,0 +1,32 @@
+//! What a table of a port says.
+ghost use Rattle.std.specs.Prelude.{◌≤◌, length};
+ghost use Rattle.check_description.specs.Ranges.{AreRangesOfPort, first_length};
+
+use crate::kind::PortKind;
+use check_beats::Bus;
+use check_flight::Order;
+use check_memory::Sizes;
+use tl_map::Range;
+
+/// What a port holds before any request: the bytes of a file, if it names one, and over them those of `reset`, both from
+/// the base of its first range on. All other bytes are zero, or unknown.
+#[derive(Debug, Drop)]
+pub struct Contents {
+    pub reset: Vec<u8>,
+    pub image: Option<String>,
+    pub unknown: bool,
+}
+
+/// A slave port. Without sizes of its own it has those of its kind; without an order, that of the command line stands.
+#[derive(Debug, Drop)]
+pub struct Port {
+    pub name: Option<String>,
+    pub kind: PortKind,
+    pub ranges: Vec<Range>,
+    pub contents: Contents,
+    pub sizes: Option<Sizes>,
+    pub order: Option<Order>,
+    pub bus: Bus,
+    ghost lawful: { AreRangesOfPort ranges.items },
+    ghost given: { length contents.reset.items ≤ first_length ranges.items },
+}

@@ -1,0 +1,110 @@
+//! The slave that a port is before any request.
+ghost use Rattle.std.specs.Prelude.{◌≡◌, ◌≤◌, IfOk, length, map};
+ghost use Rattle.check_keys.specs.Reading.{Gives};
+ghost use Rattle.check_description.specs.Port.{port_view};
+ghost use Rattle.check_description.specs.Ranges.{first_length as length_of_first};
+ghost use Rattle.check_description.specs.Slave.{blank_memory, error_slave as slave_of_error, kept_at_reset, memory_at_reset, memory_ranges, sizes_of_port, slave_at_reset};
+
+use crate::kind::PortKind;
+use crate::port::Port;
+use crate::ranges::{first_base, first_length};
+use check_flight::{Order, PortSlave};
+use check_keys::SystemFault;
+use check_memory::{Memory, Range as MemoryRange, Sizes, Slave};
+use std::alloc::{AllocError, Global};
+use tl_map::Range;
+use tl_ops::Kind;
+
+/// The ranges, as a memory has them.
+fn memory_ranges_of(alloc: Global, ranges: &[Range]) -> Result<Vec<MemoryRange>, AllocError>
+    ensures { IfOk result (λ made. made.items ≡ memory_ranges ranges.now) }
+{
+    let mut made = Vec::with_capacity(alloc, ranges.len())?;
+    for range in ranges {
+        made.push(MemoryRange {
+            base: range.base,
+            length: range.length,
+        })?;
+    }
+    Ok(made)
+}
+
+/// The sizes that a memory of a kind supports at a port: the port's own, or else the kind's row.
+fn sizes_of(kind: Kind, port: &Port) -> Sizes
+    ensures { result ≡ sizes_of_port kind (port_view port.now) }
+{
+    let Some(sizes) = &port.sizes else {
+        return Sizes::of(kind);
+    };
+    match Sizes::new(sizes.table()) {
+        Some(sizes) => sizes,
+        None => unreachable!(),
+    }
+}
+
+/// The memory of a port in which nothing was put yet.
+fn blank_of(alloc: Global, kind: Kind, port: &Port) -> Result<Memory, AllocError>
+    ensures { IfOk result (λ memory. memory ≡ blank_memory kind (port_view port.now)) }
+{
+    let ranges = memory_ranges_of(alloc, &port.ranges)?;
+    let sizes = sizes_of(kind, port);
+    Ok(Memory::new(alloc, kind, sizes, ranges, !port.contents.unknown))
+}
+
+/// The memory of a port before any request, with these bytes of its image.
+fn memory_of(alloc: Global, kind: Kind, port: &Port, image: &[u8]) -> Result<Memory, AllocError>
+    requires { length image.now ≤ length_of_first (port_view port.now).ranges }
+    ensures { IfOk result (λ memory. memory ≡ memory_at_reset kind (port_view port.now) image.now) }
+{
+    let base = first_base(&port.ranges);
+    let mut memory = blank_of(alloc, kind, port)?;
+    memory.load(alloc, base, image)?;
+    memory.load(alloc, base, &port.contents.reset)?;
+    Ok(memory)
+}
+
+/// What a port keeps before any request.
+fn kept_of(alloc: Global, port: &Port, image: &[u8]) -> Result<Slave, AllocError>
+    requires { length image.now ≤ length_of_first (port_view port.now).ranges }
+    ensures { IfOk result (λ kept. kept ≡ kept_at_reset (port_view port.now) image.now) }
+{
+    match port.kind {
+        PortKind::Memory(kind) => Ok(Slave::Memory(memory_of(alloc, kind, port, image)?)),
+        PortKind::Device => Ok(Slave::Device),
+    }
+}
+
+/// The slave that the port of this number is before any request, or that its image is longer than its first range. The
+/// bytes of the image are handed in, none if it names no image, and the order for a port that says none.
+pub fn slave_of(
+    alloc: Global,
+    number: usize,
+    port: &Port,
+    image: &[u8],
+    order: Order,
+) -> Result<PortSlave, SystemFault>
+    ensures { Gives (λ slave. slave) result
+        (slave_at_reset number (port_view port.now) image.now order) }
+{
+    if image.len() as u64 > first_length(&port.ranges) {
+        return Err(SystemFault::ImageTooLong(number));
+    }
+    let kept = kept_of(alloc, port, image)?;
+    let order = port.order.unwrap_or(order);
+    Ok(PortSlave::new(alloc, kept, order, port.contents.unknown))
+}
+
+/// The slave of the error port: a memory with no range, which denies every request.
+pub fn error_slave(alloc: Global, order: Order) -> PortSlave
+    ensures { result ≡ slave_of_error order }
+{
+    let nowhere = Vec::new(alloc);
+    let memory = Memory::new(
+        alloc,
+        Kind::NoDevice,
+        Sizes::of(Kind::NoDevice),
+        nowhere,
+        true,
+    );
+    PortSlave::new(alloc, Slave::Memory(memory), order, false)
+}

@@ -1,3 +1,0 @@
-pub mod Failing
-pub mod Judged
-mod Files

@@ -1,5 +1,0 @@
-use Rattle.check_ports.proofs.Stores.{keeps_its_store}
-use Rattle.check_ports.proofs.laws.a_plain_port_keeps_its_store.Goals as goal
-
-pub returns : goal.returns
-returns c = keeps_its_store

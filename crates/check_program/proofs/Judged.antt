@@ -1,0 +1,161 @@
+-- What a judge finds by each plan that it judges by is what is found by the plan of its system.
+use Rattle.std.proofs.Common.{◌≡◌, ◌∙◌, ℕ, Bool, List, [], Option, None, Some, Result, Ok, Err, IfOk, IfSome, ap, refl, subst, sym}
+use Rattle.check_beats.specs.declared.bus.Bus.{Bus}
+use Rattle.check_description.specs.Description.{Description, Makes}
+use Rattle.check_review.specs.Covered.{AppendsCoverage, HasCovered}
+use Rattle.check_review.specs.View.{Judges, is_asked, is_covered, is_traced}
+use Rattle.check_review.specs.declared.judge.Judge.{Judge}
+use Rattle.check_review.specs.declared.tally.Tally.{Tally}
+use Rattle.check_rows.specs.Row.{SeenRow}
+use Rattle.check_records.specs.Text.{Place, start_of}
+use Rattle.check_start.specs.Start.{ByThePlan, master_buses, port_buses}
+use Rattle.check_text.specs.Buses.{LinkBuses}
+use Rattle.check_text.specs.Capture.{IsCovered, IsFault, IsVerdict, IsWritten, OfCapture, TellsCovered}
+use Rattle.check_text.specs.Rows.{OfJudged}
+use Rattle.check_text.specs.declared.fault.CaptureFault.{CaptureFault}
+use Rattle.check_text.specs.declared.fault.Verdict.{Verdict}
+use Rattle.check_text.specs.declared.fault.Verdict.TheVariants as verdicts
+use Rattle.check_sides.specs.Plan.{Plan}
+use Rattle.check_program.specs.declared.asked.Asked.{Asked}
+use Rattle.check_program.specs.declared.fault.CheckFault.{CheckFault}
+use Rattle.check_program.specs.declared.engine.Prepared.{Prepared}
+use Rattle.check_program.specs.Engine.{Given, HasVerdict, IsCounted, IsPrepared, IsStopped, IsVerdictOf, IsWrittenOf, buses_of, is_lawful, with_buses}
+
+-- a judge of a system, and the buses of its links
+pub record IsJudgeOf (asked : Asked) (given : Given) (system : Description) (judge : Judge) (buses : LinkBuses)
+    : Type 0 where
+  pub judges : ByThePlan asked.terms system given.images (λ plan. Judges plan [] judge)
+  pub trace : is_traced judge ≡ asked.trace
+  pub complete : is_asked judge ≡ asked.complete
+  pub coverage : is_covered judge ≡ asked.coverage
+  pub have : buses ≡ buses_of system
+
+-- the buses of the links are those of the system
+pub buses_are : (masters ports : List Bus) (system : Description)
+    → masters ≡ master_buses system.masters → ports ≡ port_buses system.ports
+    → ◌≡◌ {A = LinkBuses} (record { masters = masters; ports = ports }) (buses_of system)
+buses_are masters ports system of_masters of_ports =
+    ap (λ (m : List Bus). with_buses m ports) of_masters
+    ∙ ap (λ (p : List Bus). with_buses (master_buses system.masters) p) of_ports
+
+-- what a judge is that was prepared, with the buses of the system
+pub of_prepared : (asked : Asked) (given : Given) (prepared : Prepared) (buses : LinkBuses)
+    (is : IsPrepared asked given.parts given.images prepared) → buses ≡ buses_of is.system
+    → IsJudgeOf asked given is.system prepared.judge buses
+of_prepared asked given prepared buses is have = record {
+  judges = is.judges;
+  trace = is.trace;
+  complete = is.complete;
+  coverage = is.coverage;
+  have = have;
+}
+
+by_the_plan : (asked : Asked) (given : Given) (system : Description) (judge : Judge) (buses : LinkBuses)
+    (Holds : LinkBuses → Plan → Type 0) → IsJudgeOf asked given system judge buses
+    → ((plan : Plan) → Judges plan [] judge → Holds buses plan)
+    → ByThePlan asked.terms system given.images (Holds (buses_of system))
+by_the_plan asked given system judge buses Holds of_it holds = record {
+  some = of_it.judges.some;
+  each = λ plan is. subst (λ b. Holds b plan) of_it.have (holds plan (of_it.judges.each plan is));
+}
+
+by_the_traced_plan : (asked : Asked) (given : Given) (system : Description) (judge : Judge) (buses : LinkBuses)
+    (old new : Option (List ℕ)) (answer : Result Verdict CaptureFault)
+    → IsJudgeOf asked given system judge buses
+    → ((plan : Plan) → Judges plan [] judge → IfSome given.capture
+    (λ text. IsWritten (is_asked judge) (is_traced judge) plan buses (start_of text) old new answer))
+    → IsWrittenOf asked given system old new answer
+by_the_traced_plan asked given system judge buses old new answer of_it tells =
+    let W : Bool → Bool → Type 0 = λ a t. ByThePlan asked.terms system given.images (λ plan. IfSome given.capture
+    (λ text. IsWritten a t plan (buses_of system) (start_of text) old new answer)) in
+    let is : W (is_asked judge) (is_traced judge) =
+    by_the_plan asked given system judge buses (λ b plan. IfSome given.capture
+    (λ text. IsWritten (is_asked judge) (is_traced judge) plan b (start_of text) old new answer)) of_it tells in
+    subst (λ a. W a asked.trace) of_it.complete (subst (λ t. W (is_asked judge) t) of_it.trace is)
+
+pub has_verdict : (asked : Asked) (given : Given) (system : Description) (judge : Judge) (buses : LinkBuses)
+    (old told : Option (List ℕ)) (verdict : Verdict)
+    → IsJudgeOf asked given system judge buses → Makes given.parts system
+    → ((plan : Plan) → Judges plan [] judge → IfSome given.capture
+    (λ text. IsVerdict (is_asked judge) plan buses (start_of text) verdict))
+    → ((plan : Plan) → Judges plan [] judge → IfSome given.capture
+    (λ text. IsWritten (is_asked judge) (is_traced judge) plan buses (start_of text) old told (Ok verdict)))
+    → HasVerdict asked given old told system verdict
+has_verdict asked given system judge buses old told verdict of_it made found tells = record {
+  made = made;
+  is = subst (λ a. ByThePlan asked.terms system given.images
+      (λ plan. IfSome given.capture (λ text. IsVerdict a plan (buses_of system) (start_of text) verdict))) of_it.complete
+      (by_the_plan asked given system judge buses
+      (λ b plan. IfSome given.capture (λ text. IsVerdict (is_asked judge) plan b (start_of text) verdict)) of_it found);
+  tells = by_the_traced_plan asked given system judge buses old told (Ok verdict) of_it tells;
+}
+
+pub is_stopped : (asked : Asked) (given : Given) (system : Description) (judge : Judge) (buses : LinkBuses)
+    (old new : Option (List ℕ)) (fault : CaptureFault)
+    → IsJudgeOf asked given system judge buses → Makes given.parts system
+    → ((plan : Plan) → Judges plan [] judge → IfSome given.capture (λ text. IsFault plan buses (start_of text) fault))
+    → ((plan : Plan) → Judges plan [] judge → IfSome given.capture
+    (λ text. IsWritten (is_asked judge) (is_traced judge) plan buses (start_of text) old new (Err fault)))
+    → IsStopped asked given old new fault
+is_stopped asked given system judge buses old new fault of_it made found tells = record {
+  system = system;
+  made = made;
+  is = by_the_plan asked given system judge buses
+      (λ b plan. IfSome given.capture (λ text. IsFault plan b (start_of text) fault)) of_it found;
+  tells = by_the_traced_plan asked given system judge buses old new (Err fault) of_it tells;
+}
+
+-- ---- what is covered
+
+-- what follows of the rows of a verdict that are lawful
+of_judged : (plan : Plan) (v : Verdict) (rows : List SeenRow) (P Q : List SeenRow → Type 0)
+    → ((crossed : List SeenRow) → P crossed → Q crossed) → OfJudged plan v rows P → OfJudged plan v rows Q
+of_judged plan (verdicts.Lawful counts) rows P Q to is = record { lawful = is.lawful; holds = to is.lawful.crossed is.holds }
+of_judged plan (verdicts.Incomplete left) rows P Q to is = record { lawful = is.lawful; holds = to is.lawful.crossed is.holds }
+of_judged plan (verdicts.Unlawful found) rows P Q to is = record { first = is.first; holds = to is.first.before is.holds }
+
+of_capture : (plan : Plan) (buses : LinkBuses) (from : Place) (v : Verdict) (P Q : List SeenRow → Type 0)
+    → ((crossed : List SeenRow) → P crossed → Q crossed) → OfCapture plan buses from v P → OfCapture plan buses from v Q
+of_capture plan buses from v P Q to is = record {
+  rows = is.rows;
+  at = is.at;
+  begins = is.begins;
+  judged = is.judged;
+  holds = of_judged plan v is.rows P Q to is.holds;
+}
+
+of_known : (known : Option (List ℕ)) (P Q : List ℕ → Type 0) → ((text : List ℕ) → P text → Q text) → IfSome known P
+    → IfSome known Q
+of_known None P Q to is = tt
+of_known (Some text) P Q to is = to text is
+
+pub is_counted : (asked : Asked) (given : Given) (system : Description) (judge : Judge) (buses : LinkBuses)
+    (tally : Tally) (covered : Bool) (old new : List ℕ) (verdict : Verdict)
+    → IsJudgeOf asked given system judge buses → Makes given.parts system → IsVerdictOf asked given system verdict
+    → covered ≡ is_covered judge
+    → ((plan : Plan) → Judges plan [] judge → IfSome given.capture
+    (λ text. IsCovered plan buses (start_of text) tally verdict))
+    → ((plan : Plan) (crossed : List SeenRow) → HasCovered plan crossed tally
+    → AppendsCoverage covered plan crossed old new)
+    → IsCounted asked given old new (is_lawful verdict)
+is_counted asked given system judge buses tally covered old new verdict of_it made is same covers appends = record {
+  system = system;
+  verdict = verdict;
+  made = made;
+  is = is;
+  answered = refl;
+  covered = by_the_plan asked given system judge buses (λ b plan. IfSome given.capture
+      (λ text. TellsCovered asked.coverage plan b (start_of text) old new verdict)) of_it (λ plan start.
+      of_known given.capture (λ text. IsCovered plan buses (start_of text) tally verdict)
+      (λ text. TellsCovered asked.coverage plan buses (start_of text) old new verdict) (λ text is_covered_there.
+      of_capture plan buses (start_of text) verdict (λ crossed. HasCovered plan crossed tally)
+      (λ crossed. AppendsCoverage asked.coverage plan crossed old new)
+      (λ crossed has. subst (λ a. AppendsCoverage a plan crossed old new) (same ∙ of_it.coverage)
+      (appends plan crossed has)) is_covered_there) (covers plan start));
+}
+
+pub counted_if : (asked : Asked) (given : Given) (old new : List ℕ) (lawful : Bool) (result : Result Bool CheckFault)
+    → IfOk result (λ answered. answered ≡ lawful) → IsCounted asked given old new lawful
+    → IfOk result (IsCounted asked given old new)
+counted_if asked given old new lawful (Ok answered) is counted = subst (IsCounted asked given old new) (sym is) counted
+counted_if asked given old new lawful (Err e) is counted = tt

@@ -1,0 +1,187 @@
+-- What a check judges, and what it writes for that. This project's own.
+use Rattle.std.specs.Prelude.{◌≡◌, ◌⊎◌, ℕ, Bool, true, false, List, [], Option, Result, Ok, Err, IfOk, IfErr, IfSome, ⊤}
+use Rattle.std.specs.Io.KnownBytes.{Appends, Keeps}
+use Rattle.tl_streams.specs.Streams.{AppendsPart}
+use Rattle.check_keys.specs.declared.fault.SystemFault.{SystemFault}
+use Rattle.check_description.specs.File.{Parts}
+use Rattle.check_description.specs.Description.{Description, IsFirstFaultOf, Makes}
+use Rattle.check_beats.specs.declared.bus.Bus.{Bus}
+use Rattle.check_review.specs.View.{Judges, is_asked, is_covered, is_traced}
+use Rattle.check_sides.specs.Plan.{Plan}
+use Rattle.check_lines.specs.Names.{NamesView}
+use Rattle.check_lines.specs.Verdict.{incomplete_line, lawful_line, unlawful_line}
+use Rattle.check_records.specs.Text.{start_of}
+use Rattle.check_start.specs.Slaves.{slaves_at_reset}
+use Rattle.check_start.specs.declared.start.Terms.{Terms}
+use Rattle.check_start.specs.Start.{ByThePlan, master_buses, names_of, port_buses}
+use Rattle.check_text.specs.Buses.{LinkBuses}
+use Rattle.check_text.specs.Capture.{IsFault, IsVerdict, IsWritten, TellsCovered}
+use Rattle.check_text.specs.declared.fault.CaptureFault.{CaptureFault}
+use Rattle.check_text.specs.declared.fault.CaptureFault.TheVariants as stop
+use Rattle.check_text.specs.declared.fault.Verdict.{Verdict}
+use Rattle.check_text.specs.declared.fault.Verdict.TheVariants.{Incomplete, Lawful, Unlawful}
+use Rattle.check_program.specs.declared.fault.CheckFault.{CheckFault}
+use Rattle.check_program.specs.declared.fault.CheckFault.TheVariants as check
+use Rattle.check_program.specs.declared.asked.Asked.{Asked}
+use Rattle.check_program.specs.declared.engine.Prepared.{Prepared}
+
+-- ---- what is judged
+
+-- the parts that a system file names, with the bytes of the image of each port, and what the reader of a capture has
+pub record Given : Type 0 where
+  pub parts : Parts
+  pub images : List (List ℕ)
+  pub capture : Option (List ℕ)
+
+-- the buses of the system's links
+abbrev pub buses_of : Description → LinkBuses
+buses_of system = record { masters = master_buses system.masters; ports = port_buses system.ports }
+
+-- by each plan of the system, and there is one: this holds of the text of the capture
+abbrev pub OfTheText : Asked → Given → Description → (Plan → List ℕ → Type 0) → Type 0
+OfTheText asked given system Holds =
+    ByThePlan asked.terms system given.images (λ plan. IfSome given.capture (Holds plan))
+
+-- the verdict is the one over the capture, at a crossbar that is this system
+abbrev pub IsVerdictOf : Asked → Given → Description → Verdict → Type 0
+IsVerdictOf asked given system verdict =
+    OfTheText asked given system
+    (λ plan text. IsVerdict asked.complete plan (buses_of system) (start_of text) verdict)
+
+-- the fault is one of the capture
+abbrev pub IsFaultOf : Asked → Given → Description → CaptureFault → Type 0
+IsFaultOf asked given system fault =
+    OfTheText asked given system (λ plan text. IsFault plan (buses_of system) (start_of text) fault)
+
+-- what is written while the capture is judged, before this answer
+abbrev pub IsWrittenOf : Asked → Given → Description → Option (List ℕ) → Option (List ℕ) → Result Verdict CaptureFault
+    → Type 0
+IsWrittenOf asked given system old new answer =
+    OfTheText asked given system
+    (λ plan text. IsWritten asked.complete asked.trace plan (buses_of system) (start_of text) old new answer)
+
+-- the fault is the first of the parts that make no system, or the first image of the system that is too long
+abbrev pub IsSystemFault : Asked → Given → SystemFault → Type 0
+IsSystemFault asked given fault =
+    IsFirstFaultOf given.parts fault
+    ⊎ (system : Description) × Makes given.parts system
+    × (slaves_at_reset asked.terms.order given.images system.ports ≡ Err fault)
+
+-- ---- a verdict as it is told
+
+-- with these names of links
+abbrev pub line_of : NamesView → Verdict → List ℕ
+line_of names (Lawful counts) = lawful_line counts
+line_of names (Unlawful found) = unlawful_line names found.row found.fault
+line_of names (Incomplete left) = incomplete_line left
+
+abbrev pub is_lawful : Verdict → Bool
+is_lawful (Lawful counts) = true
+is_lawful (Unlawful found) = false
+is_lawful (Incomplete left) = false
+
+-- ---- what is promised
+
+-- the system is the one that the parts make, and the verdict is the one over the capture; by `told` what is told with it
+-- was written
+pub record HasVerdict (asked : Asked) (given : Given) (old told : Option (List ℕ)) (system : Description)
+    (verdict : Verdict) : Type 0 where
+  pub made : Makes given.parts system
+  pub is : IsVerdictOf asked given system verdict
+  pub tells : IsWrittenOf asked given system old told (Ok verdict)
+
+-- there is such a verdict, it is lawful or not as is answered, and what is told with it and then its line was written
+pub record IsJudged (asked : Asked) (given : Given) (old new : Option (List ℕ)) (lawful : Bool) : Type 0 where
+  pub system : Description
+  pub verdict : Verdict
+  pub told : Option (List ℕ)
+  pub has : HasVerdict asked given old told system verdict
+  pub answered : lawful ≡ is_lawful verdict
+  pub written : Appends told new (line_of (names_of system) verdict)
+
+-- there is a system, and this is answered of the capture; what is told before that was written
+pub record IsStopped (asked : Asked) (given : Given) (old new : Option (List ℕ)) (fault : CaptureFault) : Type 0 where
+  pub system : Description
+  pub made : Makes given.parts system
+  pub is : IsFaultOf asked given system fault
+  pub tells : IsWrittenOf asked given system old new (Err fault)
+
+-- there is a verdict, and what is told with it was written; of its line this
+pub record IsUntold (asked : Asked) (given : Given) (old new : Option (List ℕ))
+    (OfLine : Option (List ℕ) → List ℕ → Type 0) : Type 0 where
+  pub system : Description
+  pub verdict : Verdict
+  pub told : Option (List ℕ)
+  pub has : HasVerdict asked given old told system verdict
+  pub line : OfLine told (line_of (names_of system) verdict)
+
+-- why there is no verdict, and what was written. A fault of the system is its first; one of the capture is one of its
+-- text. Before a verdict nothing is written but what is told; if a write failed, a front of that or of the verdict's line,
+-- and not all of it
+abbrev pub IsFaulty : Asked → Given → Option (List ℕ) → Option (List ℕ) → CheckFault → Type 0
+IsFaulty asked given old new (check.System fault) = IsSystemFault asked given fault × Keeps old new
+IsFaulty asked given old new (check.Capture fault) = IsStopped asked given old new fault
+IsFaulty asked given old new check.Read = IsStopped asked given old new stop.Read
+IsFaulty asked given old new check.Memory =
+    Keeps old new
+    ⊎ (IsStopped asked given old new stop.Memory
+    ⊎ IsUntold asked given old new (λ told line. Keeps told new))
+IsFaulty asked given old new check.Write =
+    IsStopped asked given old new stop.Write
+    ⊎ IsUntold asked given old new (λ told line. AppendsPart told new line)
+
+-- what was given, what the writer held before and holds after, and the answer: whether the capture is lawful, or why
+-- there is no verdict
+pub record IsChecked (asked : Asked) (given : Given) (old new : Option (List ℕ)) (result : Result Bool CheckFault)
+    : Type 0 where
+  pub ok : IfOk result (IsJudged asked given old new)
+  pub fault : IfErr result (IsFaulty asked given old new)
+
+-- ---- what is covered
+
+-- a text grew by what the rows of the capture cover that the verdict is of, if that is asked for; the verdict is the one
+-- that is answered, whether lawful or not
+pub record IsCounted (asked : Asked) (given : Given) (old new : List ℕ) (lawful : Bool) : Type 0 where
+  pub system : Description
+  pub verdict : Verdict
+  pub made : Makes given.parts system
+  pub is : IsVerdictOf asked given system verdict
+  pub answered : lawful ≡ is_lawful verdict
+  pub covered : OfTheText asked given system
+      (λ plan text. TellsCovered asked.coverage plan (buses_of system) (start_of text) old new verdict)
+
+-- ---- for the proofs
+
+abbrev pub with_buses : List Bus → List Bus → LinkBuses
+with_buses masters ports = record { masters = masters; ports = ports }
+
+-- of the system that the parts make: a judge that has seen no beat and tells what is asked for, and the names and the
+-- buses of the links
+pub record IsPrepared (asked : Asked) (parts : Parts) (images : List (List ℕ)) (prepared : Prepared) : Type 0 where
+  pub system : Description
+  pub made : Makes parts system
+  pub judges : ByThePlan asked.terms system images (λ plan. Judges plan [] prepared.judge)
+  pub trace : is_traced prepared.judge ≡ asked.trace
+  pub complete : is_asked prepared.judge ≡ asked.complete
+  pub coverage : is_covered prepared.judge ≡ asked.coverage
+  pub names : prepared.names ≡ names_of system
+  pub masters : prepared.master_buses.items ≡ master_buses system.masters
+  pub ports : prepared.port_buses.items ≡ port_buses system.ports
+
+-- why there is none: the first fault of the parts or of the images, or want of memory
+abbrev pub IsUnprepared : Terms → Parts → List (List ℕ) → CheckFault → Type 0
+IsUnprepared terms parts images (check.System fault) =
+    IsFirstFaultOf parts fault
+    ⊎ (system : Description) × Makes parts system × (slaves_at_reset terms.order images system.ports ≡ Err fault)
+IsUnprepared terms parts images (check.Capture fault) = ⊥
+IsUnprepared terms parts images check.Read = ⊥
+IsUnprepared terms parts images check.Write = ⊥
+IsUnprepared terms parts images check.Memory = ⊤
+
+-- why a line was not written: there was no memory for it, or a write failed
+abbrev pub IsLineFault : Option (List ℕ) → Option (List ℕ) → List ℕ → CheckFault → Type 0
+IsLineFault old new line (check.System fault) = ⊥
+IsLineFault old new line (check.Capture fault) = ⊥
+IsLineFault old new line check.Read = ⊥
+IsLineFault old new line check.Write = AppendsPart old new line
+IsLineFault old new line check.Memory = Keeps old new

@@ -1,0 +1,228 @@
+//! The engine: from the parts of a system and the bytes of a capture to the line of the verdict.
+ghost use Rattle.std.specs.Prelude.{◌≡◌, ◌≤◌, ℕ, List, [], is_some, length, map, IfOk, IfErr, IfSome};
+ghost use Rattle.std.specs.Io.KnownBytes.{Appends};
+ghost use Rattle.check_description.specs.File.{parts_view, Parts as PartsView};
+ghost use Rattle.check_sides.specs.Plan.{Plan};
+ghost use Rattle.check_sides.specs.View.{Keeps};
+ghost use Rattle.check_unanswered.specs.View.{Holds};
+ghost use Rattle.check_coverage.specs.View.{Covers};
+ghost use Rattle.check_review.specs.View.{Judges, is_asked, is_covered, is_traced};
+ghost use Rattle.check_text.specs.Buses.{HasBuses};
+ghost use Rattle.check_program.specs.declared.asked.Asked.{Asked as AskedFor};
+ghost use Rattle.check_program.specs.Engine.{IsChecked, IsCounted, IsLineFault, IsPrepared, IsUnprepared, is_lawful, line_of, with_buses};
+
+use crate::asked::Asked;
+use crate::fault::CheckFault;
+use check_beats::Bus;
+use check_coverage::Coverage;
+use check_description::{Parts, describe};
+use check_lines::{Names, push_incomplete, push_lawful, push_unlawful};
+use check_map::{MAX_MASTERS, MAX_PORTS};
+use check_review::Judge;
+use check_rows::Buses;
+use check_sides::Watch;
+use check_start::{begin, pending_of};
+use check_text::{Verdict, judge_capture};
+use check_unanswered::Pending;
+use std::alloc::{AllocError, Global};
+use std::io::{Read, Write};
+use tl_streams::{LimitedWriter, write_all};
+
+/// The line of a verdict, with these names of links.
+fn line_of(alloc: Global, names: &Names, verdict: &Verdict) -> Result<Vec<u8>, AllocError>
+    ensures { IfOk result (λ text. text.items ≡ line_of names.now verdict.now) }
+{
+    let mut text = Vec::new(alloc);
+    match verdict {
+        Verdict::Lawful(counts) => push_lawful(&mut text, counts)?,
+        Verdict::Unlawful(found) => push_unlawful(&mut text, names, &found.row, &found.fault)?,
+        Verdict::Incomplete(left) => push_incomplete(&mut text, left)?,
+    }
+    Ok(text)
+}
+
+/// Whether a verdict is that the capture is lawful.
+fn is_lawful(verdict: &Verdict) -> bool
+    ensures { result ≡ is_lawful verdict.now }
+{
+    matches!(verdict, Verdict::Lawful(_))
+}
+
+/// The requests in flight of a judge that has seen no beat, if it is asked which are left at the end.
+fn pending_if(alloc: Global, watch: &Watch, asked: bool) -> Result<Option<Pending>, AllocError>
+    ensures asked { IfOk result (λ pending. is_some pending ≡ asked) }
+    ensures none_yet { IfOk result (λ pending. (plan : Plan) → Keeps plan [] watch.now
+        → IfSome pending (Holds plan [])) }
+{
+    if asked {
+        Ok(Some(pending_of(alloc, watch)?))
+    } else {
+        Ok(None)
+    }
+}
+
+/// What a judge has covered that has seen no beat, if it is asked for.
+fn coverage_if(alloc: Global, asked: bool) -> Option<Coverage>
+    ensures asked { is_some result ≡ asked }
+    ensures none_yet { (plan : Plan) → IfSome result (Covers plan []) }
+{
+    if asked {
+        Some(Coverage::new(alloc))
+    } else {
+        None
+    }
+}
+
+/// The judge of a capture, of a judge of beats that has seen none, which tells what is asked for.
+fn judge_of(alloc: Global, watch: Watch, asked: Asked) -> Result<Judge, AllocError>
+    ensures judges { IfOk result (λ judge. (plan : Plan) → Keeps plan [] watch → Judges plan [] judge) }
+    ensures layout { IfOk result (λ judge. judge.tally.watch.layout ≡ watch.layout) }
+    ensures trace { IfOk result (λ judge. is_traced judge ≡ asked.trace) }
+    ensures complete { IfOk result (λ judge. is_asked judge ≡ asked.complete) }
+    ensures coverage { IfOk result (λ judge. is_covered judge ≡ asked.coverage) }
+{
+    let pending = pending_if(alloc, &watch, asked.complete)?;
+    let coverage = coverage_if(alloc, asked.coverage);
+    Ok(Judge::new(watch, asked.trace, pending, coverage))
+}
+
+/// What a capture is judged by: a judge that has seen no beat, and the names and the buses of the links of its system.
+#[derive(Drop)]
+struct Prepared {
+    judge: Judge,
+    names: Names,
+    master_buses: Vec<Bus>,
+    port_buses: Vec<Bus>,
+}
+
+/// What a capture is judged by, of a crossbar that is the system of these parts.
+fn prepare(
+    alloc: Global,
+    parts: Parts,
+    images: &[Vec<u8>],
+    asked: Asked,
+) -> Result<Prepared, CheckFault>
+    ensures prepared { IfOk result
+        (IsPrepared asked (parts_view parts) (map (λ image. image.items) images.now)) }
+    ensures masters { IfOk result (λ prepared. length prepared.master_buses.items ≤ MAX_MASTERS) }
+    ensures ports { IfOk result (λ prepared. length prepared.port_buses.items ≤ MAX_PORTS) }
+    ensures buses { IfOk result (λ prepared. HasBuses prepared.judge.tally.watch.layout
+        (with_buses prepared.master_buses.items prepared.port_buses.items)) }
+    ensures fault { IfErr result
+        (IsUnprepared asked.terms (parts_view parts) (map (λ image. image.items) images.now)) }
+{
+    let system = describe(alloc, parts)?;
+    let begun = begin(alloc, system, images, asked.terms)?;
+    let judge = judge_of(alloc, begun.watch, asked)?;
+    Ok(Prepared {
+        judge,
+        names: begun.names,
+        master_buses: begun.master_buses,
+        port_buses: begun.port_buses,
+    })
+}
+
+/// Writes the line of a verdict. The answer is whether the capture is lawful.
+fn tell<W: Write>(
+    alloc: Global,
+    names: &Names,
+    verdict: &Verdict,
+    writer: &mut LimitedWriter<'_, W>,
+) -> Result<bool, CheckFault>
+    ensures same_writer { writer.new.writer.ghost_name ≡ writer.old.writer.ghost_name }
+    ensures answered { IfOk result (λ lawful. lawful ≡ is_lawful verdict.now) }
+    ensures written { IfOk result (λ _. Appends (W.contents writer.old.writer.now)
+        (W.contents writer.new.writer.now) (line_of names.now verdict.now)) }
+    ensures fault { IfErr result (IsLineFault (W.contents writer.old.writer.now)
+        (W.contents writer.new.writer.now) (line_of names.now verdict.now)) }
+{
+    let line = line_of(alloc, names, verdict)?;
+    write_all(writer, &line)?;
+    Ok(is_lawful(verdict))
+}
+
+/// The verdict over a capture by what was prepared, with its line.
+fn check_prepared<C: Read + Drop, W: Write>(
+    alloc: Global,
+    prepared: &mut Prepared,
+    capture: C,
+    writer: &mut LimitedWriter<'_, W>,
+    covered: &mut Vec<u8>,
+) -> Result<bool, CheckFault>
+    requires masters { length prepared.old.master_buses.items ≤ MAX_MASTERS }
+    requires ports { length prepared.old.port_buses.items ≤ MAX_PORTS }
+    requires buses { HasBuses prepared.old.judge.tally.watch.layout
+        (with_buses prepared.old.master_buses.items prepared.old.port_buses.items) }
+    ensures same_writer { writer.new.writer.ghost_name ≡ writer.old.writer.ghost_name }
+    ensures checked { (asked : AskedFor) (parts : PartsView) (images : List (List ℕ))
+        → IsPrepared asked parts images prepared.old
+        → IsChecked asked (record { parts = parts; images = images; capture = C.remaining capture })
+        (W.contents writer.old.writer.now) (W.contents writer.new.writer.now) result }
+    ensures covered { (asked : AskedFor) (parts : PartsView) (images : List (List ℕ))
+        → IsPrepared asked parts images prepared.old
+        → IfOk result (IsCounted asked (record { parts = parts; images = images; capture = C.remaining capture })
+        covered.old.items covered.new.items) }
+{
+    let buses = Buses {
+        masters: &prepared.master_buses,
+        ports: &prepared.port_buses,
+    };
+    let verdict = judge_capture(alloc, capture, writer, &mut prepared.judge, &buses)?;
+    prepared.judge.append_coverage(covered)?;
+    tell(alloc, &prepared.names, &verdict, writer)
+}
+
+/// Reads a capture to its end or first fault, and writes the line of the verdict: whether what crossed the watched links
+/// of a crossbar that is the system of these parts is lawful. Images has the bytes of the image of each port by its
+/// number, none of a port that names no image. The answer is the same as the line's. If replies are told, their lines
+/// are written before, as the capture is read. If it is asked what the capture covers, the text of that is appended to
+/// `covered` with the verdict.
+pub fn check<C: Read + Drop, W: Write>(
+    alloc: Global,
+    parts: Parts,
+    images: &[Vec<u8>],
+    capture: C,
+    writer: &mut W,
+    asked: Asked,
+    covered: &mut Vec<u8>,
+) -> Result<bool, CheckFault>
+    ensures checked { IsChecked asked (record {
+      parts = parts_view parts;
+      images = map (λ image. image.items) images.now;
+      capture = C.remaining capture;
+    }) (W.contents writer.old) (W.contents writer.new) result }
+    ensures covered { IfOk result (IsCounted asked (record {
+      parts = parts_view parts;
+      images = map (λ image. image.items) images.now;
+      capture = C.remaining capture;
+    }) covered.old.items covered.new.items) }
+{
+    let mut writer = LimitedWriter::new(writer);
+    check_within(alloc, parts, images, capture, &mut writer, asked, covered)
+}
+
+/// The same, through what limits the retried writes.
+fn check_within<C: Read + Drop, W: Write>(
+    alloc: Global,
+    parts: Parts,
+    images: &[Vec<u8>],
+    capture: C,
+    writer: &mut LimitedWriter<'_, W>,
+    asked: Asked,
+    covered: &mut Vec<u8>,
+) -> Result<bool, CheckFault>
+    ensures same_writer { writer.new.writer.ghost_name ≡ writer.old.writer.ghost_name }
+    ensures checked { IsChecked asked (record {
+      parts = parts_view parts;
+      images = map (λ image. image.items) images.now;
+      capture = C.remaining capture;
+    }) (W.contents writer.old.writer.now) (W.contents writer.new.writer.now) result }
+    ensures covered { IfOk result (IsCounted asked (record {
+      parts = parts_view parts;
+      images = map (λ image. image.items) images.now;
+      capture = C.remaining capture;
+    }) covered.old.items covered.new.items) }
+{
+    let mut prepared = prepare(alloc, parts, images, asked)?;
+    check_prepared(alloc, &mut prepared, capture, writer, covered)
+}

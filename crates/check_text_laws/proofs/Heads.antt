@@ -1,0 +1,202 @@
+-- A request that is open at a port is in flight as it is counted, whole, and of that port.
+use Rattle.std.proofs.Common.{◌≡◌, ◌≢◌, ◌∙◌, ◌⊎◌, inl, inr, ⊎_elim, ℕ, Bool, true, false, List, [], ◌∷◌, ◌++◌, length, Option, Some, refl, ap, sym, subst}
+use Rattle.std.specs.Prelude.{nat_lt}
+use Rattle.std.specs.List.{AllByRecursion}
+use Rattle.tl_types.specs.Request.{Request}
+use Rattle.check_map.specs.Ranges.{IsLawfulMap, RoutesBytes}
+use Rattle.check_map.proofs.Routing.{one_port}
+use Rattle.check_beats.specs.Message.{op_of}
+use Rattle.check_flight.specs.Crossing.{Crossing}
+use Rattle.check_flight.specs.Crossing.Crossing.{Waiting, Crossed, Given}
+use Rattle.check_flight.specs.Flight.{Turn}
+use Rattle.check_flight.specs.Flight.Turn.{Idle, Asking, Asked}
+use Rattle.check_watch.specs.Lawful.{IsLawful as IsGroupLawful}
+use Rattle.check_watch.specs.Past.{State, state}
+use Rattle.check_watch.specs.Plan.{IsPlan as IsGroupPlan, Plan as GroupPlan, Side, Sighting}
+use Rattle.check_watch.specs.Plan.Side.{AtMasters, AtPorts}
+use Rattle.check_watch.specs.declared.beat.Link.TheVariants.{Port}
+use Rattle.check_watch.specs.declared.links.Links.TheVariants as together
+use Rattle.check_watch_laws.specs.Crossed.{AreWatched as AreGroupWatched}
+use Rattle.check_watch_laws.specs.Memories.{port_for, side_by, side_for}
+use Rattle.check_watch_laws.specs.Messages.{IsInPlace}
+use Rattle.check_watch_laws.specs.Moments.{Moment, moments}
+use Rattle.check_watch_laws.specs.Moments.Act.{Accepts}
+use Rattle.check_watch_laws.proofs.Crossing.{all_stand, last_of_all, story_at}
+use Rattle.check_watch_laws.proofs.Flights.{in_step, pending}
+use Rattle.check_watch_laws.proofs.Placing.{asks_placed}
+use Rattle.check_watch_laws.proofs.Standing.{IsOut, Stands, Story, is_out}
+use Rattle.check_watch_laws.proofs.Turns.{link_on}
+use Rattle.check_order_laws.specs.Open.{IsOpen}
+use Rattle.check_order_laws.proofs.Asked.{IsAskedAt, asked_if_open}
+use Rattle.check_order_laws.proofs.InTurn.{none_open, open_after, open_here, open_more, open_then, open_there}
+use Rattle.check_order_laws.proofs.Turning.{are_open}
+use Rattle.check_sides.specs.declared.links.Links.{Links}
+use Rattle.check_sides.specs.declared.links.Links.TheVariants.{Both, Masters, Ports, Each}
+use Rattle.check_sides.specs.Groups.{shared_plan, together_of}
+use Rattle.check_sides.specs.Plan.{Plan}
+use Rattle.check_coverage.specs.Flights.{InFlight}
+use Rattle.check_text_laws.proofs.Finding.{found}
+use Rattle.check_text_laws.proofs.Kept.{AreKept, IsKeptAs, IsWholeAs}
+use Rattle.check_text_laws.proofs.Rows.{counted_side}
+
+-- ---- what is open
+
+-- no later moment is of this source
+stays_open : (held : ℕ → Option Request) (later : List Moment) (wide : ℕ)
+    → AllByRecursion (λ (moment : Moment). moment.wide ≢ wide) later → open_after held later wide ≡ held wide
+stays_open held [] wide none = refl
+stays_open held (moment ∷ later) wide none =
+    stays_open (open_then held moment) later wide none.1
+    ∙ open_there held moment wide (λ is. none.0 (sym is))
+
+pub open_of : (all : List Moment) (wide : ℕ) (ask : Request) → IsOpen all wide ask
+    → open_after none_open all wide ≡ Some ask
+open_of all wide ask is =
+    let accepted : Moment = record { act = Accepts; wide = wide; ask = ask } in
+    ap (λ l. open_after none_open l wide) is.accepted
+    ∙ ap (λ (f : ℕ → Option Request). f wide) (open_more none_open is.before (accepted ∷ is.later))
+    ∙ stays_open (open_then (open_after none_open is.before) accepted) is.later wide is.unanswered
+    ∙ open_here (open_after none_open is.before) accepted wide refl
+
+-- ---- at which side
+
+-- a port's slave is seen at the side that is counted; or both sides are watched, and it is seen at the port's link
+sides : (links : Links) (has_link : Bool) → (side_by (together_of links) has_link ≡ counted_side links)
+    ⊎ ((together_of links ≡ together.Both) × (side_by (together_of links) has_link ≡ AtPorts)
+    × (counted_side links ≡ AtMasters))
+sides Both true = inr (refl, refl, refl)
+sides Both false = inl refl
+sides Masters has_link = inl refl
+sides Ports has_link = inl refl
+sides Each has_link = inl refl
+
+-- ---- what a port has taken is what a master sent
+
+record IsSentAs (turn : Turn) (ask : Request) : Type 0 where
+  number : ℕ
+  sent : Request
+  turn_is : turn ≡ Asked number sent
+  op : ask.op ≡ sent.op
+  address : ask.address ≡ sent.address
+  size : ask.size ≡ sent.size
+
+abbrev ask_in : Request → Turn → Request
+ask_in other Idle = other
+ask_in other (Asking n) = other
+ask_in other (Asked n ask) = ask
+
+asked_same : (m n : ℕ) (one other : Request) → Asked m one ≡ Asked n other → one ≡ other
+asked_same m n one other is = ap (ask_in one) is
+
+some_pending : (there : Turn) (number : ℕ) (ask : Request) → there ≡ Asked number ask → pending AtPorts there ≡ [] → ⊥
+some_pending there number ask is none =
+    let no : pending AtPorts (Asked number ask) ≡ [] = sym (ap (λ t. pending AtPorts t) is) ∙ none in absurd (cc)
+
+module _ (plan : GroupPlan) (wide : ℕ) (story : Story) (there : Turn) (number : ℕ) (ask : Request)
+    (is : there ≡ Asked number ask) where
+  sent_out : (n : ℕ) (sent : Request) (out : Bool) (crossing : Crossing) → IsOut plan wide story out sent crossing there
+      → IsSentAs (Asked n sent) ask
+  sent_out n sent false crossing stands = absurd (some_pending there number ask is stands.free)
+  sent_out n sent true Waiting stands = absurd (some_pending there number ask is stands.free)
+  sent_out n sent true Crossed stands =
+      let same : ask ≡ record sent { source = wide } =
+      asked_same number stands.port ask (record sent { source = wide }) (sym is ∙ stands.is) in
+      record {
+        number = n;
+        sent = sent;
+        turn_is = refl;
+        op = ap (λ (r : Request). r.op) same;
+        address = ap (λ (r : Request). r.address) same;
+        size = ap (λ (r : Request). r.size) same;
+      }
+  sent_out n sent true (Given answer) stands = absurd (some_pending there number ask is stands.free)
+
+  was_sent : (turn : Turn) (crossing : Crossing) → Stands plan wide story turn crossing there → IsSentAs turn ask
+  was_sent Idle crossing stands = absurd (some_pending there number ask is stands.free)
+  was_sent (Asking n) crossing stands = absurd (some_pending there number ask is stands.free)
+  was_sent (Asked n sent) crossing stands = sent_out n sent (is_out plan wide sent) crossing stands
+
+-- ---- what is open is counted
+
+-- a request is in flight as it is counted, whole, and of the port
+pub record IsHead (port : ℕ) (kept : Option InFlight) (ask : Request) : Type 0 where
+  pub flight : InFlight
+  pub is : kept ≡ Some flight
+  pub whole : flight.is_whole ≡ true
+  pub port_is : flight.port ≡ port
+  pub op : ask.op ≡ op_of flight.first.opcode flight.first.param
+  pub address : ask.address ≡ flight.first.address
+  pub size : ask.size ≡ flight.first.size
+
+module _ (plan : Plan) (is_plan : IsGroupPlan (shared_plan plan)) (map : IsLawfulMap plan.layout.ports)
+    (past : List Sighting) (watched : AreGroupWatched (shared_plan plan).layout past)
+    (lawful : IsGroupLawful (shared_plan plan) past) (flights : List InFlight)
+    (kept : AreKept plan (state (shared_plan plan) past) (counted_side plan.layout.links) flights) (port wide : ℕ)
+    (ask : Request) (is_open : IsOpen (moments (shared_plan plan) port past) wide ask) where
+  abbrev p : GroupPlan
+  p = shared_plan plan
+
+  abbrev s : State
+  s = state p past
+
+  abbrev side : Side
+  side = side_for p.layout port
+
+  at : IsAskedAt p s port wide side (s.flights side wide).turn ask
+  at = asked_if_open p s port wide side (s.flights side wide).turn ask
+      (sym (are_open p past watched lawful port wide) ∙ open_of (moments p port past) wide ask is_open)
+
+  -- a port's link has requests of the port alone
+  routed : (number : ℕ) → (s.flights AtPorts wide).turn ≡ Asked number ask
+      → RoutesBytes plan.layout.ports ask.address ask.size number
+  routed number is =
+      let step = in_step p past lawful AtPorts wide in
+      last_of_all (IsInPlace p.layout) step.done (record { link = Port number; ask = ask })
+      (subst (λ l. AllByRecursion (IsInPlace p.layout) l)
+      (step.asks_are ∙ ap (λ t. step.done ++ pending AtPorts t) is) (asks_placed p past lawful AtPorts wide))
+      number refl
+
+  route_is : plan.route ask.address ask.size ≡ port
+  route_is = go side at.number at.turn_is at.goes
+    where
+      go : (sd : Side) (number : ℕ) → (s.flights sd wide).turn ≡ Asked number ask
+          → port_for p (link_on sd number) ask ≡ port → plan.route ask.address ask.size ≡ port
+      go AtMasters number is goes = goes
+      go AtPorts number is goes =
+          one_port plan.layout.ports map ask.address ask.size (plan.route ask.address ask.size) number
+          (is_plan.route ask.address ask.size) (routed number is) ∙ goes
+
+  pub head : IsHead port (found wide flights) ask
+  head = ⊎_elim
+      (λ (same : side ≡ counted_side plan.layout.links).
+      let whole : IsWholeAs plan ask (found wide flights) =
+      subst (λ t. IsKeptAs plan t (found wide flights)) at.turn_is
+      (subst (λ sd. IsKeptAs plan (s.flights sd wide).turn (found wide flights)) (sym same) (kept.turns wide)) in
+      record {
+        flight = whole.flight;
+        is = whole.is;
+        whole = whole.whole;
+        port_is = whole.port ∙ route_is;
+        op = whole.op;
+        address = whole.address;
+        size = whole.size;
+      })
+      (λ (both : (together_of plan.layout.links ≡ together.Both) × (side ≡ AtPorts)
+      × (counted_side plan.layout.links ≡ AtMasters)).
+      let there : (s.flights AtPorts wide).turn ≡ Asked at.number ask =
+      subst (λ sd. (s.flights sd wide).turn ≡ Asked at.number ask) both.1 at.turn_is in
+      let sent = was_sent p wide (story_at p wide past) (s.flights AtPorts wide).turn at.number ask there
+      (s.flights AtMasters wide).turn (s.crossings wide) (all_stand p is_plan both.0 past watched lawful wide) in
+      let whole : IsWholeAs plan sent.sent (found wide flights) =
+      subst (λ t. IsKeptAs plan t (found wide flights)) sent.turn_is
+      (subst (λ sd. IsKeptAs plan (s.flights sd wide).turn (found wide flights)) both.2 (kept.turns wide)) in
+      record {
+        flight = whole.flight;
+        is = whole.is;
+        whole = whole.whole;
+        port_is = whole.port ∙ (λ i. plan.route (sym sent.address i) (sym sent.size i)) ∙ route_is;
+        op = sent.op ∙ whole.op;
+        address = sent.address ∙ whole.address;
+        size = sent.size ∙ whole.size;
+      })
+      (sides plan.layout.links (nat_lt port (length plan.layout.ports)))

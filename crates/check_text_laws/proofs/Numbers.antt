@@ -1,0 +1,348 @@
+-- How many of the bins that rows add are requests, and how many are replies.
+use Rattle.std.proofs.Common.{◌≡◌, ◌∙◌, ℕ, ◌+◌, ◌≤◌, ◌%◌, ◌^◌, Bool, true, false, if◌then◌else◌, List, [], ◌∷◌, ◌++◌, length, Option, Some, None, refl, ap, sym, subst, arith}
+use Rattle.std.specs.Prelude.{◌==◌, ◌&&◌, find}
+use Rattle.std.specs.List.{list_any}
+use Rattle.check_beats.specs.State.{ends_reply}
+use Rattle.check_beats.specs.declared.beat.AskHead.{AskHead}
+use Rattle.check_beats.specs.declared.beat.ReplyHead.{ReplyHead}
+use Rattle.check_watch.specs.Past.{scene, state}
+use Rattle.check_watch.specs.Plan.{Layout as GroupLayout}
+use Rattle.check_watch.specs.Scene.{Scene, ask_by, captured, ended, is_given, must_by, seen, seen_ask, seen_reply}
+use Rattle.check_watch.specs.declared.beat.Beat.{Beat}
+use Rattle.check_watch.specs.declared.beat.Beat.TheVariants.{A, D}
+use Rattle.check_watch.specs.declared.beat.Link.{Link}
+use Rattle.check_watch.specs.declared.beat.Link.TheVariants.{Master, Port}
+use Rattle.check_watch.specs.declared.seen.Ended.{Ended}
+use Rattle.check_watch.specs.declared.seen.Ended.TheVariants as ends
+use Rattle.check_watch.specs.declared.seen.Seen.TheVariants.{Part}
+use Rattle.check_flight.specs.Flight.{Turn}
+use Rattle.check_flight.specs.Flight.Turn.{Idle, Asking, Asked}
+use Rattle.check_flight.specs.declared.answer.Answer.{Answer}
+use Rattle.check_cells.specs.Pattern.{Pattern}
+use Rattle.tl_types.specs.Request.{Request}
+use Rattle.check_sides.specs.Groups.{past_at, plan_at, shared_past, shared_plan}
+use Rattle.check_sides.specs.Lawful.{IsLawful}
+use Rattle.check_sides.specs.Plan.{Plan, bus_of}
+use Rattle.check_sides.specs.declared.links.Links.{Links}
+use Rattle.check_sides.specs.declared.links.Links.TheVariants.{Both, Masters, Ports, Each}
+use Rattle.check_rows.specs.Row.{SeenRow}
+use Rattle.check_unanswered.specs.Began.{beats_of}
+use Rattle.check_coverage.specs.declared.bin.Bin.{Bin}
+use Rattle.check_coverage.specs.declared.bin.Bin.TheVariants as bin
+use Rattle.check_coverage.specs.Bins.{again, ask_bins, begin_bins, bins, bins_by, bins_of, contested_bins, contests, first_bins, last_bins, mask_bins, of_found, is_of_master, is_younger, pair_of, reply_bins}
+use Rattle.check_coverage.specs.Flights.{InFlight, answered_at, begun, end_of, flights_after, in_flight, is_counted, is_of, is_whole_ask, is_whole_reply, wide_at}
+use Rattle.check_coverage.specs.Shape.{shape_of}
+use Rattle.check_review.specs.Count.{answered, asked, ends_a_reply, ends_an_ask, is_counted as is_counted_too, one_more}
+use Rattle.check_text_laws.specs.Sums.{is_answered, is_asked}
+use Rattle.check_text_laws.proofs.Finding.{found, own_found}
+use Rattle.check_text_laws.proofs.Kept.{AreKept}
+use Rattle.check_text_laws.proofs.Rows.{answered_kept, are_kept, counted_there, counted_together}
+
+-- how many of these are of a kind
+abbrev pub how_many : (Bin → Bool) → List Bin → ℕ
+how_many is_one [] = 0
+how_many is_one (x ∷ xs) = (if is_one x then 1 else 0) + how_many is_one xs
+
+pub how_many-append : (is_one : Bin → Bool) (xs ys : List Bin)
+    → how_many is_one (xs ++ ys) ≡ how_many is_one xs + how_many is_one ys
+how_many-append is_one [] ys = omega arith
+how_many-append is_one (x ∷ xs) ys = let h = how_many-append is_one xs ys in omega (arith, h)
+
+-- requests, or replies
+abbrev kind : Bool → Bin → Bool
+kind true = is_asked
+kind false = is_answered
+
+abbrev one_if : Bool → ℕ
+one_if true = 1
+one_if false = 0
+
+-- ---- bins of other kinds
+
+again_none : (k : Bool) (flight : InFlight) (time : ℕ) (answered : Option ℕ) → how_many (kind k) (again flight time answered) ≡ 0
+again_none true flight time None = refl
+again_none true flight time (Some at) = refl
+again_none false flight time None = refl
+again_none false flight time (Some at) = refl
+
+begin_none : (k : Bool) (flights : List InFlight) (flight : InFlight) (time : ℕ) (answered : Option ℕ)
+    → how_many (kind k) (begin_bins flights flight time answered) ≡ 0
+begin_none true flights flight time answered = let h = again_none true flight time answered in omega (arith, h)
+begin_none false flights flight time answered = let h = again_none false flight time answered in omega (arith, h)
+
+first_none : (k : Bool) (plan : Plan) (wide : ℕ) (flights : List InFlight) (time : ℕ) (answered : Option ℕ)
+    (beat : AskHead) → how_many (kind k) (first_bins plan wide flights time answered beat) ≡ 0
+first_none k plan wide flights time answered beat = go k (list_any (is_of wide) flights)
+  where
+    go : (k b : Bool) → how_many (kind k) (if b then [] else begin_bins flights (begun plan wide beat) time answered) ≡ 0
+    go true true = refl
+    go false true = refl
+    go true false = begin_none true flights (begun plan wide beat) time answered
+    go false false = begin_none false flights (begun plan wide beat) time answered
+
+mask_none : (k : Bool) (flight : InFlight) → how_many (kind k) (mask_bins flight) ≡ 0
+mask_none k flight = go k (flight.first.opcode == 1)
+  where
+    go : (k b : Bool) → how_many (kind k)
+        (if b then bin.Mask (pair_of flight) (shape_of flight.first.size flight.given) ∷ [] else []) ≡ 0
+    go true true = refl
+    go true false = refl
+    go false true = refl
+    go false false = refl
+
+contested_none : (k : Bool) (flights : List InFlight) (flight : InFlight)
+    → how_many (kind k) (contested_bins flights flight) ≡ 0
+contested_none k flights flight = go k (list_any (contests flight) flights)
+  where
+    go : (k b : Bool) → how_many (kind k) (if b then bin.Contested flight.port ∷ [] else []) ≡ 0
+    go true true = refl
+    go true false = refl
+    go false true = refl
+    go false false = refl
+
+overtook_none : (k b : Bool) (flight : InFlight)
+    → how_many (kind k) (if b then bin.Overtook (pair_of flight) ∷ [] else []) ≡ 0
+overtook_none true true flight = refl
+overtook_none true false flight = refl
+overtook_none false true flight = refl
+overtook_none false false flight = refl
+
+-- a request that is whole is one, and no reply; a reply that is whole is none, and one reply
+rest_none : (k : Bool) (flights : List InFlight) (flight : InFlight)
+    → how_many (kind k) (mask_bins flight ++ contested_bins flights flight) ≡ 0
+rest_none k flights flight =
+    let both = how_many-append (kind k) (mask_bins flight) (contested_bins flights flight) in
+    let m = mask_none k flight in
+    let c = contested_none k flights flight in
+    omega (arith, both, m, c)
+
+ask_one : (k : Bool) (bus : ℕ) (flights : List InFlight) (beat : AskHead) (flight : InFlight)
+    → how_many (kind k) (ask_bins bus flights beat flight) ≡ one_if k
+ask_one true bus flights beat flight = let h = rest_none true flights flight in omega (arith, h)
+ask_one false bus flights beat flight = let h = rest_none false flights flight in omega (arith, h)
+
+reply_no_ask : (bus : ℕ) (flights : List InFlight) (beat : ReplyHead) (flight : InFlight)
+    → how_many is_asked (reply_bins bus flights beat flight) ≡ 0
+reply_no_ask bus flights beat flight =
+    let h = overtook_none true (is_younger flight (find (is_of_master flight.master) flights)) flight in omega (arith, h)
+
+reply_one : (bus : ℕ) (flights : List InFlight) (beat : ReplyHead) (flight : InFlight)
+    → how_many is_answered (reply_bins bus flights beat flight) ≡ 1
+reply_one bus flights beat flight =
+    let h = overtook_none false (is_younger flight (find (is_of_master flight.master) flights)) flight in omega (arith, h)
+
+-- ---- what a beat ends
+
+-- a beat of channel A ends no reply, and one of channel D no request
+abbrev EndsOwn : Beat → Ended → Type 0
+EndsOwn (A beat) end = is_whole_reply end ≡ false
+EndsOwn (D beat) end = is_whole_ask end ≡ false
+
+ends_no_reply : (ask : Option Request) → is_whole_reply (ended (seen_ask ask)) ≡ false
+ends_no_reply None = refl
+ends_no_reply (Some ask) = refl
+
+ends_no_ask : (turn : Turn) (reply : Pattern) (must : Option Answer)
+    → is_whole_ask (ended (seen_reply turn reply must)) ≡ false
+ends_no_ask Idle reply must = refl
+ends_no_ask (Asking n) reply must = refl
+ends_no_ask (Asked n ask) reply None = refl
+ends_no_ask (Asked n ask) reply (Some answer) = refl
+
+ends_own : (layout : GroupLayout) (link : Link) (here : Scene) (beat : Beat) (known : ℕ) (lanes : List ℕ)
+    → EndsOwn beat (ended (seen layout link here beat known lanes))
+ends_own layout link here (A beat) known lanes = ends_no_reply (ask_by here.under beat lanes)
+ends_own layout link here (D beat) known lanes = go (ends_reply here.under.bus here.under.replying beat)
+  where
+    reply : Pattern
+    reply = captured here.under here.flight.turn beat known lanes
+
+    must : Option Answer
+    must = must_by (is_given layout link here.port) here.crossing here.flight.due
+
+    go : (ends : Bool) → is_whole_ask (ended (if ends then seen_reply here.flight.turn reply must else Part)) ≡ false
+    go true = ends_no_ask here.flight.turn reply must
+    go false = refl
+
+-- ---- one beat
+
+module _ (plan : Plan) (bus wide : ℕ) (flights : List InFlight) (time : ℕ) (at : Option ℕ) (end : Ended) where
+  abbrev both_one : Bool → Bool → ℕ
+  both_one true b = one_if b
+  both_one false b = 0
+
+  ask_kinds : (k : Bool) (beat : AskHead)
+      → how_many (kind k) (bins_by plan bus wide flights time at (A beat) end) ≡ both_one k (is_whole_ask end)
+  ask_kinds k beat =
+      let next = flights_after plan bus wide flights (A beat) end in
+      let sum = how_many-append (kind k) (first_bins plan wide flights time at beat) (last_bins bus wide next beat end) in
+      let none = first_none k plan wide flights time at beat in
+      let mine = own_found plan wide beat flights bus end in
+      let last : how_many (kind k) (last_bins bus wide next beat end) ≡ both_one k (is_whole_ask end) =
+      last_one k (is_whole_ask end) next beat mine.0 mine.1 in
+      omega (arith, sum, none, last)
+    where
+      last_one : (k b : Bool) (next : List InFlight) (beat : AskHead) (f : InFlight) → found wide next ≡ Some f
+          → how_many (kind k) (if b then of_found (found wide next) (ask_bins bus next beat) else []) ≡ both_one k b
+      last_one true true next beat f is =
+          ap (λ o. how_many is_asked (of_found o (ask_bins bus next beat))) is ∙ ask_one true bus next beat f
+      last_one false true next beat f is =
+          ap (λ o. how_many is_answered (of_found o (ask_bins bus next beat))) is ∙ ask_one false bus next beat f
+      last_one true false next beat f is = refl
+      last_one false false next beat f is = refl
+
+  asked_by : (beat : Beat) → EndsOwn beat end
+      → how_many is_asked (bins_by plan bus wide flights time at beat end) ≡ one_if (is_whole_ask end)
+  asked_by (A beat) own = ask_kinds true beat
+  asked_by (D beat) own = none (is_whole_reply end) (found wide flights) ∙ ap one_if (sym own)
+    where
+      none : (b : Bool) (o : Option InFlight)
+          → how_many is_asked (if b then of_found o (reply_bins bus flights beat) else []) ≡ 0
+      none true None = refl
+      none true (Some f) = reply_no_ask bus flights beat f
+      none false o = refl
+
+  -- the request that a beat of a reply answers is kept
+  abbrev IsFound : Beat → Type 0
+  IsFound (A beat) = Unit {0}
+  IsFound (D beat) = (f : InFlight) × (found wide flights ≡ Some f)
+
+  answered_by : (beat : Beat) → EndsOwn beat end → IsFound beat
+      → how_many is_answered (bins_by plan bus wide flights time at beat end) ≡ one_if (is_whole_reply end)
+  answered_by (A beat) own has = ask_kinds false beat ∙ ap one_if (sym own)
+  answered_by (D beat) own has = one (is_whole_reply end)
+    where
+      one : (b : Bool)
+          → how_many is_answered (if b then of_found (found wide flights) (reply_bins bus flights beat) else []) ≡ one_if b
+      one true =
+          ap (λ o. how_many is_answered (of_found o (reply_bins bus flights beat))) has.1
+          ∙ reply_one bus flights beat has.0
+      one false = refl
+
+-- ---- one row
+
+same_counted : (links : Links) (link : Link) → is_counted links link ≡ is_counted_too links link
+same_counted Both (Master m) = refl
+same_counted Both (Port p) = refl
+same_counted Masters (Master m) = refl
+same_counted Masters (Port p) = refl
+same_counted Ports (Master m) = refl
+same_counted Ports (Port p) = refl
+same_counted Each (Master m) = refl
+same_counted Each (Port p) = refl
+
+same_ask : (end : Ended) → is_whole_ask end ≡ ends_an_ask end
+same_ask ends.Part = refl
+same_ask ends.Ask = refl
+same_ask ends.Reply = refl
+
+same_reply : (end : Ended) → is_whole_reply end ≡ ends_a_reply end
+same_reply ends.Part = refl
+same_reply ends.Ask = refl
+same_reply ends.Reply = refl
+
+more_of : (b : Bool) (n one m a : ℕ) → n % 2 ^ 64 ≡ a → one ≡ one_if b → m ≡ one + n → m % 2 ^ 64 ≡ one_more b a
+more_of true n one m a was is sum = omega (arith, was, is, sum)
+more_of false n one m a was is sum = omega (arith, was, is, sum)
+
+at_most : (b : Bool) (n one m most : ℕ) → n ≤ most → one ≡ one_if b → m ≡ one + n → m ≤ most + 1
+at_most true n one m most was is sum = omega (arith, was, is, sum)
+at_most false n one m most was is sum = omega (arith, was, is, sum)
+
+module _ (plan : Plan) (before : List SeenRow) (row : SeenRow) where
+  abbrev end : Ended
+  end = end_of plan before row
+
+  abbrev now : List InFlight
+  now = in_flight plan before
+
+  abbrev wide : ℕ
+  wide = wide_at plan row.sighting
+
+  own_end : EndsOwn row.sighting.beat end
+  own_end = ends_own (plan_at plan row.sighting.link).layout row.sighting.link
+      (scene (plan_at plan row.sighting.link) (past_at plan.layout.links row.sighting.link (beats_of before)) row.sighting)
+      row.sighting.beat row.sighting.known row.sighting.lanes
+
+  abbrev added : Bool → List Bin
+  added counted =
+      if counted
+      then bins_by plan (bus_of plan.layout row.sighting.link) wide now row.time
+      (answered_at plan before wide) row.sighting.beat end
+      else []
+
+  asked_here : how_many is_asked (bins_of plan before row)
+      ≡ one_if (is_counted_too plan.layout.links row.sighting.link && ends_an_ask end)
+  asked_here =
+      go (is_counted plan.layout.links row.sighting.link)
+      ∙ (λ i. one_if (same_counted plan.layout.links row.sighting.link i && same_ask end i))
+    where
+      go : (b : Bool) → how_many is_asked (added b) ≡ one_if (b && is_whole_ask end)
+      go true = asked_by plan (bus_of plan.layout row.sighting.link) wide now row.time (answered_at plan before wide) end
+          row.sighting.beat own_end
+      go false = refl
+
+  answered_here : IsLawful plan (beats_of (row ∷ before)) → how_many is_answered (bins_of plan before row)
+      ≡ one_if (is_counted_too plan.layout.links row.sighting.link && ends_a_reply end)
+  answered_here lawful =
+      go (is_counted plan.layout.links row.sighting.link) refl
+      ∙ (λ i. one_if (same_counted plan.layout.links row.sighting.link i && same_reply end i))
+    where
+      has : is_counted plan.layout.links row.sighting.link ≡ true → (beat : Beat) → row.sighting.beat ≡ beat
+          → IsFound plan (bus_of plan.layout row.sighting.link) wide now row.time (answered_at plan before wide) end beat
+      has counted (A beat) is = tt
+      has counted (D beat) is =
+          answered_kept plan before row lawful.0 now
+          (subst (λ sd. AreKept plan (state (shared_plan plan) (shared_past plan.layout.links (beats_of before))) sd now)
+          (sym (counted_there plan.layout.links row.sighting.link counted)) (are_kept plan before lawful.0))
+          (counted_together plan.layout.links row.sighting.link counted) lawful beat is
+
+      go : (b : Bool) → is_counted plan.layout.links row.sighting.link ≡ b
+          → how_many is_answered (added b) ≡ one_if (b && is_whole_reply end)
+      go true counted =
+          answered_by plan (bus_of plan.layout row.sighting.link) wide now row.time (answered_at plan before wide) end
+          row.sighting.beat own_end (has counted row.sighting.beat refl)
+      go false counted = refl
+
+-- ---- all rows
+
+pub asked_is : (plan : Plan) (rows : List SeenRow)
+    → how_many is_asked (bins plan rows) % 2 ^ 64 ≡ asked plan (beats_of rows)
+asked_is plan [] = refl
+asked_is plan (row ∷ before) =
+    more_of (is_counted_too plan.layout.links row.sighting.link && ends_an_ask (end_of plan before row))
+    (how_many is_asked (bins plan before)) (how_many is_asked (bins_of plan before row))
+    (how_many is_asked (bins plan (row ∷ before))) (asked plan (beats_of before))
+    (asked_is plan before) (asked_here plan before row)
+    (how_many-append is_asked (bins_of plan before row) (bins plan before))
+
+pub asked_at_most : (plan : Plan) (rows : List SeenRow) → how_many is_asked (bins plan rows) ≤ length rows
+asked_at_most plan [] = omega arith
+asked_at_most plan (row ∷ before) =
+    let more = at_most (is_counted_too plan.layout.links row.sighting.link && ends_an_ask (end_of plan before row))
+    (how_many is_asked (bins plan before)) (how_many is_asked (bins_of plan before row))
+    (how_many is_asked (bins plan (row ∷ before))) (length before)
+    (asked_at_most plan before) (asked_here plan before row)
+    (how_many-append is_asked (bins_of plan before row) (bins plan before)) in
+    omega (arith, more)
+
+pub answered_is : (plan : Plan) (rows : List SeenRow) → IsLawful plan (beats_of rows)
+    → how_many is_answered (bins plan rows) % 2 ^ 64 ≡ answered plan (beats_of rows)
+answered_is plan [] lawful = refl
+answered_is plan (row ∷ before) lawful =
+    more_of (is_counted_too plan.layout.links row.sighting.link && ends_a_reply (end_of plan before row))
+    (how_many is_answered (bins plan before)) (how_many is_answered (bins_of plan before row))
+    (how_many is_answered (bins plan (row ∷ before))) (answered plan (beats_of before))
+    (answered_is plan before lawful.0) (answered_here plan before row lawful)
+    (how_many-append is_answered (bins_of plan before row) (bins plan before))
+
+pub answered_at_most : (plan : Plan) (rows : List SeenRow) → IsLawful plan (beats_of rows)
+    → how_many is_answered (bins plan rows) ≤ length rows
+answered_at_most plan [] lawful = omega arith
+answered_at_most plan (row ∷ before) lawful =
+    let more = at_most (is_counted_too plan.layout.links row.sighting.link && ends_a_reply (end_of plan before row))
+    (how_many is_answered (bins plan before)) (how_many is_answered (bins_of plan before row))
+    (how_many is_answered (bins plan (row ∷ before))) (length before)
+    (answered_at_most plan before lawful.0) (answered_here plan before row lawful)
+    (how_many-append is_answered (bins_of plan before row) (bins plan before)) in
+    omega (arith, more)

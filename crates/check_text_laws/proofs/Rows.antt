@@ -1,0 +1,269 @@
+-- What is in flight as it is counted is what the judge has in flight, after lawful rows.
+use Rattle.std.proofs.Common.{◌≡◌, ◌∙◌, ◌⊎◌, inl, inr, ⊎_elim, ℕ, Bool, true, false, if◌then◌else◌, List, [], ◌∷◌, Some, refl, ap, sym, subst}
+use Rattle.std.specs.Prelude.{◌==◌, ◌&&◌}
+use Rattle.check_beats.specs.State.{AskBegun}
+use Rattle.check_beats.specs.declared.beat.AskHead.{AskHead}
+use Rattle.check_beats.specs.declared.beat.ReplyHead.{ReplyHead}
+use Rattle.check_flight.specs.Flight.{Flight}
+use Rattle.check_watch.specs.Lawful as group_lawful
+use Rattle.check_watch.specs.Lawful.{IsAllowed, IsAllowedBeat}
+use Rattle.check_watch.specs.Past.{State, scene, scene_of, state, state_after}
+use Rattle.check_watch.specs.Plan.{Plan as GroupPlan, Side, Sighting, is_link, number_of, same_side, seen_at, side_of, source_of, wide_of}
+use Rattle.check_watch.specs.Plan.Side.{AtMasters, AtPorts}
+use Rattle.check_watch.specs.Scene.{ended, seen, under_after}
+use Rattle.check_watch.specs.declared.beat.Beat.{Beat}
+use Rattle.check_watch.specs.declared.beat.Beat.TheVariants.{A, D}
+use Rattle.check_watch.specs.declared.beat.Link.{Link}
+use Rattle.check_watch.specs.declared.beat.Link.TheVariants.{Master, Port}
+use Rattle.check_watch.specs.declared.seen.Ended.{Ended}
+use Rattle.check_watch.proofs.InFlight.{other_stays}
+use Rattle.check_watch_laws.proofs.Turns.{AsksFly, asks_fly}
+use Rattle.check_sides.specs.declared.links.Links.{Links}
+use Rattle.check_sides.specs.declared.links.Links.TheVariants.{Both, Masters, Ports, Each}
+use Rattle.check_sides.specs.Groups.{is_alone, past_at, plan_at, port_past, port_plan, shared_past, shared_plan}
+use Rattle.check_sides.specs.Lawful.{IsLawful}
+use Rattle.check_sides.specs.Plan.{Plan, bus_of}
+use Rattle.check_sides.proofs.Fresh.{shared_none}
+use Rattle.check_sides.proofs.Grouping.{in_group, shared_more, shared_same}
+use Rattle.check_rows.specs.Row.{SeenRow}
+use Rattle.check_unanswered.specs.Began.{beats_of}
+use Rattle.check_coverage.specs.Flights.{InFlight, end_of, flights_after, in_flight, is_counted, is_whole_ask, is_whole_reply, wide_at}
+use Rattle.check_text_laws.proofs.Finding.{found}
+use Rattle.check_text_laws.proofs.Kept.{AreKept, IsKeptAs, IsWholeAs, ask_kept, ask_whole, reply_answers, reply_kept, reply_whole}
+
+-- ---- which links are counted
+
+-- the side of the links that are counted
+abbrev pub counted_side : Links → Side
+counted_side Both = AtMasters
+counted_side Masters = AtMasters
+counted_side Ports = AtPorts
+counted_side Each = AtMasters
+
+pub counted_together : (links : Links) (link : Link) → is_counted links link ≡ true → is_alone links link ≡ false
+counted_together Both link is = refl
+counted_together Masters link is = refl
+counted_together Ports link is = refl
+counted_together Each (Master m) is = refl
+counted_together Each (Port p) is = absurd (cc)
+
+pub counted_there : (links : Links) (link : Link) → is_counted links link ≡ true → side_of link ≡ counted_side links
+counted_there Both (Master m) is = refl
+counted_there Both (Port p) is = absurd (cc)
+counted_there Masters (Master m) is = refl
+counted_there Masters (Port p) is = absurd (cc)
+counted_there Ports (Master m) is = absurd (cc)
+counted_there Ports (Port p) is = refl
+counted_there Each (Master m) is = refl
+counted_there Each (Port p) is = absurd (cc)
+
+-- what is not counted is judged by itself, or is of the other side
+uncounted : (links : Links) (link : Link) → is_counted links link ≡ false
+    → (is_alone links link ≡ true)
+    ⊎ ((is_alone links link ≡ false) × (same_side (side_of link) (counted_side links) ≡ false))
+uncounted Both (Master m) is = absurd (cc)
+uncounted Both (Port p) is = inr (refl, refl)
+uncounted Masters (Master m) is = absurd (cc)
+uncounted Masters (Port p) is = inr (refl, refl)
+uncounted Ports (Master m) is = inr (refl, refl)
+uncounted Ports (Port p) is = absurd (cc)
+uncounted Each (Master m) is = absurd (cc)
+uncounted Each (Port p) is = inl refl
+
+-- ---- the links that are judged together
+
+shared_next : (plan : Plan) (past : List Sighting) (x : Sighting) (b : Bool) → is_alone plan.layout.links x.link ≡ b
+    → group_lawful.IsLawful (shared_plan plan) (shared_past plan.layout.links past)
+    → IsAllowed (plan_at plan x.link) (scene (plan_at plan x.link) (past_at plan.layout.links x.link past) x) x
+    → group_lawful.IsLawful (shared_plan plan) (shared_past plan.layout.links (x ∷ past))
+shared_next plan past x false is before next =
+    subst (λ l. group_lawful.IsLawful (shared_plan plan) l)
+    (sym (shared_more x.beat x.known x.lanes past plan.layout.links x.link is))
+    (before, in_group plan past x.link (λ p l. IsAllowed p (scene p l x) x) false is next)
+shared_next plan past x true is before next =
+    subst (λ l. group_lawful.IsLawful (shared_plan plan) l)
+    (sym (shared_same x.beat x.known x.lanes past plan.layout.links x.link is)) before
+
+-- their beats are lawful
+pub shared_part : (plan : Plan) (past : List Sighting) → IsLawful plan past
+    → group_lawful.IsLawful (shared_plan plan) (shared_past plan.layout.links past)
+shared_part plan [] lawful =
+    subst (λ l. group_lawful.IsLawful (shared_plan plan) l) (sym (shared_none plan.layout.links)) tt
+shared_part plan (x ∷ past) lawful =
+    shared_next plan past x (is_alone plan.layout.links x.link) refl (shared_part plan past lawful.0) lawful.1
+
+-- ---- a beat of the other side
+
+module _ (plan : Plan) (s : State) (side : Side) (flights : List InFlight) (kept : AreKept plan s side flights) (x : Sighting)
+    (apart : same_side (side_of x.link) side ≡ false) where
+  abbrev then_state : State
+  then_state = state_after (shared_plan plan) s x
+
+  other_turns : (wide : ℕ) → IsKeptAs plan (then_state.flights side wide).turn (found wide flights)
+  other_turns wide =
+      subst (λ (f : Flight). IsKeptAs plan f.turn (found wide flights))
+      (sym (other_stays (shared_plan plan) s x side wide
+      (ap (λ b. b && (wide_of (shared_plan plan) x.link (source_of x.beat) == wide)) apart))) (kept.turns wide)
+
+  other_asking : (at : Link) (b : AskBegun) → side_of at ≡ side
+      → (then_state.links (side_of at) (number_of at)).asking ≡ Some b
+      → (s.links (side_of at) (number_of at)).asking ≡ Some b
+  other_asking at b same = go (is_link x.link (side_of at) (number_of at)) not_here
+    where
+      not_here : is_link x.link (side_of at) (number_of at) ≡ false
+      not_here =
+          ap (λ sd. same_side (side_of x.link) sd && (number_of x.link == number_of at)) same
+          ∙ ap (λ b. b && (number_of x.link == number_of at)) apart
+
+      go : (here : Bool) → here ≡ false
+          → (if here then under_after (scene_of (shared_plan plan) s x.link x.beat).under x.beat x.known x.lanes
+          else s.links (side_of at) (number_of at)).asking ≡ Some b
+          → (s.links (side_of at) (number_of at)).asking ≡ Some b
+      go true is so = absurd (cc)
+      go false is so = so
+
+  pub other_kept : AreKept plan (state_after (shared_plan plan) s x) side flights
+  other_kept = record {
+    turns = other_turns;
+    begins = λ at b same is. kept.begins at b same (other_asking at b same is);
+  }
+
+-- ---- a row more
+
+not_reply : (ask : AskHead) (reply : ReplyHead) → A ask ≡ D reply → ⊥
+not_reply ask reply same = subst IsAsk same tt
+  where
+    IsAsk : Beat → Type 0
+    IsAsk (A head) = Unit {0}
+    IsAsk (D head) = ⊥
+
+module _ (plan : Plan) (before : List SeenRow) (row : SeenRow) where
+  abbrev p : GroupPlan
+  p = shared_plan plan
+
+  abbrev past : List Sighting
+  past = shared_past plan.layout.links (beats_of before)
+
+  abbrev x : Sighting
+  x = row.sighting
+
+  abbrev own : ℕ
+  own = wide_at plan x
+
+  module _ (together : is_alone plan.layout.links row.sighting.link ≡ false) where
+    -- what its beat ends, by the plan of the links that are judged together
+    pub end_together : end_of plan before row
+        ≡ ended (group_lawful.what_is_seen (shared_plan plan) (shared_past plan.layout.links (beats_of before)) row.sighting)
+    end_together =
+        ap (λ b. ended (group_lawful.what_is_seen (if b then port_plan plan else shared_plan plan)
+        (if b then port_past (number_of x.link) (beats_of before) else past) x)) together
+
+    pub allowed_together : IsLawful plan (beats_of (row ∷ before))
+        → IsAllowed (shared_plan plan) (scene (shared_plan plan) (shared_past plan.layout.links (beats_of before)) row.sighting)
+        row.sighting
+    allowed_together lawful =
+        in_group plan (beats_of before) x.link (λ q l. IsAllowed q (scene q l x) x) false together lawful.1
+
+  module _ (lawful : IsLawful plan (beats_of before)) (flights : List InFlight)
+      (kept : AreKept plan (state (shared_plan plan) (shared_past plan.layout.links (beats_of before)))
+      (side_of row.sighting.link) flights) where
+    abbrev s : State
+    s = state p past
+
+    busy : AsksFly p s
+    busy = asks_fly p past (shared_part plan (beats_of before) lawful)
+
+    by_beat : (beat : Beat) → IsAllowedBeat p (scene_of p s x.link beat) (seen_at x.link beat x.known x.lanes) beat
+        → (end : Ended) → end ≡ ended (seen p.layout x.link (scene_of p s x.link beat) beat x.known x.lanes)
+        → AreKept plan (state_after p s (seen_at x.link beat x.known x.lanes)) (side_of x.link)
+        (flights_after plan (bus_of plan.layout x.link) (wide_of p x.link (source_of beat)) flights beat end)
+    by_beat (A beat) allowed end is =
+        ask_kept plan s busy flights x.link x.known x.lanes kept (bus_of plan.layout x.link) beat allowed end
+        (ap is_whole_ask is ∙ ask_whole (s.links (side_of x.link) (number_of x.link)) beat x.lanes)
+    by_beat (D beat) allowed end is =
+        reply_kept plan s busy flights x.link x.known x.lanes kept (bus_of plan.layout x.link) beat allowed end
+        (ap is_whole_reply is ∙ reply_whole p.layout x.link (scene_of p s x.link (D beat)) beat x.known x.lanes allowed)
+
+    pub row_kept : (together : is_alone plan.layout.links row.sighting.link ≡ false)
+        → IsLawful plan (beats_of (row ∷ before))
+        → AreKept plan (state (shared_plan plan) (row.sighting ∷ shared_past plan.layout.links (beats_of before)))
+        (side_of row.sighting.link)
+        (flights_after plan (bus_of plan.layout row.sighting.link) (wide_at plan row.sighting) flights row.sighting.beat
+        (end_of plan before row))
+    row_kept together all =
+        by_beat x.beat (allowed_together together all) (end_of plan before row) (end_together together)
+
+    -- a reply that ends answers a request that is kept
+    pub answered_kept : (together : is_alone plan.layout.links row.sighting.link ≡ false)
+        → IsLawful plan (beats_of (row ∷ before)) → (beat : ReplyHead) → row.sighting.beat ≡ D beat
+        → (f : InFlight) × (found (wide_at plan row.sighting) flights ≡ Some f)
+    answered_kept together all beat is = go x.beat (allowed_together together all) is
+      where
+        go : (b : Beat) → IsAllowedBeat p (scene_of p s x.link b) (seen_at x.link b x.known x.lanes) b → b ≡ D beat
+            → (f : InFlight) × (found (wide_of p x.link (source_of b)) flights ≡ Some f)
+        go (A ask) allowed so = absurd (not_reply ask beat so)
+        go (D reply) allowed so =
+            let asked = reply_answers plan s busy flights x.link x.known x.lanes kept (bus_of plan.layout x.link)
+            reply allowed in
+            let whole : IsWholeAs plan asked.0 (found (wide_of p x.link reply.source) flights) =
+            subst (λ t. IsKeptAs plan t (found (wide_of p x.link reply.source) flights)) asked.1
+            (kept.turns (wide_of p x.link reply.source)) in
+            (whole.flight, whole.is)
+
+  module _ (lawful : IsLawful plan (beats_of (row ∷ before))) where
+    abbrev side : Side
+    side = counted_side plan.layout.links
+
+    abbrev all : List Sighting
+    all = shared_past plan.layout.links (beats_of (row ∷ before))
+
+    counted_row : is_counted plan.layout.links x.link ≡ true
+        → AreKept plan (state p past) side (in_flight plan before)
+        → AreKept plan (state p all) side
+        (flights_after plan (bus_of plan.layout x.link) own (in_flight plan before) x.beat (end_of plan before row))
+    counted_row is kept =
+        let together = counted_together plan.layout.links x.link is in
+        let there : side_of x.link ≡ side = counted_there plan.layout.links x.link is in
+        let next = row_kept lawful.0 (in_flight plan before)
+        (subst (λ sd. AreKept plan (state p past) sd (in_flight plan before)) (sym there) kept) together lawful in
+        subst (λ l. AreKept plan (state p l) side
+        (flights_after plan (bus_of plan.layout x.link) own (in_flight plan before) x.beat (end_of plan before row)))
+        (sym (shared_more x.beat x.known x.lanes (beats_of before) plan.layout.links x.link together))
+        (subst (λ sd. AreKept plan (state p (x ∷ past)) sd
+        (flights_after plan (bus_of plan.layout x.link) own (in_flight plan before) x.beat (end_of plan before row)))
+        there next)
+
+    uncounted_row : is_counted plan.layout.links x.link ≡ false
+        → AreKept plan (state p past) side (in_flight plan before) → AreKept plan (state p all) side (in_flight plan before)
+    uncounted_row is kept = ⊎_elim
+        (λ (alone : is_alone plan.layout.links x.link ≡ true).
+        subst (λ l. AreKept plan (state p l) side (in_flight plan before))
+        (sym (shared_same x.beat x.known x.lanes (beats_of before) plan.layout.links x.link alone)) kept)
+        (λ (both : (is_alone plan.layout.links x.link ≡ false) × (same_side (side_of x.link) side ≡ false)).
+        subst (λ l. AreKept plan (state p l) side (in_flight plan before))
+        (sym (shared_more x.beat x.known x.lanes (beats_of before) plan.layout.links x.link both.0))
+        (other_kept plan (state p past) side (in_flight plan before) kept x both.1))
+        (uncounted plan.layout.links x.link is)
+
+    pub one_row : AreKept plan (state (shared_plan plan) (shared_past plan.layout.links (beats_of before)))
+        (counted_side plan.layout.links) (in_flight plan before)
+        → AreKept plan (state (shared_plan plan) (shared_past plan.layout.links (beats_of (row ∷ before))))
+        (counted_side plan.layout.links) (in_flight plan (row ∷ before))
+    one_row kept = go (is_counted plan.layout.links x.link) refl
+      where
+        go : (counted : Bool) → is_counted plan.layout.links x.link ≡ counted
+            → AreKept plan (state p all) side
+            (if counted
+            then flights_after plan (bus_of plan.layout x.link) own (in_flight plan before) x.beat (end_of plan before row)
+            else in_flight plan before)
+        go true is = counted_row is kept
+        go false is = uncounted_row is kept
+
+pub are_kept : (plan : Plan) (rows : List SeenRow) → IsLawful plan (beats_of rows)
+    → AreKept plan (state (shared_plan plan) (shared_past plan.layout.links (beats_of rows)))
+    (counted_side plan.layout.links) (in_flight plan rows)
+are_kept plan [] lawful =
+    subst (λ l. AreKept plan (state (shared_plan plan) l) (counted_side plan.layout.links) [])
+    (sym (shared_none plan.layout.links))
+    (record { turns = λ wide. refl; begins = λ link b side is. absurd (cc) })
+are_kept plan (row ∷ before) lawful = one_row plan before row lawful (are_kept plan before lawful.0)
