@@ -6,6 +6,7 @@ programs.
 
 import csv
 import dataclasses
+import functools
 import os
 import tomllib
 
@@ -130,6 +131,17 @@ class System:
         return "unknown at reset" if table.get("unknown") else "zero at reset"
 
 
+@functools.cache
+def link_of(word):
+    """The name of a link without zeros that lead its number."""
+    return f"{word[0]}{int(word[1:])}"
+
+
+def in_turn(rows):
+    """The rows of one time in the order in which they cross."""
+    return sorted(rows, key=Row.turn) if len(rows) > 1 else rows
+
+
 def rows_of(path):
     """The rows of a capture in the order in which their beats cross."""
     group = []
@@ -139,12 +151,12 @@ def rows_of(path):
         for words in records:
             if not words:
                 continue
-            row = Row(records.line_num, int(words[0]), words[1], words[2], words)
+            row = Row(records.line_num, int(words[0]), link_of(words[1]), words[2], words)
             if group and group[0].time != row.time:
-                yield from sorted(group, key=Row.turn)
+                yield from in_turn(group)
                 group = []
             group.append(row)
-    yield from sorted(group, key=Row.turn)
+    yield from in_turn(group)
 
 
 class Story:
