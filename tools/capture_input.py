@@ -21,10 +21,10 @@ class Mistake(Exception):
         self.status = status
 
 
-def said_by(program, words, **how):
+def said_by(program, words, stderr=subprocess.PIPE, **how):
     """Runs a program of this repository: what it writes, and its status."""
     try:
-        return subprocess.run([program, *words], stderr=subprocess.PIPE, check=False, **how)
+        return subprocess.run([program, *words], stderr=stderr, check=False, **how)
     except OSError as error:
         name = os.path.basename(program)
         raise Mistake(f"{program} can't be run: {error.strerror}; ./{name} builds it, and {name.upper()}=path takes another") from None
@@ -37,6 +37,15 @@ def is_dump(path):
             if block := block.lstrip(BLANKS):
                 return block[:1] == b"$"
     return False
+
+
+def write(path, text):
+    """Writes a file that the command line names."""
+    try:
+        with open(path, "w", encoding="utf-8", newline="") as file:
+            file.write(text)
+    except OSError as error:
+        raise Mistake(f"{path}: can't be written: {error.strerror}") from None
 
 
 def readable(path):

@@ -4,6 +4,7 @@ It reads a capture that tlcheck has read before, so rows up to that one are well
 programs.
 """
 
+import collections
 import csv
 import dataclasses
 import functools
@@ -19,6 +20,8 @@ NAMES = {codes: name for name, codes in OPERATIONS.items()}
 ANSWERS = {code: name for name, code in REPLIES.items()}
 # The channels in the order in which their beats cross within one time.
 TURNS = {("m", "A"): 0, ("p", "A"): 1, ("p", "D"): 2, ("m", "D"): 3}
+# So many rows before a fault are kept for its picture.
+RECENT = 64
 
 
 @dataclasses.dataclass(slots=True)
@@ -168,6 +171,8 @@ class Story:
         self.flights, self.over, self.under = {}, {}, {}
         self.writes = {"m": [], "p": []}
         self.last = None
+        # the last rows that were taken, each with its request
+        self.recent = collections.deque(maxlen=RECENT)
 
     def tell(self, path, line):
         """Takes the rows before this line's, in the order in which they cross, and keeps this one."""
@@ -196,6 +201,7 @@ class Story:
             message = Message(row.link, row.number(6), name, row.address(), row.number(5))
             self.flights[row.link, message.source] = self.under[row.link, "A"] = message
         message.asked.append(row)
+        self.recent.append((row, message))
         carries = carries_data(message.name)
         if carries:
             mask, word = row.mask(), row.lanes()
@@ -222,6 +228,7 @@ class Story:
             if self.order_of(message) == "reply":
                 self.serve(message)
         message.answered.append(row)
+        self.recent.append((row, message))
         bus, carries = self.system.buses[row.link], ANSWERS[row.number(3)] == "AccessAckData"
         if carries:
             _, lanes = bus.lanes(message.address, message.size)
