@@ -38,7 +38,9 @@ def variables_of(dump):
             scopes.pop()
         else:
             name = ".".join([*scopes, mark[2]])
-            found[name] = name + (mark[3] or "").replace(" ", ""), int(mark[1])
+            spelled = name + (mark[3] or "").replace(" ", "")
+            # a range may also be part of a name, as that of a bit that is declared alone
+            found[name] = found[spelled] = spelled, int(mark[1])
     return found
 
 
