@@ -21,7 +21,7 @@ path { stroke: #999; fill: none }
 """
 # What a color says of a beat, in the order in which they are told.
 KINDS = (("fault", "the beat of the fault"), ("request", "its request"), ("writer", "a request that wrote a byte"), ("other", "another beat"))
-LEFT, WIDE, HIGH = 90, 96, 30
+LEFT, WIDE, HIGH = 90, 130, 30
 # So many times are shown.
 MOST_TIMES = 24
 
@@ -67,7 +67,7 @@ def picture(beats):
     times = {time: place for place, time in enumerate(sorted({beat["time"] for beat in beats}))}
     lanes = {lane: place for place, lane in enumerate(sorted({beat["lane"] for beat in beats}))}
     names = {beat["lane"]: f"{beat['name']} {beat['lane'][2]}" for beat in beats}
-    width, height = LEFT + WIDE * len(times), HIGH * (len(lanes) + 1)
+    width, height = LEFT + WIDE * len(times), HIGH * (len(lanes) + 1) + 4
     parts = [f'<svg width="{width}" height="{height}" viewBox="0 0 {width} {height}" role="img">']
     parts += [f'<text x="4" y="{HIGH * place + HIGH + 19}">{html.escape(names[lane])}</text>' for lane, place in lanes.items()]
     parts += [f'<text x="{LEFT + WIDE * place + 4}" y="19">{time}</text>' for time, place in times.items()]

@@ -112,7 +112,7 @@ class Link:
             flight.moves += row.mask().bit_count()
         flight.left -= 1
         self.asking = flight if flight.left else None
-        self.cross(flight, row, clock)
+        self.cross(flight.count, row.channel, row.time, clock)
 
     def begin(self, row):
         words = row.words
@@ -126,10 +126,15 @@ class Link:
         count.begin()
         return flight
 
-    def cross(self, flight, row, clock):
-        self.beats[row.channel].append(row.time)
-        self.whole.cross(row.channel, clock)
-        flight.count.cross(row.channel, clock)
+    def cross(self, count, channel, time, clock):
+        self.beats[channel].append(time)
+        count.cross(channel, clock)
+        # written out, since it is done for each row
+        whole = self.whole
+        whole.crossed[channel] += 1
+        if clock != whole.clock:
+            whole.clock = clock
+            whole.busy += 1
 
     def take_reply(self, row, clock):
         flight = self.answering
@@ -139,7 +144,7 @@ class Link:
             if row.words[10] == "1":
                 flight.denied, flight.moves = True, 0
         flight.left -= 1
-        self.cross(flight, row, clock)
+        self.cross(flight.count, row.channel, row.time, clock)
         if not flight.left:
             self.end(flight, row)
 

@@ -28,10 +28,10 @@ def line_of(values, top, color):
 def plot(title, first, last, series, most=None):
     """A plot of one or two named series over time. Its top is `most`, or the greatest value."""
     top = most or max((value for _, values in series for value in values if value is not None), default=0) or 1
-    names = "".join(f'<tspan fill="{color}"> {html.escape(name)}</tspan>' for (name, _), color in zip(series, COLORS))
+    names = ", ".join(f'<tspan fill="{color}">{html.escape(name)}</tspan>' for (name, _), color in zip(series, COLORS))
     low = HEIGHT - MARGIN
     parts = [f'<svg class="plot" width="{WIDTH}" height="{HEIGHT}" viewBox="0 0 {WIDTH} {HEIGHT}" role="img">',
-             f'<text x="{MARGIN}" y="12">{html.escape(title)}:{names}; the top is {short(top)}</text>',
+             f'<text x="{MARGIN}" y="12">{html.escape(title)}: {names}; the top is {short(top)}</text>',
              f'<path d="M{MARGIN} {MARGIN}V{low}H{WIDTH - MARGIN}" fill="none" stroke="#999"/>',
              f'<text x="{MARGIN}" y="{HEIGHT - 5}">time {first}</text>',
              f'<text x="{WIDTH - MARGIN}" y="{HEIGHT - 5}" text-anchor="end">{last}</text>',

@@ -24,6 +24,12 @@ TURNS = {("m", "A"): 0, ("p", "A"): 1, ("p", "D"): 2, ("m", "D"): 3}
 RECENT = 64
 
 
+@functools.cache
+def turn_of(link, channel):
+    """Where a channel of a link stands among those of one time."""
+    return TURNS[link[0], channel], int(link[1:])
+
+
 @dataclasses.dataclass(slots=True)
 class Row:
     """A row of a capture: its line, and its columns as they are spelled."""
@@ -56,7 +62,7 @@ class Row:
 
     def turn(self):
         """Where the row stands among those of its time."""
-        return TURNS[self.link[0], self.channel], int(self.link[1:])
+        return turn_of(self.link, self.channel)
 
 
 @dataclasses.dataclass(slots=True)
