@@ -6,6 +6,7 @@ TOP = os.path.dirname(os.path.dirname(os.path.abspath(__file__)))
 # The built programs; the environment names others.
 TLX = os.environ.get("TLX", os.path.join(TOP, "crates", "tlx", "out", "tlx"))
 TLCHECK = os.environ.get("TLCHECK", os.path.join(TOP, "crates", "tlcheck", "out", "tlcheck"))
+TLVCD = os.environ.get("TLVCD", os.path.join(TOP, "crates", "tlvcd", "out", "tlvcd"))
 # How long a run of a program may take.
 SECONDS = 60
 

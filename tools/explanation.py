@@ -73,7 +73,8 @@ class Explainer:
         """A request for programs."""
         return {"link": self.system.names[message.link], "source": message.source, "operation": message.name, "address": message.address,
                 "bytes": 1 << message.size, "data": hexadecimal(message.data), "asked": [row.line for row in message.asked],
-                "time": message.asked[0].time, "answered": [row.line for row in message.answered], "text": self.text(message)}
+                "time": message.asked[0].time, "times": [row.time for row in message.asked],
+                "answered": [row.line for row in message.answered], "text": self.text(message)}
 
     def text(self, message):
         return f"{self.name(message)}; {self.state(message)}"
@@ -240,6 +241,10 @@ class Explainer:
 
     # ---- the whole
 
+    def asked_by(self, row):
+        """The request that a beat goes on with or answers, or None."""
+        return self.story.under.get((row.link, "A")) if row.channel == "A" else self.story.flights.get((row.link, row.number(6)))
+
     def unlawful(self, found):
         """Explains an unlawful beat."""
         row, fault = self.story.last, found[5]
@@ -251,7 +256,9 @@ class Explainer:
             lines += [f"the request: {self.name(message)}", *more]
         else:
             lines += self.of_request(row, fault) if row.channel == "A" else self.of_reply(row, fault)
-        return {"line": row.line, "time": row.time, "link": found[3], "channel": row.channel, "why": lines, "bytes": runs,
+        asked = self.asked_by(row)
+        return {"line": row.line, "time": row.time, "link": found[3], "channel": row.channel, "why": lines,
+                "request": self.record(asked) if asked else None, "bytes": runs,
                 "in_flight": [self.record(message) for message in self.in_flight()], "look_at": CAUSES[fault.partition(":")[0]]}
 
 
@@ -280,18 +287,25 @@ def option(words, name, default):
 
 def explained(words, verdict):
     """The explanation of a verdict: empty if the capture is lawful or has a fault of its text."""
+    return told_of(words, verdict)[0]
+
+
+def told_of(words, verdict):
+    """The explanation of a verdict, and the explainer that knows the rows before the fault, or None."""
     found = VERDICT.fullmatch(verdict)
     if not found and not verdict.startswith("incomplete:"):
-        return {}
+        return {}, None
     system = System(words[-2])
     story = Story(system, option(words, "--order", "accept"))
     story.tell(words[-1], int(found[1]) if found else None)
     explainer = Explainer(system, story, option(words, "--links", "both"))
-    return explainer.unlawful(found) if found else {"in_flight": [explainer.record(message) for message in explainer.in_flight()]}
+    if found:
+        return explainer.unlawful(found), explainer
+    return {"in_flight": [explainer.record(message) for message in explainer.in_flight()]}, explainer
 
 
-def shown(explanation):
-    """The same for people, line by line."""
+def sections(explanation):
+    """The same for people: titles, and the lines of each that has any."""
     why = list(explanation.get("why", []))
     for run in explanation.get("bytes", []):
         place = f"{run['first']:#x}" if run["first"] == run["last"] else f"{run['first']:#x} to {run['last']:#x}"
@@ -300,4 +314,16 @@ def shown(explanation):
     in_flight = [request["text"] for request in explanation.get("in_flight", [])]
     for title, lines in (("why", why), ("in flight", in_flight), ("look at", explanation.get("look_at"))):
         if lines:
-            yield from ("", title, *(f"  {line}" for line in lines))
+            yield title, lines
+
+
+def shown(explanation):
+    """The sections line by line."""
+    for title, lines in sections(explanation):
+        yield from ("", title, *(f"  {line}" for line in lines))
+
+
+def writers_of(explanation):
+    """The requests that wrote what was expected or captured, each once."""
+    origins = [run[key] for run in explanation.get("bytes", []) for key in ("expected_from", "captured_from")]
+    return list({tuple(origin["asked"]): origin for origin in origins if "asked" in origin}.values())

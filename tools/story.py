@@ -4,8 +4,10 @@ It reads a capture that tlcheck has read before, so rows up to that one are well
 programs.
 """
 
+import collections
 import csv
 import dataclasses
+import functools
 import os
 import tomllib
 
@@ -18,6 +20,14 @@ NAMES = {codes: name for name, codes in OPERATIONS.items()}
 ANSWERS = {code: name for name, code in REPLIES.items()}
 # The channels in the order in which their beats cross within one time.
 TURNS = {("m", "A"): 0, ("p", "A"): 1, ("p", "D"): 2, ("m", "D"): 3}
+# So many rows before a fault are kept for its picture.
+RECENT = 64
+
+
+@functools.cache
+def turn_of(link, channel):
+    """Where a channel of a link stands among those of one time."""
+    return TURNS[link[0], channel], int(link[1:])
 
 
 @dataclasses.dataclass(slots=True)
@@ -52,7 +62,7 @@ class Row:
 
     def turn(self):
         """Where the row stands among those of its time."""
-        return TURNS[self.link[0], self.channel], int(self.link[1:])
+        return turn_of(self.link, self.channel)
 
 
 @dataclasses.dataclass(slots=True)
@@ -130,6 +140,17 @@ class System:
         return "unknown at reset" if table.get("unknown") else "zero at reset"
 
 
+@functools.cache
+def link_of(word):
+    """The name of a link without zeros that lead its number."""
+    return f"{word[0]}{int(word[1:])}"
+
+
+def in_turn(rows):
+    """The rows of one time in the order in which they cross."""
+    return sorted(rows, key=Row.turn) if len(rows) > 1 else rows
+
+
 def rows_of(path):
     """The rows of a capture in the order in which their beats cross."""
     group = []
@@ -139,12 +160,12 @@ def rows_of(path):
         for words in records:
             if not words:
                 continue
-            row = Row(records.line_num, int(words[0]), words[1], words[2], words)
+            row = Row(records.line_num, int(words[0]), link_of(words[1]), words[2], words)
             if group and group[0].time != row.time:
-                yield from sorted(group, key=Row.turn)
+                yield from in_turn(group)
                 group = []
             group.append(row)
-    yield from sorted(group, key=Row.turn)
+    yield from in_turn(group)
 
 
 class Story:
@@ -156,6 +177,8 @@ class Story:
         self.flights, self.over, self.under = {}, {}, {}
         self.writes = {"m": [], "p": []}
         self.last = None
+        # the last rows that were taken, each with its request
+        self.recent = collections.deque(maxlen=RECENT)
 
     def tell(self, path, line):
         """Takes the rows before this line's, in the order in which they cross, and keeps this one."""
@@ -184,6 +207,7 @@ class Story:
             message = Message(row.link, row.number(6), name, row.address(), row.number(5))
             self.flights[row.link, message.source] = self.under[row.link, "A"] = message
         message.asked.append(row)
+        self.recent.append((row, message))
         carries = carries_data(message.name)
         if carries:
             mask, word = row.mask(), row.lanes()
@@ -210,6 +234,7 @@ class Story:
             if self.order_of(message) == "reply":
                 self.serve(message)
         message.answered.append(row)
+        self.recent.append((row, message))
         bus, carries = self.system.buses[row.link], ANSWERS[row.number(3)] == "AccessAckData"
         if carries:
             _, lanes = bus.lanes(message.address, message.size)

@@ -1,0 +1,89 @@
+"""A save file of GTKWave for a fault that was found in a dump: the clock, the signals of the fault's link by the names of the system file,
+the cursor at the fault, and markers at its request (A to M) and at the requests that wrote its bytes (N to Z). For tools/explain.
+"""
+
+import os
+import re
+
+from explanation import writers_of
+
+SIGNALS = ("a_valid", "a_ready", "a_opcode", "a_param", "a_size", "a_source", "a_address", "a_mask", "a_data",
+           "d_valid", "d_ready", "d_opcode", "d_size", "d_source", "d_denied", "d_corrupt", "d_data")
+MARKERS, HALF = 26, 13
+# How GTKWave shows a value: as a hexadecimal number at the right, or as a bit.
+NUMBER, BIT = "@22", "@28"
+VARIABLE = re.compile(r"\$var\s+\S+\s+(\d+)\s+\S+\s+(\S+?)\s*(\[[^]]*\])?\s+\$end")
+SCOPE = re.compile(r"\$scope\s+\S+\s+(\S+)\s+\$end|\$upscope\s+\$end")
+
+
+def header_of(dump):
+    """The declarations of a dump."""
+    lines = []
+    with open(dump, encoding="utf-8", errors="replace") as file:
+        for line in file:
+            lines.append(line)
+            if "$enddefinitions" in line:
+                break
+    return "".join(lines)
+
+
+def variables_of(dump):
+    """The names of a dump's variables with their scopes: each with the name that GTKWave has for it, which ends in its range, and its bits."""
+    scopes, found, text = [], {}, header_of(dump)
+    marks = sorted([*SCOPE.finditer(text), *VARIABLE.finditer(text)], key=lambda mark: mark.start())
+    for mark in marks:
+        if mark[0].startswith("$scope"):
+            scopes.append(mark[1])
+        elif mark[0].startswith("$upscope"):
+            scopes.pop()
+        else:
+            name = ".".join([*scopes, mark[2]])
+            spelled = name + (mark[3] or "").replace(" ", "")
+            # a range may also be part of a name, as that of a bit that is declared alone
+            found[name] = found[spelled] = spelled, int(mark[1])
+    return found
+
+
+def signals_of(table):
+    """The names of a link's signals in the system file; a constant has none."""
+    wires, prefix = table.get("wires", {}), table.get("signals")
+    for signal in SIGNALS:
+        name = wires.get(signal, prefix + signal if prefix is not None else None)
+        if name not in (None, "0", "1"):
+            yield name
+
+
+def shown_of(names, variables):
+    """The lines that show these signals. Of bits of a vector the whole vector is shown, once."""
+    last, seen = None, set()
+    for name in names:
+        whole = name if name in variables else re.sub(r"\[[^\[]*\]$", "", name)
+        if whole in variables and whole not in seen:
+            seen.add(whole)
+            spelled, bits = variables[whole]
+            how = BIT if bits == 1 else NUMBER
+            yield from [how] * (how != last)
+            yield spelled
+            last = how
+
+
+def markers_of(explanation):
+    """The times of the 26 markers, -1 for one that is not set."""
+    request = (explanation.get("request") or {}).get("times", [])[:HALF]
+    writers = sorted(time for writer in writers_of(explanation) for time in writer["times"])[:MARKERS - HALF]
+    return [*request, *[-1] * (HALF - len(request)), *writers, *[-1] * (MARKERS - HALF - len(writers))]
+
+
+def save_of(dump, table, link, explanation):
+    """The text of the save file: the table is the system file's, and the link the fault's, as in p0."""
+    of_link = table["master" if link[0] == "m" else "port"][int(link[1:])]
+    names = [name for name in (table.get("clock"), table.get("reset")) if name]
+    times = " ".join(str(time) for time in markers_of(explanation))
+    lines = ["[*] tools/explain", f'[dumpfile] "{os.path.abspath(dump)}"', f"[timestart] {max(0, first_of(explanation) - 1)}",
+             f"*-3.000000 {explanation['time']} {times}", *shown_of([*names, *signals_of(of_link)], variables_of(dump))]
+    return "".join(f"{line}\n" for line in lines)
+
+
+def first_of(explanation):
+    """The first time that the window shows: that of the request, or of the fault."""
+    return min([explanation["time"], *(explanation.get("request") or {}).get("times", [])])
