@@ -25,11 +25,6 @@ fn bytes_of(rt: &impl Abort, text: &str) -> Given {
     bytes
 }
 
-/// The same for a row that has a number and no name.
-fn holds_at(rt: &impl Abort, row: usize, whether: bool) {
-    assert!(rt; whether, "row {row}");
-}
-
 /// These bytes are known or unknown.
 fn expect_cells(rt: &impl Abort, row: &str, cells: &Cells, bytes: &[Option<u8>]) {
     assert!(rt; cells.len() == bytes.len());

@@ -69,7 +69,7 @@ fn ten_thousand_pages_are_kept_of_a_gibibyte(rt: HostRuntime) {
 }
 
 /// What no page was made for is unknown, and reading makes none.
-const BETWEEN: [Turn; 3] = [
+static BETWEEN: [Turn; 3] = [
     (
         AskOp::Get,
         3,
@@ -96,7 +96,7 @@ const BETWEEN: [Turn; 3] = [
     ),
 ];
 
-const LAST: [Turn; 5] = [
+static LAST: [Turn; 5] = [
     (
         AskOp::PutFull,
         3,
@@ -133,7 +133,7 @@ const LAST: [Turn; 5] = [
 ];
 
 /// The end of an image in the last page.
-const LOADED: [Turn; 2] = [
+static LOADED: [Turn; 2] = [
     (
         AskOp::Get,
         3,
@@ -157,7 +157,7 @@ fn the_last_page_of_the_address_space(rt: HostRuntime) {
 }
 
 /// The seams of an image of 10,000 bytes, of which byte k is k modulo 251, from 0x1ffa on.
-const SEAMS: [Turn; 5] = [
+static SEAMS: [Turn; 5] = [
     (AskOp::Get, 3, 0x1ff8, "", false, "xx xx 00 01 02 03 04 05"),
     (AskOp::Get, 3, 0x2000, "", false, "06 07 08 09 0a 0b 0c 0d"),
     // byte 4,102 is 4,102 - 16 * 251 = 86, and byte 8,198 is 8,198 - 32 * 251 = 166

@@ -19,7 +19,7 @@ fn data_of(rt: &impl Abort, text: &str) -> Pattern {
 }
 
 /// What is expected, what was captured, and whether it fits.
-const BYTES: [(&str, &str, bool); 12] = [
+static BYTES: [(&str, &str, bool); 12] = [
     ("11 22", "11 22", true),
     ("11 xx", "11 22", true),
     ("11 xx", "11 xx", true),

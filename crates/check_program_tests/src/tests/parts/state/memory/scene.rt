@@ -59,20 +59,3 @@ pub fn serve_all(rt: &impl Abort, alloc: Global, row: &str, memory: &mut Memory,
         serve(rt, alloc, row, memory, turn);
     }
 }
-
-/// A memory of this kind with its kind's sizes, 64 bytes from 0x1000 on, serves one request after the other.
-pub fn try_kind(
-    rt: &impl Abort,
-    alloc: Global,
-    row: &str,
-    kind: Kind,
-    known: bool,
-    turns: &[Turn],
-) {
-    let range = Range {
-        base: 0x1000,
-        length: 0x40,
-    };
-    let mut memory = memory_of(rt, alloc, kind, Sizes::of(kind), &[range], known);
-    serve_all(rt, alloc, row, &mut memory, turns);
-}
