@@ -1,3 +1,4 @@
+mod arena;
 mod audit;
 mod audits;
 mod beats;

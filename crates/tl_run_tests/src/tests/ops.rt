@@ -1,16 +1,13 @@
-//! Worked values of each operation at each kind of slave, and banks beside memories that are as plain as they can be.
+//! Banks: what lies in them and what does not, and beside memories that are as plain as they can be. `examples/scripts`
+//! has the worked values of each operation at each kind of slave.
 use super::{ask_of, given_of, holds, rising};
 use std::alloc::Global;
 use std::process::Abort;
 use tl_ops::{Bank, BankFault, Kind, MAX_LENGTH};
-use tl_types::{Arith, Ask, AskOp, Hint, Logic, MAX_BYTES, ReplyOp};
+use tl_types::{Ask, AskOp, Logic, MAX_BYTES, ReplyOp};
 
-/// A request's operation, size, address and bytes, of which `NO` is none; its reply, whether that is denied, and the bytes
-/// that it has.
-type Turn = (AskOp, u8, u64, &'static [u16], ReplyOp, bool, &'static [u8]);
-
-/// A byte that a partial put leaves unset.
-const NO: u16 = 0x100;
+/// A request's operation, size, address and bytes; its reply, whether that is denied, and the bytes that it has.
+type Turn = (AskOp, u8, u64, &'static [u8], ReplyOp, bool, &'static [u8]);
 
 /// A bank of a kind, where it begins and what stands there at reset; the requests that it serves; and what stands there
 /// after them.
@@ -31,20 +28,16 @@ const XOR: AskOp = AskOp::Logical(Logic::Xor);
 
 const SWAP: AskOp = AskOp::Logical(Logic::Swap);
 
-const ADD: AskOp = AskOp::Arithmetic(Arith::Add);
-
 const ACK: ReplyOp = ReplyOp::AccessAck;
 
 const DATA: ReplyOp = ReplyOp::AccessAckData;
 
-const HINT: ReplyOp = ReplyOp::HintAck;
-
-/// A request from source 0 with these bytes, of which `NO` is none.
-fn asked(rt: &impl Abort, op: AskOp, size: u8, address: u64, given: &[u16]) -> Ask {
+/// A request from source 0 with these bytes.
+fn asked(rt: &impl Abort, op: AskOp, size: u8, address: u64, given: &[u8]) -> Ask {
     let mut bytes = [None; MAX_BYTES];
     assert!(rt; given.len() <= MAX_BYTES);
     for place in 0..given.len() {
-        bytes[place] = u8::try_from(given[place]).ok();
+        bytes[place] = Some(given[place]);
     }
     ask_of(rt, op, size, 0, address, &bytes[..given.len()])
 }
@@ -94,104 +87,7 @@ fn play_all(rt: &impl Abort, alloc: Global, scenes: &[Scene]) {
     }
 }
 
-/// An atomic of four bytes: its name, what stood there, its operand, and what it leaves there.
-type Atomic = (&'static str, AskOp, [u8; 4], [u16; 4], [u8; 4]);
-
-const SIGN: [u8; 4] = [0, 0, 0, 0x80];
-
-const ONE: [u8; 4] = [1, 0, 0, 0];
-
-const ONES: [u8; 4] = [0xff; 4];
-
-const NIBBLES: [u8; 4] = [0x0f; 4];
-
-const BY_ONE: [u16; 4] = [1, 0, 0, 0];
-
-const BY_MIXED: [u16; 4] = [0xff, 0, 0xff, 0];
-
-const ATOMICS: [Atomic; 9] = [
-    ("xor", XOR, NIBBLES, BY_MIXED, [0xf0, 0x0f, 0xf0, 0x0f]),
-    (
-        "or",
-        AskOp::Logical(Logic::Or),
-        NIBBLES,
-        BY_MIXED,
-        [0xff, 0x0f, 0xff, 0x0f],
-    ),
-    (
-        "and",
-        AskOp::Logical(Logic::And),
-        NIBBLES,
-        BY_MIXED,
-        [0x0f, 0, 0x0f, 0],
-    ),
-    ("swap", SWAP, NIBBLES, BY_MIXED, [0xff, 0, 0xff, 0]),
-    ("max", AskOp::Arithmetic(Arith::Max), SIGN, BY_ONE, ONE),
-    ("maxu", AskOp::Arithmetic(Arith::MaxU), SIGN, BY_ONE, SIGN),
-    ("min", AskOp::Arithmetic(Arith::Min), ONES, BY_ONE, ONES),
-    ("minu", AskOp::Arithmetic(Arith::MinU), ONES, BY_ONE, ONE),
-    ("add", ADD, ONES, BY_ONE, [0; 4]),
-];
-
-/// An atomic answers what stood there, and leaves what it has to.
-fn try_atomic(rt: &impl Abort, alloc: Global, atomic: &Atomic) {
-    let (row, op, old, operand, new) = atomic;
-    let mut bank = Bank::new(alloc, Kind::Ram, 0x1000, old).expect(rt, row);
-    let ask = asked(rt, *op, 2, 0x1000, operand);
-    answers(rt, row, &mut bank, &ask, (DATA, false, old));
-    are_left(rt, row, &bank, 0x1000, new);
-}
-
-#[test]
-fn atomics_answer_the_old_window(rt: HostRuntime) {
-    for atomic in &ATOMICS {
-        try_atomic(&rt, rt.alloc(), atomic);
-    }
-}
-
-const SCENES: [Scene; 11] = [
-    Scene {
-        name: "an add of eight bytes wraps",
-        bank: (Kind::Ram, 0x1008, &[0xff; 8]),
-        turns: &[
-            (
-                ADD,
-                3,
-                0x1008,
-                &[1, 0, 0, 0, 0, 0, 0, 0],
-                DATA,
-                false,
-                &[0xff; 8],
-            ),
-            (GET, 3, 0x1008, &[], DATA, false, &[0; 8]),
-        ],
-        left: &[0; 8],
-    },
-    Scene {
-        name: "a partial put leaves unset bytes",
-        bank: (Kind::Ram, 0x1000, &[0x11, 0x22, 0x33, 0x44]),
-        turns: &[
-            (PART, 2, 0x1000, &[NO; 4], ACK, false, &[]),
-            (PART, 2, 0x1000, &[0xaa, NO, 0xcc, NO], ACK, false, &[]),
-            (GET, 2, 0x1000, &[], DATA, false, &[0xaa, 0x22, 0xcc, 0x44]),
-        ],
-        left: &[0xaa, 0x22, 0xcc, 0x44],
-    },
-    Scene {
-        name: "a put clears the bits that it gives as ones",
-        bank: (Kind::ClearRegs, 0x4000, &[0xff; 8]),
-        turns: &[
-            (PUT, 2, 0x4000, &[0x0f, 0, 0, 0], ACK, false, &[]),
-            (GET, 2, 0x4000, &[], DATA, false, &[0xf0, 0xff, 0xff, 0xff]),
-            (PUT, 2, 0x4000, &[0; 4], ACK, false, &[]),
-            (GET, 2, 0x4000, &[], DATA, false, &[0xf0, 0xff, 0xff, 0xff]),
-            (GET, 1, 0x4000, &[], DATA, true, &[0; 2]),
-            (XOR, 2, 0x4000, &[0xff; 4], DATA, true, &[0; 4]),
-            (PUT, 3, 0x4000, &[0xff; 8], ACK, false, &[]),
-            (GET, 3, 0x4000, &[], DATA, false, &[0; 8]),
-        ],
-        left: &[0; 8],
-    },
+static SCENES: [Scene; 4] = [
     Scene {
         name: "a bank may begin and end within a word",
         bank: (Kind::Ram, 0x1006, &[1, 2, 3, 4]),
@@ -204,52 +100,9 @@ const SCENES: [Scene; 11] = [
         left: &[1, 0xff, 3, 4],
     },
     Scene {
-        name: "a ROM keeps what it has",
-        bank: (Kind::Rom, 0x2000, &[0, 1, 2, 3]),
-        turns: &[
-            (PUT, 2, 0x2000, &[0x11, 0x22, 0x33, 0x44], ACK, true, &[]),
-            (
-                AskOp::Intent(Hint::PrefetchRead),
-                2,
-                0x2000,
-                &[],
-                HINT,
-                false,
-                &[],
-            ),
-            (GET, 2, 0x2000, &[], DATA, false, &[0, 1, 2, 3]),
-        ],
-        left: &[0, 1, 2, 3],
-    },
-    Scene {
-        name: "registers have whole words",
-        bank: (Kind::Regs, 0x3000, &[0; 16]),
-        turns: &[(GET, 1, 0x3000, &[], DATA, true, &[0, 0])],
-        left: &[0; 16],
-    },
-    Scene {
-        name: "nothing denies all",
-        bank: (Kind::NoDevice, 0, &[]),
-        turns: &[(
-            AskOp::Intent(Hint::PrefetchWrite),
-            3,
-            0x9000,
-            &[],
-            HINT,
-            true,
-            &[],
-        )],
-        left: &[],
-    },
-    Scene {
-        name: "what is not legal is denied with zeros",
+        name: "what does not lie in the bank is denied with zeros",
         bank: (Kind::Ram, 0x1000, &[0xee; 64]),
         turns: &[
-            // atomics of another size than a word's
-            (SWAP, 4, 0x1000, &[0x11; 16], DATA, true, &[0; 16]),
-            (ADD, 1, 0x1000, &[1, 0], DATA, true, &[0; 2]),
-            // not aligned
-            (GET, 1, 0x1001, &[], DATA, true, &[0; 2]),
             // past the last byte, before the first, and across the end of the address space
             (GET, 1, 0x103f, &[], DATA, true, &[0; 2]),
             (GET, 0, 0x1040, &[], DATA, true, &[0]),
@@ -260,12 +113,6 @@ const SCENES: [Scene; 11] = [
             (GET, 6, 0x1000, &[], DATA, false, &[0xee; 64]),
         ],
         left: &[0xee; 64],
-    },
-    Scene {
-        name: "the last byte is in the bank",
-        bank: (Kind::Ram, 0x1000, &[0; 64]),
-        turns: &[(GET, 0, 0x103f, &[], DATA, false, &[0])],
-        left: &[0; 64],
     },
     Scene {
         name: "a window passes the end of the bank",
@@ -285,7 +132,7 @@ const SCENES: [Scene; 11] = [
 ];
 
 #[test]
-fn each_kind_serves_what_it_supports(rt: HostRuntime) {
+fn banks_serve_what_lies_in_them(rt: HostRuntime) {
     play_all(&rt, rt.alloc(), &SCENES);
 }
 

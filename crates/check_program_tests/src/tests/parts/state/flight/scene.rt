@@ -1,0 +1,181 @@
+//! What the scenes of the tests share: slaves, requests that cross, and replies that are expected.
+use crate::tests::holds;
+use crate::tests::parts::state::expect_text;
+use check_beats::{AskHead, Bus};
+use check_flight::{Order, Place, PortSlave, Side};
+use check_memory::{Memory, Range, Sizes, Slave, are_within};
+use std::alloc::{AllocError, Global};
+use std::process::Abort;
+use tl_ops::Kind;
+
+/// A RAM of 4 KiB from address 0x1000 on, of which nothing is known.
+pub fn ram(rt: &impl Abort, alloc: Global, order: Order) -> Result<PortSlave, AllocError> {
+    let mut ranges = Vec::new(alloc);
+    ranges.push(Range {
+        base: 0x1000,
+        length: 0x1000,
+    })?;
+    assert!(rt; are_within(&ranges));
+    let memory = Memory::new(alloc, Kind::Ram, Sizes::of(Kind::Ram), ranges, false);
+    Ok(PortSlave::new(alloc, Slave::Memory(memory), order, true))
+}
+
+/// A side with one link of four bytes, and with eight wide sources.
+pub fn side_of_four(alloc: Global) -> Result<Side, AllocError> {
+    Side::new(alloc, &[Bus::Four], 8)
+}
+
+/// The place of a wide source's request at link 0, to port 2.
+fn place_of(wide: usize) -> Place {
+    Place {
+        link: 0,
+        wide,
+        port: 2,
+    }
+}
+
+/// A beat of a request that sets all lanes.
+pub fn head_of(opcode: u8, size: u8, source: u16, address: u64) -> AskHead {
+    AskHead {
+        opcode,
+        param: 0,
+        size,
+        source,
+        address,
+        mask: 0xf,
+    }
+}
+
+/// A beat of a request crosses at link 0, all lanes known; the slave accepts the request that it ends.
+pub fn cross(
+    rt: &impl Abort,
+    alloc: Global,
+    side: &mut Side,
+    slave: &mut PortSlave,
+    beat: &AskHead,
+    lanes: &[u8; 4],
+) -> Result<(), AllocError> {
+    let place = place_of(beat.source as usize);
+    assert!(rt; place.link < side.links());
+    assert!(rt; place.wide < side.wides());
+    let under = side.link(place.link);
+    assert!(rt; under.ask_fault(beat, 0xf).is_none());
+    assert!(rt; under.bus().bytes() <= lanes.len());
+    if under.ends_ask(beat) {
+        side.accept(alloc, place, beat, lanes, slave)
+    } else {
+        side.begin_ask(place, beat, lanes);
+        Ok(())
+    }
+}
+
+/// The reply begins to the request of a wide source.
+fn begin_reply(
+    rt: &impl Abort,
+    alloc: Global,
+    side: &mut Side,
+    slave: &mut PortSlave,
+    wide: usize,
+) {
+    let place = place_of(wide);
+    assert!(rt; place.wide < side.wides());
+    side.answer(alloc, place, slave)
+        .expect(rt, "memory refused");
+}
+
+/// The reply to the request of a wide source ends.
+fn end_reply(rt: &impl Abort, side: &mut Side, wide: usize) {
+    let place = place_of(wide);
+    assert!(rt; place.link < side.links());
+    assert!(rt; place.wide < side.wides());
+    side.end_reply(place);
+    assert!(rt; place.wide < side.wides());
+    holds(
+        rt,
+        "nothing is in flight",
+        side.flight(place.wide).is_idle(),
+    );
+}
+
+/// The request of a wide source has taken effect, as the one of this place in the list of port 2, and its reply has to
+/// have this flag and these bytes.
+pub fn expect_due(
+    rt: &impl Abort,
+    side: &Side,
+    wide: usize,
+    index: usize,
+    denied: Option<bool>,
+    bytes: &str,
+) {
+    assert!(rt; wide < side.wides());
+    let due = side.flight(wide).due().expect(rt, "a reply is due");
+    holds(rt, "its port", due.port == 2);
+    holds(rt, "its place", due.index == index);
+    holds(rt, "whether it is denied", due.reply.denied() == denied);
+    expect_text(rt, "its bytes", due.reply.cells(), bytes);
+}
+
+/// The request of a wide source has ended, and has taken no effect yet.
+fn expect_no_due(rt: &impl Abort, side: &Side, wide: usize) {
+    assert!(rt; wide < side.wides());
+    let flight = side.flight(wide);
+    holds(rt, "the request has ended", flight.asked().is_some());
+    holds(rt, "no reply is due", flight.due().is_none());
+}
+
+/// What crosses at link 0, and what is due then.
+pub enum Step {
+    /// A beat of a request crosses: its opcode, size, source and address, and its lanes.
+    Cross(u8, u8, u16, u64, [u8; 4]),
+    /// The reply begins to the request of a wide source.
+    Begin(usize),
+    /// The reply to the request of a wide source ends.
+    End(usize),
+    /// The request of a wide source has ended, and has taken no effect yet.
+    NoDue(usize),
+    /// The request of a wide source has taken effect, as the one of this place in the list of port 2, and its reply has
+    /// to have this flag and these bytes.
+    Due(usize, usize, Option<bool>, &'static str),
+    /// The reply begins and ends to the request of a wide source, which is the one of this place: these bytes are due.
+    Answer(usize, usize, &'static str),
+}
+
+/// The reply begins and ends.
+fn answer(
+    rt: &impl Abort,
+    alloc: Global,
+    side: &mut Side,
+    slave: &mut PortSlave,
+    wide: usize,
+    index: usize,
+    bytes: &str,
+) {
+    expect_no_due(rt, side, wide);
+    begin_reply(rt, alloc, side, slave, wide);
+    expect_due(rt, side, wide, index, Some(false), bytes);
+    end_reply(rt, side, wide);
+}
+
+fn take(rt: &impl Abort, alloc: Global, side: &mut Side, slave: &mut PortSlave, step: &Step) {
+    match step {
+        Step::Cross(opcode, size, source, address, lanes) => {
+            let head = head_of(*opcode, *size, *source, *address);
+            cross(rt, alloc, side, slave, &head, lanes).expect(rt, "memory refused");
+        }
+        Step::Begin(wide) => begin_reply(rt, alloc, side, slave, *wide),
+        Step::End(wide) => end_reply(rt, side, *wide),
+        Step::NoDue(wide) => expect_no_due(rt, side, *wide),
+        Step::Due(wide, index, denied, bytes) => {
+            expect_due(rt, side, *wide, *index, *denied, bytes);
+        }
+        Step::Answer(wide, index, bytes) => answer(rt, alloc, side, slave, *wide, *index, bytes),
+    }
+}
+
+/// One step after the other, on a side and a slave.
+pub fn play(rt: &impl Abort, alloc: Global, slave: &mut PortSlave, steps: &[Step]) {
+    let mut side = side_of_four(alloc).expect(rt, "memory refused");
+    for step in steps {
+        take(rt, alloc, &mut side, slave, step);
+    }
+}

@@ -1,0 +1,7 @@
+//! The judge's memory: ranges, replies that fit or do not, and pages. `examples/verdicts` has what each kind of slave
+//! serves, and `tools/system_faults.py` which tables of sizes there are.
+mod pages;
+mod places;
+mod refused;
+mod replies;
+mod scene;

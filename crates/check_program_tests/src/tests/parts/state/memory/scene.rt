@@ -1,0 +1,61 @@
+//! What the scenes of the tests share: memories, and requests that are served.
+use crate::tests::holds;
+use crate::tests::parts::state::{bytes_of, expect_cells};
+use check_memory::{Memory, Pattern, Range, Sizes, are_within};
+use std::alloc::Global;
+use std::process::Abort;
+use tl_ops::Kind;
+use tl_types::{Ask, AskOp};
+
+/// A request from source 0.
+pub fn ask_of(rt: &impl Abort, op: AskOp, size: u8, address: u64, text: &str) -> Ask {
+    let bytes = bytes_of(rt, text);
+    Ask::new(op, size, 0, address, &bytes).expect(rt, "a request")
+}
+
+/// A memory in these ranges, that nothing has written.
+pub fn memory_of(
+    rt: &impl Abort,
+    alloc: Global,
+    kind: Kind,
+    sizes: Sizes,
+    ranges: &[Range],
+    known: bool,
+) -> Memory {
+    let mut kept = Vec::new(alloc);
+    for range in ranges {
+        kept.push(*range).expect(rt, "memory refused");
+    }
+    assert!(rt; are_within(&kept));
+    Memory::new(alloc, kind, sizes, kept, known)
+}
+
+/// A request's operation, size, address and bytes; whether its reply is denied, and the bytes that it has to have.
+pub type Turn = (AskOp, u8, u64, &'static str, bool, &'static str);
+
+/// A memory serves one request.
+fn serve(rt: &impl Abort, alloc: Global, row: &str, memory: &mut Memory, turn: &Turn) {
+    let (op, size, address, given, denied, read) = *turn;
+    let ask = ask_of(rt, op, size, address, given);
+    let mut early = Pattern::blank();
+    memory.answer(&ask, &mut early);
+    let mut answer = Pattern::blank();
+    memory
+        .serve_into(alloc, &ask, &mut answer)
+        .expect(rt, "memory refused");
+    holds(rt, row, answer.op() == op.reply_op());
+    holds(rt, row, answer.size() == size);
+    holds(rt, row, answer.source() == 0);
+    holds(rt, row, answer.denied() == Some(denied));
+    holds(rt, row, early.denied() == Some(denied));
+    let bytes = bytes_of(rt, read);
+    expect_cells(rt, row, answer.cells(), &bytes);
+    expect_cells(rt, row, early.cells(), &bytes);
+}
+
+/// A memory serves one request after the other.
+pub fn serve_all(rt: &impl Abort, alloc: Global, row: &str, memory: &mut Memory, turns: &[Turn]) {
+    for turn in turns {
+        serve(rt, alloc, row, memory, turn);
+    }
+}
