@@ -1,14 +1,18 @@
 //! Tests of runs, and of the parts that they are made of: nothing else is here.
 //!
-//! The contracts say what each call answers. No clause can say that a call succeeds while another thread may be faster,
-//! that two threads run at once, or that a run ends. These tests say so, and whether each answer is what was meant:
+//! The contracts say what each call answers. These tests say whether that is what was meant, and that each call succeeds.
+//! All is worked out by hand:
 //!
-//! - `types`, `beats`, `ops`, `map`, `slots`: values of messages, beats, slaves, the map and slots, worked out by hand;
-//! - `arena`: the running arena (`tl_arena`), and masters and ports over it (`tl_master`, `tl_port`);
-//! - `threads`: whole systems by threads (`tl_workers`); `program`: runs whose readers and writers are slow or fail;
-//! - `model`, `audit`: the model that serves call by call, and traces against histories.
+//! - values of messages (`tl_types`), beats (`tl_beats`), slaves (`tl_ops`), the address map (`tl_map`) and slots
+//!   (`tl_slots`); the texts of their faults and of faults that no script has, and texts if memory is refused;
+//! - the model that serves call by call (`tl_model`), the audit of traces against histories (`tl_audit`), and whole runs
+//!   of the program (`tl_program`) by readers and writers that are slow or fail, with the line of each fault of a run.
 //!
-//! Read on in `docs/MODEL.md`. What `tlx` prints of scripts stands in `examples/scripts`.
+//! No clause can say that two threads run at once, that a run ends, or that each master leaves. `threads` runs whole
+//! systems by threads, at gates that count who comes, with one thread a port and with four. What the program prints of
+//! scripts stands in `examples/scripts`.
+//!
+//! They stand in one crate, since each check of tests reads all that stands below them.
 #![tactic(auto)]
 
 #[cfg(test)]

@@ -1,4 +1,3 @@
-mod arena;
 mod audit;
 mod audits;
 mod beats;

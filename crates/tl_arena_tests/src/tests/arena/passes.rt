@@ -1,0 +1,89 @@
+//! What a port's pass over the slots accepts, and where a master looks for a slot.
+use super::turns::READ;
+use crate::tests::agents::caller::CallerCall::Send;
+use crate::tests::agents::desk::DeskCall::Accept;
+use crate::tests::floor::{RAM_OF_ONES, RAM_OF_ZEROS};
+use crate::tests::stage::Call::{Desk, Seat};
+use crate::tests::stage::{Cast, End, Scene, Script, Setting, play};
+
+/// Each of four masters over four slots finds the slot of its own number.
+static OF_THE_PORT: Scene = Scene {
+    setting: Setting {
+        slots: 4,
+        sources: &[1; 4],
+        near: RAM_OF_ZEROS,
+        far: RAM_OF_ONES,
+        cast: Cast::Seats,
+    },
+    script: Script::Calls(&[
+        Desk(0, Accept(None)),
+        Seat(0, Send(READ, 0, Some(0))),
+        Seat(1, Send(READ, 0, Some(1))),
+        Seat(2, Send(READ, 1, Some(2))),
+        Desk(0, Accept(Some(0))),
+        Desk(0, Accept(Some(1))),
+        Desk(0, Accept(None)),
+        Desk(1, Accept(Some(2))),
+        Desk(1, Accept(None)),
+    ]),
+    end: End {
+        free: &[3],
+        held: 3,
+        left: &[],
+    },
+};
+
+#[test]
+fn a_pass_accepts_what_is_posted_for_the_port(rt: HostRuntime) {
+    play(&rt, rt.alloc(), &OF_THE_PORT);
+}
+
+/// Both of two slots are held at the end.
+const BOTH_HELD: End = End {
+    free: &[],
+    held: 2,
+    left: &[],
+};
+
+static LAST_SLOT: Scene = Scene {
+    setting: Setting {
+        slots: 2,
+        sources: &[1; 2],
+        near: RAM_OF_ZEROS,
+        far: RAM_OF_ONES,
+        cast: Cast::Seats,
+    },
+    script: Script::Calls(&[
+        Seat(0, Send(READ, 1, Some(0))),
+        Seat(1, Send(READ, 0, Some(1))),
+        Desk(0, Accept(Some(1))),
+    ]),
+    end: BOTH_HELD,
+};
+
+#[test]
+fn a_pass_goes_to_the_last_slot(rt: HostRuntime) {
+    play(&rt, rt.alloc(), &LAST_SLOT);
+}
+
+/// The third and the fourth of four masters look for one of two slots from slot 1 on.
+static FROM_THE_FIRST: Scene = Scene {
+    setting: Setting {
+        slots: 2,
+        sources: &[1; 4],
+        near: RAM_OF_ZEROS,
+        far: RAM_OF_ONES,
+        cast: Cast::Seats,
+    },
+    script: Script::Calls(&[
+        Seat(3, Send(READ, 0, Some(1))),
+        Seat(2, Send(READ, 0, Some(0))),
+        Seat(1, Send(READ, 0, None)),
+    ]),
+    end: BOTH_HELD,
+};
+
+#[test]
+fn a_claim_goes_on_from_the_first_slot(rt: HostRuntime) {
+    play(&rt, rt.alloc(), &FROM_THE_FIRST);
+}

@@ -1,5 +1,0 @@
-use Rattle.tl_run_tests.proofs.tests.arena.together.threads.lock.Given as goal
-
--- the arena that was made for the test
-abbrev pub ghosts-through_the_lock : goal.ghosts-through_the_lock
-ghosts-through_the_lock g a = record { arena = a.arena.now }
