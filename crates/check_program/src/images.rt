@@ -4,9 +4,9 @@ ghost use Rattle.std.specs.Path.{path_buf_bytes, path_with_file_name};
 ghost use Rattle.check_description.specs.Port.{port_view};
 ghost use Rattle.check_program.specs.Images.{AreImagesOf, IsFaultOfImages, IsFaultOfPort, IsImageOf};
 
-use check_description::{Parts, Port};
 use crate::fault::CheckFault;
 use crate::system::read_image;
+use check_description::{Parts, Port};
 use check_keys::SystemFault;
 use std::alloc::{AllocError, Global};
 use std::io::Read;

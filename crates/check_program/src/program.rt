@@ -6,10 +6,10 @@ ghost use Rattle.check_program.specs.Engine.{IsChecked, IsCounted};
 ghost use Rattle.check_program.specs.Fault.{status_of};
 ghost use Rattle.check_program.specs.Program.{asked_of, status_of_verdict};
 
-use check_description::Parts;
 use crate::asked::Asked;
 use crate::engine::check;
 use crate::fault::CheckFault;
+use check_description::Parts;
 use check_options::Options;
 use check_start::Terms;
 use std::alloc::Global;

@@ -4,9 +4,9 @@ ghost use Rattle.check_keys.specs.Reading.{Gives};
 ghost use Rattle.check_description.specs.Port.{port_view};
 ghost use Rattle.check_start.specs.Slaves.{image_at, slaves_at_reset, slaves_from};
 
+use check_description::{Port, error_slave, slave_of};
 use check_flight::{Order, PortSlave};
 use check_keys::SystemFault;
-use check_description::{Port, error_slave, slave_of};
 use std::alloc::Global;
 
 /// The bytes of the image of the port of this number, none if none are given.

@@ -18,8 +18,11 @@
 //! memory are handed to it. It is a crate of its own, so that its proof is not done again for the tests.
 #![tactic(auto)]
 
-use check_program::{CheckFault, Erasing, Meter, Shown, check_as_asked, ended, read_images, read_system, write_coverage};
 use check_options::{Options, read_options};
+use check_program::{
+    CheckFault, Erasing, Meter, Shown, check_as_asked, ended, read_images, read_system,
+    write_coverage,
+};
 use std::io::{IsTerminal, Read};
 use std::process::ExitCode;
 use std::{env, fs};

@@ -5,9 +5,9 @@
 use crate::tests::files::Disk;
 use crate::tests::streams::{Drips, Trickle, Trouble};
 use check_description::Parts;
-use check_program::{CheckFault, check_as_asked, read_system, write_coverage};
 use check_flight::Order;
 use check_options::Options;
+use check_program::{CheckFault, check_as_asked, read_system, write_coverage};
 use check_sides::Links;
 use std::alloc::Global;
 use std::io::ErrorKind;

@@ -1,8 +1,8 @@
 //! What is answered if memory is refused. These tests hold whether their requests for memory are granted or not, so that
 //! each request may be refused in turn (`rt try --test --fail-alloc N`): what is printed is right, or memory was refused.
 use check_description::read_parts;
-use check_program::{Asked, CheckFault, check};
 use check_flight::Order;
+use check_program::{Asked, CheckFault, check};
 use check_sides::Links;
 use check_start::Terms;
 use std::alloc::Global;
