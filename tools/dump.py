@@ -6,6 +6,8 @@ import re
 
 BLOCK = 1 << 16
 LONGEST_WORD = 1 << 20
+# What is sampled of a link at an edge.
+SAMPLED = ("a_valid", "a_ready", "a_address", "a_size", "a_source")
 RANGE = re.compile(r"\[[^\[\]]*\]$")
 
 
@@ -146,7 +148,8 @@ class Watch:
         self.last_reset = None
 
     def tracked(self):
-        return {self.clock, self.reset, *(identifier for link in self.links for identifier in link.values())}
+        """The identifiers whose values are needed."""
+        return {self.clock, self.reset, *(link.get(signal) for link in self.links for signal in SAMPLED)} - {None}
 
     def follow(self, steps):
         """Reads to the end. An edge samples what stood before its time, as tlvcd does."""
@@ -161,11 +164,10 @@ class Watch:
 
     def sample(self, place, link, now):
         """Keeps the request of a link, if a beat of channel A crosses. A design without a source has source 0."""
-        value = {signal: now.get(link.get(signal), "x") for signal in ("a_valid", "a_ready", "a_address", "a_size", "a_source")}
-        if value["a_valid"] != "1" or value["a_ready"] != "1":
+        if now.get(link.get("a_valid")) != "1" or now.get(link.get("a_ready")) != "1":
             return
-        address, size = number_of(value["a_address"]), number_of(value["a_size"])
-        source = number_of(value["a_source"]) if "a_source" in link else 0
+        address, size, source = (number_of(now.get(link.get(signal))) for signal in ("a_address", "a_size", "a_source"))
+        source = source if "a_source" in link else 0
         if None not in (address, size, source):
             crossed = self.seen.setdefault((place, now.get(self.reset)), Crossed())
             crossed.add(source, address, address | (1 << min(size, 8)) - 1)
