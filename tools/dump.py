@@ -48,8 +48,6 @@ class Variables:
         """Takes a $var: its type, width, identifier and name. A range behind the name is not part of it."""
         if len(fields) < 4 or not fields[1].isdecimal():
             raise NoDump("not a dump")
-        if fields[0] == "real":
-            return
         name = ".".join([*self.scopes, RANGE.sub("", fields[3])])
         if self.named.setdefault(name, (fields[2], int(fields[1])))[0] != fields[2]:
             self.twice.add(name)
