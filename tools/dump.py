@@ -1,0 +1,179 @@
+"""A value change dump (VCD, IEEE 1364), read once: its variables, and then what changes, time by time. Memory depends on the variables
+that are declared, and not on the length of the dump. For tools/draft.
+"""
+
+import re
+
+BLOCK = 1 << 16
+LONGEST_WORD = 1 << 20
+# What is sampled of a link at an edge.
+SAMPLED = ("a_valid", "a_ready", "a_address", "a_size", "a_source")
+RANGE = re.compile(r"\[[^\[\]]*\]$")
+
+
+class NoDump(Exception):
+    """Why a text is no dump."""
+
+
+def words_of(file):
+    """The words of a text. The last one that no blank ends is left out, since it may be cut."""
+    rest = ""
+    while block := file.read(BLOCK):
+        text = rest + block
+        words = text.split()
+        rest = words.pop() if words and not text[-1].isspace() else ""
+        if len(rest) > LONGEST_WORD:
+            raise NoDump("not a dump")
+        yield from words
+
+
+def section(words):
+    """The words up to $end, or None if the text ends before."""
+    found = []
+    for word in words:
+        if word == "$end":
+            return found
+        found.append(word)
+    return None
+
+
+class Variables:
+    """What a header declares: for each name with its scopes the identifier and the width, in the order of the dump. Names that two
+    identifiers have are in `twice`: tlvcd refuses them."""
+
+    def __init__(self):
+        self.named, self.twice, self.scopes = {}, set(), []
+
+    def declare(self, fields):
+        """Takes a $var: its type, width, identifier and name. A range behind the name is not part of it."""
+        if len(fields) < 4 or not fields[1].isdecimal():
+            raise NoDump("not a dump")
+        name = ".".join([*self.scopes, RANGE.sub("", fields[3])])
+        if self.named.setdefault(name, (fields[2], int(fields[1])))[0] != fields[2]:
+            self.twice.add(name)
+
+    def take(self, keyword, fields):
+        """Takes a section of the header."""
+        if keyword == "$scope" and len(fields) == 2:
+            self.scopes.append(fields[1])
+        elif keyword == "$upscope" and self.scopes:
+            self.scopes.pop()
+        elif keyword == "$var":
+            self.declare(fields)
+        elif keyword in ("$scope", "$upscope") or not keyword.startswith("$"):
+            raise NoDump("not a dump")
+
+
+def variables_of(words):
+    """Reads the header."""
+    variables = Variables()
+    for word in words:
+        if not word.startswith("$"):
+            raise NoDump("not a dump")
+        fields = section(words)
+        if fields is None:
+            break
+        if word == "$enddefinitions":
+            return variables
+        variables.take(word, fields)
+    raise NoDump("cut in its header")
+
+
+def time_of(word, before):
+    """The time that a word names, which is not below the one before."""
+    if not word[1:].isdecimal():
+        raise NoDump(f"no time: {word}")
+    time = int(word[1:])
+    if time < before:
+        raise NoDump(f"time falls: {word}")
+    return time
+
+
+def steps_of(words, tracked):
+    """What changes at each time: the new values of the tracked identifiers. Of several values at one time the last one counts."""
+    changed, time = {}, 0
+    for word in words:
+        mark, rest = word[0].lower(), word[1:]
+        if mark == "#":
+            moment = time_of(word, time)
+            if moment > time:
+                yield changed
+                changed, time = {}, moment
+        elif mark in "01xz":
+            if rest in tracked:
+                changed[rest] = mark
+        elif mark in "brs":
+            identifier = next(words, None)
+            if mark == "b" and identifier in tracked:
+                changed[identifier] = rest.lower()
+        elif word == "$comment":
+            section(words)
+        elif mark != "$":
+            raise NoDump(f"no change of a value: {word[:40]}")
+    yield changed
+
+
+def number_of(bits):
+    """The number that bits spell, or None if one is unknown."""
+    return int(bits, 2) if bits and not set(bits) - {"0", "1"} else None
+
+
+class Crossed:
+    """What crossed on channel A of a link: the greatest source, and the first and the last byte of all requests."""
+
+    def __init__(self):
+        self.source = self.low = self.high = None
+
+    def add(self, source, first, last):
+        self.source = max(source, source if self.source is None else self.source)
+        self.low = min(first, first if self.low is None else self.low)
+        self.high = max(last, last if self.high is None else self.high)
+
+    def join(self, other):
+        """Adds what another one has seen."""
+        if other.source is not None:
+            self.add(other.source, other.low, other.high)
+
+
+class Watch:
+    """Follows the changes, and keeps what crossed at each rising edge of the clock. Which value of the reset is active is known at the end
+    alone, so what crosses is kept for each of its values."""
+
+    def __init__(self, clock, reset, links):
+        """Each link has the identifiers of its signals by name."""
+        self.clock, self.reset, self.links = clock, reset, links
+        self.seen = {}
+        self.last_reset = None
+
+    def tracked(self):
+        """The identifiers whose values are needed."""
+        return {self.clock, self.reset, *(link.get(signal) for link in self.links for signal in SAMPLED)} - {None}
+
+    def follow(self, steps):
+        """Reads to the end. An edge samples what stood before its time, as tlvcd does."""
+        now = {}
+        for changed in steps:
+            if changed.get(self.clock) == "1" and now.get(self.clock) == "0":
+                for place, link in enumerate(self.links):
+                    self.sample(place, link, now)
+            now.update(changed)
+            if (level := now.get(self.reset)) in ("0", "1"):
+                self.last_reset = level
+
+    def sample(self, place, link, now):
+        """Keeps the request of a link, if a beat of channel A crosses. A design without a source has source 0."""
+        if now.get(link.get("a_valid")) != "1" or now.get(link.get("a_ready")) != "1":
+            return
+        address, size, source = (number_of(now.get(link.get(signal))) for signal in ("a_address", "a_size", "a_source"))
+        source = source if "a_source" in link else 0
+        if None not in (address, size, source):
+            crossed = self.seen.setdefault((place, now.get(self.reset)), Crossed())
+            crossed.add(source, address, address | (1 << min(size, 8)) - 1)
+
+    def crossed(self, place, active):
+        """What crossed at a link while the reset did not have its active value."""
+        total = Crossed()
+        for (where, level), crossed in self.seen.items():
+            if where == place and (active is None or level != active):
+                total.join(crossed)
+        return total
