@@ -1,0 +1,270 @@
+"""Compares the words and the numbers of faults in each place where they stand with their sources: check_lines for beats, check_rows for rows,
+check_keys for system files, tl_script for scripts, tl_program for runs, tl_c for numbers. Every failure names a file, a line and a word."""
+
+import functools
+import re
+
+from fault_words import NAME, REPLY, Files, OtherForm, Template, filled, templates
+
+VERDICT, BEAT_SPEC = "crates/check_lines/src/verdict.rt", "crates/check_lines/specs/Verdict.antt"
+NUMBERS, NUMBER_SPEC, HEADER = "crates/tl_c/src/fault.rt", "crates/tl_c/specs/Numbers.antt", "include/tlx.h"
+FUNCTIONS = ("script_number", "file_number", "image_number", "serve_number", "form_number", "beat_number")
+LINES = r"(?:unlawful: line \d|incomplete: \d|lawful: \d+ (?!rows`)|capture: line \d)"
+C_STRING = r'"(?P<text>(?:script|system|unlawful|incomplete|lawful): (?:[^"\\]|\\.)*)'
+# Where lines of verdicts and of rows stand as examples.
+PAGES = ("README.md", "docs/CAPTURE.md", "docs/EMBEDDING.md", "docs/UNLAWFUL.md", "docs/REGRESSION.md", "docs/release.md", "docs/tlcheck.1",
+         "python/tlx/faults.py")
+
+
+class Places:
+    """The places of a tree. `passed` counts the words that agree, and `failures` has a line for each other one."""
+
+    def __init__(self, top):
+        self.files, self.passed, self.failures = Files(top), 0, []
+
+    def tell(self, is_well, line):
+        self.passed += is_well
+        if not is_well:
+            self.failures.append(line)
+
+    # ---- comparisons
+
+    def keyed(self, source, place):
+        """Each key of a source has the same words in a place, and there is no other."""
+        theirs = {said.key: said for said in place}
+        for said in source:
+            other = theirs.pop(said.key, None)
+            self.tell(other is not None, f"{place[0].at}: {said.text!r} of {said.key} ({said.at}) is missing")
+            if other:
+                self.tell(other.text == said.text, f"{other.at}: {other.text!r} of {said.key} is {said.text!r} at {said.at}")
+        for said in theirs.values():
+            self.tell(False, f"{said.at}: {said.text!r} of {said.key} is in no source ({source[0].path})")
+
+    def ordered(self, source, place):
+        """The words of a place stand in the order of a source."""
+        ours, theirs = [said.text for said in source], [said.text for said in place]
+        differ = next((at for at, (one, other) in enumerate(zip(ours, theirs)) if one != other), min(len(ours), len(theirs)))
+        end = place[min(differ, len(place) - 1)]
+        begin = source[min(differ, len(source) - 1)]
+        self.tell(ours == theirs, f"{end.at}: {end.text!r} stands where {begin.at} has {begin.text!r}")
+
+    def said(self, source, place, leave=(), is_whole=True):
+        """Each text of a place is one of a source's; and each of these is there, but for keys that are left out."""
+        left = {one.key: one for one in source if one.key not in leave}
+        for said in place:
+            found = [one for one in source if re.fullmatch(one.pattern, said.text)]
+            self.tell(bool(found), f"{said.at}: {said.text!r} is in no source ({', '.join(sorted({one.said.path for one in source}))})")
+            for one in found:
+                left.pop(one.key, None)
+        for one in left.values() if is_whole else ():
+            self.tell(False, f"{place[0].at}: {one.said.text!r} ({one.said.at}) is missing")
+
+    def parts(self, source, path, head, tail):
+        """Each of some words stands in a part of a file that is a pattern."""
+        text, line = self.files.part(path, head, tail)
+        # a text that is cut into several stands there whole
+        text = re.sub(r'"\n *rf?"', "", text)
+        for said in source:
+            self.tell(said.text in text, f"{path}:{line}: {said.text!r} ({said.at}) is missing")
+
+    # ---- sources
+
+    @functools.cached_property
+    def form(self):
+        return self.files.words(VERDICT, r'FormFault::(?P<key>\w+) => "(?P<text>[^"]+)"', "\nfn form_words(", every="=>", prefix="Form.")
+
+    @functools.cached_property
+    def wrong(self):
+        """The words of a wrong reply, before each of its two replies."""
+        return self.files.words(VERDICT, r'push_words_and_reply\(text, "(?P<text>[^"]+)"', "\nfn push_wrong_reply(", every=r"_reply\(text")
+
+    @functools.cached_property
+    def beats(self):
+        """The faults of beats, in the order in which they are tried; of a wrong reply the first words."""
+        made = self.files.words(VERDICT, r'Fault::(?P<key>\w+) => push_words\(text, "(?P<text>[^"]+)"\)', "\nfn push_fault(", every=r"Fault::\w+ =>")
+        return [*self.form, *made, self.wrong[0]._replace(key="WrongReply", text=self.wrong[0].text.split(":")[0])]
+
+    @functools.cached_property
+    def beat_templates(self):
+        return templates([said._replace(types="") for said in self.beats])
+
+    @functools.cached_property
+    def whole_beats(self):
+        """The faults of beats as lines have them, with the replies of a wrong one."""
+        reply = self.beat_templates[-1]
+        pattern = f"{re.escape(self.wrong[0].text)}{REPLY}{re.escape(self.wrong[1].text)}{REPLY}"
+        return [*self.beat_templates[:-1], Template(reply.said, reply.key, pattern)]
+
+    def literals(self, function, path=VERDICT, tail="\n}\n"):
+        """The words that a function appends."""
+        return [said._replace(text=said.text.replace("\\n", "")) for said in self.files.words(path, r'b"(?P<text>[^"]+)"', function, tail, 'b"')]
+
+    @functools.cached_property
+    def line_templates(self):
+        """The lines of verdicts, and of records that are no rows."""
+        lawful, unlawful = self.literals("\npub fn push_lawful("), self.literals("\npub fn push_unlawful(")
+        began = self.literals("", "crates/check_lines/src/left.rt")
+        fault = "|".join(one.pattern for one in self.whole_beats)
+        numbers = r"\d+".join(re.escape(said.text) for said in lawful)
+        place = r"\d+".join(re.escape(said.text) for said in unlawful)
+        left = r"\d+".join(re.escape(said.text) for said in [began[-1], *began[:-1]])
+        channels = "|".join(re.escape(said.text) for said in self.channels)
+        return [Template(lawful[0], ("lawful",), numbers), Template(unlawful[0], ("unlawful",), rf"{place}{NAME}(?:{channels})(?:{fault})"),
+                Template(began[-1], ("incomplete",), rf"{left}\d+ [a-z]+ 0x[0-9a-f]+ \d"), *self.rows]
+
+    @functools.cached_property
+    def channels(self):
+        return self.files.words(VERDICT, r'Beat::(?P<key>\w)\(_\) => "(?P<text>[^"]+)"', "\nfn channel_words(", every="=>")
+
+    @functools.cached_property
+    def row_faults(self):
+        return self.files.errors("crates/check_rows/src/fault.rt", "RowFault")
+
+    @functools.cached_property
+    def rows(self):
+        """The lines of records that are no rows."""
+        made = self.files.errors("crates/check_text/src/fault.rt", "CaptureFault")
+        return [one for one in templates(made, RowFault=templates(self.row_faults)) if one.key not in (("Read",), ("Write",))]
+
+    @functools.cached_property
+    def row_words(self):
+        """The words of those lines, without the line's number."""
+        front = re.escape("capture: line ") + r"\d+" + re.escape(": ")
+        if not all(one.pattern.startswith(front) for one in self.rows):
+            raise OtherForm(f"crates/check_text/src/fault.rt:1: a line does not begin with {front!r}")
+        return [one._replace(pattern=one.pattern[len(front):]) for one in self.rows]
+
+    @functools.cached_property
+    def memory(self):
+        """The words of want of memory, which are those of a run."""
+        return next(said for said in self.run_faults if said.key == "Memory")
+
+    @functools.cached_property
+    def run_faults(self):
+        return self.files.errors("crates/tl_program/src/fault.rt", "RunFault")
+
+    def keys(self, crate):
+        return self.files.words(f"crates/{crate}/src/fault.rt", r'Key::(?P<key>\w+) => "(?P<text>\w+)"', "pub fn name(self)", "\n    }\n", "=>")
+
+    def layers(self, crate, enum, maps):
+        """The lines of a fault that carries one of a map or of sources."""
+        carried = {name: templates(self.files.errors(f"crates/{maps}/src/{file}.rt", name))
+                   for name, file in (("MapFault", "map"), ("SourceFault", "sources"))}
+        key = f"(?:{'|'.join(said.text for said in self.keys(crate))})"
+        return templates(self.files.errors(f"crates/{crate}/src/fault.rt", enum), Key=key, **carried)
+
+    @functools.cached_property
+    def scripts(self):
+        return self.layers("tl_script", "ScriptFault", "tl_map")
+
+    @functools.cached_property
+    def systems(self):
+        files = self.layers("check_keys", "SystemFault", "check_map")
+        images = self.files.errors("crates/tl_c/src/draft.rt", "ImageFault")
+        return files + [one for said in images if said.key != "System" for one in filled(said, {"usize": r"\d+"})]
+
+    @functools.cached_property
+    def call_words(self):
+        """The words of each number."""
+        return [said for head in ("\nfn call_words(", "\npub(crate) fn words(")
+                for said in self.files.words(NUMBERS, r'^ {8}(?P<key>\d+) => "(?P<text>[^"]+)"', head, every=r"\d+ =>")]
+
+    def numbers(self, function):
+        return self.files.words(NUMBERS, r"\w+::(?P<key>\w+)(?:\([^)]*\))? => (?P<text>\d+),", f"fn {function}(", every=r"=> \d")
+
+    @functools.cached_property
+    def header(self):
+        return self.files.words(HEADER, r"^  TLX_(?P<key>\w+) = (?P<text>\d+)", "enum tlx_fault {", "};", r"^  TLX_")
+
+    # ---- places
+
+    def of_beats(self):
+        spec = functools.partial(self.files.words, BEAT_SPEC)
+        form = spec(r'form_text form\.(?P<key>\w+) = codes "(?P<text>[^"]+)"', every=r"form_text form\.", prefix="Form.")
+        fault = spec(r'fault_text (?P<key>[A-Z]\w+) = codes "(?P<text>[^"]+)"', every="fault_text [A-Z]")
+        self.keyed(self.beats[:-1], form + fault)
+        self.ordered(self.wrong, spec(r'codes "(?P<text>[^"]+)"', "\nwrong_text expected captured =", "\n\n", "codes"))
+        for function, head in (("\npub fn push_lawful(", "\nlawful_line counts ="), ("\npub fn push_unlawful(", "\nunlawful_line names row fault =")):
+            self.ordered(self.literals(function), spec(r'codes "(?P<text>[^"]+)"', head, "10 ∷ []", "codes"))
+        self.ordered(self.literals("", "crates/check_lines/src/left.rt"), spec(r'codes "(?P<text>[^"]+)"', "\n-- where and when a request began\n",
+                                                                               "10 ∷ []", "codes"))
+        self.keyed(self.channels, spec(r'channel_text \((?P<key>\w) \w+\) = codes "(?P<text>[^"]+)"', every=r"channel_text \("))
+        form = self.files.errors("crates/check_beats/src/fault.rt", "FormFault", "Form.")
+        fault = [said for said in self.files.errors("crates/check_watch/src/fault.rt", "Fault") if said.key != "Form"]
+        self.keyed(self.form, form)
+        self.keyed(self.beats[len(self.form):], fault)
+        self.ordered(self.beats, form + fault)
+
+    def of_beats_in_tools(self):
+        words, beats = self.files.words, self.beat_templates
+        model = "tools/judge_model.py"
+        self.said(beats, words(model, r'raise Unlawful\(f?"(?!unlawful: )(?P<text>[^":]+)', every=r'raise Unlawful\((?!f"unlawful: )'), [("UnknownData",)])
+        self.said(self.row_words, words(model, r'raise NoRow\("(?P<text>[^"]+)"\)', every=r"raise NoRow\("))
+        verdicts = [Template(one.said, one.key, f"{one.key[0]}") for one in self.line_templates[::2][:2]]
+        letters = [one._replace(pattern=one.pattern + (r"\ [AD]" if one.key in (("Form.UnknownData",), ("UnknownData",)) else "")) for one in beats]
+        self.said(letters + self.row_words + verdicts, words("tools/random_captures", r'"(?P<text>[^"]+)"', "\nKINDS = {\n", "}\n", '"[^"]+"'))
+        causes = words("tools/causes.py", r'^    "(?P<text>[^"]+)": \[', "CAUSES = {\n", "\n}\n", r'": \[')
+        self.said(beats, causes)
+        self.said(beats, words("tools/explanation.py", r'fault == "(?P<text>[^"]+)"', every="fault == "), is_whole=False)
+        self.ordered(causes, self.files.table("docs/UNLAWFUL.md", "| Fault | Look at |\n|---|---|\n", 0))
+        self.parts(self.wrong, "tools/explanation.py", "\nWRONG = re.compile(", "\n")
+        line = self.literals("\npub fn push_unlawful(")
+        self.parts([*line[:2], self.wrong[0]._replace(text=self.wrong[0].text.split(": ")[0])], "tools/random_orders", "\nWRONG = re.compile(", "\n")
+        ends = [*line, *self.wrong, *self.literals("\npub fn push_lawful("), *self.literals("", "crates/check_lines/src/left.rt")]
+        self.parts(ends, "tools/hostile_systems.py", "\nENDS = {\n", "\n}\n")
+
+    def of_captures(self):
+        """The tables of docs/CAPTURE.md, in the order in which faults are tried."""
+        table = functools.partial(self.files.table, "docs/CAPTURE.md")
+        found = table("| Text | When | Capture |\n|---|---|---|\n", 0)
+        self.said(self.whole_beats, found)
+        self.ordered(self.beats, [said._replace(text=said.text.split(": ")[0]) for said in found])
+        kinds = table("| Kind | Such a row |\n|---|---|\n", 0)
+        self.said(self.row_words, kinds)
+        self.ordered([one.said for one in self.rows][-len(self.row_faults):], kinds[2:])
+        explained = table("| Fault | What is printed |\n|---|---|\n", 0)
+        denied = [Template(explained[0], (word,), word) for word in ("denied", "incomplete")]
+        self.said(self.beat_templates + denied, explained, is_whole=False)
+        self.said(self.row_words, self.files.errors("crates/check_records/src/fault.rt", "RecordFault")[:1], is_whole=False)
+        self.said(self.rows, self.files.alternatives("tools/hostile_systems.py", "CAPTURE_FAULT"))
+        for path in PAGES:
+            self.said(self.line_templates, self.files.mentions(path, LINES), is_whole=False)
+        man = self.files.words("docs/tlcheck.1", r"^(?P<text>.+)$", "\n.SH OUTPUT\n.nf\n", ".fi\n")
+        self.said(self.line_templates[:3], man)
+
+    def of_scripts(self):
+        words, page = self.files.words, "docs/FORMATS.md"
+        end = ("Map", "PastEnd")
+        self.keyed(self.keys("tl_script"), words("crates/tl_script/specs/Key.antt", r'key_name (?P<key>\w+) = codes "(?P<text>\w+)"', every="key_name [A-Z]"))
+        table = self.files.table(page, "| Fault | Line | Such a script |\n|---|---|---|\n", 1, 0)
+        memory = table.pop()
+        self.tell(memory.text == self.memory.text, f"{memory.at}: {memory.text!r} is {self.memory.text!r} at {self.memory.at}")
+        self.said(self.scripts, table)
+        for said in table:
+            key = tuple(re.findall(r"[A-Z]\w+", said.key))
+            self.tell(any(one.key == key and re.fullmatch(one.pattern, said.text) for one in self.scripts), f"{said.at}: {said.text!r} is none of {said.key}")
+        self.said(self.scripts + self.systems, self.files.mentions(page, r"(?:script|system): (?!\.)"), is_whole=False)
+        self.said(self.scripts, self.files.alternatives("tools/hostile", "FAULT"))
+        lint = self.files.calls("tools/lint", "Fault", 1, "script: ")
+        self.said(self.scripts, lint + self.files.calls("tools/toml_lines.py", "Fault", 1, "script: "), [end])
+        checks = words("examples/c/check.c", C_STRING, "SCRIPTS[] = {\n", "\n};", r"^    \{")
+        self.said(self.scripts, checks, [end, ("TooLong",), ("Map", "TooMany")])
+
+    def of_systems(self):
+        words = self.files.words
+        self.keyed(self.keys("check_keys"), words("crates/check_keys/specs/Key.antt", r'key_name (?P<key>\w+) = codes "(?P<text>\w+)"', every="key_name [A-Z]"))
+        images, long = [("NoPort",), ("NoImage",)], ("TooLong",)
+        table = self.files.table("docs/FORMATS.md", "| Line | Such a file |\n|---|---|\n", 0)
+        self.said(self.systems, table)
+        self.said(self.systems, self.files.alternatives("tools/hostile_systems.py", "SYSTEM_FAULT"), images)
+        self.said(self.systems, self.files.values("tools/system_faults.py", "system: "), [*images, long])
+        lint = self.files.calls("tools/lint_system", "Fault", 1, "system: ")
+        self.said(self.systems, lint + self.files.calls("tools/toml_lines.py", "Fault", 1, "system: "), images)
+        self.said(self.systems, words("examples/c/judges.c", C_STRING, "FILES[] = {\n", "\n};", "TLX_"), is_whole=False)
+        known = self.scripts + self.systems + self.line_templates
+        for path in ("examples/c/check.c", "examples/c/judges.c"):
+            # a format of printf is no line
+            texts = [said._replace(text=said.text.removesuffix("\\n")) for said in words(path, C_STRING) if "%" not in said.text]
+            self.said(known, texts, is_whole=False)
+        lines = self.files.strings("examples/python/calls.py", r"(?:script|system|unlawful|incomplete): \w+ ")
+        self.said(known, [said._replace(text=said.text.rstrip("\n")) for said in lines], is_whole=False)
